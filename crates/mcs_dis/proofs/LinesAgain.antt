@@ -1,4 +1,5 @@
--- Lines that were written, each followed by LF, are read again.
+-- The lines of a text that was written line by line, each line followed by LF, are these same
+-- lines.
 use Rattle.std.proofs.Common.{◌≡◌, ℕ, ◌-◌, Bool, true, false, eqb, length, slice_index, List, [], ◌∷◌, refl, ap, ◌∙◌, append_assoc}
 use Rattle.std.specs.List.{flat_map, AllByRecursion}
 use Rattle.std.specs.Str.Lines.{strip_carriage_return}
@@ -9,7 +10,7 @@ use Rattle.mcs_model.proofs.LineLemmas.{lines-feed}
 abbrev pub ends_in_cr : List ℕ → Bool
 ends_in_cr line = eqb (slice_index line (length line - 1)) 13
 
--- a line without a CR at its end, before others
+-- a line that does not end in CR, in front of other lines, is unchanged
 followed : (l : List ℕ) (ls : List (List ℕ)) → ends_in_cr l ≡ false → lines_of (flat_map as_line ls) ≡ ls → strip_carriage_return l ∷ lines_of (flat_map as_line ls) ≡ l ∷ ls
 followed l ls e again = rw (e, again) refl
 

@@ -1,4 +1,5 @@
--- The lines that a loop has written, and those that are left.
+-- The invariants of the loops that write a source text and a listing: the lines already written,
+-- then the lines of the bytes that are left.
 use Rattle.std.proofs.Common.{◌≡◌, ℕ, suc, zero, ◌+◌, ◌-◌, ◌<◌, ◌≤◌, Bool, true, false, cond, leb, List, [], ◌∷◌, ◌++◌, length, get_or, drop, take, Option, Some, None, refl, sym, ap, subst, ◌∙◌, inl, inr, arith, append_assoc, append-nil}
 use Rattle.std.specs.Option.{option_map_or}
 use Rattle.std.proofs.lemmas.Bool.{leb-true, le-leb, lt-leb, lt-ltb}
@@ -29,19 +30,19 @@ pub size_fits : (b : ℕ) (rest : List ℕ) → piece_size (op_at b rest) ≤ 1 
 unfolding op_at
 size_fits b rest = whole_fits (instruction_of b (second_word rest)) b rest
 
--- ---- the instruction in front
+-- ---- the instruction at the start of some bytes
 
--- a code of one word is an instruction by itself
+-- the first word alone is a complete instruction if its instruction has one word
 pub one_is : (o : Option Op) (b : ℕ) → option_map_or word_count_of o 1 ≤ 1 → whole_or_byte o b [] ≡ o
 one_is None b le = refl
 one_is (Some o) b le = rw (le-leb (word_count_of o) 1 le) refl
 
--- a code of two words is none
+-- the first word alone is not a complete instruction if its instruction has two words
 pub two_is : (o : Option Op) (b : ℕ) → 1 < option_map_or word_count_of o 1 → whole_or_byte o b [] ≡ None
 two_is None b lt = refl
 two_is (Some o) b lt = rw (lt-leb (word_count_of o) 1 lt) refl
 
--- with a second word after it, each code of the table is an instruction
+-- an instruction of the opcode table is complete if a second word follows the first
 pub both_is : (o : Option Op) (b c : ℕ) (rest : List ℕ) → whole_or_byte o b (c ∷ rest) ≡ o
 both_is None b c rest = refl
 both_is (Some o) b c rest =
@@ -59,7 +60,7 @@ one_front [] some short = absurd (omega (arith, some))
 one_front (b ∷ []) some short = refl
 one_front (b ∷ c ∷ rest) some short = absurd (omega (arith, short))
 
--- the piece in front lies in the bytes
+-- the piece at the start of some bytes does not extend past their end
 pub front_fits : (bytes : List ℕ) → 0 < length bytes → piece_size (op_at (get_or bytes 0 0) (drop 1 bytes)) ≤ length bytes
 front_fits [] some = absurd (omega (arith, some))
 front_fits (b ∷ rest) some = omega (arith, size_fits b rest)
@@ -81,7 +82,8 @@ rest_is (suc n) b rest le = ap (λ k. drop k rest) (omega arith)
 
 -- ---- the source
 
--- with the lines of the bytes that are left, a text is the whole
+-- Holds if the text `out`, followed by the source lines of the bytes `rest`, is the text `whole`.
+-- The bytes `rest` start at address `at` and end within the ROM.
 pub record IsWritten (whole out : List ℕ) (at : ℕ) (rest : List ℕ) : Type 0 where
   pub most : ℕ
   pub enough : length rest ≤ most
@@ -136,7 +138,8 @@ all_written whole out (b ∷ rest) at none w = absurd (omega (arith, none))
 
 -- ---- the listing
 
--- with the lines that are left, a text is the whole
+-- Holds if the text `out`, followed by at most `left` listing lines for the bytes `rest`, is the
+-- text `whole`. The bytes `rest` start at address `at` and end within the ROM.
 pub record IsListed (whole out : List ℕ) (left at : ℕ) (rest : List ℕ) : Type 0 where
   pub in_rom : at + length rest ≤ 4096
   pub text : out ++ flat_map as_line (listing_lines left at rest) ≡ whole

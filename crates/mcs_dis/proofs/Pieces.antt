@@ -1,4 +1,5 @@
--- What stands in front of some bytes, and what its line says.
+-- The properties of the piece at the start of some bytes: the statement to which its text parses,
+-- its bytes and its size.
 use Rattle.std.proofs.Common.{◌≡◌, ℕ, ◌+◌, ◌<◌, ◌≤◌, Bool, true, false, cond, leb, List, [], ◌∷◌, length, take, Option, Some, None, Ok, refl, ap, ◌∙◌, ◌⊎◌, inl, inr, arith}
 use Rattle.std.proofs.lemmas.Bool.{lt-ltb, leb-true}
 use Rattle.mcs_model.specs.declared.op.Op.{Op}

@@ -1,4 +1,4 @@
--- The pairs of a range of a ROM.
+-- The (address, byte) pairs of a ROM range are its addresses, each with its ROM byte.
 use Rattle.std.proofs.Common.{◌≡◌, ℕ, zero, suc, ◌+◌, ◌-◌, ◌<◌, ◌≤◌, List, [], ◌∷◌, length, get_or, drop, refl, sym, ap, subst, ◌∙◌, arith}
 use Rattle.std.proofs.lemmas.List.{length-take, length-drop, get_or-take, get_or-drop}
 use Rattle.mcs_model.specs.Images.{from_address}

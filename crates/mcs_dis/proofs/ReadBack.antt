@@ -1,4 +1,4 @@
--- A text reads as its statement.
+-- The text of an instruction, of a byte or of an origin parses to the statement for it.
 use Rattle.std.proofs.Common.{◌≡◌, ℕ, suc, zero, ◌+◌, ◌*◌, ◌/◌, ◌%◌, ◌<◌, min, Bool, true, false, ◌&&◌, ltb, eqb, List, [], ◌∷◌, ◌++◌, length, Option, Some, None, refl, sym, ap, ◌∙◌, inl, inr, arith, append_assoc, append-nil, eq-eqb, Ok}
 use Rattle.std.proofs.lemmas.Bool.{eqb-true, and_parts, cases_eq, lt-ltb, ltb-true}
 use Rattle.std.specs.List.{list_all}
@@ -21,7 +21,7 @@ use Rattle.mcs_source.specs.Spelled.{IsOp}
 use Rattle.mcs_dis.specs.Again.{statement, ReadsAs}
 use Rattle.mcs_model.specs.Options.{◌>>=◌}
 
--- a test of each number below n
+-- true if p is true of each number below n
 abbrev pub each_below : (ℕ → Bool) → ℕ → Bool
 each_below p zero = true
 each_below p (suc n) = p n && each_below p n
@@ -45,7 +45,7 @@ decimal_word : (d : ℕ) → d < 16 → list_all is_word_byte (decimal d) ≡ tr
 unfolding digits
 decimal_word d lt = one_below (λ d. list_all is_word_byte (decimal d)) 16 refl d lt
 
--- a word to the end
+-- the tokens of bytes that are all word bytes: the word to the end of the line
 word_end : (w bs : List ℕ) → list_all is_word_byte bs ≡ true → tokens_after w bs ≡ word_then (w ++ bs) []
 unfolding tokens_after
 word_end w [] all = ap (λ l. word_then l []) (sym (append-nil w))
@@ -53,7 +53,7 @@ word_end w (b ∷ bs) all =
     let (here, more) = and_parts (is_word_byte b) (list_all is_word_byte bs) all in
     rw here (word_end (w ++ b ∷ []) bs more ∙ ap (λ l. word_then l []) (append_assoc w (b ∷ []) bs))
 
--- a word to a comma
+-- the tokens of word bytes before a comma: the word, the comma, then the tokens of the rest
 word_comma : (w bs rest : List ℕ) → list_all is_word_byte bs ≡ true → tokens_after w (bs ++ 44 ∷ rest) ≡ word_then (w ++ bs) (Comma ∷ tokens_after [] rest)
 unfolding tokens_after
 word_comma w [] rest all = ap (λ l. word_then l (Comma ∷ tokens_after [] rest)) (sym (append-nil w))
@@ -92,7 +92,7 @@ number_is n None h = absurd cc
 number_is n (Some (asm.Name w)) h = absurd cc
 number_is n (Some (asm.Number m)) h = ap (λ (k : ℕ). Some (asm.Number k)) (eqb-true _ _ h)
 
--- the tokens of a decimal
+-- ---- the tokens of a number in decimal
 word_then_some : (w : List ℕ) (ts : List Token) → 0 < length w → word_then w ts ≡ Word w ∷ ts
 word_then_some [] ts some = absurd (omega (arith, some))
 word_then_some (b ∷ w) ts some = refl
@@ -200,7 +200,7 @@ read_after at (Jcn c b) h = rw (decimal_comma c (32 ∷ address (near_page at) b
 pub read_back : (at : ℕ) (o : Op) → IsOp o → ReadsAs at o
 read_back at o h = ap asm.line_of (byte_by_byte (instruction_text at o)) ∙ read_after at o h
 
--- ---- the statement spells the words
+-- ---- the statement of an instruction emits the words that encode the instruction
 
 near_is : (at b : ℕ) → b < 256 → eqb ((near_page at * 256 + b) / 256) (near_page at) ≡ true
 near_is at b lt = eq-eqb ((near_page at * 256 + b) / 256) (near_page at) (omega arith)

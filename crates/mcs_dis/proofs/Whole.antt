@@ -1,4 +1,4 @@
--- The lines of some bytes, read again, spell exactly these bytes.
+-- The source lines for some bytes, when assembled, give exactly these bytes.
 use Rattle.std.proofs.Common.{◌≡◌, ℕ, suc, zero, ◌+◌, ◌-◌, ◌/◌, ◌%◌, ◌<◌, ◌≤◌, false, List, [], ◌∷◌, ◌++◌, length, take, drop, Option, Some, None, Result, Ok, refl, sym, ap, subst, ◌∙◌, arith, append_assoc, append-nil}
 use Rattle.std.proofs.lemmas.Bool.{le-ltb, lt-ltb, lt-leb}
 use Rattle.std.proofs.lemmas.List.{length-take, length-drop, take-append-drop}
@@ -22,7 +22,7 @@ use Rattle.mcs_dis.proofs.Loops.{rest_is}
 abbrev pub AreBytes : List ℕ → Type 0
 AreBytes bytes = AllByRecursion (λ b. b < 256) bytes
 
--- all pairs lie below an address
+-- Holds if the addresses of all pairs are below an address.
 abbrev pub AreBelow : ℕ → List (ℕ × ℕ) → Type 0
 AreBelow at pairs = AllByRecursion (λ p. p.0 < at) pairs
 
@@ -53,10 +53,10 @@ placed at (x ∷ xs) ys =
     let e : at + 1 + length xs ≡ at + length (x ∷ xs) = omega arith in
     ap (λ (l : List (ℕ × ℕ)). (at, x) ∷ l) (placed (at + 1) xs ys ∙ ap (λ k. from_address (at + 1) xs ++ from_address k ys) e)
 
--- ---- class one
+-- ---- the first pass
 
--- before line i, whose statement stands at an address, where the lines before it define no name and
--- have no fault of class one
+-- Holds if line i starts at an address, and the lines before line i define no names and have no
+-- errors of the first pass.
 record IsFineTo (lines : List (Option asm.SourceLine)) (i at : ℕ) : Type 0 where
   within : i ≤ length lines
   address : address_of lines i ≡ at
@@ -88,10 +88,10 @@ piece_next at b rest x p = rw (p.reads) (p.next)
 last_is : (lines : List (Option asm.SourceLine)) (i : ℕ) → i ≤ length lines → drop i lines ≡ [] → i ≡ length lines
 last_is lines i le e = omega (arith, le, length-drop i lines, ap length e)
 
--- ---- class two
+-- ---- the second pass
 
--- before line i, whose statement stands at an address, where the lines before it spell these pairs
--- and have no fault of class two
+-- Holds if line i starts at an address, and the lines before line i emit these pairs and have no
+-- errors of the second pass.
 record IsSpeltTo (lines : List (Option asm.SourceLine)) (i at : ℕ) (pairs : List (ℕ × ℕ)) : Type 0 where
   within : i ≤ length lines
   address : address_of lines i ≡ at
@@ -178,7 +178,7 @@ texts_clean (suc fuel) at (b ∷ rest) all =
     let p : IsPiece at b rest (op_at b rest) = piece_is at b rest all.0 (second_small rest all.1) in
     (line_is (piece_text at b (op_at b rest)) p.clean, texts_clean fuel (at + piece_size (op_at b rest)) (drop (piece_size (op_at b rest) - 1) rest) (drop_bytes (piece_size (op_at b rest) - 1) rest all.1))
 
--- the source of some bytes assembles to exactly these bytes
+-- the source text for some bytes assembles to exactly these bytes, from the given address on
 pub source_again : (from : ℕ) (bytes : List ℕ) → from < 4096 → from + length bytes ≤ 4096 → AreBytes bytes → assembly_of_text (source_of from bytes) ≡ Ok (from_address from bytes)
 unfolding address_of names_before pairs_before
 source_again from bytes lt le all =

@@ -1,4 +1,4 @@
--- The statement that an instruction's text parses to, and the address-byte pairs of a ROM range.
+-- The statement to which the text of an instruction must parse, and the pairs of a ROM range.
 use Rattle.std.specs.Prelude.{◌≡◌, ℕ, ◌+◌, ◌*◌, ◌<◌, ◌≤◌, ◌↔◌, List, Some, None, slice_index}
 use Rattle.std.specs.List.{Contains}
 use Rattle.mcs_model.specs.Images.{from_address}
@@ -10,11 +10,12 @@ use Rattle.mcs_source.specs.Assembly.{near_page}
 use Rattle.mcs_source.specs.Text.{instruction_text}
 use Rattle.mcs_source.specs.SourceText.{range}
 
--- the target of a JCN or ISZ at an address, as a number; b is its second word
+-- the operand for the target of a JCN or ISZ at an address, as a number; b is the second word of
+-- the instruction
 abbrev pub near : ℕ → ℕ → asm.Operand
 near at b = asm.Number (near_page at * 256 + b)
 
--- the statement that the text of an instruction at an address must parse to
+-- the statement to which the text of an instruction at an address must parse
 abbrev pub statement : ℕ → Op → asm.Statement
 statement at (Jcn c b) = asm.Jcn (asm.Number c) (near at b)
 statement at (Isz r b) = asm.Isz r (near at b)
@@ -25,13 +26,13 @@ statement at (Bbl d) = asm.Bbl (asm.Number d)
 statement at (Ldm d) = asm.Ldm (asm.Number d)
 statement at o = asm.Whole o
 
--- holds if the text of an instruction at an address, as a line, parses to `statement at o` without
--- a label
+-- Holds if the text of an instruction at an address, as a source line, parses to the statement
+-- `statement at o` without a label.
 abbrev pub ReadsAs : ℕ → Op → Type 0
 ReadsAs at o = asm.line_of (tokens (instruction_text at o)) ≡ Some (asm.Code None (Some (statement at o)))
 
--- holds if the pairs of a ROM range are exactly the addresses from `from` up to, but not including,
--- `to`, each with its ROM byte
+-- Holds if the (address, byte) pairs of a ROM range are exactly the addresses from `from` up to,
+-- but not including, `to`, each with its ROM byte.
 abbrev pub AreItsPairs : List ℕ → ℕ → ℕ → Type 0
 AreItsPairs rom from to =
     (p : ℕ × ℕ) → Contains (from_address from (range rom from to)) p

@@ -1,4 +1,4 @@
-//! Decoding of the piece at the start of some bytes: a complete instruction, or else a single byte.
+//! Decodes the piece at the start of some bytes: an instruction with all its words, or else a single byte.
 ghost use Rattle.std.specs.Prelude.{◌≡◌, ◌<◌, ◌≤◌, [], length, drop};
 ghost use Rattle.std.specs.Option.{option_to_list};
 ghost use Rattle.mcs_source.specs.Text.{op_at, piece_size, second_of};
@@ -7,7 +7,7 @@ ghost use Rattle.mcs_dis.specs.Front.{op_in_front};
 use mcs_code::{Op, decode, word_count, words};
 
 /// Decodes a one-word instruction from its opcode. Returns `None` if the opcode needs a second word or is not in the
-/// instruction table.
+/// opcode table.
 #[tactic(auto, using(crate::proofs::Loops::one_is, crate::proofs::Loops::two_is), unfolding(mcs_source::specs::Text::op_at))]
 fn one_word_op(code: u8) -> Option<Op>
     ensures { result ≡ op_at code [] }
@@ -19,8 +19,8 @@ fn one_word_op(code: u8) -> Option<Op>
     }
 }
 
-/// Decodes an instruction from its first word and the word after it. Returns `None` if the opcode is not in the
-/// instruction table or a second word is missing.
+/// Decodes an instruction from its first word and the word after it. Returns `None` if the first word is not in the
+/// opcode table, or if the second word is needed but missing.
 #[tactic(auto, using(crate::proofs::Loops::both_is), unfolding(mcs_source::specs::Text::op_at))]
 pub fn op_of(first: u8, second: Option<u8>) -> Option<Op>
     ensures { result ≡ op_at first (option_to_list second) }
@@ -31,7 +31,8 @@ pub fn op_of(first: u8, second: Option<u8>) -> Option<Op>
     }
 }
 
-/// Decodes the instruction at the start of some bytes. Returns `None` if they do not start with a complete instruction.
+/// Decodes the instruction at the start of some bytes. Returns `None` if the first byte is not an opcode, or if the
+/// second word is missing.
 #[tactic(auto, using(crate::proofs::Loops::two_front, crate::proofs::Loops::one_front))]
 pub fn op_in_front(bytes: &[u8]) -> Option<Op>
     requires { 0 < length bytes.now }
@@ -44,7 +45,8 @@ pub fn op_in_front(bytes: &[u8]) -> Option<Op>
     }
 }
 
-/// Returns the number of bytes in a piece, which is 1 for a byte that is not an instruction (`None`).
+/// Returns the number of bytes in a piece: the word count of an instruction, or 1 for a byte that is not an
+/// instruction (`None`).
 pub fn piece_size(piece: &Option<Op>) -> usize
     ensures { result ≡ piece_size piece.now }
 {
@@ -54,7 +56,7 @@ pub fn piece_size(piece: &Option<Op>) -> usize
     }
 }
 
-/// Returns the second word of the piece at the start of some bytes, if it has one.
+/// Returns the second word of the piece at the start of some bytes, or `None` if the piece has only one byte.
 pub fn second(bytes: &[u8], piece: &Option<Op>) -> Option<u8>
     requires { piece_size piece.now ≤ length bytes.now }
     ensures { result ≡ second_of piece.now (drop 1 bytes.now) }

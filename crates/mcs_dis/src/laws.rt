@@ -1,4 +1,4 @@
-//! Laws of the disassembler, for every ROM. Each is proved as the contract of an empty function.
+//! Laws of the disassembler, for every ROM. Each law is the contract of a function with an empty body.
 ghost use Rattle.std.specs.Prelude.{◌≡◌, ℕ, ◌<◌, ◌≤◌, List, length};
 ghost use Rattle.std.specs.List.{AllByRecursion};
 ghost use Rattle.mcs_dis.specs.Again.{AreItsPairs, ReadsAs};
@@ -11,7 +11,7 @@ pub fn reads_back()
     ensures { (at : ℕ) (o : Op) → IsOp o → ReadsAs at o }
 {}
 
-/// Proves that the source of a ROM range assembles, without an error, to exactly the bytes of the range, each at its
+/// Proves that the source of a ROM range assembles without an error to exactly the bytes of the range, each at its
 /// address.
 pub fn source_law()
     ensures spelled { (rom : List ℕ) (from to : ℕ) → length rom ≡ 4096

@@ -1,5 +1,5 @@
-//! The disassembler: the text of an instruction, ROM listings, and source text that assembles to the same ROM bytes
-//! again.
+//! The disassembler. It gives the text of an instruction, the listing of a ROM, and source text that assembles to the
+//! bytes of a ROM range.
 #![tactic(auto)]
 
 mod decoding;

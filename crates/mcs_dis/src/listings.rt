@@ -10,9 +10,9 @@ use crate::texts::{push_columns, push_origin, push_piece};
 use mcs_nibble::Addr;
 use std::alloc::{AllocError, Global};
 
-/// Returns the text of the instruction at an address, from its words. The text is `DB 0xHH` if the opcode is not in the
-/// instruction table, or if its second word is past the end (`None`). A second word after a one-word instruction is
-/// ignored.
+/// Returns the text of the instruction at an address, from its words. The text is `DB 0xHH` if the opcode is not in
+/// the opcode table, or if a second word is needed but missing (`None`). A second word after a one-word instruction
+/// is ignored.
 pub fn line_of(alloc: Global, at: Addr, first: u8, second: Option<u8>) -> Result<String, AllocError>
     ensures { IfOk result (λ s. string_bytes s ≡ line_text at first second) }
 {
@@ -21,7 +21,7 @@ pub fn line_of(alloc: Global, at: Addr, first: u8, second: Option<u8>) -> Result
     Ok(out)
 }
 
-/// Writes the source line of the piece at the start of some bytes. Returns the number of bytes in the piece.
+/// Appends the source line of the piece at the start of `bytes`. Returns the number of bytes in the piece.
 #[tactic(auto, using(crate::proofs::Loops::front_fits, crate::proofs::Loops::front_some))]
 fn push_source_line(out: &mut String, at: Addr, bytes: &[u8]) -> Result<usize, AllocError>
     requires { 0 < length bytes.now }
@@ -37,7 +37,7 @@ fn push_source_line(out: &mut String, at: Addr, bytes: &[u8]) -> Result<usize, A
     Ok(size)
 }
 
-/// Writes the listing line of the piece at the start of some bytes. Returns the number of bytes in the piece.
+/// Appends the listing line of the piece at the start of `bytes`. Returns the number of bytes in the piece.
 #[tactic(auto, using(crate::proofs::Loops::front_fits, crate::proofs::Loops::front_some))]
 fn push_listing_line(out: &mut String, at: Addr, bytes: &[u8]) -> Result<usize, AllocError>
     requires { 0 < length bytes.now }
@@ -55,8 +55,8 @@ fn push_listing_line(out: &mut String, at: Addr, bytes: &[u8]) -> Result<usize, 
     Ok(size)
 }
 
-/// Returns the listing of a ROM from the address `from`. It has `lines` lines `AAA BB BB TEXT`, each ended by LF, or
-/// fewer if the ROM ends first. A one-word instruction has two spaces in place of the second word.
+/// Returns the listing of a ROM from the address `from`. The listing has `lines` lines `AAA BB BB TEXT`, each ended
+/// by LF, or fewer if the ROM ends first. Two spaces replace the second word of a one-byte piece.
 pub fn listing(alloc: Global, rom: &[u8], from: Addr, lines: usize) -> Result<String, AllocError>
     requires { length rom.now ≡ 4096 }
     ensures { IfOk result (λ s. string_bytes s ≡ listing_text rom.now from lines) }
@@ -75,8 +75,9 @@ pub fn listing(alloc: Global, rom: &[u8], from: Addr, lines: usize) -> Result<St
     Ok(out)
 }
 
-/// Returns source text for the addresses from `from` up to, but not including, `to`. It consists of the line `ORG
-/// 0xHHH` and a line for each instruction, each ended by LF. It assembles to exactly the bytes at these addresses.
+/// Returns source text for the addresses from `from` up to, but not including, `to`. The text has the line `ORG
+/// 0xHHH`, then a line for each instruction or single byte, each ended by LF. It assembles to exactly the bytes at
+/// these addresses.
 pub fn source(alloc: Global, rom: &[u8], from: Addr, to: u16) -> Result<String, AllocError>
     requires rom { length rom.now ≡ 4096 }
     requires some { from < to }

@@ -1,4 +1,4 @@
-//! The text of an instruction.
+//! Writes the text of an instruction, and the columns before it in a listing.
 ghost use Rattle.std.specs.Prelude.{◌≡◌, ◌++◌, ◌/◌, ◌%◌, codes, string_bytes, OnOk};
 ghost use Rattle.std.specs.Fmt.{decimal};
 ghost use Rattle.mcs_source.specs.InstructionNames.{name};
@@ -12,7 +12,7 @@ use mcs_code::{Op, instructions, taken};
 use mcs_nibble::{Addr, Nibble};
 use std::alloc::AllocError;
 
-/// Expands to a match from an instruction to its name, with an arm for each row of the instruction table.
+/// Expands to a match from an instruction to its mnemonic, with an arm for each row of the instruction table.
 macro_rules! name_rows {
     (($op:ident) $($codes:pat, $name:ident $kind:ident $words:literal $cycles:literal $group:ident $text:literal;)*) => {
         match *$op {
@@ -28,7 +28,7 @@ fn name(op: &Op) -> &'static str
     instructions!(name_rows!(op))
 }
 
-/// Writes the text `front`, then a number in decimal.
+/// Appends the text `front`, then a number in decimal.
 fn push_number(out: &mut String, front: &str, n: u8) -> Result<(), AllocError>
     ensures { OnOk result (string_bytes out.new
         ≡ string_bytes out.old ++ (front.now ++ decimal n)) }
@@ -36,7 +36,7 @@ fn push_number(out: &mut String, front: &str, n: u8) -> Result<(), AllocError>
     write!(out, "{front}{n}")
 }
 
-/// Writes the text `front`, then an address as `0xHHH`.
+/// Appends the text `front`, then an address as `0xHHH`. `word` is the low byte of the address.
 #[tactic(auto, using(std::proofs::lemmas::Fmt::hex_one_digit, std::proofs::lemmas::Fmt::hex_byte))]
 fn push_address(out: &mut String, front: &str, page: Nibble, word: u8) -> Result<(), AllocError>
     ensures { OnOk result (string_bytes out.new
@@ -46,7 +46,7 @@ fn push_address(out: &mut String, front: &str, page: Nibble, word: u8) -> Result
     write!(out, "{front}0x{page:X}{word:02X}")
 }
 
-/// Writes a register pair and a byte as operands, for example ` P3, 0x2A`.
+/// Appends a register pair and a byte as operands, for example ` P3, 0x2A`.
 #[tactic(auto, using(std::proofs::lemmas::Fmt::hex_byte))]
 fn push_pair_and_byte(out: &mut String, pair: u8, byte: u8) -> Result<(), AllocError>
     ensures { OnOk result (string_bytes out.new
@@ -55,8 +55,8 @@ fn push_pair_and_byte(out: &mut String, pair: u8, byte: u8) -> Result<(), AllocE
     write!(out, " P{pair}, 0x{byte:02X}")
 }
 
-/// Writes the text `front`, a number, and the target address of a JCN or ISZ at `at`. `word` is the low byte of the
-/// target.
+/// Appends the text `front`, a number, and the target address of a JCN or ISZ at address `at`. `word` is the low byte
+/// of the target.
 fn push_near(out: &mut String, front: &str, n: u8, at: Addr, word: u8) -> Result<(), AllocError>
     ensures { OnOk result (string_bytes out.new ≡ string_bytes out.old
         ++ (front.now ++ (decimal n ++ (codes ", " ++ address (near_page at) word)))) }
@@ -65,8 +65,8 @@ fn push_near(out: &mut String, front: &str, n: u8, at: Addr, word: u8) -> Result
     push_address(out, ", ", at.plus(2).page(), word)
 }
 
-/// Expands to code that writes the operands `$a` and `$b` of an instruction, by their kind. JUN, JMS and JCN have the
-/// same kind. Its nibble is a page for JUN and JMS, and a condition for JCN.
+/// Expands to code that appends the operands `$a` and `$b` of an instruction, by the kind of its operands. JUN, JMS
+/// and JCN have the kind `nibble_byte`: the nibble is a page for JUN and JMS, and a condition for JCN.
 macro_rules! pushed {
     (($out:ident $at:ident) $a:ident $b:ident $name:ident none) => {
         Ok(())
@@ -94,7 +94,7 @@ macro_rules! pushed {
     };
 }
 
-/// Expands to a match that writes the operands of an instruction, with an arm for each row of the instruction table.
+/// Expands to a match that appends the operands of an instruction, with an arm for each row of the instruction table.
 macro_rules! operand_rows {
     (($out:ident, $at:ident, $op:ident) $($codes:pat, $name:ident $kind:ident $words:literal $cycles:literal $group:ident $text:literal;)*) => {
         match $op {
@@ -103,14 +103,14 @@ macro_rules! operand_rows {
     };
 }
 
-/// Writes the operands of an instruction.
+/// Appends the operands of the instruction at an address.
 fn push_operands(out: &mut String, at: Addr, op: Op) -> Result<(), AllocError>
     ensures { OnOk result (string_bytes out.new ≡ string_bytes out.old ++ operands at op) }
 {
     instructions!(operand_rows!(out, at, op))
 }
 
-/// Writes the text of the instruction at an address.
+/// Appends the text of the instruction at an address: its mnemonic, then its operands.
 fn push_op(out: &mut String, at: Addr, op: Op) -> Result<(), AllocError>
     ensures { OnOk result (string_bytes out.new ≡ string_bytes out.old ++ instruction_text at op) }
 {
@@ -118,7 +118,8 @@ fn push_op(out: &mut String, at: Addr, op: Op) -> Result<(), AllocError>
     push_operands(out, at, op)
 }
 
-/// Writes the text of the piece at an address: an instruction, or `DB` with the byte `first`.
+/// Appends the text of the piece at an address: an instruction, or `DB` with the byte `first` if there is no
+/// instruction.
 #[tactic(auto, using(std::proofs::lemmas::Fmt::hex_byte))]
 pub fn push_piece(
     out: &mut String,
@@ -135,7 +136,7 @@ pub fn push_piece(
     }
 }
 
-/// Writes the `ORG` line, which gives the address of the bytes after it.
+/// Appends the line `ORG 0xHHH`, which sets the address of the bytes after it.
 pub fn push_origin(out: &mut String, at: Addr) -> Result<(), AllocError>
     ensures { OnOk result (string_bytes out.new
         ≡ string_bytes out.old ++ as_line (origin_text at)) }
@@ -145,7 +146,7 @@ pub fn push_origin(out: &mut String, at: Addr) -> Result<(), AllocError>
     Ok(())
 }
 
-/// Writes an address as three hexadecimal digits.
+/// Appends an address as three hexadecimal digits.
 #[tactic(auto, using(std::proofs::lemmas::Fmt::hex_one_digit, std::proofs::lemmas::Fmt::hex_byte))]
 fn push_digits(out: &mut String, at: Addr) -> Result<(), AllocError>
     ensures { OnOk result (string_bytes out.new
@@ -156,7 +157,7 @@ fn push_digits(out: &mut String, at: Addr) -> Result<(), AllocError>
     write!(out, "{page:X}{word:02X}")
 }
 
-/// Writes the word columns of a listing line. They follow the address.
+/// Appends the columns of a listing line that show the first and the second word. They follow the address column.
 #[tactic(auto, using(std::proofs::lemmas::Fmt::hex_byte))]
 fn push_words(out: &mut String, first: u8, second: Option<u8>) -> Result<(), AllocError>
     ensures { OnOk result (string_bytes out.new
@@ -168,7 +169,7 @@ fn push_words(out: &mut String, first: u8, second: Option<u8>) -> Result<(), All
     }
 }
 
-/// Writes the address and word columns of a listing line. They precede the text.
+/// Appends the address column and the word columns of a listing line. They precede the text of the piece.
 pub fn push_columns(
     out: &mut String,
     at: Addr,

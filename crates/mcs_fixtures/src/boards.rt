@@ -31,7 +31,7 @@ const COLUMNS: [Line; KEY_COLUMNS] = [
     Line::Rom(2, 3),
 ];
 
-/// Returns the given lines as a list. Lines beyond its capacity are dropped.
+/// Returns the given lines as a list of capacity `CAP`. Lines beyond this capacity are dropped.
 pub fn lines<const CAP: usize>(of: &[Line]) -> ArrayVec<Line, CAP> {
     let mut list = ArrayVec::new();
     for line in of {
@@ -40,8 +40,8 @@ pub fn lines<const CAP: usize>(of: &[Line]) -> ArrayVec<Line, CAP> {
     list
 }
 
-/// Returns `count` chains of `chips` chips each, but no more than a board can have. All use the same clock line and
-/// data line.
+/// Returns `count` chains of `chips` chips each, but no more than [`CHAINS`]. All chains use the same clock line and
+/// the same data line.
 pub fn chains(count: u8, chips: u8, (clock, data_in): (Line, Line)) -> ArrayVec<ChainPart, CHAINS> {
     let mut list = ArrayVec::new();
     for _ in 0..count {
@@ -57,7 +57,8 @@ pub fn chains(count: u8, chips: u8, (clock, data_in): (Line, Line)) -> ArrayVec<
 /// The clock line and the data line of the example boards' chain, both on ROM 0.
 pub const CLOCK_AND_DATA: (Line, Line) = (Line::Rom(0, 0), Line::Rom(0, 1));
 
-/// Returns a board whose only ROM is ROM 0 with the given port. It has the given banks, chains and lamps, and no keys.
+/// Returns a board whose only ROM is ROM 0, with the given port masks. The board has the given banks, chains and
+/// lamps, and no keys.
 pub fn on_one_rom(
     port: [LineMask; 4],
     banks: [u8; BANKS],

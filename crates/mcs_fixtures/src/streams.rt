@@ -1,11 +1,11 @@
-//! Readers and writers that fail, a reader that never ends, and concatenation of bytes.
+//! A reader and a writer that fail for a number of calls, a reader that never ends, and concatenation of bytes.
 ghost use Rattle.std.specs.Prelude.{None, Some};
 
 use std::alloc::{AllocError, Global};
 use std::io::{self, Read, Write};
 
-/// A reader that fails for a while. After the first `left` of its bytes, `failures` reads return an error. Later reads
-/// return the other bytes.
+/// A reader that fails for a number of calls. It returns its first `left` bytes, then `failures` reads return an
+/// error, and later reads return the other bytes.
 #[derive(Drop)]
 pub struct CutReader<'a> {
     bytes: &'a [u8],
@@ -14,7 +14,8 @@ pub struct CutReader<'a> {
 }
 
 impl<'a> CutReader<'a> {
-    /// Returns a reader of `bytes`. After the first `left` of them, `failures` reads return an error.
+    /// Returns a reader of `bytes`. When it has returned the first `left` bytes, the next `failures` reads return an
+    /// error.
     pub fn new(bytes: &'a [u8], left: usize, failures: usize) -> CutReader<'a> {
         CutReader {
             bytes,
@@ -43,7 +44,7 @@ impl Read for CutReader<'_> {
     }
 }
 
-/// A reader that repeats one byte without end and counts the bytes that it has returned.
+/// A reader that returns the same byte without end, and counts the bytes that it has returned.
 #[derive(Drop)]
 pub struct EndlessReader {
     byte: u8,
@@ -51,12 +52,12 @@ pub struct EndlessReader {
 }
 
 impl EndlessReader {
-    /// Returns a reader that repeats the given byte.
+    /// Returns a reader that returns the given byte without end.
     pub fn new(byte: u8) -> EndlessReader {
         EndlessReader { byte, given: 0 }
     }
 
-    /// Returns the number of bytes that were read.
+    /// Returns the number of bytes that the reader has returned.
     pub fn given(&self) -> u64 {
         self.given
     }
@@ -72,8 +73,8 @@ impl Read for EndlessReader {
     }
 }
 
-/// A writer that fails for a while and keeps the bytes that it accepts. After the first `left` bytes, `failures` writes
-/// return an error.
+/// A writer that fails for a number of calls and stores the bytes that it accepts. It accepts `left` bytes, then
+/// `failures` writes return an error, and later writes are accepted.
 #[derive(Drop)]
 pub struct CutWriter {
     held: Vec<u8>,
@@ -82,7 +83,7 @@ pub struct CutWriter {
 }
 
 impl CutWriter {
-    /// Returns a writer that accepts `left` bytes, then fails `failures` writes.
+    /// Returns a writer that accepts `left` bytes, then fails for `failures` writes, then accepts all bytes.
     pub fn new(alloc: Global, left: usize, failures: usize) -> CutWriter {
         CutWriter {
             held: Vec::new(alloc),
@@ -91,7 +92,7 @@ impl CutWriter {
         }
     }
 
-    /// Returns the accepted bytes.
+    /// Returns the bytes that the writer has accepted.
     pub fn held(&self) -> &[u8] {
         self.held.as_slice()
     }
@@ -120,7 +121,7 @@ impl Write for CutWriter {
     }
 }
 
-/// Returns the concatenation of the pieces.
+/// Returns the concatenation of byte slices. Fails if allocation fails.
 pub fn joined(alloc: Global, pieces: &[&[u8]]) -> Result<Vec<u8>, AllocError> {
     let mut bytes = Vec::new(alloc);
     for piece in pieces {

@@ -1,17 +1,19 @@
--- The places that are read one after the other.
+-- The invariant of the loop that parses the places of `trace` one by one.
 use Rattle.std.proofs.Common.{◌≡◌, ℕ, zero, suc, ◌+◌, ◌≤◌, Bool, true, false, List, [], ◌∷◌, ◌++◌, length, Result, Ok, Err, refl, sym, ap, ◌∙◌, append_assoc, length-append, arith}
 use Rattle.mcs_probe.specs.declared.probe.Probe.{Probe}
 use Rattle.mcs_lines.specs.declared.requests.LineFault.{LineFault}
 use Rattle.mcs_lines.specs.declared.requests.LineFault.TheVariants.{NotACommand, BadNumber, LineTooLong, NotAscii}
 use Rattle.mcs_lines.specs.ProbeWords.{is_bad_number, probe_of, probes_within, with_probe}
 
--- what was read, places or a bad number, before what the rest comes to
+-- the result for all words, from the probes already parsed and the result for the other words; the
+-- flag is true if an earlier number was bad
 abbrev pub put_before : Bool → List Probe → Result (List Probe) LineFault → Result (List Probe) LineFault
 put_before false ps (Ok qs) = Ok (ps ++ qs)
 put_before true ps (Ok qs) = Err BadNumber
 put_before bad ps (Err fault) = Err fault
 
--- all words come to what those that were read and the rest come to, with room for so many more
+-- Holds if the result for all words is the result for the probes `ps` already parsed and the words
+-- `rest`. There is room for `room` more probes.
 pub record IsRead (all rest : List (List ℕ)) (ps : List Probe) (room : ℕ) (bad : Bool) : Type 0 where
   pub few : length ps + room ≤ 16
   pub so_far : probes_within 16 all ≡ put_before bad ps (probes_within room rest)
@@ -35,7 +37,7 @@ before-bad true ps (Ok qs) = refl
 before-bad false ps (Err fault) = refl
 before-bad true ps (Err fault) = refl
 
--- whether it is more than a bad number
+-- Holds if the error takes precedence over the errors of all later words.
 abbrev pub Decides : LineFault → Type 0
 Decides fault = (r : Result (List Probe) LineFault) → with_probe (Err fault) r ≡ Err fault
 
@@ -43,12 +45,12 @@ before-fault : (bad : Bool) (ps : List Probe) (fault : LineFault) → put_before
 before-fault false ps fault = refl
 before-fault true ps fault = refl
 
--- what stands before a word more
+-- the result for all words, before the next word is parsed
 at-word : (all rest words : List (List ℕ)) (ps : List Probe) (room less : ℕ) (bad : Bool) (word : List ℕ) → room ≡ suc less → rest ≡ word ∷ words → IsRead all rest ps room bad → probes_within 16 all ≡ put_before bad ps (with_probe (probe_of word) (probes_within less words))
 at-word all rest words ps room less bad word e cut r =
     r.so_far ∙ ap (λ ws. put_before bad ps (probes_within room ws)) cut ∙ ap (λ m. put_before bad ps (probes_within m (word ∷ words))) e
 
--- a place more
+-- the invariant after a word that is a place
 pub read-more : (all rest words : List (List ℕ)) (ps qs : List Probe) (room less : ℕ) (bad : Bool) (word : List ℕ) (p : Probe) → room ≡ suc less → rest ≡ word ∷ words → probe_of word ≡ Ok p → qs ≡ ps ++ p ∷ [] → IsRead all rest ps room bad → IsRead all words qs less bad
 read-more all rest words ps qs room less bad word p e cut read is r =
     let len : length qs ≡ length ps + 1 = ap length is ∙ length-append ps (p ∷ []) in
@@ -61,7 +63,7 @@ read-more all rest words ps qs room less bad word p e cut read is r =
           ∙ ap (λ v. put_before bad v (probes_within less words)) (sym is);
     }
 
--- a bad number
+-- the invariant after a word with a bad number
 pub read-bad : (all rest words : List (List ℕ)) (ps : List Probe) (room less : ℕ) (bad : Bool) (word : List ℕ) → room ≡ suc less → rest ≡ word ∷ words → probe_of word ≡ Err BadNumber → IsRead all rest ps room bad → IsRead all words ps less true
 read-bad all rest words ps room less bad word e cut read r =
     let few = r.few in
@@ -72,7 +74,7 @@ read-bad all rest words ps room less bad word e cut read r =
           ∙ before-bad bad ps (probes_within less words);
     }
 
--- a word that is no place
+-- an error that takes precedence is the result for all words
 pub read-refused : (all rest words : List (List ℕ)) (ps : List Probe) (room less : ℕ) (bad : Bool) (word : List ℕ) (fault : LineFault) → Decides fault → room ≡ suc less → rest ≡ word ∷ words → probe_of word ≡ Err fault → IsRead all rest ps room bad → probes_within 16 all ≡ Err fault
 read-refused all rest words ps room less bad word fault d e cut read r =
     at-word all rest words ps room less bad word e cut r
@@ -80,7 +82,7 @@ read-refused all rest words ps room less bad word fault d e cut read r =
     ∙ ap (put_before bad ps) (d (probes_within less words))
     ∙ before-fault bad ps fault
 
--- one word too many
+-- if there is a word but no room, the result is `NotACommand`
 pub read-full : (all rest words : List (List ℕ)) (ps : List Probe) (room : ℕ) (bad : Bool) (word : List ℕ) → room ≡ 0 → rest ≡ word ∷ words → IsRead all rest ps room bad → probes_within 16 all ≡ Err NotACommand
 read-full all rest words ps room bad word e cut r =
     r.so_far ∙ ap (λ ws. put_before bad ps (probes_within room ws)) cut ∙ ap (λ m. put_before bad ps (probes_within m (word ∷ words))) e ∙ before-fault bad ps NotACommand
@@ -93,7 +95,7 @@ all-before : (ps : List Probe) → ps ++ [] ≡ ps
 all-before [] = refl
 all-before (p ∷ ps) = ap (λ (l : List Probe). p ∷ l) (all-before ps)
 
--- no word more
+-- the result for all words when no word is left
 at-end : (all rest : List (List ℕ)) (ps : List Probe) (room : ℕ) (bad : Bool) → rest ≡ [] → IsRead all rest ps room bad → probes_within 16 all ≡ put_before bad ps (Ok [])
 at-end all rest ps room bad none r =
     r.so_far ∙ ap (λ ws. put_before bad ps (probes_within room ws)) none ∙ ap (put_before bad ps) (none-within room)
@@ -106,7 +108,7 @@ pub read-all-bad : (all rest : List (List ℕ)) (ps : List Probe) (room : ℕ) (
 read-all-bad all rest ps room bad e none r =
     at-end all rest ps room bad none r ∙ ap (λ b. put_before b ps (Ok [])) e
 
--- what is no bad number is told whatever follows
+-- every error except `BadNumber` takes precedence over the errors of later words
 pub decides-other : (fault : LineFault) → is_bad_number fault ≡ false → Decides fault
 decides-other fault e (Ok ps) = refl
 decides-other fault e (Err other) = rw e refl

@@ -1,4 +1,4 @@
--- The parts of a word, one after the other.
+-- Lemmas about the parts of a word, which are separated by dots.
 use Rattle.std.proofs.Common.{◌≡◌, ℕ, ◌+◌, ◌<◌, ◌≤◌, List, [], ◌∷◌, ◌++◌, true, length, take, drop, get_or, ap, sym, ◌∙◌, subst, take-append-drop}
 use Rattle.std.proofs.lemmas.List.{drop_more, append-nil, take_all}
 use Rattle.mcs_lines.specs.declared.requests.Request.TheVariants.{Refused}
@@ -9,7 +9,7 @@ use Rattle.mcs_lines.specs.Words.{is_dot, parts_of_word}
 use Rattle.mcs_model.specs.Cutting.{EndsAtFront, EndsPiece, HasNone}
 use Rattle.mcs_model.proofs.Cutting.{before, first_piece_of, split-append, split-cut, split-nothing}
 
--- a word without a dot is one part
+-- a word without a dot has one part, the whole word
 one_part : (word : List ℕ) → HasNone is_dot word → parts_of_word word ≡ word ∷ []
 unfolding parts_of_word
 one_part word h =
@@ -20,7 +20,8 @@ unfolding parts_of_word
 part_and_rest part b rest h e =
     split-append is_dot part (b ∷ rest) h ∙ ap (before part) (split-cut is_dot b rest e) ∙ ap (λ v. v ∷ parts_of_word rest) (append-nil part)
 
--- the part of n bytes that a word begins with, and what follows its dot
+-- If the first dot of a word is at index n, the first part is the n bytes before that dot. The
+-- other parts are those of the bytes after the dot.
 pub first_part : (word : List ℕ) (n : ℕ) → n < length word → EndsPiece is_dot (take n word) (drop n word) → parts_of_word word ≡ take n word ∷ parts_of_word (drop (n + 1) word)
 first_part word n inside h =
     let e = drop_more word n 0 inside in
@@ -34,7 +35,7 @@ many_parts : (name a b k rest value : List ℕ) → poke_parts (name ∷ a ∷ b
 unfolding parts_of_word
 many_parts name a b k rest value = let f = first_piece_of is_dot rest in ap (λ v. poke_parts (name ∷ a ∷ b ∷ k ∷ v) value) f.2
 
--- a place of five parts or more is none
+-- `poke` rejects a place of five or more parts
 pub no_such_place : (place r1 r2 r3 r4 name a b k value : List ℕ)
     → parts_of_word place ≡ name ∷ parts_of_word r1
     → parts_of_word r1 ≡ a ∷ parts_of_word r2
@@ -48,7 +49,7 @@ more_parts : (word name a b rest : List ℕ) → probe_parts word (name ∷ a �
 unfolding parts_of_word
 more_parts word name a b rest = let f = first_piece_of is_dot rest in ap (λ v. probe_parts word (name ∷ a ∷ b ∷ v)) f.2
 
--- a word of four parts or more is read whole
+-- a word of four or more parts is parsed as a whole
 pub read_whole_of : (word r1 r2 r3 name a b : List ℕ)
     → parts_of_word word ≡ name ∷ parts_of_word r1
     → parts_of_word r1 ≡ a ∷ parts_of_word r2

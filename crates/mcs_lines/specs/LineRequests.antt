@@ -1,4 +1,4 @@
--- The request that a line makes.
+-- The request that a command line makes, and the order in which the line is checked.
 use Rattle.std.specs.Prelude.{ℕ, List, [], ◌∷◌, codes, length, nat_lt, Option, Some, None, Result, Ok, Err, if◌then◌else◌}
 use Rattle.std.specs.List.{list_all}
 use Rattle.std.specs.Str.{bytes_eq}

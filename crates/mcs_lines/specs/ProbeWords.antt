@@ -1,4 +1,4 @@
--- The places that `trace` names. (Our own choice.)
+-- The places that `trace` accepts, and the probe of each place. (Our own choice.)
 use Rattle.std.specs.Prelude.{ℕ, zero, suc, ◌==◌, Bool, true, false, List, [], ◌∷◌, codes, Option, Some, None, Result, Ok, Err, if◌then◌else◌}
 use Rattle.mcs_model.specs.Numerals.{number_up_to}
 use Rattle.mcs_model.specs.declared.command.Command.{Command}
@@ -15,7 +15,7 @@ use Rattle.mcs_lines.specs.declared.requests.LineFault.TheVariants.{NotACommand,
 use Rattle.mcs_lines.specs.Requests.{asked, is_number, poke_of}
 use Rattle.mcs_lines.specs.Words.{parts_of_word}
 
--- the probe of a place; the value in the place is ignored
+-- the probe that reads a place; the value in the place is ignored
 abbrev pub probe_at : Place → Probe
 probe_at (place.Acc n) = Acc
 probe_at (place.Cy bit) = Cy
@@ -26,19 +26,19 @@ probe_at (place.Rom at byte) = Rom at
 probe_at (place.Ram bank src n) = Ram bank src
 probe_at (place.Status bank high k n) = Status bank high k
 
--- the probe of the place that a `poke` command writes; any other command is rejected
+-- the probe of the place to which a `poke` command writes, or an error for any other command
 abbrev pub probe_of_command : Command → Result Probe LineFault
 probe_of_command (Poke place) = Ok (probe_at place)
 probe_of_command _ = Err NotACommand
 
--- the probe of the place that a request pokes; any other request is rejected
+-- the probe of the place to which a `poke` request writes, or an error for any other request
 abbrev pub probe_of_request : Request → Result Probe LineFault
 probe_of_request (Change command) = probe_of_command command
 probe_of_request (Refused fault) = Err fault
 probe_of_request _ = Err NotACommand
 
--- the probe of a place of `poke`, from `poke` with that place and the value 0, which is in range
--- for each place
+-- The probe of a place that `poke` accepts. The place is parsed as the argument of `poke` with the
+-- value 0, which is in range for each place.
 abbrev pub probe_of_poke : List ℕ → Result Probe LineFault
 probe_of_poke word = probe_of_request (poke_of word (codes "0"))
 
@@ -47,16 +47,16 @@ abbrev pub or_bad_probe : Option Probe → Result Probe LineFault
 or_bad_probe None = Err BadNumber
 or_bad_probe (Some p) = Ok p
 
--- ---- the lines of a board, by their numbers
+-- ---- the probes of lines and chain bits, from their numbers
 
--- `romC.K`, a line of a ROM
+-- the probe of `romC.K`, a line of a ROM
 abbrev pub rom_line_probe : List ℕ → List ℕ → Option Probe
 rom_line_probe c k = elim (number_up_to 15 c) [
   | None ↦ None
   | Some c ↦ elim (number_up_to 3 k) [ None ↦ None | Some k ↦ Some (Level (line.Rom c k)) ]
 ]
 
--- `ramB.C.K`, a line of a RAM chip
+-- the probe of `ramB.C.K`, a line of a RAM chip
 abbrev pub ram_line_probe : List ℕ → List ℕ → List ℕ → Option Probe
 ram_line_probe b c k = elim (number_up_to 7 b) [
   | None ↦ None
@@ -66,27 +66,27 @@ ram_line_probe b c k = elim (number_up_to 7 b) [
   ]
 ]
 
--- `chainN.I`, a bit of a chain
+-- the probe of `chainN.I`, a bit of a chain
 abbrev pub chain_line_probe : List ℕ → List ℕ → Option Probe
 chain_line_probe n i = elim (number_up_to 3 n) [
   | None ↦ None
   | Some n ↦ elim (number_up_to 79 i) [ None ↦ None | Some i ↦ Some (Level (line.Chain n i)) ]
 ]
 
--- ---- the ports and chains of a board
+-- ---- the probes of ports and chains, from their numbers
 
--- `romC`, the port of a ROM
+-- the probe of `romC`, the port of a ROM
 abbrev pub rom_port_probe : List ℕ → Option Probe
 rom_port_probe c = elim (number_up_to 15 c) [ None ↦ None | Some c ↦ Some (RomPort c) ]
 
--- `ramB.C`, the port of a RAM chip
+-- the probe of `ramB.C`, the port of a RAM chip
 abbrev pub ram_port_probe : List ℕ → List ℕ → Option Probe
 ram_port_probe b c = elim (number_up_to 7 b) [
   | None ↦ None
   | Some b ↦ elim (number_up_to 3 c) [ None ↦ None | Some c ↦ Some (RamPort b c) ]
 ]
 
--- `chainN`, all bits of a chain
+-- the probe of `chainN`, all bits of a chain
 abbrev pub chain_probe : List ℕ → Option Probe
 chain_probe n = elim (number_up_to 3 n) [ None ↦ None | Some n ↦ Some (Chain n) ]
 
@@ -105,13 +105,14 @@ number_after start name = elim (after_word start name) [
   | Some n ↦ if is_number n then Some n else None
 ]
 
--- the number after a prefix, if k, another part of the word, is a number too
+-- the number after a prefix, if the word is that prefix and a number, and `k` is a number too; `k`
+-- is another part of the same word
 abbrev pub number_before : List ℕ → List ℕ → List ℕ → Option (List ℕ)
 number_before start name k = if is_number k then number_after start name else None
 
--- ---- a word, by its parts between dots
+-- ---- the probe of a word, from its parts between dots
 
--- the probe of `romC`, `chainN` or a place of `poke`
+-- the probe of `romC`, `chainN` or a place that `poke` accepts
 abbrev pub probe_named : List ℕ → Result Probe LineFault
 probe_named word = elim (number_after (codes "rom") word) [
   | Some c ↦ or_bad_probe (rom_port_probe c)
@@ -121,15 +122,15 @@ probe_named word = elim (number_after (codes "rom") word) [
   ]
 ]
 
--- the named places of `trace` that `poke` does not have
+-- the places that `trace` accepts by name, but `poke` does not
 abbrev pub probe_names : List (List ℕ × Probe)
 probe_names = (codes "lamps", Lamps) ∷ (codes "ret", Returns) ∷ (codes "src", Src) ∷ []
 
--- the probe of a word of one part, or of more than three
+-- the probe of a word that has one part, or more than three
 abbrev pub probe_whole : List ℕ → Result Probe LineFault
 probe_whole word = elim (asked word probe_names) [ None ↦ probe_named word | Some p ↦ Ok p ]
 
--- the probe of `ramB.C` or a place of `poke`
+-- the probe of a word of two parts: `ramB.C`, or a place that `poke` accepts
 abbrev pub probe_in_bank : List ℕ → List ℕ → List ℕ → Result Probe LineFault
 probe_in_bank word name c = elim (number_before (codes "ram") name c) [
   | Some b ↦ or_bad_probe (ram_port_probe b c)
@@ -169,19 +170,19 @@ abbrev pub is_bad_number : LineFault → Bool
 is_bad_number BadNumber = true
 is_bad_number fault = false
 
--- the error to report for two rejected words: the first one's, unless it is a bad number
+-- the error to report for two rejected words: the first word's error, unless it is `BadNumber`
 abbrev pub first_fault : LineFault → LineFault → LineFault
 first_fault fault other = if is_bad_number fault then other else fault
 
--- a place in front of a list of places, or the error to report
+-- a list of probes with one more probe at its front, or the error to report
 abbrev pub with_probe : Result Probe LineFault → Result (List Probe) LineFault → Result (List Probe) LineFault
 with_probe (Ok p) (Ok ps) = Ok (p ∷ ps)
 with_probe (Ok p) (Err fault) = Err fault
 with_probe (Err fault) (Ok ps) = Err fault
 with_probe (Err fault) (Err other) = Err (first_fault fault other)
 
--- The places that words name, at most `room` of them. A word that is not a place, or a word too
--- many, takes precedence over a bad number.
+-- The probes of the places that words name. The error is `NotACommand` if a word is not a place, or
+-- if there are more than `room` words. Otherwise, it is `BadNumber` if a place has a bad number.
 abbrev pub probes_within : ℕ → List (List ℕ) → Result (List Probe) LineFault
 probes_within room [] = Ok []
 probes_within zero (word ∷ words) = Err NotACommand

@@ -1,4 +1,4 @@
--- The request that a line makes, in tables of commands. (Our own choice.)
+-- The tables of commands and places, and the request that a line makes. (Our own choice.)
 use Rattle.std.specs.Prelude.{◌==◌, ◌&&◌, Bool, ℕ, List, [], ◌∷◌, codes, nat_lt, is_some, if◌then◌else◌, Option, Some, None}
 use Rattle.std.specs.Str.{bytes_eq}
 use Rattle.mcs_model.specs.WordTables.{beside}
@@ -21,45 +21,46 @@ asked word table = beside (bytes_eq word) table
 abbrev pub is_number : List ℕ → Bool
 is_number word = is_some (number_written word)
 
--- the request for the number that a word spells; refusal 11 if the word is not a number or is above
--- `most`
+-- the request that `ask` makes from the number that a word spells; refusal 11 if the word is not a
+-- number or is above `most`
 abbrev pub with_number : ℕ → List ℕ → (ℕ → Request) → Request
 with_number most word ask =
     elim (number_up_to most word) [ None ↦ Refused BadNumber | Some n ↦ ask n ]
 
 -- ---- places, and the values that `poke` writes to them
 
--- the request to poke a value into a place; the value is at most `most`
+-- the request of `poke` for a place and a value; refusal 11 if the value is not a number or is
+-- above `most`
 abbrev pub poke_value : ℕ → List ℕ → (ℕ → Place) → Request
 poke_value most value place = with_number most value (λ v. Change (Poke (place v)))
 
--- `poke rK`
+-- the request of `poke rK`
 abbrev pub poke_register : List ℕ → List ℕ → Request
 poke_register k value = with_number 15 k (λ k. poke_value 15 value (λ n. Register k n))
 
--- `poke rom.A`
+-- the request of `poke rom.A`
 abbrev pub poke_rom : List ℕ → List ℕ → Request
 poke_rom a value = with_number 4095 a (λ at. poke_value 255 value (λ byte. Rom at byte))
 
--- `poke ram.B.S`
+-- the request of `poke ram.B.S`
 abbrev pub poke_ram : List ℕ → List ℕ → List ℕ → Request
 poke_ram b s value =
     with_number 7 b (λ bank. with_number 255 s (λ src. poke_value 15 value (λ n. Ram bank src n)))
 
--- `poke st.B.H.K`
+-- the request of `poke st.B.H.K`
 abbrev pub poke_status : List ℕ → List ℕ → List ℕ → List ℕ → Request
 poke_status b h k value =
     with_number 7 b (λ bank.
     with_number 15 h (λ high.
     with_number 3 k (λ k. poke_value 15 value (λ n. Status bank high k n))))
 
--- `poke rK`; any other name is not a place
+-- the request of `poke rK`; any other name is not a place
 abbrev pub poke_numbered : List ℕ → List ℕ → Request
 poke_numbered [] value = Refused NotACommand
 poke_numbered (b ∷ k) value =
     if (b == 114) && is_number k then poke_register k value else Refused NotACommand
 
--- the named places of `poke`, each with the request for a value
+-- the places that `poke` accepts by name, each with the request for a value
 abbrev pub poke_names : List (List ℕ × (List ℕ → Request))
 poke_names =
     (codes "acc", λ value. poke_value 15 value (λ n. Acc n))
@@ -68,7 +69,7 @@ poke_names =
     ∷ (codes "dcl", λ value. poke_value 7 value (λ bank. Dcl bank))
     ∷ []
 
--- `poke` with a place without dots
+-- the request of `poke` for a place without dots
 abbrev pub poke_named : List ℕ → List ℕ → Request
 poke_named name value =
     elim (asked name poke_names) [ None ↦ poke_numbered name value | Some poke ↦ poke value ]
@@ -111,19 +112,20 @@ alone =
     ∷ (codes "errors", Begin Errors)
     ∷ []
 
--- The number of cycles of `count` and `trace`, 1 to RUN_CYCLES. For `run`, the parser accepts any
--- 32-bit number. The bench rejects one that is out of range (44).
+-- The number of cycles in `count` or `trace`: 1 to RUN_CYCLES, or `None` for any other word. For
+-- `run`, the parser accepts any 32-bit number; the bench rejects a number that is out of range
+-- (44).
 abbrev pub cycles_asked : List ℕ → Option ℕ
 cycles_asked word = elim (number_up_to RUN_CYCLES word) [
   | None ↦ None
   | Some n ↦ if nat_lt 0 n then Some n else None
 ]
 
--- `count`, with its number of cycles
+-- the request of `count` for a number of cycles
 abbrev pub count_request : List ℕ → Request
 count_request n = elim (cycles_asked n) [ None ↦ Refused BadNumber | Some n ↦ Count n ]
 
--- the commands with one argument, each with the request for that argument
+-- the commands with one argument, each with the function from its argument to its request
 abbrev pub with_one : List (List ℕ × (List ℕ → Request))
 with_one =
     (codes "run", λ a. with_number 4294967295 a (λ n. Change (Run n)))
@@ -134,16 +136,18 @@ with_one =
     ∷ (codes "count", count_request)
     ∷ []
 
--- `list`, with an address and a number of lines; a listing has at least one line
+-- the request of `list` for an address and a number of lines; refusal 11 if the number of lines is
+-- 0
 abbrev pub listing : ℕ → ℕ → Request
 listing at lines = if nat_lt 0 lines then Listing at lines else Refused BadNumber
 
--- the request for two numbers, each at most its limit
+-- the request that `ask` makes from the numbers that two words spell; refusal 11 if a word is not a
+-- number or is above its limit
 abbrev pub with_numbers : ℕ → List ℕ → ℕ → List ℕ → (ℕ → ℕ → Request) → Request
 with_numbers most a most' b ask = with_number most a (λ n. with_number most' b (λ m. ask n m))
 
--- the commands with two arguments, each with the request for them; the bench rejects rows and
--- columns that the board lacks (41)
+-- The commands with two arguments, each with the function from its arguments to its request. The
+-- bench rejects rows and columns that the board lacks (41).
 abbrev pub with_two : List (List ℕ × (List ℕ → List ℕ → Request))
 with_two =
     (codes "poke", poke_of)
@@ -154,7 +158,7 @@ with_two =
     ∷ (codes "list", λ a b. with_numbers 4095 a LISTING_LINES b listing)
     ∷ []
 
--- the request of a line, from its first word and the words after it, except for `trace`
+-- the request of a line, from its first word and the words after it; `trace` is not included
 abbrev pub request_of_word : List ℕ → List (List ℕ) → Request
 request_of_word word [] = elim (asked word alone) [ None ↦ Refused NotACommand | Some r ↦ r ]
 request_of_word word (a ∷ []) =

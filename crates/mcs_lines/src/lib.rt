@@ -1,4 +1,4 @@
-//! The parser of command lines.
+//! Parses command lines into requests.
 #![tactic(auto)]
 
 pub mod numbers;

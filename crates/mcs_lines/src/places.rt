@@ -1,4 +1,4 @@
-//! Parsing of `poke` with a place and a value.
+//! Parses the arguments of `poke`: a place and the value to write there.
 ghost use Rattle.std.specs.Prelude.{◌≡◌, ◌∷◌, [], Some};
 ghost use Rattle.mcs_model.specs.declared.command.Command.TheVariants.{Poke};
 ghost use Rattle.mcs_lines.specs.declared.requests.Request.TheVariants.{Change};
@@ -10,35 +10,36 @@ use crate::requests::{LineFault, Request, or_bad_number};
 use crate::words::{equals, next_part};
 use mcs_model::command::{Command, Place};
 
-/// Returns the request to poke a value into a place.
+/// Returns the `poke` request for a place. The place contains the value to write.
 fn poke(place: Place) -> Option<Request>
     ensures { result ≡ Some (Change (Poke place)) }
 {
     Some(Request::Change(Command::Poke(place)))
 }
 
-/// Parses `poke rK` with a value. Returns `None` if `K` or the value is not a number or is out of range.
+/// Returns the request of `poke rK VALUE`, or `None` if `K` or the value is not a number or is out of range.
 fn read_register(k: &[u8], value: &[u8]) -> Option<Request>
     ensures { or_bad_number result ≡ poke_register k.now value.now }
 {
     poke(Place::Register(register(k)?, nibble(value)?))
 }
 
-/// Parses `poke rom.A` with a value. Returns `None` if `A` or the value is not a number or is out of range.
+/// Returns the request of `poke rom.A VALUE`, or `None` if `A` or the value is not a number or is out of range.
 fn read_rom(a: &[u8], value: &[u8]) -> Option<Request>
     ensures { or_bad_number result ≡ poke_rom a.now value.now }
 {
     poke(Place::Rom(address(a)?, byte(value)?))
 }
 
-/// Parses `poke ram.B.S` with a value. Returns `None` if `B`, `S` or the value is not a number or is out of range.
+/// Returns the request of `poke ram.B.S VALUE`, or `None` if `B`, `S` or the value is not a number or is out of
+/// range.
 fn read_ram(b: &[u8], s: &[u8], value: &[u8]) -> Option<Request>
     ensures { or_bad_number result ≡ poke_ram b.now s.now value.now }
 {
     poke(Place::Ram(bank(b)?, byte(s)?, nibble(value)?))
 }
 
-/// Parses `poke st.B.H.K` with a value. Returns `None` if `B`, `H`, `K` or the value is not a number or is out of
+/// Returns the request of `poke st.B.H.K VALUE`, or `None` if `B`, `H`, `K` or the value is not a number or is out of
 /// range.
 fn read_status(b: &[u8], h: &[u8], k: &[u8], value: &[u8]) -> Option<Request>
     ensures { or_bad_number result ≡ poke_status b.now h.now k.now value.now }
@@ -46,7 +47,7 @@ fn read_status(b: &[u8], h: &[u8], k: &[u8], value: &[u8]) -> Option<Request>
     poke(Place::Status(bank(b)?, nibble(h)?, status(k)?, nibble(value)?))
 }
 
-/// Parses `poke rK` with a value. Rejects any other name as not a command.
+/// Parses `poke` with the place `rK`. Rejects any other place as `NotACommand`.
 fn read_numbered(name: &[u8], value: &[u8]) -> Request
     ensures { result ≡ poke_numbered name.now value.now }
 {
@@ -56,7 +57,8 @@ fn read_numbered(name: &[u8], value: &[u8]) -> Request
     }
 }
 
-/// Parses `poke` with a place without dots. Returns `None` if the value is not a number or is out of range.
+/// Parses `poke` with a place that has no dots. Returns `None` if the value for `acc`, `cy`, `pc` or `dcl` is not a
+/// number or is out of range.
 fn read_named(name: &[u8], value: &[u8]) -> Option<Request>
     ensures { or_bad_number result ≡ poke_named name.now value.now }
 {
@@ -73,7 +75,7 @@ fn read_named(name: &[u8], value: &[u8]) -> Option<Request>
     }
 }
 
-/// Parses `poke` with a place of two parts, which must be `rom.A`.
+/// Parses `poke` with a place of two parts. Rejects any place other than `rom.A`.
 fn read_two_parts(name: &[u8], a: &[u8], value: &[u8]) -> Request
     ensures { result ≡ poke_parts (name.now ∷ a.now ∷ []) value.now }
 {
@@ -84,7 +86,7 @@ fn read_two_parts(name: &[u8], a: &[u8], value: &[u8]) -> Request
     }
 }
 
-/// Parses `poke` with a place of three parts, which must be `ram.B.S`.
+/// Parses `poke` with a place of three parts. Rejects any place other than `ram.B.S`.
 fn read_three_parts(name: &[u8], b: &[u8], s: &[u8], value: &[u8]) -> Request
     ensures { result ≡ poke_parts (name.now ∷ b.now ∷ s.now ∷ []) value.now }
 {
@@ -95,7 +97,7 @@ fn read_three_parts(name: &[u8], b: &[u8], s: &[u8], value: &[u8]) -> Request
     }
 }
 
-/// Parses `poke` with a place of four parts, which must be `st.B.H.K`.
+/// Parses `poke` with a place of four parts. Rejects any place other than `st.B.H.K`.
 fn read_four_parts(name: &[u8], b: &[u8], h: &[u8], k: &[u8], value: &[u8]) -> Request
     ensures { result ≡ poke_parts (name.now ∷ b.now ∷ h.now ∷ k.now ∷ []) value.now }
 {
@@ -106,7 +108,8 @@ fn read_four_parts(name: &[u8], b: &[u8], h: &[u8], k: &[u8], value: &[u8]) -> R
     }
 }
 
-/// Parses the arguments of `poke`: a place and a value.
+/// Parses the arguments of `poke`: a place, and the value to write there. Returns a refusal if one of them is not
+/// valid.
 pub fn read_poke(place: &[u8], value: &[u8]) -> Request
     ensures { result ≡ poke_of place.now value.now }
 {

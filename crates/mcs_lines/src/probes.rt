@@ -1,4 +1,4 @@
-//! Parsing of the places that `trace` names.
+//! Parses the places that a `trace` command lists.
 ghost use Rattle.std.specs.Prelude.{◌≡◌, Ok, Err, None, Some, MatchOption, MatchResult};
 ghost use Rattle.mcs_lines.specs.ProbeWords.{after_word, chain_probe, chain_line_probe, is_bad_number, number_after, number_before, or_bad_probe, probe_at, probe_in_bank, probe_named, probe_of, probe_of_command, probe_of_poke, probe_three, probe_two, probe_whole, probes_within, ram_line_probe, ram_port_probe, rom_line_probe, rom_port_probe};
 ghost use Rattle.mcs_model.specs.TextLines.{words_of};
@@ -13,7 +13,7 @@ use mcs_model::command::{Command, Place};
 use mcs_model::numeral::number_within;
 use mcs_probe::{PROBES, Probe};
 
-/// Returns the probe of a place. The value in `place` is ignored.
+/// Returns the probe that reads a place. The value in `place` is ignored.
 fn probe_at(place: Place) -> Probe
     ensures { result ≡ probe_at place }
 {
@@ -29,7 +29,7 @@ fn probe_at(place: Place) -> Probe
     }
 }
 
-/// Returns the probe of the place that a `poke` command writes. Rejects any other command.
+/// Returns the probe of the place to which a `poke` command writes, or the error `NotACommand` for any other command.
 fn probe_of_command(command: &Command) -> Result<Probe, LineFault>
     ensures { result ≡ probe_of_command command.now }
 {
@@ -39,7 +39,8 @@ fn probe_of_command(command: &Command) -> Result<Probe, LineFault>
     }
 }
 
-/// Parses a place of `poke`, by parsing `poke` with that place and the value 0.
+/// Returns the probe of a place that `poke` accepts. Checks the place by parsing `poke` with this place and the value
+/// 0.
 fn read_place(word: &[u8]) -> Result<Probe, LineFault>
     ensures { result ≡ probe_of_poke word.now }
 {
@@ -60,14 +61,15 @@ fn or_bad_number(probe: Option<Probe>) -> Result<Probe, LineFault>
     }
 }
 
-/// Parses `romC.K`, a line of a ROM. Returns `None` if `C` or `K` is not a number or is out of range.
+/// Returns the probe of line `romC.K` of a ROM, or `None` if `C` or `K` is not a number or is out of range.
 fn rom_line_probe(c: &[u8], k: &[u8]) -> Option<Probe>
     ensures { result ≡ rom_line_probe c.now k.now }
 {
     Some(Probe::Level(Line::Rom(nibble(c)?.get(), status(k)?.get())))
 }
 
-/// Parses `ramB.C.K`, a line of a RAM chip. Returns `None` if `B`, `C` or `K` is not a number or is out of range.
+/// Returns the probe of line `ramB.C.K` of a RAM chip, or `None` if `B`, `C` or `K` is not a number or is out of
+/// range.
 fn ram_line_probe(b: &[u8], c: &[u8], k: &[u8]) -> Option<Probe>
     ensures { result ≡ ram_line_probe b.now c.now k.now }
 {
@@ -75,7 +77,7 @@ fn ram_line_probe(b: &[u8], c: &[u8], k: &[u8]) -> Option<Probe>
     Some(Probe::Level(Line::Ram(bank, status(c)?.get(), status(k)?.get())))
 }
 
-/// Parses `chainN.I`, a bit of a chain. Returns `None` if `N` or `I` is not a number or is out of range.
+/// Returns the probe of bit `chainN.I` of a chain, or `None` if `N` or `I` is not a number or is out of range.
 fn chain_line_probe(n: &[u8], i: &[u8]) -> Option<Probe>
     ensures { result ≡ chain_line_probe n.now i.now }
 {
@@ -83,21 +85,21 @@ fn chain_line_probe(n: &[u8], i: &[u8]) -> Option<Probe>
     Some(Probe::Level(Line::Chain(n, number_within(i, 79)? as u8)))
 }
 
-/// Parses `romC`, the port of a ROM. Returns `None` if `C` is not a number or is out of range.
+/// Returns the probe of `romC`, the port of a ROM, or `None` if `C` is not a number or is out of range.
 fn rom_port_probe(c: &[u8]) -> Option<Probe>
     ensures { result ≡ rom_port_probe c.now }
 {
     Some(Probe::RomPort(nibble(c)?.get()))
 }
 
-/// Parses `ramB.C`, the port of a RAM chip. Returns `None` if `B` or `C` is not a number or is out of range.
+/// Returns the probe of `ramB.C`, the port of a RAM chip, or `None` if `B` or `C` is not a number or is out of range.
 fn ram_port_probe(b: &[u8], c: &[u8]) -> Option<Probe>
     ensures { result ≡ ram_port_probe b.now c.now }
 {
     Some(Probe::RamPort(bank(b)?.get(), status(c)?.get()))
 }
 
-/// Parses `chainN`, all bits of a chain. Returns `None` if `N` is not a number or is out of range.
+/// Returns the probe of `chainN`, all bits of a chain, or `None` if `N` is not a number or is out of range.
 fn chain_probe(n: &[u8]) -> Option<Probe>
     ensures { result ≡ chain_probe n.now }
 {
@@ -122,7 +124,7 @@ fn after_word<'a>(start: &[u8], name: &'a [u8]) -> Option<&'a [u8]>
     }
 }
 
-/// Returns the number after the prefix `start`. Returns `None` if `name` is not that prefix followed by a number.
+/// Returns the number that follows the prefix `start` in `name`, or `None` if `name` is not that prefix and a number.
 fn number_after<'a>(start: &[u8], name: &'a [u8]) -> Option<&'a [u8]>
     ensures { MatchOption result (number_after start.now name.now ≡ None)
         (λ n. number_after start.now name.now ≡ Some n.now) }
@@ -131,7 +133,8 @@ fn number_after<'a>(start: &[u8], name: &'a [u8]) -> Option<&'a [u8]>
     if is_number(n) { Some(n) } else { None }
 }
 
-/// Returns the number after the prefix `start`, if `k`, another part of the word, is a number too.
+/// Returns the number that follows the prefix `start` in `name`, if `name` is that prefix and a number, and `k` is a
+/// number too. `k` is another part of the same word.
 fn number_before<'a>(start: &[u8], name: &'a [u8], k: &[u8]) -> Option<&'a [u8]>
     ensures { MatchOption result (number_before start.now name.now k.now ≡ None)
         (λ n. number_before start.now name.now k.now ≡ Some n.now) }
@@ -143,7 +146,7 @@ fn number_before<'a>(start: &[u8], name: &'a [u8], k: &[u8]) -> Option<&'a [u8]>
     }
 }
 
-/// Parses `romC`, `chainN` or a place of `poke`.
+/// Returns the probe of `romC`, `chainN` or a place that `poke` accepts.
 fn read_named(word: &[u8]) -> Result<Probe, LineFault>
     ensures { result ≡ probe_named word.now }
 {
@@ -156,7 +159,7 @@ fn read_named(word: &[u8]) -> Result<Probe, LineFault>
     read_place(word)
 }
 
-/// Parses a word of one part, or of more than three, as a place.
+/// Returns the probe of a word that has one part, or more than three.
 fn read_whole(word: &[u8]) -> Result<Probe, LineFault>
     ensures { result ≡ probe_whole word.now }
 {
@@ -171,7 +174,7 @@ fn read_whole(word: &[u8]) -> Result<Probe, LineFault>
     }
 }
 
-/// Parses `ramB.C` or a place of `poke`, a word of two parts.
+/// Returns the probe of a word of two parts: `ramB.C`, or a place that `poke` accepts.
 fn read_in_bank(word: &[u8], name: &[u8], c: &[u8]) -> Result<Probe, LineFault>
     ensures { result ≡ probe_in_bank word.now name.now c.now }
 {
@@ -181,7 +184,7 @@ fn read_in_bank(word: &[u8], name: &[u8], c: &[u8]) -> Result<Probe, LineFault>
     read_place(word)
 }
 
-/// Parses a word of two parts as a place.
+/// Returns the probe of a word of two parts.
 fn read_two(word: &[u8], name: &[u8], k: &[u8]) -> Result<Probe, LineFault>
     ensures { result ≡ probe_two word.now name.now k.now }
 {
@@ -194,7 +197,7 @@ fn read_two(word: &[u8], name: &[u8], k: &[u8]) -> Result<Probe, LineFault>
     read_in_bank(word, name, k)
 }
 
-/// Parses a word of three parts as a place.
+/// Returns the probe of a word of three parts.
 fn read_three(word: &[u8], name: &[u8], c: &[u8], k: &[u8]) -> Result<Probe, LineFault>
     ensures { result ≡ probe_three word.now name.now c.now k.now }
 {
@@ -206,7 +209,7 @@ fn read_three(word: &[u8], name: &[u8], c: &[u8], k: &[u8]) -> Result<Probe, Lin
     read_place(word)
 }
 
-/// Parses a word as a place.
+/// Returns the probe of the place that a word names, or the error `NotACommand` or `BadNumber`.
 fn read_probe(word: &[u8]) -> Result<Probe, LineFault>
     ensures { result ≡ probe_of word.now }
 {
@@ -225,7 +228,7 @@ fn read_probe(word: &[u8]) -> Result<Probe, LineFault>
     }
 }
 
-/// Returns true if an error is `BadNumber`. Other errors take precedence over it.
+/// Returns true if an error is `BadNumber`. All other errors take precedence over `BadNumber`.
 fn is_bad_number(fault: LineFault) -> bool
     ensures { result ≡ is_bad_number fault }
 {
@@ -235,8 +238,8 @@ fn is_bad_number(fault: LineFault) -> bool
     }
 }
 
-/// Parses the words of a line as places, at most [`PROBES`]. A word that is not a place, or a word too many, takes
-/// precedence over a bad number.
+/// Parses the words of a line as places. Returns `NotACommand` if a word is not a place, or if there are more than
+/// [`PROBES`] words. Otherwise, returns `BadNumber` if a place has a bad number.
 pub(crate) fn read_probes(line: &[u8]) -> Result<ArrayVec<Probe, PROBES>, LineFault>
     ensures { MatchResult result
         (λ probes. probes_within PROBES (words_of line.now) ≡ Ok probes.items)

@@ -1,4 +1,4 @@
-//! Parsing of command lines.
+//! Parses a command line into a request, or into the reason that it is rejected.
 ghost use Rattle.std.specs.Prelude.{[], ◌∷◌, ◌≡◌};
 ghost use Rattle.std.specs.List.{list_all};
 ghost use Rattle.mcs_lines.specs.RefusalNumbers.{line_fault_number};
@@ -40,7 +40,7 @@ pub enum LineFault {
 }
 
 impl LineFault {
-    /// Returns the refusal number.
+    /// Returns the refusal number of the error.
     pub fn number(self) -> u8
         ensures { result ≡ line_fault_number self }
     {
@@ -60,11 +60,11 @@ pub enum TextKind {
     Wire,
     /// A program to assemble and load.
     Asm,
-    /// A program whose lines and names are reported.
+    /// A program. The answer gives the address and size of each line, and the value of each name.
     Map,
-    /// A board whose first error is reported with its line.
+    /// A board. The answer reports its first error and the line of the error.
     Wiring,
-    /// A program whose errors are reported.
+    /// A program. The answer reports its errors.
     Errors,
 }
 
@@ -75,25 +75,25 @@ pub enum Request {
     Nothing,
     /// The line is rejected.
     Refused(LineFault),
-    /// A query of the bench's state. It changes nothing.
+    /// A query about the bench's state. It does not change the state.
     Ask(Query),
     /// A ROM listing of 1 to [`LISTING_LINES`] lines, from an address.
     Listing(Addr, u16),
-    /// A query of the board's wiring.
+    /// The query for the text of the board.
     Board,
-    /// A count of the instructions that a run of 1 to [`RUN_CYCLES`] cycles would begin at each address. It changes
-    /// nothing.
+    /// A count of the instructions that a run would begin at each address. The run has 1 to [`RUN_CYCLES`] cycles. It
+    /// does not change the bench.
     Count(u32),
-    /// A trace of a run of 1 to [`RUN_CYCLES`] cycles. It reports each instruction that would change one of the places,
-    /// or every instruction if there are no places. It changes nothing.
+    /// A trace of a run of 1 to [`RUN_CYCLES`] cycles. It reports each instruction that would change one of the
+    /// places, or every instruction if there are no places. It does not change the bench.
     Trace(u32, ArrayVec<Probe, PROBES>),
-    /// A command on the bench.
+    /// A command that changes the bench.
     Change(Command),
     /// The start of a text. The next lines are that text.
     Begin(TextKind),
 }
 
-/// Parses a line of one word.
+/// Parses a line that has only one word.
 fn read_alone(word: &[u8]) -> Request
     ensures { result ≡ request_of_word word.now [] }
 {
@@ -130,7 +130,7 @@ fn read_alone(word: &[u8]) -> Request
     }
 }
 
-/// Returns the request, or the refusal `BadNumber` if there is none.
+/// Returns the request, or the refusal `BadNumber` if `request` is `None`.
 pub(crate) fn or_bad_number(request: Option<Request>) -> Request
     ensures { result ≡ or_bad_number request }
 {
@@ -140,7 +140,7 @@ pub(crate) fn or_bad_number(request: Option<Request>) -> Request
     }
 }
 
-/// Parses a number of cycles, 1 to [`RUN_CYCLES`].
+/// Parses a number of cycles from 1 to [`RUN_CYCLES`]. Returns `None` for any other word.
 fn cycles(word: &[u8]) -> Option<u32>
     ensures { result ≡ cycles_asked word.now }
 {
@@ -148,7 +148,8 @@ fn cycles(word: &[u8]) -> Option<u32>
     if n == 0 { None } else { Some(n) }
 }
 
-/// Parses the arguments of `trace`: a number of cycles and the places.
+/// Parses the arguments of `trace`: a number of cycles, then the places. An error in the places takes precedence over
+/// a bad number of cycles.
 fn read_trace(line: &[u8]) -> Request
     ensures { result ≡ trace_request (words_of line.now) }
 {
@@ -164,7 +165,7 @@ fn read_trace(line: &[u8]) -> Request
     }
 }
 
-/// Parses a line of two words. Returns `None` if the argument is not a number or is out of range.
+/// Parses a command with one argument. Returns `None` if the argument is not a number or is out of range.
 fn read_with_one(word: &[u8], a: &[u8]) -> Option<Request>
     ensures { or_bad_number result ≡ request_of_word word.now (a.now ∷ []) }
 {
@@ -186,7 +187,7 @@ fn read_with_one(word: &[u8], a: &[u8]) -> Option<Request>
     Some(request)
 }
 
-/// Parses the arguments of `list`: an address and a number of lines. Returns `None` if one of them is not a number or
+/// Parses the arguments of `list`: an address and a number of lines. Returns `None` if an argument is not a number or
 /// is out of range.
 fn read_list(a: &[u8], n: &[u8]) -> Option<Request>
     ensures { or_bad_number result ≡ with_numbers 4095 a.now LISTING_LINES n.now listing }
@@ -199,7 +200,7 @@ fn read_list(a: &[u8], n: &[u8]) -> Option<Request>
     Some(Request::Listing(at, lines as u16))
 }
 
-/// Parses a line of three words. Returns `None` if an argument is not a number or is out of range.
+/// Parses a command with two arguments. Returns `None` if an argument is not a number or is out of range.
 fn read_with_two(word: &[u8], a: &[u8], b: &[u8]) -> Option<Request>
     ensures { or_bad_number result ≡ request_of_word word.now (a.now ∷ b.now ∷ []) }
 {
@@ -221,7 +222,7 @@ fn read_with_two(word: &[u8], a: &[u8], b: &[u8]) -> Option<Request>
     Some(request)
 }
 
-/// Parses a line from its first word and the bytes after it. Does not know `trace`.
+/// Parses a line from its first word and the bytes after this word. Rejects `trace`, which [`read_words`] handles.
 fn read_word(word: &[u8], rest: &[u8]) -> Request
     ensures { result ≡ request_of_word word.now (words_of rest.now) }
 {
@@ -237,7 +238,7 @@ fn read_word(word: &[u8], rest: &[u8]) -> Request
     }
 }
 
-/// Parses a line from its words.
+/// Parses a line from its words. Does not check the length of the line or its bytes.
 fn read_words(line: &[u8]) -> Request
     ensures { result ≡ request_of_words (words_of line.now) }
 {
@@ -258,7 +259,8 @@ fn is_plain(line: &[u8]) -> bool
     line.iter().all(|b| is_plain_byte(*b))
 }
 
-/// Parses a command line, which is given without its line end.
+/// Parses a command line, given without its line end. Returns a refusal if the line is too long, has a byte that is
+/// not allowed, or is not a command.
 #[tactic(auto, unfolding(crate::specs::LineRequests::request_of))]
 pub fn read_request(line: &[u8]) -> Request
     ensures { result ≡ request_of line.now }

@@ -1,4 +1,4 @@
-//! The words of a line, and the parts of a word.
+//! Splits a line into words at its blanks, and a word into parts at its dots.
 ghost use Rattle.std.specs.Prelude.{◌≡◌, ◌≤◌, ◌∷◌, [], MatchOption, length, take, drop};
 ghost use Rattle.std.specs.Str.{bytes_eq};
 ghost use Rattle.mcs_lines.specs.Words.{is_dot, is_plain_byte, parts_of_word};
@@ -34,7 +34,7 @@ fn without_blanks(line: &[u8]) -> &[u8]
     &[]
 }
 
-/// Returns the number of bytes before the first blank in a line, or in the whole line if it has none.
+/// Returns the index of the first blank in a line, or the length of the line if it has no blank.
 fn word_at_front(line: &[u8]) -> usize
     ensures within { result ≤ length line.now }
     ensures word { EndsPiece is_blank (take result line.now) (drop result line.now) }
@@ -60,7 +60,7 @@ pub fn next_word(line: &[u8]) -> Option<(&[u8], &[u8])>
     Some((&line[..end], &line[end..]))
 }
 
-/// Returns the number of bytes before the first dot in a word, or in the whole word if it has none.
+/// Returns the index of the first dot in a word, or the length of the word if it has no dot.
 fn part_at_front(word: &[u8]) -> usize
     ensures within { result ≤ length word.now }
     ensures part { EndsPiece is_dot (take result word.now) (drop result word.now) }

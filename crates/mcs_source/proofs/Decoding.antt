@@ -1,4 +1,4 @@
--- What the code table reads from two words is spelled by those words.
+-- If the opcode table decodes two words as an instruction, these words encode the instruction.
 use Rattle.std.proofs.Common.{inr, inl, ◌⊎◌, ◌≡◌, ℕ, ◌+◌, ◌*◌, ◌/◌, ◌%◌, ◌<◌, Bool, true, false, cond, ◌&&◌, eqb, List, [], ◌∷◌, Option, Some, None, refl, ap, subst, arith, sym, ◌∙◌, take}
 use Rattle.std.specs.Prelude.{unwrap_or, IsSome, ◌↔◌, find}
 use Rattle.std.specs.Option.{option_map, option_to_list}
@@ -10,8 +10,8 @@ use Rattle.mcs_model.specs.Table.{word_count_of, Row, rows, covers, row_of, inst
 use Rattle.mcs_source.specs.Spelling.{spelling}
 use Rattle.mcs_source.specs.Spelled.{IsOp, IsSpelledBy}
 
--- the words of an instruction are these two, or the first; where the second is a byte, its operands
--- are in their ranges
+-- Holds if the instruction is encoded by both words, or by the first word if it has one. If the
+-- second word is a byte, the operands are in range.
 abbrev pub Spells : ℕ → ℕ → Op → Type 0
 Spells first second o = (second < 256 → IsOp o) × (spelling o ≡ take (word_count_of o) (first ∷ second ∷ []))
 
@@ -210,7 +210,8 @@ one_or_two (Jms _ _) = inr refl
 one_or_two (Isz _ _) = inr refl
 one_or_two _ = inl refl
 
--- words that are read as an instruction, and are as many as it has, spell it
+-- the words that decode to an instruction encode it, if there is a second word exactly if the
+-- instruction has two
 pub words_spell : (first : ℕ) (second : Option ℕ) (o : Op) → instruction_of first (unwrap_or second 0) ≡ Some o → IsSome second ↔ (word_count_of o ≡ 2) → first ∷ option_to_list second ≡ spelling o
 words_spell first None o e both = elim (one_or_two o) [
   | inl one ↦ sym ((decoded_words first 0 o e).1 ∙ rw one refl)

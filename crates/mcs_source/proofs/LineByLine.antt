@@ -1,4 +1,5 @@
--- What is said of line i, one line further, and the least line with a fault.
+-- Lemmas about the definitions for line i: the step to the next line, and the first line with an
+-- error.
 use Rattle.std.proofs.Common.{◌≡◌, ℕ, zero, suc, ◌+◌, ◌<◌, ◌≤◌, Bool, false, cond, List, [], ◌∷◌, ◌++◌, length, drop, find, filter_map, flat_map, map, Option, Some, None, is_some, inl, inr, refl, sym, ap, subst, ◌∙◌, append-nil, arith, Ok}
 use Rattle.std.specs.List.{range_with_len, cons_option}
 use Rattle.std.proofs.lemmas.Bool.{cases_eq}
@@ -13,7 +14,7 @@ use Rattle.mcs_source.specs.Survey.{span, spans_before}
 use Rattle.mcs_model.proofs.ListLemmas.{range_more, find_at}
 use Rattle.mcs_model.specs.Options.{◌>>=◌}
 
--- ---- one line further
+-- ---- the step from line i to line i + 1
 
 range_next : (i : ℕ) → range_with_len 0 (i + 1) ≡ range_with_len 0 i ++ i ∷ []
 range_next i =
@@ -44,9 +45,9 @@ unfolding spans_before
 spans_next lines names i =
     ap (map (span lines names)) (range_next i) ∙ map_push (span lines names) (range_with_len 0 i) i
 
--- ---- the least line with a fault
+-- ---- the first line with an error
 
--- no line before line i has a fault
+-- Holds if no line before line i has an error.
 abbrev pub NoneBefore : (ℕ → Option SourceFault) → ℕ → Type 0
 NoneBefore fault i = (j : ℕ) → j < i → fault j ≡ None
 
@@ -87,20 +88,20 @@ none_from fault a (suc n) e j low high =
       ]
     ]) refl e
 
--- where no line is the least with a fault, none has one
+-- if `first_fault` finds no error in the lines below n, none of these lines has an error
 pub none_below : (fault : ℕ → Option SourceFault) (n : ℕ) → first_fault fault n ≡ None → NoneBefore fault n
 none_below fault n e j lt = none_from fault 0 n e j (omega arith) (omega (arith, lt))
 
--- ---- the whole
+-- ---- the whole text
 
--- line i, where the lines from it on are given
+-- the first of the lines that are left is line i, and the others start at line i + 1
 pub first_of_rest : (lines : List (Option SourceLine)) (i : ℕ) (line : Option SourceLine) (more : List (Option SourceLine)) → drop i lines ≡ line ∷ more → (i < length lines) × (ith_line lines i ≡ line) × (drop (i + 1) lines ≡ more)
 first_of_rest lines i line more e =
     let lt : i < length lines = omega (arith, length-drop i lines, ap length e) in
     let parts : ith_line lines i ∷ drop (i + 1) lines ≡ line ∷ more = sym (drop_more lines i None lt) ∙ e in
     (lt, cc, cc)
 
--- a text without faults
+-- a text in which neither pass finds an error assembles to the pairs of all its lines
 pub all_passed : (text : List ℕ) (ls : List (List ℕ)) (names : Names) → ls ≡ lines_of text → first_of_class_one (read ls) ≡ None → names ≡ all_names (read ls) → first_of_class_two (read ls) names ≡ None
     → assembly_of_text text ≡ Ok (pairs_before (read ls) names (length (read ls)))
 unfolding assembly_of

@@ -1,4 +1,4 @@
--- Spans, and the addresses of pairs.
+-- The addresses in the spans of a text are the addresses of the pairs that the text emits.
 use Rattle.std.proofs.Common.{◌≡◌, ℕ, suc, ◌+◌, List, [], ◌∷◌, ◌++◌, length, map, flat_map, Option, Some, None, Result, Ok, refl, sym, ap, ◌∙◌}
 use Rattle.std.specs.List.{range_with_len}
 use Rattle.std.specs.Result.{result_map_both}

@@ -1,4 +1,4 @@
--- The tokens of a line byte by byte.
+-- The tokens of a line, computed byte by byte.
 use Rattle.std.proofs.Common.{◌≡◌, ◌⊎◌, ◌+◌, ◌==◌, if◌then◌else◌, suc, ℕ, Bool, true, false, cond, not, ◌||◌, eqb, List, [], ◌∷◌, ◌++◌, map, refl, sym, ap, ◌∙◌, append_assoc, arith, inl, inr}
 use Rattle.std.specs.List.{before_first, flat_map, list_all, prefix_len}
 use Rattle.std.proofs.lemmas.Bool.{and_parts, eqb-true, true≢false}
@@ -7,12 +7,13 @@ use Rattle.mcs_model.specs.Cutting.{EndsAtFront, HasNone}
 use Rattle.mcs_model.proofs.LineWords.{words_of-blank, words_of-word}
 use Rattle.mcs_source.specs.Lexical.{Token, Word, is_word_byte, set_apart, symbol, token_of, tokens}
 
--- the word that ends here, if there is one
+-- a word token in front of some tokens, or only these tokens if the word is empty
 abbrev pub word_then : List ℕ → List Token → List Token
 word_then [] more = more
 word_then (b ∷ word) more = Word (b ∷ word) ∷ more
 
--- the tokens from within a word on
+-- the tokens of the bytes that follow, if the bytes of `word` have been read and the word can
+-- continue
 unfoldable pub tokens_after : List ℕ → List ℕ → List Token
 tokens_after word [] = word_then word []
 tokens_after word (b ∷ bytes) =
@@ -21,7 +22,7 @@ tokens_after word (b ∷ bytes) =
     (if is_blank b then tokens_after [] bytes else
     if b == 59 then [] else symbol b ∷ tokens_after [] bytes)
 
--- the bytes of a line before its comment, with symbols set apart
+-- the bytes of a line before its comment, with spaces around each symbol
 abbrev pub spread : List ℕ → List ℕ
 spread line = flat_map set_apart (before_first (λ b. eqb b 59) line)
 
@@ -36,7 +37,7 @@ either_blank true t b p q e = inl (eqb-true _ _ p)
 either_blank false true b p q e = inr (eqb-true _ _ q)
 either_blank false false b p q e = absurd cc
 
--- a blank is no byte of a word
+-- a blank is not a word byte
 pub no_word : (b : ℕ) → is_blank b ≡ true → is_word_byte b ≡ false
 no_word b e = word_or_blank b (either_blank (eqb b 32) (eqb b 9) b refl refl e)
 
@@ -57,7 +58,7 @@ all_more (x ∷ word) b all e =
     let (here, more) = and_parts (is_word_byte x) (list_all is_word_byte word) all in
     rw here (all_more word b more e)
 
--- a word before what has a blank in front
+-- the tokens of a word followed by a blank or by nothing: the word, then the tokens of the rest
 ended : (word rest : List ℕ) → list_all is_word_byte word ≡ true → EndsAtFront is_blank rest → map token_of (words_of (word ++ rest)) ≡ word_then word (map token_of (words_of rest))
 ended [] rest all ends = refl
 ended (b ∷ word) rest all ends =
@@ -71,7 +72,7 @@ no_words = refl
 
 -- ---- a line
 
--- nothing is left of a comment
+-- a byte `;` and the bytes after it are a comment and give nothing
 spread_comment : (b : ℕ) (bytes : List ℕ) → eqb b 59 ≡ true → spread (b ∷ bytes) ≡ []
 spread_comment b bytes e = rw e refl
 

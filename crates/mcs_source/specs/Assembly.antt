@@ -1,7 +1,6 @@
 -- The result of assembling a source text: the (address, byte) pairs that its lines emit, or its
--- first error. (Our own choice.) Most definitions are about line i in the list of all lines. Lines
--- are numbered from 0 here, and from 1 in an error. Errors have the numbers 30 to 37
--- (`RefusalNumbers`).
+-- first error. (Our own choice.) Most definitions are about line i of the text. Lines are numbered
+-- from 0 here, and from 1 in an error report. Errors have the numbers 30 to 37 (`RefusalNumbers`).
 use Rattle.std.specs.Prelude.{ℕ, zero, suc, ◌+◌, slice_index_or, ◌/◌, ◌%◌, Bool, true, false, not, ◌&&◌, ◌||◌, List, [], ◌∷◌, length, map, find, Option, Some, None, is_some, option_map, Result, Ok, Err, nat_lt, nat_le, ◌==◌, if◌then◌else◌}
 use Rattle.std.specs.List.{list_any, list_all, flat_map, filter_map, range_with_len}
 use Rattle.std.specs.Str.{bytes_eq}
@@ -19,13 +18,13 @@ use Rattle.mcs_model.specs.Table.{word_count_of}
 use Rattle.mcs_model.specs.Options.{◌>>=◌}
 use Rattle.mcs_model.specs.WordTables.{beside}
 
--- ---- the lines of a text, parsed
+-- ---- the parsed lines of a text
 
--- each line of a text, parsed; `None` for a line that does not parse
+-- the parsed lines of a text, with `None` for a line that does not parse
 abbrev pub read : List (List ℕ) → List (Option SourceLine)
 read lines = map (λ line. line_of (tokens line)) lines
 
--- line i, parsed
+-- the parsed line i, or `None` if it does not parse or there is no line i
 abbrev pub ith_line : List (Option SourceLine) → ℕ → Option SourceLine
 ith_line lines i = slice_index_or lines i None
 
@@ -86,8 +85,8 @@ names_before lines i =
 abbrev pub all_names : List (Option SourceLine) → Names
 all_names lines = names_before lines (length lines)
 
--- ---- errors of class one: 30, 31, 36, 37, and 33 in `ORG` and `=`. They depend only on the line
--- and the lines before it.
+-- ---- errors of the first pass: 30, 31, 36, 37, and 33 in `ORG` and `=`. They depend only on the
+-- line and the lines before it.
 
 -- error 31: an earlier line defines the same name
 abbrev pub is_known : List ℕ → Names → Bool
@@ -101,7 +100,7 @@ abbrev pub is_known_name : Option (List ℕ) → Names → Bool
 is_known_name None names = false
 is_known_name (Some w) names = is_known w names
 
--- error 33 of class one: the number in `ORG` or `NAME = NUMBER` is above 4095
+-- error 33 in the first pass: the number in `ORG` or `NAME = NUMBER` is above 4095
 abbrev pub is_bad_origin : Option Statement → Bool
 is_bad_origin (Some (Origin n)) = not (nat_lt n 4096)
 is_bad_origin s = false
@@ -117,9 +116,9 @@ passes_end (Define w n) at = false
 passes_end (Code label s) at =
     (is_some label && nat_le 4096 at) || nat_lt 4096 (at + statement_size s)
 
--- The first of the errors 30, 33, 31, 37 and 36 that a line has, if any. The line starts at address
--- `at`, and `names` are the names that earlier lines define. Error 37: the line defines a name
--- after `NAMES` names are defined.
+-- The error that the first pass finds in a line, if any: the first of 30, 33, 31, 37 and 36, in
+-- this order. The line starts at address `at`, and `names` are the names that earlier lines define.
+-- Error 37: the line defines a name after `NAMES` names are defined.
 abbrev pub fault_one : ℕ → Names → Option SourceLine → Option SourceFault
 fault_one at names None = Some BadStatement
 fault_one at names (Some line) =
@@ -128,12 +127,12 @@ fault_one at names (Some line) =
     if is_some (defined_name line) && nat_le NAMES (length names) then Some TooManyNames else
     if passes_end line at then Some PastEnd else None
 
--- the class-one error of line i, if it has one; it depends only on this line and the lines before
--- it
+-- the error that the first pass finds in line i, if any; it depends only on this line and the lines
+-- before it
 unfoldable pub class_one_fault : List (Option SourceLine) → ℕ → Option SourceFault
 class_one_fault lines i = fault_one (address_of lines i) (names_before lines i) (ith_line lines i)
 
--- ---- the bytes of a line, given the values of all names
+-- ---- the bytes of a line, if the values of all names are given
 
 -- the value that the first definition of a name gives it, or `None` if no line defines the name
 abbrev pub value_of : List ℕ → Names → Option ℕ
@@ -147,31 +146,31 @@ abbrev pub values_in : Names → List Operand → Option (List ℕ)
 values_in names [] = Some []
 values_in names (v ∷ vs) = value_in names v >>= λ n. values_in names vs >>= λ ns. Some (n ∷ ns)
 
--- error 32 if a value is unknown, else the next step with the value
+-- error 32 if there is no value, else the result of the next step with the value
 abbrev pub if_known : {A B : Type 0} → Option A → (A → Result B SourceFault) → Result B SourceFault
 if_known None next = Err UnknownName
 if_known (Some x) next = next x
 
--- error 33 if a value is out of its range, else the next step
+-- error 33 if the condition is false (a value is out of range), else the result of the next step
 abbrev pub if_in_range : {B : Type 0} → Bool → Result B SourceFault → Result B SourceFault
 if_in_range false next = Err OutOfRange
 if_in_range true next = next
 
--- error 34 if an address is not on the page that the instruction can reach, else the next step
+-- error 34 if the condition is false (the instruction cannot reach the page of an address), else
+-- the result of the next step
 abbrev pub if_on_page : {B : Type 0} → Bool → Result B SourceFault → Result B SourceFault
 if_on_page false next = Err WrongPage
 if_on_page true next = next
 
--- the page that a JCN or ISZ at an address can reach: the page of the address after its two words
--- (MCS-4 Users Manual, JCN and ISZ)
+-- the page that a JCN or ISZ at an address can reach: the page that contains the address after the
+-- instruction's two words (MCS-4 Users Manual, JCN and ISZ)
 abbrev pub near_page : ℕ → ℕ
 near_page at = page_of (at + 2)
 
 abbrev pub is_near : ℕ → ℕ → Bool
 is_near at t = t / 256 == near_page at
 
--- the bytes that a statement at an address emits, or the first of the errors 32, 33 and 34 that it
--- has
+-- the bytes that a statement at an address emits, or its first error among 32, 33 and 34
 abbrev pub statement_bytes : ℕ → Names → Statement → Result (List ℕ) SourceFault
 statement_bytes at names (Origin n) = Ok []
 statement_bytes at names (Data vs) =
@@ -198,7 +197,7 @@ statement_bytes at names (Isz r w) =
     if_known (value_in names w) (λ t.
     if_in_range (nat_lt t 4096) (if_on_page (is_near at t) (Ok (spelling (op.Isz r (t % 256))))))
 
--- the bytes that a line emits if it starts at an address, or its error
+-- the bytes that a line emits if it starts at an address, or the error of its statement
 abbrev pub line_bytes : ℕ → Names → Option SourceLine → Result (List ℕ) SourceFault
 line_bytes at names (Some (Code label (Some s))) = statement_bytes at names s
 line_bytes at names line = Ok []
@@ -217,17 +216,18 @@ line_pairs lines names i =
 unfoldable pub pairs_before : List (Option SourceLine) → Names → ℕ → List (ℕ × ℕ)
 pairs_before lines names i = flat_map (line_pairs lines names) (range_with_len 0 i)
 
--- ---- errors of class two: 32 to 35. They depend on the values of all names, and are reported only
--- if no line has a class-one error.
+-- ---- errors of the second pass: 32 to 35. They depend on the values of all names, and are reported
+-- only if the first pass finds no error.
 
--- The first of the errors 32, 33, 34 and 35 that a line has, if any. It is the error in the line's
--- bytes, else 35 if `pairs`, the pairs of earlier lines, contain one of the line's addresses.
+-- The error that the second pass finds in a line, if any. It is the error in the line's bytes. If
+-- the bytes have no error, it is 35 if `pairs`, the pairs of earlier lines, contain one of the
+-- line's addresses.
 abbrev pub fault_two : ℕ → List (ℕ × ℕ) → Result (List ℕ) SourceFault → Option SourceFault
 fault_two at pairs (Err f) = Some f
 fault_two at pairs (Ok bytes) = if overlaps pairs at (length bytes) then Some Overlap else None
 
--- the class-two error of line i, if it has one; it depends on this line, on the lines before it and
--- on the values of all names
+-- the error that the second pass finds in line i, if any; it depends on this line, on the lines
+-- before it and on the values of all names
 unfoldable pub class_two_fault : List (Option SourceLine) → Names → ℕ → Option SourceFault
 class_two_fault lines names i =
     fault_two (address_of lines i) (pairs_before lines names i)
@@ -235,7 +235,7 @@ class_two_fault lines names i =
 
 -- ---- the whole text
 
--- the first of n lines that has an error: its number, counted from 1, and the error
+-- the first error in the lines below n, with its line number, counted from 1
 abbrev pub first_fault : (ℕ → Option SourceFault) → ℕ → Option (ℕ × SourceFault)
 first_fault fault n =
     find (λ i. is_some (fault i)) (range_with_len 0 n) >>= λ i. fault i >>= λ f. Some (i + 1, f)
@@ -250,7 +250,7 @@ abbrev pub unless_fault : {A E : Type 0} → Option E → Result A E → Result 
 unless_fault (Some f) answer = Err f
 unless_fault None answer = answer
 
--- the first class-one error if there is one, else the first class-two error, else the pairs of all
+-- the first error of the first pass, else the first error of the second pass, else the pairs of all
 -- lines
 unfoldable pub assembly_of : List (Option SourceLine) → Result (List (ℕ × ℕ)) (ℕ × SourceFault)
 assembly_of lines =
@@ -258,7 +258,7 @@ assembly_of lines =
     (unless_fault (first_of_class_two lines (all_names lines))
     (Ok (pairs_before lines (all_names lines) (length lines))))
 
--- the (address, byte) pairs that a text emits, in line order, or its first error with the line
+-- the (address, byte) pairs that a text emits, in line order, or its first error with its line
 -- number
 abbrev pub assembly_of_text : List ℕ → Result (List (ℕ × ℕ)) (ℕ × SourceFault)
 assembly_of_text text = assembly_of (read (lines_of text))

@@ -4,8 +4,8 @@ use Rattle.std.specs.List.{before_first, flat_map}
 use Rattle.std.specs.Char.{is_ascii_digit, is_ascii_uppercase, is_ascii_lowercase}
 use Rattle.mcs_model.specs.TextLines.{is_blank, words_of}
 
--- A token. A word is a run of letters, digits and `_`. `Other` is any byte that is not allowed in a
--- line, such as a non-ASCII byte.
+-- A token of a source line. A word is a run of letters, digits and `_`. `Other` is a byte that no
+-- token can contain, for example a non-ASCII byte.
 pub data Token : Type 0 where
   Word : List ℕ → Token
   Comma : Token
@@ -21,7 +21,7 @@ is_word_byte b = ((is_ascii_digit b || is_ascii_uppercase b) || is_ascii_lowerca
 abbrev pub symbol : ℕ → Token
 symbol b = if b == 44 then Comma else if b == 58 then Colon else if b == 61 then Equals else Other
 
--- a byte, with a space on each side if it is a symbol
+-- a byte, with a space on each side if it is neither a word byte nor a blank
 abbrev pub set_apart : ℕ → List ℕ
 set_apart b = if is_word_byte b || is_blank b then b ∷ [] else 32 ∷ b ∷ 32 ∷ []
 
@@ -30,6 +30,7 @@ abbrev pub token_of : List ℕ → Token
 token_of [] = Other
 token_of (b ∷ word) = if is_word_byte b then Word (b ∷ word) else symbol b
 
--- the tokens of a line without its comment; a comment begins with `;`
+-- the tokens of a line, without its comment; a comment begins with `;` and ends at the end of the
+-- line
 unfoldable pub tokens : List ℕ → List Token
 tokens line = map token_of (words_of (flat_map set_apart (before_first (λ b. b == 59) line)))

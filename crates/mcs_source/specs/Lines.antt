@@ -1,5 +1,6 @@
 -- The syntax of a source line: an optional label and an optional statement, or the definition of a
--- name. Comments are not tokens. (Our own choice, with the operands of the MCS-4 Users Manual.)
+-- name. The tokens of a line do not include its comment. (Our own choice, with the operands of the
+-- MCS-4 Users Manual.)
 use Rattle.std.specs.Prelude.{ℕ, ◌-◌, Bool, false, not, ◌&&◌, ◌||◌, List, [], ◌∷◌, Option, Some, None, is_some, nat_le, ◌==◌, if◌then◌else◌, codes, length}
 use Rattle.std.specs.Str.{str_eq_ignore_ascii_case}
 use Rattle.std.specs.Char.{is_ascii_digit, is_ascii_uppercase, is_ascii_lowercase}
@@ -35,24 +36,24 @@ abbrev pub begins_name : List ℕ → Bool
 begins_name [] = false
 begins_name (b ∷ word) = (is_ascii_uppercase b || is_ascii_lowercase b) || b == 95
 
--- the number from 0 to 15 that decimal digits without a leading zero denote
+-- the number from 0 to 15 that decimal digits spell, or `None`; a leading zero is not allowed
 abbrev pub up_to_15 : List ℕ → Option ℕ
 up_to_15 (d ∷ []) = if is_ascii_digit d then Some (d - 48) else None
 up_to_15 (t ∷ d ∷ []) = if t == 49 && is_in_range 48 53 d then Some (d - 38) else None
 up_to_15 ds = None
 
--- the register number in `R0` to `R15` or `r0` to `r15`
+-- the register number of `R0` to `R15` or `r0` to `r15`, or `None` for any other word
 abbrev pub register_named : List ℕ → Option ℕ
 register_named (b ∷ ds) = if b == 82 || b == 114 then up_to_15 ds else None
 register_named [] = None
 
--- the pair number in `P0` to `P7` or `p0` to `p7`
+-- the pair number of `P0` to `P7` or `p0` to `p7`, or `None` for any other word
 abbrev pub pair_named : List ℕ → Option ℕ
 pair_named (b ∷ d ∷ []) = if (b == 80 || b == 112) && is_in_range 48 55 d then Some (d - 48) else None
 pair_named word = None
 
--- true if a word is reserved, in upper or lower case, and cannot be a name: a mnemonic, `ORG`,
--- `DB`, `WPM`, a register or a pair
+-- True if a word is reserved, in upper or lower case: a mnemonic, `ORG`, `DB`, `WPM`, a register or
+-- a pair. A reserved word cannot be a name.
 unfoldable pub is_reserved : List ℕ → Bool
 is_reserved w =
     is_some (mnemonic_of w) || (str_eq_ignore_ascii_case w (codes "WPM")
@@ -66,7 +67,8 @@ is_name w = (begins_name w && nat_le (length w) NAME_BYTES) && not (is_reserved 
 abbrev pub name_of : List ℕ → Option Operand
 name_of w = if is_name w then Some (Name w) else None
 
--- the number as an operand if there is one (2^32 if it is larger), else the name; no word is both
+-- the operand for a number, limited to 2^32, if there is a number, else the operand for a name; no
+-- word is both
 abbrev pub number_or : Option ℕ → Option Operand → Option Operand
 number_or (Some n) name = Some (Number (capped_number n))
 number_or None name = name
@@ -74,17 +76,18 @@ number_or None name = name
 abbrev pub operand_of : List ℕ → Option Operand
 operand_of w = number_or (number_written w) (name_of w)
 
--- the word, if it is the only token
+-- the word, if there is only one token and it is a word
 abbrev pub word_only : List Token → Option (List ℕ)
 word_only (Word w ∷ []) = Some w
 word_only ts = None
 
--- the word before a comma, and the tokens after the comma
+-- the first token, if it is a word and a comma follows it, and the tokens after the comma
 abbrev pub word_first : List Token → Option (List ℕ × List Token)
 word_first (Word w ∷ Comma ∷ ts) = Some (w, ts)
 word_first ts = None
 
--- the operand, number, register or pair, if it is the only token
+-- `one_operand`, `one_number`, `one_register`, `one_pair`: the operand, number, register or pair,
+-- if it is the only token
 abbrev pub one_operand : List Token → Option Operand
 one_operand ts = word_only ts >>= operand_of
 
@@ -97,7 +100,8 @@ one_register ts = word_only ts >>= register_named
 abbrev pub one_pair : List Token → Option ℕ
 one_pair ts = word_only ts >>= pair_named
 
--- the operand, register or pair before a comma, and the tokens after the comma
+-- `first_operand`, `first_register`, `first_pair`: the operand, register or pair before the first
+-- comma, and the tokens after this comma
 abbrev pub first_operand : List Token → Option (Operand × List Token)
 first_operand ts = word_first ts >>= λ x. operand_of x.0 >>= λ v. Some (v, x.1)
 
@@ -107,13 +111,13 @@ first_register ts = word_first ts >>= λ x. register_named x.0 >>= λ r. Some (r
 abbrev pub first_pair : List Token → Option (ℕ × List Token)
 first_pair ts = word_first ts >>= λ x. pair_named x.0 >>= λ p. Some (p, x.1)
 
--- one or more operands, separated by commas
+-- the operands in a list of one or more operands, separated by commas
 unfoldable pub operands_of : List Token → Option (List Operand)
 operands_of (Word w ∷ []) = operand_of w >>= λ v. Some (v ∷ [])
 operands_of (Word w ∷ Comma ∷ more) = operand_of w >>= λ v. operands_of more >>= λ vs. Some (v ∷ vs)
 operands_of ts = None
 
--- an instruction without operands, if no token follows it
+-- the statement of an instruction without operands, or `None` if a token follows the mnemonic
 abbrev pub bare_statement : Op → List Token → Option Statement
 bare_statement o [] = Some (Whole o)
 bare_statement o (t ∷ ts) = None
@@ -150,13 +154,14 @@ pub data SourceLine : Type 0 where
   Code : Option (List ℕ) → Option Statement → SourceLine
   Define : List ℕ → ℕ → SourceLine
 
--- the line with the given label, if any, and the statement that the tokens form, if there are
--- tokens
+-- the line with the given label, if any, and the statement that the tokens form; the line has no
+-- statement if there are no tokens
 abbrev pub rest_of : Option (List ℕ) → List Token → Option SourceLine
 rest_of label [] = Some (Code label None)
 rest_of label (t ∷ ts) = statement_of (t ∷ ts) >>= λ s. Some (Code label (Some s))
 
--- the line that the tokens form if they do not begin with a label
+-- the line that the tokens form, if they do not begin with a label: the definition of a name, or a
+-- statement
 abbrev pub unlabelled : List Token → Option SourceLine
 unlabelled (Word w ∷ Equals ∷ ts) =
     if is_name w then (one_number ts >>= λ n. Some (Define w n)) else None

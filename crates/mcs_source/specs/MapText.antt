@@ -20,7 +20,7 @@ abbrev pub line_row : ℕ → Span → List ℕ
 line_row number s =
     codes "line " ++ decimal number ++ codes " " ++ address_or_end_text s.at ++ codes " " ++ decimal s.size
 
--- the rows of consecutive source lines, where the first line has the given number
+-- the rows of consecutive source lines; `number` is the number of the first line
 abbrev pub line_rows : ℕ → List Span → List (List ℕ)
 line_rows number [] = []
 line_rows number (s ∷ spans) = line_row number s ∷ line_rows (number + 1) spans
@@ -29,7 +29,7 @@ line_rows number (s ∷ spans) = line_row number s ∷ line_rows (number + 1) sp
 abbrev pub name_row : List ℕ × ℕ → List ℕ
 name_row name = codes "name " ++ name.0 ++ codes " " ++ address_or_end_text name.1
 
--- the whole answer; lines are numbered from 1
+-- the answer to `map` for a survey; lines are numbered from 1
 unfoldable pub survey_text : Survey → List ℕ
 survey_text s =
     as_line (head_row (length s.spans) (length s.names))

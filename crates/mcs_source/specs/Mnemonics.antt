@@ -10,48 +10,50 @@ use Rattle.mcs_source.specs.InstructionNames.{name}
 use Rattle.mcs_source.specs.declared.mnemonic.Mnemonic.{Mnemonic}
 use Rattle.mcs_source.specs.declared.mnemonic.Mnemonic.TheVariants as m
 
--- The entry for a word in a table, in upper or lower case. In a table row, the operands of an
--- instruction have no effect, because only its name is used.
+-- The entry for a word in a table; upper and lower case are equal. The operands of the instructions
+-- in a table have no effect, because only the names of the instructions are used.
 abbrev pub mnemonic_beside : List ℕ → List (List ℕ × Mnemonic) → Option Mnemonic
 mnemonic_beside w rows = beside (str_eq_ignore_ascii_case w) rows
 
--- the table row for an instruction without operands
+-- the table entry for an instruction without operands
 abbrev pub bare : Op → List ℕ × Mnemonic
 bare o = (name o, m.Bare o)
 
--- `ORG`, `DB` and the instructions with opcodes 10 to 5F
+-- the mnemonic for a word, if it is `ORG`, `DB` or an instruction with an opcode from 10 to 5F
 unfoldable pub in_group1 : List ℕ → Option Mnemonic
 in_group1 w = mnemonic_beside w (
     (codes "ORG", m.Org) ∷ (codes "DB", m.Db) ∷ (name (op.Jcn 0 0), m.Jcn)
     ∷ (name (op.Fim 0 0), m.Fim) ∷ (name (op.Src 0), m.Src) ∷ (name (op.Fin 0), m.Fin)
     ∷ (name (op.Jin 0), m.Jin) ∷ (name (op.Jun 0 0), m.Jun) ∷ (name (op.Jms 0 0), m.Jms) ∷ [])
 
--- `NOP` and the instructions with opcodes 60 to DF
+-- the mnemonic for a word, if it is `NOP` or an instruction with an opcode from 60 to DF
 unfoldable pub in_group2 : List ℕ → Option Mnemonic
 in_group2 w = mnemonic_beside w (
     bare op.Nop ∷ (name (op.Inc 0), m.Inc) ∷ (name (op.Isz 0 0), m.Isz)
     ∷ (name (op.Add 0), m.Add) ∷ (name (op.Sub 0), m.Sub) ∷ (name (op.Ld 0), m.Ld)
     ∷ (name (op.Xch 0), m.Xch) ∷ (name (op.Bbl 0), m.Bbl) ∷ (name (op.Ldm 0), m.Ldm) ∷ [])
 
--- the instructions with opcodes E0 to E7; they write to RAM and ports
+-- the mnemonic for a word, if it is an instruction with an opcode from E0 to E7; these write to RAM
+-- and ports
 unfoldable pub in_group3 : List ℕ → Option Mnemonic
 in_group3 w = mnemonic_beside w (
     bare op.Wrm ∷ bare op.Wmp ∷ bare op.Wrr ∷ bare op.Wr0 ∷ bare op.Wr1 ∷ bare op.Wr2
     ∷ bare op.Wr3 ∷ [])
 
--- the instructions with opcodes E8 to EF; they read from RAM and ports
+-- the mnemonic for a word, if it is an instruction with an opcode from E8 to EF; these read from
+-- RAM and ports
 unfoldable pub in_group4 : List ℕ → Option Mnemonic
 in_group4 w = mnemonic_beside w (
     bare op.Sbm ∷ bare op.Rdm ∷ bare op.Rdr ∷ bare op.Adm ∷ bare op.Rd0 ∷ bare op.Rd1
     ∷ bare op.Rd2 ∷ bare op.Rd3 ∷ [])
 
--- the instructions with opcodes F0 to F6
+-- the mnemonic for a word, if it is an instruction with an opcode from F0 to F6
 unfoldable pub in_group5 : List ℕ → Option Mnemonic
 in_group5 w = mnemonic_beside w (
     bare op.Clb ∷ bare op.Clc ∷ bare op.Iac ∷ bare op.Cmc ∷ bare op.Cma ∷ bare op.Ral
     ∷ bare op.Rar ∷ [])
 
--- the instructions with opcodes F7 to FD
+-- the mnemonic for a word, if it is an instruction with an opcode from F7 to FD
 unfoldable pub in_group6 : List ℕ → Option Mnemonic
 in_group6 w = mnemonic_beside w (
     bare op.Tcc ∷ bare op.Dac ∷ bare op.Tcs ∷ bare op.Stc ∷ bare op.Daa ∷ bare op.Kbp

@@ -7,12 +7,12 @@ use Rattle.mcs_source.specs.Assembly.{assembly_of_text}
 use Rattle.mcs_source.specs.Text.{address, op_at, piece_size, piece_text}
 
 -- the text of the instruction at an address: `first` is its first word, `second` is the word after
--- it, or `None` at the end
+-- it, or `None` if there is no next word
 abbrev pub line_text : ℕ → ℕ → Option ℕ → List ℕ
 line_text at first second = piece_text at first (op_at first (option_to_list second))
 
--- the source lines for the bytes from an address on, one line per instruction or single byte, at
--- most `most` lines
+-- the source lines for the bytes from an address on, at most `most` lines; each line is an
+-- instruction, or a byte that is not part of an instruction
 unfoldable pub piece_texts : ℕ → ℕ → List ℕ → List (List ℕ)
 piece_texts zero at bytes = []
 piece_texts (suc most) at [] = []
@@ -23,8 +23,8 @@ piece_texts (suc most) at (b ∷ rest) =
 abbrev pub origin_text : ℕ → List ℕ
 origin_text at = codes "ORG " ++ address (at / 256) (at % 256)
 
--- the source for the bytes from an address on: the `ORG` line, then one line per instruction or
--- single byte
+-- the source for the bytes from an address on: an `ORG` line, then a line for each instruction and
+-- for each byte that is not part of an instruction
 abbrev pub source_of : ℕ → List ℕ → List ℕ
 source_of from bytes = text_of (origin_text from ∷ piece_texts (length bytes) from bytes)
 
@@ -35,8 +35,8 @@ range rom from to = take (to - from) (drop from rom)
 abbrev pub source_text : List ℕ → ℕ → ℕ → List ℕ
 source_text rom from to = source_of from (range rom from to)
 
--- Holds if the source of a range assembles without error to exactly the bytes of the range, each at
--- its address.
+-- Holds if the source of a ROM range assembles without error to exactly the bytes of the range,
+-- each at its address.
 abbrev pub SpellsItself : List ℕ → ℕ → ℕ → Type 0
 SpellsItself rom from to =
     assembly_of_text (source_text rom from to) ≡ Ok (from_address from (range rom from to))

@@ -1,4 +1,4 @@
--- The addresses in the law of surveys.
+-- The addresses of a span, for the law of surveys (`spans_law`).
 use Rattle.std.specs.Prelude.{ℕ, List}
 use Rattle.std.specs.List.{range_with_len}
 use Rattle.mcs_source.specs.declared.survey.Span.{Span}

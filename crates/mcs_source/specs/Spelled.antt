@@ -1,4 +1,4 @@
--- The words that encode an instruction.
+-- The condition that two words encode an instruction.
 use Rattle.std.specs.Prelude.{◌≡◌, take, ℕ, ◌<◌, [], ◌∷◌}
 use Rattle.mcs_model.specs.declared.op.Op.{Op}
 use Rattle.mcs_model.specs.Table.{word_count_of}

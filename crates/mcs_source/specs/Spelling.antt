@@ -11,7 +11,7 @@ abbrev pub two : ℕ → ℕ → List ℕ
 two code second = code ∷ second ∷ []
 
 -- the words that encode an instruction; if its operands are in range, `instruction_of` of `Table`
--- decodes these words as the instruction
+-- decodes these words to the same instruction
 abbrev pub spelling : Op → List ℕ
 spelling Nop = one 0x00
 spelling (Jcn c b) = two (0x10 + c) b

@@ -9,7 +9,7 @@ use Rattle.mcs_source.specs.Lines.{SourceLine}
 use Rattle.mcs_source.specs.Assembly.{Names, read, address_of, all_names, line_pairs, assembly_of_text}
 use Rattle.mcs_model.specs.TextLines.{lines_of}
 
--- the address at which line i starts, and the number of bytes that it emits
+-- the span of line i: the address at which the line starts, and the number of bytes that it emits
 abbrev pub span : List (Option SourceLine) → Names → ℕ → Span
 span lines names i = record { at = address_of lines i; size = length (line_pairs lines names i) }
 
@@ -23,14 +23,14 @@ pub record Survey : Type 0 where
   pub spans : List Span
   pub names : Names
 
--- the survey of lines without an error
+-- the survey of parsed lines that have no error
 abbrev pub survey_of : List (Option SourceLine) → Survey
 survey_of lines = record {
   spans = spans_before lines (all_names lines) (length lines);
   names = all_names lines;
 }
 
--- the survey of a text that assembles; for any other text, the same first error as in
+-- the survey of a text that assembles, or the first error of a text that does not, as in
 -- `assembly_of_text`
 abbrev pub survey_of_text : List ℕ → Result Survey (ℕ × SourceFault)
 survey_of_text text =

@@ -21,8 +21,8 @@ address page word = codes "0x" ++ address_digits page word
 abbrev pub byte_text : ℕ → List ℕ
 byte_text b = codes "DB 0x" ++ hex_2 b
 
--- the operands of an instruction after its mnemonic: registers, pairs and small values in decimal,
--- bytes and addresses in hexadecimal
+-- the operands as they follow the mnemonic of an instruction at an address: registers, pairs and
+-- small values in decimal, bytes and addresses in hexadecimal
 abbrev pub operands : ℕ → Op → List ℕ
 operands at (Jcn c b) = codes " " ++ (decimal c ++ (codes ", " ++ address (near_page at) b))
 operands at (Fim p b) = codes " P" ++ (decimal p ++ (codes ", 0x" ++ hex_2 b))
@@ -41,28 +41,29 @@ operands at (Bbl d) = codes " " ++ decimal d
 operands at (Ldm d) = codes " " ++ decimal d
 operands at o = []
 
--- the text of an instruction at an address; a JCN or ISZ needs the address to show its target
+-- the text of an instruction at an address; the target of a JCN or ISZ depends on the address
 abbrev pub instruction_text : ℕ → Op → List ℕ
 instruction_text at o = name o ++ operands at o
 
--- The instruction decoded from byte b and the bytes `rest` after it, if it is complete. `None` if b
--- is listed as a single byte: b is not an opcode, or the second word is past the end.
+-- The decoded instruction, if the byte b and the bytes `rest` contain all its words. Otherwise
+-- `None`, and b is listed as a single byte: b is not an opcode, or the second word is past the end.
 abbrev pub whole_or_byte : Option Op → ℕ → List ℕ → Option Op
 whole_or_byte None b rest = None
 whole_or_byte (Some o) b rest = if nat_le (word_count_of o) (1 + length rest) then Some o else None
 
--- the byte after the first, or 0 if there is none. The 0 has no effect, because `whole_or_byte`
--- then accepts only one-word instructions.
+-- The second word, which is the first byte of the list, or 0 if the list is empty. The 0 has no
+-- effect, because `whole_or_byte` then accepts only one-word instructions.
 abbrev pub second_word : List ℕ → ℕ
 second_word [] = 0
 second_word (c ∷ rest) = c
 
--- the instruction that begins with b and continues in `rest`, or `None` if b is listed as a single
--- byte
+-- the instruction whose first word is b and whose second word, if any, is the first byte of `rest`,
+-- or `None` if b is listed as a single byte
 unfoldable pub op_at : ℕ → List ℕ → Option Op
 op_at b rest = whole_or_byte (instruction_of b (second_word rest)) b rest
 
--- a piece of a listing: an instruction, or a byte that is not one
+-- the text of a piece of a listing: an instruction, or `DB` and the byte if it is not an
+-- instruction
 abbrev pub piece_text : ℕ → ℕ → Option Op → List ℕ
 piece_text at b None = byte_text b
 piece_text at b (Some o) = instruction_text at o
@@ -104,7 +105,7 @@ listing_lines (suc most) at (b ∷ rest) =
     ∷ listing_lines most (at + piece_size (op_at b rest))
     (drop (piece_size (op_at b rest) - 1) rest)
 
--- the listing of a ROM from an address on, at most `lines` lines; it ends early at address FFF, and
--- each line ends with LF
+-- the listing of a ROM from an address on: at most `lines` lines, each ended by LF; it stops after
+-- address FFF
 abbrev pub listing_text : List ℕ → ℕ → ℕ → List ℕ
 listing_text rom from lines = text_of (listing_lines lines from (drop from rom))

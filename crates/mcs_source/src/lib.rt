@@ -1,6 +1,5 @@
-//! The assembly language of the 4004: its mnemonics, the errors of its lines, and the definitions
-//! in `specs/`. The definitions say to which bytes a source text assembles, and give the text of an
-//! instruction.
+//! The assembly language of the 4004: its mnemonics and the errors of its lines. The definitions in
+//! `specs/` give the bytes to which a source text assembles, and the text of each instruction.
 #![tactic(auto)]
 
 pub mod fault;

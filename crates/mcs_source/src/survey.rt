@@ -8,14 +8,14 @@ ghost use Rattle.mcs_source.specs.SpanAddresses.{addresses_of_span};
 /// The address at which a line starts, and the number of bytes that the line emits.
 #[derive(Clone, Copy, Debug, PartialEq, Eq)]
 pub struct Span {
-    /// The address at which the line starts; 4096 after the last ROM address.
+    /// The address at which the line starts; 4096 if the line starts after the last ROM address.
     pub at: u16,
     /// The number of bytes that the line emits.
     pub size: u16,
 }
 
-/// Proves the law of surveys: the addresses of the bytes that a text emits, in line order, are the
-/// addresses in its spans, one span after the other. The law covers every text that assembles. The
+/// Proves the law of surveys: the addresses in the spans of a text, in line order, are the
+/// addresses of the bytes that the text emits. The law covers every text that assembles. The
 /// function does nothing.
 pub fn spans_law()
     ensures { (text : List ℕ) (pairs : List (ℕ × ℕ)) (survey : Survey) → assembly_of_text text ≡ Ok pairs

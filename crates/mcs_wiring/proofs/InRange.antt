@@ -1,4 +1,4 @@
--- The parts that a table tells have numbers in their ranges.
+-- The parts that a table without malformed values describes have numbers in range.
 use Rattle.std.proofs.Common.{◌≡◌, ℕ, ◌-◌, ◌<◌, ◌≤◌, ℤ, pos, negsuc, Bool, true, false, not, ◌||◌, ◌&&◌, List, [], ◌∷◌, length, map, codes, Option, Some, None, is_none, option_and_then, Ok, Err, if◌then◌else◌, eqb, ltb, leb, refl, sym, ap, ◌∙◌, arith}
 use Rattle.std.proofs.lemmas.Bool.{and_parts, true≢false, leb-true, le-leb, le-ltb, lt-ltb, or_parts}
 use Rattle.std.proofs.lemmas.Option.{same_Some}
@@ -24,7 +24,7 @@ use Rattle.mcs_wiring.specs.LineNames.{below_or_none, number_below, rest_after, 
 use Rattle.mcs_wiring.specs.Wiring.{within_or_none, number_at, line_in, line_at, part_of, ram_in, chain_in, matrix_in, lamp_in, values_at, is_no_line, are_bad_columns, has_bad_columns, is_malformed, has_malformed_value, section_values, any_section, lacks_array, keys_table, part_at, rams_of, parts_in}
 use Rattle.mcs_wiring.specs.Format.{sections}
 
--- ---- what a step of a reading had
+-- ---- the value that an optional step passed on
 
 bound : {A B : Type 0} (o : Option A) (f : A → Option B) (y : B) → option_and_then f o ≡ Some y → (x : A) × (o ≡ Some x) × (f x ≡ Some y)
 bound None f y e = cc
@@ -100,7 +100,7 @@ named_in_range None None c l e = let (rest, _, read) = bound c chain_line_named 
 line_in_range : (text : List ℕ) (l : Line) → line_named text ≡ Some l → boards.in_range l ≡ true
 line_in_range text l e = named_in_range (rest_after (codes "rom") text) (rest_after (codes "ram") text) (rest_after (codes "chain") text) l e
 
--- whether a line is out of range: never
+-- true if a line is out of range; the lemmas below show that this is false for each line in a table
 abbrev is_out : Line → Bool
 is_out l = not (boards.in_range l)
 
@@ -265,7 +265,7 @@ judged_tests b false true wrong h = refl
 judged_tests b false false true h = refl
 judged_tests b false false false h = refl
 
--- nothing but 25 and 26 can be wrong with the parts
+-- the parts of a table without malformed values can have only errors 25 and 26
 pub judged_parts : (ms : Members) → has_malformed_value ms ≡ false → judgement_of (parts_in ms) (boards.board_fault_of (parts_in ms)) ≡ board_of_parts (parts_in ms)
 judged_parts ms h =
     let b = parts_in ms in

@@ -1,4 +1,4 @@
--- A table without too many parts.
+-- A table without too many parts is within the limits of a board.
 use Rattle.std.proofs.Common.{◌≡◌, ℕ, ◌≤◌, false, ◌||◌, length, codes, ltb, arith}
 use Rattle.std.proofs.lemmas.Bool.Decides.{nat_tests}
 use Rattle.toml.specs.Data.{Members}

@@ -1,4 +1,4 @@
--- The lines of a text, one by one.
+-- Lemmas for the loops that search a text line by line.
 use Rattle.std.proofs.Common.{◌≡◌, ◌∙◌, ◌++◌, ℕ, suc, ◌+◌, ◌<◌, Bool, true, false, cond, not, eqb, if◌then◌else◌, List, [], ◌∷◌, length, Option, Some, None, Bor, MatchOption, refl, sym, ap, arith}
 use Rattle.std.specs.List.{position_or_len, slice_split, before_first, after_first, onto_first}
 use Rattle.std.proofs.lemmas.List.{length-drop}
@@ -18,7 +18,8 @@ one_line (b ∷ text) e =
     ] in
     by_byte e
 
--- a text up to its first line feed, and after it
+-- `split_once` at a line feed gives the first line and the rest; the lines of the text are that
+-- line and the lines of the rest
 pub first_line_is : (text : List ℕ) (r : Option (Bor (List ℕ) × Bor (List ℕ))) → IsSplitOnceResult 10 text r
     → MatchOption r (slice_split is_line_feed text ≡ text ∷ []) (λ x. (slice_split is_line_feed text ≡ x.0.now ∷ slice_split is_line_feed x.1.now) × (length x.1.now < length text))
 first_line_is text None h = one_line text (split_once_first 10 text None h (omega arith))
@@ -39,7 +40,8 @@ more_after : (holds : List ℕ → Bool) (n found : ℕ) (before line : List ℕ
 more_after holds n found before line [] some = absurd (omega (arith, some))
 more_after holds n found before line (next ∷ ls) some = refl
 
--- one more line
+-- `line_from` after one more line: the number of that line if `holds` is true of the text so far,
+-- else the result for the lines after it
 pub from_step : (holds : List ℕ → Bool) (n : ℕ) (before rest line after more : List ℕ) → slice_split is_line_feed rest ≡ line ∷ slice_split is_line_feed after → more ≡ before ++ as_line line
     → line_from holds n before (slice_split is_line_feed rest) ≡ (if holds more then n else line_from holds (n + 1) more (slice_split is_line_feed after))
 from_step holds n before rest line after more cut is =
@@ -52,7 +54,7 @@ after_step holds n found before rest line after more cut is =
     ap (line_after holds n found before) cut ∙ (more_after holds n found before line (slice_split is_line_feed after) (some_line after)
     ∙ ap (λ (m : List ℕ). line_after holds (n + 1) (if holds m then n + 1 else found) m (slice_split is_line_feed after)) (sym is))
 
--- the loops, after one more line
+-- the loop invariant after a line for which `holds` is false
 pub from_more : (holds : List ℕ → Bool) (n whole : ℕ) (before rest line after more : List ℕ) (b : Bool) → slice_split is_line_feed rest ≡ line ∷ slice_split is_line_feed after → more ≡ before ++ as_line line → b ≡ holds more → b ≡ false
     → line_from holds n before (slice_split is_line_feed rest) ≡ whole → line_from holds (n + 1) more (slice_split is_line_feed after) ≡ whole
 from_more holds n whole before rest line after more b cut is test fails inv =

@@ -1,4 +1,4 @@
--- The name of a line is read back as that line, and the name of a port as its masks.
+-- The name of a line parses as that line, and the text of a port parses as its masks.
 use Rattle.std.proofs.Common.{◌≡◌, ℕ, zero, suc, ◌+◌, ◌<◌, Bool, true, false, ◌&&◌, [], ◌∷◌, Option, Some, None, eqb, ltb, refl, ap, ◌∙◌, arith}
 use Rattle.std.proofs.lemmas.Bool.{and_parts, false≢true, eqb-true, ltb-true}
 use Rattle.std.specs.List.{list_all, range_with_len}
@@ -16,7 +16,7 @@ use Rattle.mcs_nibble.proofs.PortLemmas.{mask_again}
 pub port_back : (m0 m1 m2 m3 : LineMask) → masks_named (port_name (m0 ∷ m1 ∷ m2 ∷ m3 ∷ [])) ≡ Some (m0 ∷ m1 ∷ m2 ∷ m3 ∷ [])
 port_back m0 m1 m2 m3 = rw (mask_again m0, mask_again m1, mask_again m2, mask_again m3) refl
 
--- ---- lines, by computing each of them
+-- ---- lines: a test of every line in range, by computation
 
 abbrev same_line : Option Line → Line → Bool
 same_line (Some (Rom a b)) (Rom c d) = eqb a c && eqb b d
@@ -39,7 +39,7 @@ chains_back : list_all (λ n. list_all (λ i. is_read_back (Chain n i)) (range_w
 unfolding digits
 chains_back = refl
 
--- ---- from all to each
+-- ---- from the test of all lines to each line
 
 each_from : (p : ℕ → Bool) (a n k : ℕ) → list_all p (range_with_len a n) ≡ true → k < n → p (a + k) ≡ true
 each_from p a zero k h lt = absurd (omega arith)

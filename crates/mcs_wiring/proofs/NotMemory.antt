@@ -1,4 +1,4 @@
--- No board of a table is refused for lack of memory.
+-- The error of a table is never `NoMemory`.
 use Rattle.std.proofs.Common.{◌≡◌, Bool, true, false, Result, Err, if◌then◌else◌}
 use Rattle.toml.specs.Data.{Members}
 use Rattle.mcs_model.specs.declared.board.BoardParts.{BoardParts}

@@ -1,4 +1,4 @@
--- A table that is refused for its parts together has not too many of them.
+-- A table that is rejected with error 24, 25 or 26 does not have too many parts.
 use Rattle.std.proofs.Common.{◌≡◌, Bool, true, false, if◌then◌else◌, Result, Ok, Err, refl, sym, subst}
 use Rattle.toml.specs.Data.{Members}
 use Rattle.mcs_model.specs.declared.board.BoardParts.{BoardParts}

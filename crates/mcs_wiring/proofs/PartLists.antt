@@ -1,4 +1,4 @@
--- The first wrong part of a list, from a place in the list on.
+-- Lemmas for the loops that search a list for the first part with an error.
 use Rattle.std.proofs.Common.{◌≡◌, ◌∙◌, ◌++◌, ℕ, ◌+◌, ◌<◌, Bool, true, false, ◌||◌, eqb, if◌then◌else◌, List, [], ◌∷◌, length, map, take, drop, get_or, Option, Some, None, refl, sym, ap, arith}
 use Rattle.std.proofs.lemmas.List.{drop_more, take_more}
 use Rattle.std.specs.List.{list_any}
@@ -14,7 +14,7 @@ use Rattle.mcs_wiring.specs.declared.sections.Numbered.{Numbered}
 use Rattle.mcs_wiring.specs.declared.sections.Section.{Section}
 use Rattle.mcs_wiring.specs.Parts.{Part, flawed_from, repeated_from, wrong_chain_from, wrong_lamp_from}
 
--- the values from a place on
+-- `flawed_from` for the values from index i is `flawed_from` for value i and the values after it
 pub flawed_step : (f : Flaw) (s : Section) (vs : List Value) (i : ℕ) (v : Value) → i < length vs → v ≡ get_or vs i v → flawed_from f s i (map view (drop i vs)) ≡ flawed_from f s i (view v ∷ map view (drop (i + 1) vs))
 flawed_step f s vs i v lt is = ap (λ xs. flawed_from f s i (map view xs)) (drop_more vs i v lt) ∙ ap (λ x. flawed_from f s i (view x ∷ map view (drop (i + 1) vs))) (sym is)
 
@@ -24,12 +24,12 @@ chain_step f b cs i c lt is = ap (wrong_chain_from f b i) (drop_more cs i c lt) 
 pub lamp_step : (f : LineFlaw) (b : BoardParts) (ls : List Line) (i : ℕ) (l : Line) → i < length ls → l ≡ get_or ls i l → wrong_lamp_from f b i (drop i ls) ≡ wrong_lamp_from f b i (l ∷ drop (i + 1) ls)
 lamp_step f b ls i l lt is = ap (wrong_lamp_from f b i) (drop_more ls i l lt) ∙ ap (λ x. wrong_lamp_from f b i (x ∷ drop (i + 1) ls)) (sym is)
 
--- the numbers of parts, the last part's first
+-- the numbers of the parts in reverse order, followed by the numbers in `seen`
 abbrev pub numbers_seen : {A : Type 0} → List ℕ → List (Numbered A) → List ℕ
 numbers_seen seen [] = seen
 numbers_seen seen (p ∷ ps) = numbers_seen (p.number ∷ seen) ps
 
--- the numbers, with one more part at the end
+-- a part added at the end of the list puts its number at the front of `numbers_seen`
 pub one_more_seen : {A : Type 0} (seen : List ℕ) (ps : List (Numbered A)) (p : Numbered A) → numbers_seen seen (ps ++ p ∷ []) ≡ p.number ∷ numbers_seen seen ps
 one_more_seen seen [] p = refl
 one_more_seen seen (q ∷ ps) p = one_more_seen (q.number ∷ seen) ps p
@@ -48,11 +48,12 @@ any_seen_after : {A : Type 0} (n : ℕ) (seen : List ℕ) (ps : List (Numbered A
 any_seen_after n seen [] = refl
 any_seen_after n seen (p ∷ ps) = any_seen_after n (p.number ∷ seen) ps ∙ or_swap (list_any (λ q. eqb q.number n) ps) (eqb p.number n) (list_any (λ k. eqb k n) seen)
 
--- a number is among those of some parts
+-- a number is in `numbers_seen` of a list exactly if one of the parts has that number
 pub any_seen : {A : Type 0} (n : ℕ) (ps : List (Numbered A)) → list_any (λ k. eqb k n) (numbers_seen [] ps) ≡ list_any (λ q. eqb q.number n) ps
 any_seen n ps = any_seen_after n [] ps ∙ or_false (list_any (λ q. eqb q.number n) ps)
 
--- the parts from a place on
+-- `repeated_from` at index i: i if an earlier part has the number of part i, else the result for
+-- the parts after it
 pub repeated_step : {A : Type 0} (ps : List (Numbered A)) (i : ℕ) (p : Numbered A) → i < length ps → p ≡ get_or ps i p
     → repeated_from (numbers_seen [] (take i ps)) i (drop i ps) ≡ (if list_any (λ q. eqb q.number p.number) (take i ps) then Some i else repeated_from (numbers_seen [] (take (i + 1) ps)) (i + 1) (drop (i + 1) ps))
 repeated_step {A} ps i p lt is =
@@ -64,13 +65,13 @@ repeated_step {A} ps i p lt is =
     ∙ (ap (λ b. if b then Some i else repeated_from (p.number ∷ seen) (i + 1) (drop (i + 1) ps)) (any_seen p.number (take i ps))
     ∙ ap (λ ns. if list_any (λ q. eqb q.number p.number) (take i ps) then Some i else repeated_from ns (i + 1) (drop (i + 1) ps)) (sym more)))
 
--- the part at a place, if its number is an earlier part's
+-- the result is i if an earlier part has the number of part i
 pub repeated_at : {A : Type 0} (ps : List (Numbered A)) (i : ℕ) (p : Numbered A) (any : Bool) → i < length ps → p ≡ get_or ps i p → any ≡ list_any (λ q. eqb q.number (get_or ps i p).number) (take i ps) → any ≡ true
     → repeated_from (numbers_seen [] (take i ps)) i (drop i ps) ≡ repeated_from [] 0 ps → Some i ≡ repeated_from [] 0 ps
 repeated_at {A} ps i p any lt is test held inv =
     sym (sym inv ∙ (repeated_step ps i p lt is ∙ ap (λ b. if b then Some i else repeated_from (numbers_seen [] (take (i + 1) ps)) (i + 1) (drop (i + 1) ps)) (ap (λ (r : Numbered A). list_any (λ q. eqb q.number r.number) (take i ps)) is ∙ (sym test ∙ held))))
 
--- the parts after it, if it is not
+-- the result is that for the parts after part i if no earlier part has the number of part i
 pub repeated_more : {A : Type 0} (ps : List (Numbered A)) (i : ℕ) (p : Numbered A) (any : Bool) → i < length ps → p ≡ get_or ps i p → any ≡ list_any (λ q. eqb q.number (get_or ps i p).number) (take i ps) → any ≡ false
     → repeated_from (numbers_seen [] (take i ps)) i (drop i ps) ≡ repeated_from [] 0 ps → repeated_from (numbers_seen [] (take (i + 1) ps)) (i + 1) (drop (i + 1) ps) ≡ repeated_from [] 0 ps
 repeated_more {A} ps i p any lt is test fails inv =

@@ -1,4 +1,4 @@
--- The text of parts, one after another.
+-- The text of a board is the texts of its parts, one after another.
 use Rattle.std.proofs.Common.{◌<◌, codes, Some, length, get_or, take, ◌≡◌, ℕ, suc, ◌+◌, List, [], ◌∷◌, ◌++◌, refl, sym, ap, ◌∙◌, append_assoc, append-nil, arith, slice_index}
 use Rattle.std.specs.Fmt.{decimal}
 use Rattle.std.specs.List.{flat_map, join_by, range_with_len}
@@ -19,7 +19,7 @@ use Rattle.mcs_wiring.specs.BoardText.{quoted_name, rom_lines, bank_lines, chain
 use Rattle.mcs_wiring.specs.Flaws.{roms_text, rams_text}
 use Rattle.mcs_model.proofs.ListLemmas.{range_more}
 
--- the texts of the first parts, and of the next
+-- the texts for the numbers below n + 1 are the texts for the numbers below n and the text for n
 pub one_more : (f : ℕ → List ℕ) (n : ℕ) → flat_map f (range_with_len 0 (n + 1)) ≡ flat_map f (range_with_len 0 n) ++ f n
 one_more f n =
     let next : n + 1 ≡ suc n = omega arith in
@@ -28,7 +28,7 @@ one_more f n =
     ∙ (ap (flat_map f) (range_more 0 n ∙ ap (λ k. range_with_len 0 n ++ k ∷ []) here)
     ∙ (flat_map-append f (range_with_len 0 n) (n ∷ []) ∙ ap (λ t. flat_map f (range_with_len 0 n) ++ t) (append-nil (f n))))
 
--- the text of the lines of all is the texts of each
+-- the text of all the lines is the concatenation of each item's text
 pub text_of-flat_map : {A : Type 0} (f : A → List (List ℕ)) (xs : List A) → text_of (flat_map f xs) ≡ flat_map (λ x. text_of (f x)) xs
 text_of-flat_map f [] = refl
 text_of-flat_map f (x ∷ xs) = flat_map-append as_line (f x) (flat_map f xs) ∙ ap (λ t. text_of (f x) ++ t) (text_of-flat_map f xs)
@@ -36,7 +36,7 @@ text_of-flat_map f (x ∷ xs) = flat_map-append as_line (f x) (flat_map f xs) �
 text_of-append : (xs ys : List (List ℕ)) → text_of (xs ++ ys) ≡ text_of xs ++ text_of ys
 text_of-append xs ys = flat_map-append as_line xs ys
 
--- the text of a board, part by part
+-- the text of a board is the texts of its ROMs, RAM banks, chains, key matrix and lamps
 pub parts_text : (b : BoardParts) → board_text b
     ≡ roms_text b ROMS ++ (rams_text b BANKS ++ (flat_map (λ c. text_of (chain_lines c)) b.chains.items ++ (text_of (option_map_or matrix_lines b.keys []) ++ flat_map (λ l. text_of (lamp_lines l)) b.lamps.items)))
 parts_text b =
@@ -56,7 +56,7 @@ parts_text b =
     ∙ ap (λ t. flat_map (λ c. text_of (chain_lines c)) b.chains.items ++ t) (
     text_of-append keys lamps ∙ ap (λ t. text_of keys ++ t) (text_of-flat_map lamp_lines b.lamps.items)))))))
 
--- one more part is written
+-- appending the text for number n extends the output from the numbers below n to those below n + 1
 pub step : (f : ℕ → List ℕ) (n : ℕ) (start before after piece : List ℕ) → before ≡ start ++ flat_map f (range_with_len 0 n) → after ≡ before ++ piece → piece ≡ f n → after ≡ start ++ flat_map f (range_with_len 0 (n + 1))
 step f n start before after piece so_far written is =
     let done = flat_map f (range_with_len 0 n) in
@@ -64,13 +64,13 @@ step f n start before after piece so_far written is =
     ∙ (ap (λ t. t ++ piece) so_far
     ∙ (append_assoc start done piece ∙ ap (λ t. start ++ t) (ap (λ p. done ++ p) is ∙ sym (one_more f n))))
 
--- one more part of a list is written
+-- appending the text of item i extends the output from the first i items to the first i + 1
 pub list_step : {A : Type 0} (f : A → List ℕ) (xs : List A) (i : ℕ) (d : A) (start before after : List ℕ) → i < length xs → before ≡ start ++ flat_map f (take i xs) → after ≡ before ++ f (get_or xs i d) → after ≡ start ++ flat_map f (take (i + 1) xs)
 list_step f xs i d start before after lt so_far written =
     let x = get_or xs i d in
     written ∙ (ap (λ t. t ++ f x) so_far ∙ (flat_map_more f start (take i xs) x ∙ ap (λ ys. start ++ flat_map f ys) (sym (take_more xs i d lt))))
 
--- what the pieces of a part come to
+-- the formatted pieces of a ROM's table make up the text of its lines
 pub rom_is : (a f m3 m2 m1 m0 : List ℕ) (chip : ℕ) (masks : List LineMask) → m3 ≡ mask_character (mask_at masks 3) ∷ [] → m2 ≡ mask_character (mask_at masks 2) ∷ [] → m1 ≡ mask_character (mask_at masks 1) ∷ [] → m0 ≡ mask_character (mask_at masks 0) ∷ []
     → f ≡ a ++ (codes "[[rom]]\nchip = " ++ (decimal chip ++ (codes "\nport = \"" ++ (m3 ++ (m2 ++ (m1 ++ (m0 ++ codes "\"\n")))))))
     → f ≡ a ++ text_of (rom_lines chip (Some masks))

@@ -1,11 +1,11 @@
--- The answer to the query `board` and the text of the board.
+-- The answer to the query `board` contains the text of the board.
 use Rattle.std.proofs.Common.{◌≡◌, ℕ, List, [], ◌∷◌, ◌++◌, codes, sym, ap, ◌∙◌, append_assoc, append-nil}
 use Rattle.std.specs.List.{flat_map, join_with_byte}
 use Rattle.mcs_model.specs.declared.board.BoardParts.{BoardParts}
 use Rattle.mcs_model.specs.TextLines.{as_line}
 use Rattle.mcs_wiring.specs.BoardText.{board_lines, board_text, query_text}
 
--- lines joined by LF, with one more at the end, are lines that LF ends
+-- lines joined by LF, with one LF added at the end, equal the same lines each ended by LF
 pub joined_lines : (x : List ℕ) (xs : List (List ℕ)) → join_with_byte 10 (x ∷ xs) ++ 10 ∷ [] ≡ flat_map as_line (x ∷ xs)
 joined_lines x [] = sym (append-nil (as_line x))
 joined_lines x (y ∷ ys) =

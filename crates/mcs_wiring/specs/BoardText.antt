@@ -23,14 +23,14 @@ quoted_text text = codes "\"" ++ (text ++ codes "\"")
 abbrev pub quoted_name : Line → List ℕ
 quoted_name line = quoted_text (line_name line)
 
--- the lines of text for a ROM, or none if the board lacks it
+-- the lines of a ROM's table, or no lines if the board lacks the ROM
 abbrev pub rom_lines : ℕ → Option (List LineMask) → List (List ℕ)
 rom_lines chip None = []
 rom_lines chip (Some masks) =
     codes "[[rom]]" ∷ entry (codes "chip") (decimal chip)
     ∷ entry (codes "port") (quoted_text (port_name masks)) ∷ []
 
--- the lines of text for a RAM bank, or none if it has no chips
+-- the lines of a RAM bank's table, or no lines if the bank has no chips
 abbrev pub bank_lines : ℕ → ℕ → List (List ℕ)
 bank_lines bank chips =
     if nat_lt 0 chips
@@ -66,12 +66,13 @@ board_lines b =
     ++ (option_map_or matrix_lines b.keys []
     ++ flat_map lamp_lines b.lamps.items)))
 
--- the text of a board, each line with its line feed
+-- the text of a board; each line ends with a line feed
 abbrev pub board_text : BoardParts → List ℕ
 board_text b = text_of (board_lines b)
 
--- the answer to the query `board`: the line `board`, then the lines of the board's text;
--- `query_text` has no line feed at its end
+-- `query_lines`: the lines of the answer to the query `board`, which are `board` and the lines of
+-- the board's text. `query_text`: these lines with a line feed between them, but not after the
+-- last.
 abbrev pub query_lines : BoardParts → List (List ℕ)
 query_lines b = codes "board" ∷ board_lines b
 

@@ -30,7 +30,8 @@ pub record IsWithinLimits (ms : Members) : Type 0 where
   pub columns : length (column_values ms) ≤ KEY_COLUMNS
   pub lamps : length (values_at (codes "lamp") ms) ≤ LAMPS
 
--- the text of one ROM, and of the first n ROMs; the same for RAM banks
+-- `rom_text`: the text for one ROM. `roms_text`: the text for the ROMs below n. `ram_text` and
+-- `rams_text`: the same for RAM banks.
 abbrev pub rom_text : BoardParts → ℕ → List ℕ
 rom_text b chip = text_of (rom_lines chip (masks_on b chip))
 
@@ -43,7 +44,7 @@ ram_text b bank = text_of (bank_lines bank (slice_index b.banks bank))
 abbrev pub rams_text : BoardParts → ℕ → List ℕ
 rams_text b n = flat_map (ram_text b) (range_with_len 0 n)
 
--- the given parts if there is no fault, else the error that corresponds to the fault
+-- the given parts, or the error of a board text if the parts have a fault
 abbrev pub judgement_of : BoardParts → Option BoardFault → Result BoardParts WiringFault
 judgement_of parts None = Ok parts
 judgement_of parts (Some fault) = Err (refusal_of fault)

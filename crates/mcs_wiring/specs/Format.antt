@@ -25,8 +25,8 @@ table_keys Chain = codes "clock" ∷ codes "data" ∷ codes "chips" ∷ []
 table_keys Keys = codes "chain" ∷ codes "first" ∷ codes "rows" ∷ codes "columns" ∷ []
 table_keys Lamp = codes "line" ∷ []
 
--- `is_board_key`: true if a top-level key is known; `is_table_key`: true if a key is known in the
--- tables of a section
+-- `is_board_key`: true if a key is the top-level key of a section. `is_table_key`: true if a key is
+-- one of those that a table of the section must have.
 abbrev pub is_board_key : List ℕ → Bool
 is_board_key key = list_any (λ s. bytes_eq key (section_key s)) sections
 

@@ -16,8 +16,8 @@ use Rattle.mcs_model.specs.Options.{◌>>=◌}
 abbrev pub below_or_none : ℕ → ℕ → Option ℕ
 below_or_none limit n = if nat_lt n limit then Some n else None
 
--- the number that one or two decimal digits denote, if it is below the limit. A leading zero is not
--- allowed. Two digits suffice for every number in a line name.
+-- the number that one or two decimal digits spell, or none if it has a leading zero or is not below
+-- the limit; every number in a line name has at most two digits
 abbrev pub number_below : ℕ → List ℕ → Option ℕ
 number_below limit (d ∷ []) = if is_ascii_digit d then below_or_none limit (d - 48) else None
 number_below limit (t ∷ d ∷ []) =
@@ -38,7 +38,8 @@ parts_around_dot text =
     if nat_lt (position_or_len (λ b. b == 46) text) (length text)
     then Some (before_first (λ b. b == 46) text, after_first (λ b. b == 46) text) else None
 
--- the line denoted by the text after `rom`, `ram` or `chain` in a line name
+-- the line that the text after `rom`, `ram` or `chain` in a line name gives, or none if the text is
+-- not valid
 abbrev pub rom_line_named : List ℕ → Option Line
 rom_line_named text =
     parts_around_dot text >>= (λ (p : List ℕ × List ℕ).
@@ -79,7 +80,7 @@ line_name (Chain n i) = codes "chain" ++ (decimal n ++ (codes "." ++ decimal i))
 
 -- ---- ports: four characters, line 3 first
 
--- the masks, line 0 first, for the text of a port
+-- the masks that the text of a port gives, line 0 first, or none if the text is not valid
 abbrev pub masks_named : List ℕ → Option (List LineMask)
 masks_named (c3 ∷ c2 ∷ c1 ∷ c0 ∷ []) =
     mask_of c0 >>= (λ m0.
@@ -88,7 +89,8 @@ masks_named (c3 ∷ c2 ∷ c1 ∷ c0 ∷ []) =
     mask_of c3 >>= (λ m3. Some (m0 ∷ m1 ∷ m2 ∷ m3 ∷ [])))))
 masks_named text = None
 
--- the text of a port, line 3 first, for masks that are listed line 0 first
+-- the text of a port, whose characters are in the order line 3 to line 0, from its masks in the
+-- order line 0 to line 3
 abbrev pub port_name : List LineMask → List ℕ
 port_name masks =
     mask_character (mask_at masks 3) ∷ mask_character (mask_at masks 2)

@@ -1,5 +1,5 @@
--- The part of a board text as the specification sees it. Only the contracts of private functions
--- cite this module.
+-- Converts the `Part` of the source code to the `Part` of the specification. Only the contracts of
+-- private functions cite this module.
 use Rattle.std.specs.Option.{option_copied}
 use Rattle.mcs_wiring.specs.declared.fault.WiringFault.{WiringFault}
 use Rattle.mcs_wiring.specs.declared.fault.WiringFault.TheVariants.{DoubleChip, NoSuchLine, WrongDirection}
@@ -9,7 +9,7 @@ use Rattle.mcs_wiring.specs.Parts.{Part}
 abbrev pub part_view : code.Part → Part
 part_view p = record { section = p.section; number = p.number; key = option_copied p.key }
 
--- Holds for the errors that can involve several tables: 24, 25 and 26.
+-- Holds for errors 24, 25 and 26, which can involve several tables.
 abbrev pub IsOfParts : WiringFault → Type 0
 IsOfParts DoubleChip = Unit {0}
 IsOfParts NoSuchLine = Unit {0}

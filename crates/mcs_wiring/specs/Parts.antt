@@ -49,11 +49,11 @@ abbrev pub table_number : Section → ℕ → Option ℕ
 table_number Keys i = None
 table_number s i = Some (i + 1)
 
--- the part for the table of a section with index i, from 0
+-- the part for the table with index i, from 0, in a section; `key` is the key at fault, if any
 abbrev pub at_table : Section → ℕ → Option (List ℕ) → Part
 at_table s i key = record { section = Some s; number = table_number s i; key = key }
 
--- ---- 21, 22 and 23: the first table that has the flaw, and its first key at fault
+-- ---- errors 21, 22 and 23: the first table that has the flaw, and its first key at fault
 
 abbrev pub other_key : Section → Members → Option (List ℕ)
 other_key s ms = find (λ key. not (is_table_key s key)) (keys_of ms)
@@ -61,7 +61,7 @@ other_key s ms = find (λ key. not (is_table_key s key)) (keys_of ms)
 abbrev pub missing_key : Section → Members → Option (List ℕ)
 missing_key s ms = find (λ key. is_none (get_member key ms)) (table_keys s)
 
--- the key if its value is bad, else the next candidate
+-- the key if the condition is true, else `next`
 abbrev pub if_bad : Bool → List ℕ → Option (List ℕ) → Option (List ℕ)
 if_bad true key next = Some key
 if_bad false key next = next
@@ -84,7 +84,7 @@ bad_key Keys ms =
     (if_bad (has_bad_columns ms) (codes "columns") None)))
 bad_key Lamp ms = if_bad (is_none (line_at (codes "line") ms)) (codes "line") None
 
--- the key of a section's table to which the flaw applies
+-- the first key to which the flaw applies in a table of a section
 abbrev pub key_in_table : Flaw → Section → Members → Option (List ℕ)
 key_in_table UnknownKey s ms = other_key s ms
 key_in_table MissingKey s ms = missing_key s ms
@@ -94,7 +94,7 @@ abbrev pub flawed_key : Flaw → Section → Data → Option (List ℕ)
 flawed_key f s (table ms) = key_in_table f s ms
 flawed_key f s d = None
 
--- the first of the values that has the flaw, where i is the index of the first value
+-- the part for the first value in the list that has the flaw; i is the index of the list's head
 abbrev pub flawed_from : Flaw → Section → ℕ → List Data → Option Part
 flawed_from f s i [] = None
 flawed_from f s i (d ∷ ds) =
@@ -103,7 +103,7 @@ flawed_from f s i (d ∷ ds) =
 abbrev pub flawed_in : Flaw → Members → Section → Option Part
 flawed_in f ms s = flawed_from f s 0 (section_values s ms)
 
--- the first part that `part` finds in the sections, in their order
+-- the first part that the function `part` finds, section by section
 abbrev pub first_of : (Section → Option Part) → List Section → Option Part
 first_of part [] = None
 first_of part (s ∷ ss) = option_or (part s) (first_of part ss)
@@ -120,7 +120,7 @@ abbrev pub bad_value : Members → Option Part
 bad_value ms =
     option_or (option_map at_section (find (lacks_array ms) sections)) (flawed BadValue ms)
 
--- ---- 27: the first table beyond the limit; for columns, the key `columns`
+-- ---- error 27: the first table beyond the limit or, for columns, the key `columns`
 
 abbrev pub part_if : Bool → Part → Option Part → Option Part
 part_if true part next = Some part
@@ -134,10 +134,10 @@ too_many ms =
     (part_if (nat_lt KEY_COLUMNS (length (column_values ms))) (at_table Keys 0 (Some (codes "columns")))
     (part_if (nat_lt LAMPS (length (values_at (codes "lamp") ms))) (at_table Lamp LAMPS None) None))))
 
--- ---- 24: the first table with the same number as an earlier table
+-- ---- error 24: the first table with the same number as an earlier table
 
--- the index of the first part whose number is in `seen` or belongs to an earlier part, where i is
--- the index of the first part
+-- the index of the first part whose number is in `seen` or belongs to an earlier part of the list;
+-- i is the index of the list's head
 abbrev pub repeated_from : {A : Type 0} → List ℕ → ℕ → List (Numbered A) → Option ℕ
 repeated_from seen i [] = None
 repeated_from seen i (p ∷ ps) =
@@ -152,7 +152,7 @@ double_in roms rams =
 abbrev pub double_chip : Members → Option Part
 double_chip ms = double_in (roms_of ms) (rams_of ms)
 
--- ---- 25 and 26: the first table with a wrong line
+-- ---- errors 25 and 26: the first table with a wrong line
 
 abbrev pub is_wrong : LineFlaw → BoardParts → Line → Bool
 is_wrong Missing b line = not (exists_on b line)
@@ -200,7 +200,8 @@ wrong_direction b =
     option_or (wrong_chain_from NoOutput b 0 b.chains.items)
     (option_or (wrong_column_of NoInput b b.keys) (wrong_lamp_from Input b 0 b.lamps.items))
 
--- the first location in a table that has the given error, or `None` if the error has no location
+-- the first part of a board's table that has the given error, or `None` if the error has no
+-- location
 abbrev pub part_of : WiringFault → Members → Option Part
 part_of fault.UnknownKey ms = unknown_key ms
 part_of fault.MissingKey ms = flawed MissingKey ms
@@ -214,7 +215,7 @@ part_of fault.NoMemory ms = None
 
 -- ---- the line number
 
--- true if a table contains the part; the key of a part in a section is not checked
+-- true if a table contains the part; if the part is in a section, its key is not checked
 abbrev pub stands_at : Option Section → Option ℕ → Option (List ℕ) → Members → Bool
 stands_at (Some s) (Some n) key ms = nat_le n (length (values_at (section_key s) ms))
 stands_at (Some s) None key ms = is_some (get_member (section_key s) ms)
@@ -231,17 +232,18 @@ has_part p text = elim (parse_document text) [ None ↦ false | Some ms ↦ stan
 abbrev pub is_toml : List ℕ → Bool
 is_toml text = is_some (parse_document text)
 
--- The number of the first line after which `holds` is true of the text so far. `before` is the text
--- before the list, and n is the number of its first line. The last item is the text after the last
--- line feed: it is not tested, and its number is the result if no line qualifies.
+-- The number of the first line for which `holds` is true of the text up to and including that line.
+-- `before` is the text before the listed lines, and n is the number of the first listed line. The
+-- last item is the text after the last line feed: it is not tested, and its number is the result if
+-- no line qualifies.
 abbrev pub line_from : (List ℕ → Bool) → ℕ → List ℕ → List (List ℕ) → ℕ
 line_from holds n before [] = n
 line_from holds n before (l ∷ []) = n
 line_from holds n before (l ∷ next ∷ ls) =
     if holds (before ++ as_line l) then n else line_from holds (n + 1) (before ++ as_line l) (next ∷ ls)
 
--- the number of the line that follows the last line after which `holds` is true of the text so far,
--- or `found` if there is no such line
+-- the number of the line after the last line for which `holds` is true of the text up to and
+-- including it, or `found` if there is no such line; the other arguments are those of `line_from`
 abbrev pub line_after : (List ℕ → Bool) → ℕ → ℕ → List ℕ → List (List ℕ) → ℕ
 line_after holds n found before [] = found
 line_after holds n found before (l ∷ []) = found
@@ -249,8 +251,8 @@ line_after holds n found before (l ∷ next ∷ ls) =
     line_after holds (n + 1) (if holds (before ++ as_line l) then n + 1 else found)
     (before ++ as_line l) (next ∷ ls)
 
--- the first line after which the text so far contains the part; the line after the longest run of
--- leading lines that is TOML
+-- `line_of_part`: the first line for which the text up to and including it is TOML and contains the
+-- part. `line_after_toml`: the line after the longest run of leading lines that is TOML.
 unfoldable pub line_of_part : List ℕ → Part → ℕ
 line_of_part text p = line_from (has_part p) 1 [] (slice_split is_line_feed text)
 

@@ -17,7 +17,7 @@ wiring_fault_number NoSuchLine = NO_SUCH_LINE
 wiring_fault_number WrongDirection = WRONG_DIRECTION
 wiring_fault_number NoMemory = NO_MEMORY
 
--- the error of a board text that corresponds to a fault of the board's parts
+-- the error of a board text for an error in the board's parts
 abbrev pub refusal_of : BoardFault → WiringFault
 refusal_of board.BadValue = BadValue
 refusal_of board.NoSuchLine = NoSuchLine

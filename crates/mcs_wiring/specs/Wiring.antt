@@ -41,8 +41,8 @@ array_values d = []
 abbrev pub values_at : List ℕ → Members → List Data
 values_at key ms = array_values (get_member key ms)
 
--- the entries of a section: the value at `keys`, or the elements of the array at the key of another
--- section. An entry that is not a table is an error of kind 23.
+-- the entries of a section: for the section `Keys`, the value at `keys`; for another section, the
+-- elements of the array at its key. An entry that is not a table is error 23.
 abbrev pub section_values : Section → Members → List Data
 section_values Keys ms = option_to_list (get_member (codes "keys") ms)
 section_values s ms = values_at (section_key s) ms
@@ -51,7 +51,7 @@ section_values s ms = values_at (section_key s) ms
 abbrev pub any_section : (Section → Data → Bool) → Members → Bool
 any_section p ms = list_any (λ s. list_any (p s) (section_values s ms)) sections
 
--- ---- 21: an unknown key, at the top level or in an entry that is a table
+-- ---- error 21: an unknown key, at the top level or in an entry that is a table
 
 abbrev pub has_other_key : Section → Data → Bool
 has_other_key s (table ms) = list_any (λ key. not (is_table_key s key)) (keys_of ms)
@@ -61,7 +61,7 @@ abbrev pub has_unknown_key : Members → Bool
 has_unknown_key ms =
     list_any (λ key. not (is_board_key key)) (keys_of ms) || any_section has_other_key ms
 
--- ---- 22: an entry that is a table lacks a key
+-- ---- error 22: an entry that is a table lacks a key
 
 abbrev pub lacks_one_of : List (List ℕ) → Members → Bool
 lacks_one_of names ms = list_any (λ key. is_none (get_member key ms)) names
@@ -73,10 +73,10 @@ lacks_key s d = false
 abbrev pub has_missing_key : Members → Bool
 has_missing_key ms = any_section lacks_key ms
 
--- ---- 23: a value of the wrong type or form, or a number out of its range
+-- ---- error 23: a value of the wrong type or form, or a number out of range
 
--- the integer if it is in the range `least` to `most`; then the integer at a key if it is in that
--- range
+-- `within_or_none`: the integer, or none if it is outside the range `least` to `most`. `number_at`:
+-- the integer at a key, or none if it is missing or outside that range.
 abbrev pub within_or_none : ℕ → ℕ → ℤ → Option ℕ
 within_or_none least most (pos n) = if nat_le least n && nat_le n most then Some n else None
 within_or_none least most (negsuc n) = None
@@ -128,8 +128,8 @@ matrix_in ms =
 abbrev pub is_no_line : Data → Bool
 is_no_line d = is_none (line_in d)
 
--- true if there are no columns or one of them does not name a line. The list is empty if the value
--- at `columns` is not an array.
+-- True if there are no columns, or one of them does not name a line. There are no columns if the
+-- value at `columns` is not an array.
 abbrev pub are_bad_columns : List Data → Bool
 are_bad_columns [] = true
 are_bad_columns (d ∷ ds) = list_any is_no_line (d ∷ ds)
@@ -140,7 +140,7 @@ has_bad_columns ms = are_bad_columns (values_at (codes "columns") ms)
 abbrev pub lamp_in : Members → Option Line
 lamp_in ms = line_at (codes "line") ms
 
--- the part that a value describes, if the value is a table from which `read` gets the part
+-- the part that `read` finds in a value, or none if the value is not a table
 abbrev pub part_of : {A : Type 0} → (Members → Option A) → Data → Option A
 part_of read d = as_table d >>= read
 
@@ -154,9 +154,9 @@ is_malformed Keys d =
     is_none (part_of matrix_in d) || option_map_or has_bad_columns (as_table d) true
 is_malformed Lamp d = is_none (part_of lamp_in d)
 
--- `is_no_array`: true if there is a value and it is not an array. `lacks_array` applies this to the
--- value at a section's key, except at `keys`, which needs no array. A missing value is not an
--- error.
+-- `is_no_array`: true if there is a value and it is not an array. `lacks_array`: true if a section
+-- requires an array and the value at its key is not an array. The section `Keys` requires no array.
+-- A missing value is not an error.
 abbrev pub is_no_array : Option Data → Bool
 is_no_array None = false
 is_no_array (Some d) = is_none (as_array d)
@@ -168,9 +168,9 @@ lacks_array ms s = is_no_array (get_member (section_key s) ms)
 abbrev pub has_malformed_value : Members → Bool
 has_malformed_value ms = list_any (lacks_array ms) sections || any_section is_malformed ms
 
--- ---- 27: more parts of one kind than a board can have
+-- ---- error 27: more parts of one kind than a board can have
 
--- the table at `keys`, if there is one
+-- the table at the key `keys`, or none if the key is missing or its value is not a table
 abbrev pub keys_table : Members → Option Members
 keys_table ms = get_member (codes "keys") ms >>= as_table
 
@@ -189,7 +189,7 @@ has_too_many ms =
     || nat_lt KEY_COLUMNS (length (column_values ms))
     || nat_lt LAMPS (length (values_at (codes "lamp") ms))
 
--- ---- 24: two ROMs with the same chip number, or two entries for the same RAM bank
+-- ---- error 24: two ROMs with the same chip number, or two entries for the same RAM bank
 
 abbrev pub has_double : {A : Type 0} → List (Numbered A) → Bool
 has_double [] = false
@@ -206,7 +206,7 @@ has_double_chip ms = has_double (roms_of ms) || has_double (rams_of ms)
 
 -- ---- the board
 
--- the part with the number n, or `none` if no part has it
+-- the properties of the first part with the number n, or `none` if no part has it
 abbrev pub part_at : {A : Type 0} → A → List (Numbered A) → ℕ → A
 part_at none [] n = none
 part_at none (p ∷ ps) n = if p.number == n then p.part else part_at none ps n
@@ -235,12 +235,13 @@ board_of_table ms =
     else if has_wrong_direction (parts_in ms) then Err WrongDirection
     else Ok (parts_in ms)
 
--- the board that a text describes: error 20 if the text is not TOML, else the result for its table
+-- the board that a text describes, or its first error: error 20 if the text is not TOML, else the
+-- first error of its table
 abbrev pub board_of_text : List ℕ → Result BoardParts WiringFault
 board_of_text text =
     elim (parse_document text) [ None ↦ Err BadToml | Some ms ↦ board_of_table ms ]
 
--- Holds if the result is the wanted one, or allocation failed.
+-- Holds if the result is the wanted result, or is `NoMemory`.
 abbrev pub ReadsBoard : Result BoardParts WiringFault → Result BoardParts WiringFault → Type 0
 ReadsBoard (Err NoMemory) wanted = Unit {0}
 ReadsBoard (Err fault) wanted = wanted ≡ Err fault

@@ -19,8 +19,7 @@ pub enum WiringFault {
     /// The table of a part lacks a key.
     #[error("the table of a part lacks a key")]
     MissingKey,
-    /// A value of the wrong type or form, a number out of its range, or a key matrix without
-    /// columns.
+    /// A value of the wrong type or form, a number out of range, or a key matrix without columns.
     #[error("a value has another type or form, or is out of its range")]
     BadValue,
     /// More parts of one kind than a board can have.

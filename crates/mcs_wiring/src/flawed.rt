@@ -31,7 +31,8 @@ use toml::{Table, Value};
 pub(crate) struct Part<'a> {
     /// The section, or none for a top-level key.
     pub(crate) section: Option<Section>,
-    /// The number of the table within its section, from 1. The key matrix has none.
+    /// The number of the table within its section, from 1. None for the key matrix, and if the part
+    /// is not a table.
     pub(crate) number: Option<usize>,
     /// The key: the top-level key if there is no section, else a key of the table.
     pub(crate) key: Option<&'a str>,
@@ -57,7 +58,8 @@ fn at_section<'a>(section: Section) -> Part<'a>
     }
 }
 
-/// Returns the part for the table of a section with the given index, from 0.
+/// Returns the part for one table of a section, and for one of its keys if `key` is given. `index`
+/// is the index of the table in its section, from 0.
 fn at_table<'a>(section: Section, index: usize, key: Option<&'a str>) -> Part<'a>
     requires { index < 2 ^ 63 }
     ensures { part_view result ≡ at_table section index (option_copied key.entry) }
@@ -73,9 +75,9 @@ fn at_table<'a>(section: Section, index: usize, key: Option<&'a str>) -> Part<'a
     }
 }
 
-// ---- 21, 22 and 23
+// ---- errors 21, 22 and 23: an unknown key, a missing key, a bad value
 
-/// Returns the first key of a table that is unknown in a section.
+/// Returns the first key of a table that its section does not allow.
 #[tactic(auto, using(crate::proofs::Seen::keys_seen))]
 fn other_key<'a>(section: Section, table: &'a Table) -> Option<&'a str>
     ensures { option_copied result ≡ other_key section (table_view table.now) }
@@ -88,7 +90,7 @@ fn other_key<'a>(section: Section, table: &'a Table) -> Option<&'a str>
     None
 }
 
-/// Returns the first required key of a section that a table lacks.
+/// Returns the first required key that a table of a section lacks, or none if it has them all.
 fn missing_key<'a>(section: Section, table: &Table) -> Option<&'a str>
     ensures { option_copied result ≡ missing_key section (table_view table.now) }
 {
@@ -152,8 +154,8 @@ fn has_bad_port(table: &Table) -> bool
     }
 }
 
-/// Returns the first key of a section's table whose value has the wrong type or form, or is out of
-/// range.
+/// Returns the first key of a section's table whose value is missing, has the wrong type or form,
+/// or is out of range.
 fn bad_key<'a>(section: Section, table: &Table) -> Option<&'a str>
     ensures { option_copied result ≡ bad_key section (table_view table.now) }
 {
@@ -208,7 +210,8 @@ fn bad_key<'a>(section: Section, table: &Table) -> Option<&'a str>
     None
 }
 
-/// Returns the key to which the flaw of a value applies, if the value is a table.
+/// Returns the first key to which the flaw applies, if the value is a table. Returns none if the
+/// value is not a table.
 fn flawed_key<'a>(flaw: Flaw, section: Section, value: &'a Value) -> Option<&'a str>
     ensures { option_copied result ≡ flawed_key flaw section (view value.now) }
 {
@@ -254,7 +257,8 @@ fn flawed_in<'a>(flaw: Flaw, table: &'a Table, section: Section) -> Option<Part<
     }
 }
 
-/// Returns the part for the first entry that has a flaw, with the sections in their fixed order.
+/// Returns the part for the first entry that has a flaw. Searches the sections in the order ROM,
+/// RAM, chain, keys, lamp.
 fn flawed<'a>(flaw: Flaw, table: &'a Table) -> Option<Part<'a>>
     ensures { option_map part_view result ≡ flawed flaw (table_view table.now) }
 {
@@ -295,7 +299,7 @@ fn unknown_key<'a>(table: &'a Table) -> Option<Part<'a>>
     }
 }
 
-/// Returns the first section whose key has a value other than the required array.
+/// Returns the first section that requires an array but whose key has a value that is not an array.
 fn section_without_array(table: &Table) -> Option<Section>
     ensures { result ≡ find (lacks_array (table_view table.now)) sections }
 {
@@ -317,8 +321,8 @@ fn section_without_array(table: &Table) -> Option<Section>
     None
 }
 
-/// Returns the part for the first section whose key has a value other than the required array. If
-/// there is none, returns the part for the first table with a bad value.
+/// Returns the part for the first section that requires an array but has another value. If there is
+/// none, returns the part for the first entry with a bad value.
 fn bad_value<'a>(table: &'a Table) -> Option<Part<'a>>
     ensures { option_map part_view result ≡ bad_value (table_view table.now) }
 {
@@ -328,7 +332,7 @@ fn bad_value<'a>(table: &'a Table) -> Option<Part<'a>>
     }
 }
 
-// ---- 27 and 24
+// ---- errors 27 and 24: too many parts, two parts with the same number
 
 fn too_many<'a>(table: &Table) -> Option<Part<'a>>
     ensures { option_map part_view result ≡ too_many (table_view table.now) }
@@ -351,7 +355,7 @@ fn too_many<'a>(table: &Table) -> Option<Part<'a>>
     None
 }
 
-/// Returns the index of the first part with the same number as an earlier part.
+/// Returns the index of the first part that has the same number as an earlier part.
 #[tactic(auto, using(crate::proofs::PartLists::repeated_step))]
 fn repeated<T: Copy>(parts: &[Numbered<T>]) -> Option<usize>
     ensures same { result ≡ repeated_from [] 0 parts.now }
@@ -380,7 +384,7 @@ fn double_chip<'a>(
     None
 }
 
-// ---- 25 and 26
+// ---- errors 25 and 26: a line that the board lacks, a line of the wrong direction
 
 /// An error in the use of a line.
 #[derive(Clone, Copy)]
@@ -391,7 +395,7 @@ pub(crate) enum LineFlaw {
     NoOutput,
     /// The line is not an input line of the board.
     NoInput,
-    /// The line is an input line of the board.
+    /// The line is an input line of the board, where an input line is not allowed.
     Input,
 }
 
@@ -466,7 +470,7 @@ fn is_wrong(flaw: LineFlaw, parts: &BoardParts, line: Line) -> bool
     }
 }
 
-/// Returns the first key of a chain, `clock` or `data`, whose line has the error.
+/// Returns the first key of a chain, `clock` or `data`, whose line has the error, or none.
 fn wrong_key<'a>(flaw: LineFlaw, parts: &BoardParts, chain: ChainPart) -> Option<&'a str>
     ensures { option_copied result ≡ wrong_key flaw parts.now chain }
 {
@@ -499,7 +503,7 @@ fn has_wrong_line(flaw: LineFlaw, parts: &BoardParts, lines: &[Line]) -> bool
     lines.iter().any(|line| is_wrong(flaw, parts, *line))
 }
 
-/// Returns the part for the key matrix if one of its columns has the error.
+/// Returns the part for the key matrix if one of its columns has the error, else none.
 fn wrong_column<'a>(flaw: LineFlaw, parts: &BoardParts) -> Option<Part<'a>>
     ensures { option_map part_view result ≡ wrong_column_of flaw parts.now parts.now.keys }
 {
@@ -527,7 +531,7 @@ fn wrong_lamp<'a>(flaw: LineFlaw, parts: &BoardParts) -> Option<Part<'a>>
 }
 
 /// Returns the part for the key matrix if the board lacks its chain or a chain bit for one of its
-/// rows.
+/// rows, else none.
 fn lacking_rows<'a>(parts: &BoardParts) -> Option<Part<'a>>
     ensures { option_map part_view result ≡ lacking_rows_of parts.now parts.now.keys }
 {
@@ -570,7 +574,7 @@ fn wrong_direction<'a>(parts: &BoardParts) -> Option<Part<'a>>
     wrong_lamp(LineFlaw::Input, parts)
 }
 
-/// Returns the first part with an error that can involve several tables: 24, 25 or 26.
+/// Returns the part that has error 24, 25 or 26. These errors can involve several tables.
 fn part_within<'a>(fault: WiringFault, table: &Table) -> Option<Part<'a>>
     requires within { IsWithinLimits (table_view table.now) }
     requires kind { IsOfParts fault }
@@ -586,8 +590,8 @@ fn part_within<'a>(fault: WiringFault, table: &Table) -> Option<Part<'a>>
     }
 }
 
-/// Returns the first location in a table that has the given error, or none if the error has no
-/// location.
+/// Returns the first part of a board's table that has the given error. Returns none for `BadToml`
+/// and `NoMemory`, which have no location.
 pub(crate) fn part_of<'a>(fault: WiringFault, table: &'a Table) -> Option<Part<'a>>
     requires { board_of_table (table_view table.now) ≡ Err fault }
     ensures { option_map part_view result ≡ part_of fault (table_view table.now) }

@@ -1,4 +1,4 @@
-//! Converts a board from and to its text in TOML.
+//! Converts boards to and from their TOML text, and reports the errors of a board text.
 #![tactic(auto)]
 
 mod fault;

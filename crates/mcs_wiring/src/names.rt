@@ -6,7 +6,8 @@ use mcs_model::board::Line;
 use mcs_model::limits::{BANK_CHIPS, BANKS, CHAIN_BITS, CHAINS, ROMS};
 use mcs_nibble::LineMask;
 
-/// Parses one or two decimal digits, without a leading zero, as a number below a limit.
+/// Parses one or two decimal digits as a number. Returns none if the number has a leading zero or
+/// is not below the limit.
 fn number_below(text: &str, limit: u8) -> Option<u8>
     ensures { result ≡ number_below limit text.now }
 {

@@ -1,4 +1,4 @@
-//! Reads the parts from the tables of a board text.
+//! Extracts the parts of a board from the tables of a board text.
 ghost use Rattle.std.specs.Prelude.{◌≡◌, ◌≤◌, ◌||◌, codes, map, is_none, length};
 ghost use Rattle.std.specs.List.{filter_map, list_any};
 ghost use Rattle.toml.specs.View.{view, table_view};
@@ -15,7 +15,7 @@ use mcs_model::limits::{
 use mcs_nibble::LineMask;
 use toml::{Table, Value};
 
-/// Returns the ROM that a value describes, if it describes one.
+/// Returns the ROM that a value describes, or none if the value does not describe a ROM.
 pub(crate) fn rom(value: &Value) -> Option<Numbered<Option<[LineMask; 4]>>>
     ensures { result ≡ part_of rom_in (view value.now) }
 {
@@ -28,7 +28,7 @@ pub(crate) fn rom(value: &Value) -> Option<Numbered<Option<[LineMask; 4]>>>
     })
 }
 
-/// Returns the RAM bank that a value describes, if it describes one.
+/// Returns the RAM bank that a value describes, or none if the value does not describe a bank.
 pub(crate) fn ram(value: &Value) -> Option<Numbered<u8>>
     ensures { result ≡ part_of ram_in (view value.now) }
 {
@@ -41,7 +41,7 @@ pub(crate) fn ram(value: &Value) -> Option<Numbered<u8>>
     })
 }
 
-/// Returns the chain that a value describes, if it describes one.
+/// Returns the chain that a value describes, or none if the value does not describe a chain.
 pub(crate) fn chain(value: &Value) -> Option<ChainPart>
     ensures { result ≡ part_of chain_in (view value.now) }
 {
@@ -56,7 +56,8 @@ pub(crate) fn chain(value: &Value) -> Option<ChainPart>
     })
 }
 
-/// Returns the line of the lamp that a value describes, if it describes one.
+/// Returns the line of the lamp that a value describes, or none if the value does not describe a
+/// lamp.
 pub(crate) fn lamp(value: &Value) -> Option<Line>
     ensures { result ≡ part_of lamp_in (view value.now) }
 {
@@ -77,7 +78,7 @@ fn has_no_line(values: &[Value]) -> bool
     values.iter().any(|value| is_no_line(value))
 }
 
-/// Returns true if the columns of a key matrix are not an array, are empty, or contain a value that
+/// Returns true if the columns of a key matrix are not an array, are empty, or include a value that
 /// does not name a line.
 pub(crate) fn has_bad_columns(table: &Table) -> bool
     ensures { result ≡ has_bad_columns (table_view table.now) }
@@ -99,7 +100,8 @@ pub(crate) fn has_bad_numbers(table: &Table) -> bool
     number_at(table, "rows", 1, KEY_ROWS).is_none()
 }
 
-/// Returns the key matrix that a table describes, if it describes one.
+/// Returns the key matrix that a table describes, or none if one of its numbers is missing, is not
+/// an integer, or is out of range. Columns that do not name a line are skipped.
 pub(crate) fn matrix(table: &Table) -> Option<KeyMatrix>
     requires { length (values_at (codes "columns") (table_view table.now)) ≤ KEY_COLUMNS }
     ensures { result ≡ matrix_in (table_view table.now) }
@@ -115,7 +117,7 @@ pub(crate) fn matrix(table: &Table) -> Option<KeyMatrix>
     })
 }
 
-/// Returns the lines that the values name, without the values that do not name a line.
+/// Returns the lines that the values name. Values that do not name a line are skipped.
 fn columns(values: &[Value]) -> ArrayVec<Line, KEY_COLUMNS>
     requires { length values.now ≤ KEY_COLUMNS }
     ensures { result.items ≡ filter_map line_in (map view values.now) }
@@ -129,7 +131,7 @@ fn columns(values: &[Value]) -> ArrayVec<Line, KEY_COLUMNS>
     columns
 }
 
-/// Returns the ROMs that the values describe, without the values that do not describe one.
+/// Returns the ROMs that the values describe. Values that do not describe a ROM are skipped.
 pub(crate) fn roms(values: &[Value]) -> ArrayVec<Numbered<Option<[LineMask; 4]>>, ROMS>
     requires { length values.now ≤ ROMS }
     ensures { result.items ≡ filter_map (part_of rom_in) (map view values.now) }
@@ -143,7 +145,7 @@ pub(crate) fn roms(values: &[Value]) -> ArrayVec<Numbered<Option<[LineMask; 4]>>
     roms
 }
 
-/// Returns the RAM banks that the values describe, without the values that do not describe one.
+/// Returns the RAM banks that the values describe. Values that do not describe a bank are skipped.
 pub(crate) fn rams(values: &[Value]) -> ArrayVec<Numbered<u8>, BANKS>
     requires { length values.now ≤ BANKS }
     ensures { result.items ≡ filter_map (part_of ram_in) (map view values.now) }
@@ -157,7 +159,7 @@ pub(crate) fn rams(values: &[Value]) -> ArrayVec<Numbered<u8>, BANKS>
     rams
 }
 
-/// Returns the chains that the values describe, without the values that do not describe one.
+/// Returns the chains that the values describe. Values that do not describe a chain are skipped.
 pub(crate) fn chains(values: &[Value]) -> ArrayVec<ChainPart, CHAINS>
     requires { length values.now ≤ CHAINS }
     ensures { result.items ≡ filter_map (part_of chain_in) (map view values.now) }
@@ -171,8 +173,8 @@ pub(crate) fn chains(values: &[Value]) -> ArrayVec<ChainPart, CHAINS>
     chains
 }
 
-/// Returns the lines of the lamps that the values describe, without the values that do not describe
-/// one.
+/// Returns the lines of the lamps that the values describe. Values that do not describe a lamp are
+/// skipped.
 pub(crate) fn lamps(values: &[Value]) -> ArrayVec<Line, LAMPS>
     requires { length values.now ≤ LAMPS }
     ensures { result.items ≡ filter_map (part_of lamp_in) (map view values.now) }

@@ -1,4 +1,4 @@
-//! Reads a board from its text.
+//! Builds a board from its TOML text, or finds the first error in the text.
 ghost use Rattle.std.specs.Prelude.{◌≡◌, ◌==◌, ◌≤◌, ◌||◌, not, false, length, option_and_then, option_map, string_bytes, Err};
 ghost use Rattle.std.specs.List.{list_any};
 ghost use Rattle.std.specs.BTreeMap.{keys};
@@ -29,7 +29,7 @@ fn has_other_board_key(table: &Table) -> bool
     table.keys().any(|key| !is_board_key(key.as_str()))
 }
 
-/// Returns true if a table has a key that is unknown in the section.
+/// Returns true if a table of the section has a key that the section does not allow.
 fn has_key_beside(section: Section, table: &Table) -> bool
     ensures { result
         ≡ list_any (λ key. not (is_table_key section (string_bytes key))) (keys table.now) }
@@ -37,7 +37,7 @@ fn has_key_beside(section: Section, table: &Table) -> bool
     table.keys().any(|key| !section.has_key(key.as_str()))
 }
 
-/// Returns true if a section entry is a table with a key that is unknown in the section.
+/// Returns true if a section entry is a table with a key that the section does not allow.
 fn has_other_key(section: Section, value: &Value) -> bool
     ensures { result ≡ has_other_key section (view value.now) }
 {
@@ -163,7 +163,7 @@ fn has_missing_key(table: &Table) -> bool
     has_flaw_anywhere(Flaw::MissingKey, table)
 }
 
-/// Returns true if a section needs an array and its key has another value.
+/// Returns true if the section requires an array and its key has a value that is not an array.
 pub(crate) fn lacks_array(table: &Table, section: Section) -> bool
     ensures { result ≡ lacks_array (table_view table.now) section }
 {
@@ -183,14 +183,14 @@ fn lacks_an_array(table: &Table) -> bool
         .any(|section| lacks_array(table, *section))
 }
 
-/// Returns true if a value has the wrong type or form, or a number is out of its range.
+/// Returns true if a value in the text has the wrong type or form, or a number is out of range.
 fn has_malformed_value(table: &Table) -> bool
     ensures { result ≡ has_malformed_value (table_view table.now) }
 {
     lacks_an_array(table) || has_flaw_anywhere(Flaw::BadValue, table)
 }
 
-/// Returns the table of the key matrix, if there is one.
+/// Returns the table at the key `keys`, or none if the key is missing or its value is not a table.
 fn keys_table(table: &Table) -> Option<&Table>
     ensures { option_map (λ t. table_view t.now) result ≡ keys_table (table_view table.now) }
 {
@@ -227,7 +227,7 @@ fn has_too_many(table: &Table) -> bool
     count_at(table, "lamp") > LAMPS
 }
 
-/// Returns true if a part has the given number.
+/// Returns true if one of the parts has the given number.
 pub(crate) fn has_number<T: Copy>(parts: &[Numbered<T>], number: u8) -> bool
     ensures { result ≡ list_any (λ q. q.number == number) parts.now }
 {
@@ -247,7 +247,7 @@ fn has_double<T: Copy>(parts: &[Numbered<T>]) -> bool
     false
 }
 
-/// Returns the part with the given number, or `none` if no part has it.
+/// Returns the properties of the first part with the given number, or `none` if no part has it.
 #[tactic(auto, using(crate::proofs::Seen::part_from))]
 fn part_at<T: Copy>(parts: &[Numbered<T>], none: T, number: u8) -> T
     ensures { result ≡ part_at none parts.now number }
@@ -260,8 +260,8 @@ fn part_at<T: Copy>(parts: &[Numbered<T>], none: T, number: u8) -> T
     none
 }
 
-/// Returns an array with each part at the index equal to its number, and `none` at all other
-/// indices.
+/// Returns an array with one element for each number from 0 to `N` - 1: the properties of the first
+/// part with that number, or `none`.
 fn placed<T: Copy, const N: usize>(parts: &[Numbered<T>], none: T) -> [T; N]
     requires { N ≤ 256 }
     ensures { result ≡ table_of N (part_at none parts.now) }
@@ -273,7 +273,7 @@ fn placed<T: Copy, const N: usize>(parts: &[Numbered<T>], none: T) -> [T; N]
     placed
 }
 
-/// Returns the key matrix that the table of a board text describes, if it describes one.
+/// Returns the key matrix that a board's table describes, or none if it does not describe one.
 fn matrix_of(table: &Table) -> Option<KeyMatrix>
     requires { length (column_values (table_view table.now)) ≤ KEY_COLUMNS }
     ensures { result ≡ option_and_then matrix_in (keys_table (table_view table.now)) }
@@ -281,7 +281,8 @@ fn matrix_of(table: &Table) -> Option<KeyMatrix>
     matrix(keys_table(table)?)
 }
 
-/// Returns the parts that a table describes.
+/// Returns the parts of the board that a table describes. `roms` and `rams` are the ROMs and RAM
+/// banks of the table.
 #[tactic(auto, using(crate::proofs::Seen::length_seen))]
 pub(crate) fn parts_in(
     table: &Table,
@@ -302,15 +303,15 @@ pub(crate) fn parts_in(
     }
 }
 
-/// Returns the board with the given parts, or the first error in them.
+/// Returns the board with the given parts, or the first error in the parts.
 fn board_of_parts(parts: BoardParts) -> Result<Board, WiringFault>
     ensures { result ≡ judgement_of parts (board_fault_of parts) }
 {
     Ok(Board::of(parts)?)
 }
 
-/// Returns the board that a table describes, or error 24, 25 or 26. The table must have passed the
-/// other checks.
+/// Returns the board that a table describes, or error 24, 25 or 26. The table must have no
+/// malformed value, and no more parts of one kind than a board can have.
 #[tactic(auto, using(crate::proofs::Seen::length_seen))]
 fn board_within_limits(table: &Table) -> Result<Board, WiringFault>
     requires no_bad_value { has_malformed_value (table_view table.now) ≡ false }
@@ -345,11 +346,12 @@ pub(crate) fn board_of_table(table: &Table) -> Result<Board, WiringFault>
     board_within_limits(table)
 }
 
-/// Returns the board that a text in TOML describes, or the first error that applies to the text.
+/// Parses the TOML text of a board. Returns the first error that applies to the text, or `NoMemory`
+/// if allocation fails.
 pub fn board_of(alloc: Global, text: &str) -> Result<Board, WiringFault>
     ensures answers { ReadsBoard result (board_of_text text.now) }
 
-    // A text of only blanks and comments never gives `NoMemory`.
+    // A text that contains only blanks and comments never gives `NoMemory`.
     ensures memory { result ≡ Err WiringFault.NoMemory → ¬ IsBlank text.now }
 {
     match toml::table_from_str(alloc, text) {

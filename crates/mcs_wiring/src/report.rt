@@ -1,4 +1,4 @@
-//! Reports that a board text is valid, or its error and the part that has the error.
+//! Reports whether a board text is valid and, if it is not, which part of the text has an error.
 ghost use Rattle.std.specs.Prelude.{◌≡◌, ◌++◌, ◌∷◌, [], ◌<◌, length, codes, string_bytes, Err, IfOk, OnOk, MatchOption};
 ghost use Rattle.std.specs.List.{list_all, slice_split};
 ghost use Rattle.std.specs.Fmt.{decimal};
@@ -17,7 +17,7 @@ use crate::values::{count_at, member};
 use std::alloc::{AllocError, Global};
 use toml::Table;
 
-/// Returns true if a table contains a part. The key of a part in a section is not checked.
+/// Returns true if a table contains a part. If the part is in a section, its key is not checked.
 fn stands_in(table: &Table, part: Part<'_>) -> bool
     ensures { result ≡ stands_in (part_view part.entry) (table_view table.now) }
 {
@@ -53,7 +53,8 @@ fn is_toml(alloc: Global, text: &str) -> Result<bool, AllocError>
     }
 }
 
-/// Returns the first line and the text after its line feed, or none if there is no line feed.
+/// Splits a text at its first line feed. Returns the text before it and the text after it, or none
+/// if there is no line feed.
 fn first_line(text: &str) -> Option<(&str, &str)>
     ensures { MatchOption result (slice_split is_line_feed text.now ≡ text.now ∷ [])
         (λ x. (slice_split is_line_feed text.now ≡ x.0.now ∷ slice_split is_line_feed x.1.now)
@@ -71,8 +72,8 @@ fn push_line(text: &mut String, line: &str) -> Result<(), AllocError>
     Ok(())
 }
 
-/// Returns the number of the first line after which the text so far is TOML that contains the part.
-/// Fails if allocation fails.
+/// Returns the smallest `n` such that the first `n` lines are TOML and contain the part. If there
+/// is no such `n`, returns the number of the last line. Fails if allocation fails.
 #[tactic(auto, using(crate::proofs::LineSteps::from_step), unfolding(crate::specs::Parts::line_of_part))]
 fn line_of_part(alloc: Global, text: &str, part: Part<'_>) -> Result<usize, AllocError>
     ensures { IfOk result (λ line. line ≡ line_of_part text.now (part_view part.entry)) }
@@ -91,8 +92,8 @@ fn line_of_part(alloc: Global, text: &str, part: Part<'_>) -> Result<usize, Allo
     Ok(number)
 }
 
-/// Returns the number of the line after the longest run of leading lines that is TOML. Fails if
-/// allocation fails.
+/// Returns the number of the line that follows the longest run of leading lines that is TOML. Fails
+/// if allocation fails.
 #[tactic(auto, using(crate::proofs::LineSteps::after_step), unfolding(crate::specs::Parts::line_after_toml))]
 fn line_after_toml(alloc: Global, text: &str) -> Result<usize, AllocError>
     ensures { IfOk result (λ line. line ≡ line_after_toml text.now) }
@@ -121,7 +122,7 @@ fn is_bare(key: &str) -> bool
     )
 }
 
-/// Returns a key as the report shows it: the key itself, or `?` if it is empty or needs quotes.
+/// Returns the key as the report shows it: unchanged, or `?` if the key is empty or needs quotes.
 fn key_name<'a>(key: &'a str) -> &'a str
     ensures { result.now ≡ key_name key.now }
 {
@@ -165,7 +166,7 @@ fn push_key(out: &mut String, key: Option<&str>) -> Result<(), AllocError>
     }
 }
 
-/// Appends a refusal with its number, its line, and the part that has the error.
+/// Appends the report on an error that has a location: refusal number, line number and part.
 fn push_part(out: &mut String, number: u8, line: usize, part: Part<'_>) -> Result<(), AllocError>
     ensures { OnOk result (string_bytes out.new
         ≡ string_bytes out.old ++ refusal_text number line (part_view part.entry)) }
@@ -178,7 +179,8 @@ fn push_part(out: &mut String, number: u8, line: usize, part: Part<'_>) -> Resul
     Ok(())
 }
 
-/// Appends the refusal of a table, with the part that has the error, if there is one.
+/// Appends the report on the error of a table: the refusal number, and the line and the part if the
+/// error has a location.
 fn push_refusal(
     alloc: Global,
     out: &mut String,
@@ -200,7 +202,8 @@ fn push_refusal(
     }
 }
 
-/// Returns the report on a table: `wiring valid`, or the refusal with the part that has the error.
+/// Returns the report on the table of a board text: `wiring valid`, or the refusal with the line
+/// and the part that has the error.
 fn table_report(alloc: Global, text: &str, table: &Table) -> Result<String, AllocError>
     ensures { IfOk result (λ report. string_bytes report
         ≡ judged_text text.now (table_view table.now) (board_of_table (table_view table.now))) }
@@ -215,7 +218,8 @@ fn table_report(alloc: Global, text: &str, table: &Table) -> Result<String, Allo
     }
 }
 
-/// Returns the report on a text that is not TOML: `no 20` and a line number.
+/// Returns the report on a text that is not TOML: `no 20` and the number of the line after the
+/// longest run of leading lines that is TOML.
 fn toml_report(alloc: Global, text: &str) -> Result<String, AllocError>
     ensures { IfOk result (λ report. string_bytes report
         ≡ as_line (codes "no 20 line " ++ decimal (line_after_toml text.now))) }
@@ -224,8 +228,8 @@ fn toml_report(alloc: Global, text: &str) -> Result<String, AllocError>
     format!(in alloc; "no 20 line {line}\n")
 }
 
-/// Returns the report on a board text: `wiring valid`, or the refusal with the line and the part
-/// that has the error, as in `no 25 line 6 lamp 2 key line`. Fails if allocation fails.
+/// Returns the report on a board text: `wiring valid`, or the refusal with a line number and the
+/// part that has the error, as in `no 25 line 6 lamp 2 key line`. Fails if allocation fails.
 #[tactic(auto, unfolding(crate::specs::Parts::wiring_text))]
 pub fn wiring_text(alloc: Global, text: &str) -> Result<String, AllocError>
     ensures { IfOk result (λ report. string_bytes report ≡ wiring_text text.now) }

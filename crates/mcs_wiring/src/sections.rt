@@ -17,23 +17,23 @@ pub(crate) enum Section {
     Lamp,
 }
 
-/// An error in a section that can be found without the other sections.
+/// An error in one section, found without the other sections.
 #[derive(Clone, Copy)]
 pub(crate) enum Flaw {
-    /// A table has a key that is unknown in the section.
+    /// A table has a key that its section does not allow.
     UnknownKey,
     /// A table lacks a required key.
     MissingKey,
-    /// A value of the wrong type or form, or a number out of its range.
+    /// A value of the wrong type or form, or a number out of range.
     BadValue,
 }
 
-/// A part with its chip or bank number.
+/// A ROM or a RAM bank with its number.
 #[derive(Clone, Copy, Default)]
 pub(crate) struct Numbered<T> {
     /// The chip number of a ROM, or the number of a RAM bank.
     pub(crate) number: u8,
-    /// The properties of the part.
+    /// The masks of the ROM's port, or the number of chips in the RAM bank.
     pub(crate) part: T,
 }
 
@@ -67,7 +67,7 @@ impl Section {
         }
     }
 
-    /// Returns true if a key is known in the section's tables.
+    /// Returns true if the section's tables must have the key. They can have no other key.
     pub(crate) fn has_key(self, key: &str) -> bool
         ensures { result ≡ is_table_key self key.now }
     {

@@ -8,7 +8,7 @@ use crate::names::line_named;
 use mcs_model::board::Line;
 use toml::{Table, Value};
 
-/// Returns the value at a key.
+/// Returns the value at a key, or none if the table lacks the key.
 pub(crate) fn member<'a>(table: &'a Table, key: &str) -> Option<&'a Value>
     ensures { option_map (λ v. view v.now) result ≡ get_member key.now (table_view table.now) }
 {
@@ -22,7 +22,7 @@ pub(crate) fn lacks(table: &Table, key: &str) -> bool
     member(table, key).is_none()
 }
 
-/// Returns the elements of the array at a key, or none if there is no array.
+/// Returns the elements of the array at a key, or an empty slice if there is no array.
 pub(crate) fn values_at<'a>(table: &'a Table, key: &str) -> &'a [Value]
     ensures { map view result.now ≡ values_at key.now (table_view table.now) }
 {
@@ -32,7 +32,7 @@ pub(crate) fn values_at<'a>(table: &'a Table, key: &str) -> &'a [Value]
     }
 }
 
-/// Returns the integer at a key if it is in the range `least` to `most`.
+/// Returns the integer at a key, or none if it is missing or not in the range `least` to `most`.
 pub(crate) fn number_at(table: &Table, key: &str, least: u8, most: u8) -> Option<u8>
     ensures { result ≡ number_at key.now least most (table_view table.now) }
 {
@@ -43,14 +43,15 @@ pub(crate) fn number_at(table: &Table, key: &str, least: u8, most: u8) -> Option
     }
 }
 
-/// Returns the line that a value names, if it names one.
+/// Returns the line that a value names, or none if the value is not the name of a line.
 pub(crate) fn line_in(value: &Value) -> Option<Line>
     ensures { result ≡ line_in (view value.now) }
 {
     line_named(value.as_str()?)
 }
 
-/// Returns the line that the value at a key names, if it names one.
+/// Returns the line that the value at a key names, or none if the value is missing or is not the
+/// name of a line.
 pub(crate) fn line_at(table: &Table, key: &str) -> Option<Line>
     ensures { result ≡ line_at key.now (table_view table.now) }
 {

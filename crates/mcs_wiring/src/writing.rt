@@ -1,4 +1,4 @@
-//! Writes a board as text.
+//! Writes a board as TOML text.
 ghost use Rattle.std.specs.Prelude.{◌≡◌, ◌<◌, ◌∷◌, [], ◌++◌, string_bytes, codes, OnOk, IfOk};
 ghost use Rattle.std.specs.List.{flat_map, join_by};
 ghost use Rattle.std.specs.Option.{option_map_or};
@@ -36,7 +36,7 @@ fn push_name(out: &mut String, line: Line) -> Result<(), AllocError>
     }
 }
 
-/// Appends the lines of text for a ROM, if the board has it.
+/// Appends the TOML table of a ROM, or nothing if the board lacks the ROM.
 fn push_rom(out: &mut String, chip: u8, masks: Option<[LineMask; 4]>) -> Result<(), AllocError>
     ensures { OnOk result (string_bytes out.new
         ≡ string_bytes out.old ++ text_of (rom_lines chip masks)) }
@@ -52,7 +52,7 @@ fn push_rom(out: &mut String, chip: u8, masks: Option<[LineMask; 4]>) -> Result<
     Ok(())
 }
 
-/// Appends the lines of text for a RAM bank, if it has chips.
+/// Appends the TOML table of a RAM bank, or nothing if the bank has no chips.
 fn push_ram(out: &mut String, bank: u8, chips: u8) -> Result<(), AllocError>
     ensures { OnOk result (string_bytes out.new
         ≡ string_bytes out.old ++ text_of (bank_lines bank chips)) }
@@ -63,7 +63,7 @@ fn push_ram(out: &mut String, bank: u8, chips: u8) -> Result<(), AllocError>
     write!(out, "[[ram]]\nbank = {bank}\nchips = {chips}\n")
 }
 
-/// Appends the lines of text for a chain.
+/// Appends the TOML table of a chain.
 fn push_chain(out: &mut String, chain: &ChainPart) -> Result<(), AllocError>
     ensures { OnOk result (string_bytes out.new
         ≡ string_bytes out.old ++ text_of (chain_lines chain.now)) }
@@ -77,7 +77,7 @@ fn push_chain(out: &mut String, chain: &ChainPart) -> Result<(), AllocError>
     Ok(())
 }
 
-/// Appends the quoted line names of columns, separated by `, `.
+/// Appends the quoted names of the columns' lines, separated by `, `.
 fn push_names(out: &mut String, lines: &[Line]) -> Result<(), AllocError>
     ensures { OnOk result (string_bytes out.new
         ≡ string_bytes out.old ++ join_by quoted_name (codes ", ") lines.now) }
@@ -93,7 +93,7 @@ fn push_names(out: &mut String, lines: &[Line]) -> Result<(), AllocError>
     Ok(())
 }
 
-/// Appends the lines of text for a key matrix.
+/// Appends the TOML table of a key matrix.
 fn push_matrix(out: &mut String, keys: &KeyMatrix) -> Result<(), AllocError>
     ensures { OnOk result (string_bytes out.new
         ≡ string_bytes out.old ++ text_of (matrix_lines keys.now)) }
@@ -108,7 +108,7 @@ fn push_matrix(out: &mut String, keys: &KeyMatrix) -> Result<(), AllocError>
     Ok(())
 }
 
-/// Appends the lines of text for a lamp.
+/// Appends the TOML table of a lamp.
 fn push_lamp(out: &mut String, line: Line) -> Result<(), AllocError>
     ensures { OnOk result (string_bytes out.new
         ≡ string_bytes out.old ++ text_of (lamp_lines line)) }
@@ -119,7 +119,7 @@ fn push_lamp(out: &mut String, line: Line) -> Result<(), AllocError>
     Ok(())
 }
 
-/// Appends the text for the ROMs of a board, in ascending order of chip number.
+/// Appends the TOML tables of a board's ROMs, in ascending order of chip number.
 fn push_roms(out: &mut String, board: &Board) -> Result<(), AllocError>
     ensures { OnOk result (string_bytes out.new
         ≡ string_bytes out.old ++ roms_text board.now ROMS) }
@@ -130,7 +130,7 @@ fn push_roms(out: &mut String, board: &Board) -> Result<(), AllocError>
     Ok(())
 }
 
-/// Appends the text for the RAM banks of a board, in ascending order of bank number.
+/// Appends the TOML tables of a board's RAM banks, in ascending order of bank number.
 fn push_rams(out: &mut String, board: &Board) -> Result<(), AllocError>
     ensures { OnOk result (string_bytes out.new
         ≡ string_bytes out.old ++ rams_text board.now BANKS) }
@@ -141,7 +141,7 @@ fn push_rams(out: &mut String, board: &Board) -> Result<(), AllocError>
     Ok(())
 }
 
-/// Appends the text for all chains, in order.
+/// Appends the TOML tables of the chains, in order.
 fn push_chains(out: &mut String, chains: &[ChainPart]) -> Result<(), AllocError>
     ensures { OnOk result (string_bytes out.new
         ≡ string_bytes out.old ++ flat_map (λ c. text_of (chain_lines c)) chains.now) }
@@ -152,7 +152,7 @@ fn push_chains(out: &mut String, chains: &[ChainPart]) -> Result<(), AllocError>
     Ok(())
 }
 
-/// Appends the text for the key matrix, if there is one.
+/// Appends the TOML table of the key matrix, or nothing if the board has no key matrix.
 fn push_keys(out: &mut String, keys: &Option<KeyMatrix>) -> Result<(), AllocError>
     ensures { OnOk result (string_bytes out.new
         ≡ string_bytes out.old ++ text_of (option_map_or matrix_lines keys.now [])) }
@@ -163,7 +163,7 @@ fn push_keys(out: &mut String, keys: &Option<KeyMatrix>) -> Result<(), AllocErro
     }
 }
 
-/// Appends the text for all lamps, in order.
+/// Appends the TOML tables of the lamps, in order.
 fn push_lamps(out: &mut String, lamps: &[Line]) -> Result<(), AllocError>
     ensures { OnOk result (string_bytes out.new
         ≡ string_bytes out.old ++ flat_map (λ l. text_of (lamp_lines l)) lamps.now) }
@@ -174,8 +174,8 @@ fn push_lamps(out: &mut String, lamps: &[Line]) -> Result<(), AllocError>
     Ok(())
 }
 
-/// Returns the text of a board in TOML: the ROMs and RAM banks in ascending order, then the chains,
-/// the key matrix and the lamps. Each line ends with LF.
+/// Returns the TOML text of a board: the ROMs and RAM banks in ascending order, then the chains,
+/// the key matrix and the lamps. Each line ends with LF. Fails if allocation fails.
 pub fn board_text(alloc: Global, board: &Board) -> Result<String, AllocError>
     ensures { IfOk result (λ s. string_bytes s ≡ board_text board.now) }
 {

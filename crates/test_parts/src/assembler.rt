@@ -1,4 +1,4 @@
-//! Tests of the assembler on texts that no session passes to it, because they contain bytes other
+//! Tests of the assembler on texts that no session can pass to it, because they contain bytes other
 //! than LF, tab and printable ASCII. The tests check the results and the first errors. All other
 //! texts are in checks/lib/scripts/assembler.scripts.
 use mcs_asm::{FaultKind, SourceFault, Span, assemble, survey};
@@ -6,8 +6,8 @@ use mcs_nibble::Addr;
 use std::alloc::Global;
 use std::test::Fail;
 
-/// A text and its expected results: the (address, byte) pairs of the image, the address and the
-/// size of each line, and the names with their values.
+/// A source text and its expected results: the (address, byte) pairs of the image, the address and
+/// the size of each line, and the names with their values.
 type TextRow = (
     &'static str,
     &'static [(u16, u8)],
@@ -15,10 +15,10 @@ type TextRow = (
     &'static [(&'static str, u16)],
 );
 
-/// A text, and the line number and the kind of its first error.
+/// A source text, and the line number and the kind of its first error.
 type FaultRow = (&'static str, usize, SourceFault);
 
-/// Returns true if the pairs of an image are the wanted bytes at the wanted addresses.
+/// Returns true if the pairs of an image are exactly the wanted addresses with the wanted bytes.
 fn are_bytes(pairs: &[(Addr, u8)], bytes: &[(u16, u8)]) -> bool {
     for (pair, wanted) in pairs.iter().zip(bytes.iter()) {
         if pair.0.get() != wanted.0 || pair.1 != wanted.1 {
@@ -60,16 +60,17 @@ fn are_names(names: &[(&[u8], u16)], wanted: &[(&str, u16)]) -> bool {
     names.len() == wanted.len()
 }
 
-/// Texts with a non-ASCII character in a comment, and without LF at the end.
+/// Source texts that assemble. They have a non-ASCII character in a comment and do not end with LF.
 const READ_TEXTS: [TextRow; 2] = [
-    // CR at line ends, a label, a `NAME = n`, and lower-case mnemonics and registers.
+    // This text has CR at line ends, a label, a definition `NAME = n`, and lower-case mnemonics and
+    // registers.
     (
         "k = 0x10\r\n x : fim p7 , k ; comment \u{e4}\r\n\tisz r15,x",
         &[(0, 0x2E), (1, 0x10), (2, 0x7F), (3, 0)],
         &[(0, 0), (0, 2), (2, 2)],
         &[("k", 16), ("x", 0)],
     ),
-    // Lines without a statement, and CR at line ends.
+    // This text has CR at line ends, and lines without a statement.
     (
         "\r\n\t \n;only \u{e4}\r\n a:\r\nLDM 00015\r",
         &[(0, 0xDF)],
@@ -93,7 +94,8 @@ fn texts_that_are_not_plain_are_read(rt: HostRuntime) -> Result<(), Fail> {
     Ok(())
 }
 
-/// Texts with a non-ASCII character or a misplaced CR outside a comment, and their first errors.
+/// Source texts that do not assemble, and their first errors. They have a non-ASCII character or a
+/// CR in a wrong location outside a comment.
 const FIRST_FAULTS: [FaultRow; 4] = [
     ("NOP \u{e4}\n", 1, SourceFault::BadStatement),
     ("\u{e4}:", 1, SourceFault::BadStatement),

@@ -1,4 +1,4 @@
-//! Boards for tests, built from their parts.
+//! Boards for the tests of this crate, built from their parts.
 use arrayvec::ArrayVec;
 use mcs_fixtures::boards::{CLOCK_AND_DATA, MIXED, OUTPUTS, chains, lines, on_one_rom};
 use mcs_model::board::{Board, BoardFault, BoardParts, ChainPart, Line};
@@ -9,7 +9,8 @@ pub(crate) fn one_rom() -> Result<Board, BoardFault> {
     on_one_rom(OUTPUTS, [0; BANKS], ArrayVec::new(), &[])
 }
 
-/// Returns a board with ROM 0 as its only part; the port has input and output lines.
+/// Returns a board with ROM 0 as its only part. The ROM's port has two input lines and two output
+/// lines.
 pub(crate) fn one_mixed_rom() -> Result<Board, BoardFault> {
     on_one_rom(MIXED, [0; BANKS], ArrayVec::new(), &[])
 }

@@ -1,12 +1,12 @@
-//! Tests of a single ROM: its port gives values that were worked out manually.
+//! Tests of a single ROM: the values that its port gives were worked out manually.
 use crate::checks::equal;
 use mcs_fixtures::boards::MIXED;
 use mcs_nibble::Nibble;
 use mcs_rom4001::Rom;
 use std::test::Fail;
 
-/// Checks a port whose lines 0 and 2 are inputs. Line 1 is an output that reads as 0, and line 3 is
-/// an output that reads as 1.
+/// Checks a ROM whose port lines 0 and 2 are inputs. Line 1 is an output that reads as 0, and line
+/// 3 is an output that reads as 1.
 #[test]
 fn port_of_mixed_lines(rt: HostRuntime) -> Result<(), Fail> {
     let mut rom = Rom::new(MIXED);

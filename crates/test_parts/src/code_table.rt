@@ -1,5 +1,5 @@
-//! Tests of the opcode table: the opcodes that the manual's table omits, listed manually, and word
-//! counts.
+//! Tests of the opcode table: the opcodes that the manual's table omits, and the number of words of
+//! an opcode. The expected values were listed manually.
 use crate::checks::equal;
 use mcs_code::{Op, Words, cycles, decode, encode, word_count, words};
 use mcs_nibble::{Nibble, PairNo};

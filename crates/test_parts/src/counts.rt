@@ -1,5 +1,4 @@
-//! Tests of rigs with part counts that differ from the bench's: one part of each kind, and no
-//! chain.
+//! Tests of rigs whose part counts differ from the bench's: one part of each kind, or no chain.
 use crate::boards::{largest, one_long_chain, one_mixed_rom};
 use crate::checks::equal;
 use mcs_board::Rig;
@@ -13,8 +12,8 @@ fn nibble(n: u8) -> Nibble {
     Nibble::low_of(n)
 }
 
-/// Wires a board to a rig and runs a program for `cycles` cycles. Returns the rig and the
-/// processor.
+/// Builds a rig, wires a board to it, and runs a program for `cycles` cycles. Returns the rig and
+/// the processor.
 fn ran<const ROMS: usize, const BANKS: usize, const CHAINS: usize, const MAX: usize>(
     alloc: Global,
     rt: &impl Abort,
@@ -38,8 +37,9 @@ fn ran<const ROMS: usize, const BANKS: usize, const CHAINS: usize, const MAX: us
     (rig, cpu)
 }
 
-/// Checks lamp 0 at the end of a chain of 80 bits whose first bit is 1. After 79 more shifts the 1
-/// is at the end, and the next shift drops it. Line 0 of the selected ROM is the clock.
+/// Checks lamp 0, which is at the end of a chain of 80 bits. The first bit of the chain is 1. After
+/// 79 shifts this 1 is at the end, and the next shift drops it. The clock is line 0 of the selected
+/// ROM.
 fn comes_to_the_end<const ROMS: usize, const BANKS: usize, const CHAINS: usize, const MAX: usize>(
     rt: &impl Abort,
     rig: &mut Rig<ROMS, BANKS, CHAINS, MAX>,
@@ -55,8 +55,8 @@ fn comes_to_the_end<const ROMS: usize, const BANKS: usize, const CHAINS: usize, 
     equal(rt, rig.lamp(0), Some(Bit::ZERO));
 }
 
-/// Runs FIM P0 FF, SRC P0, LDM 9, WRM, FIM P0 00, SRC P0, LDM 3, WRR. The program writes the last
-/// character of bank 0 and shifts the chain once.
+/// Runs FIM P0 FF, SRC P0, LDM 9, WRM, FIM P0 00, SRC P0, LDM 3, WRR on a rig with one part of each
+/// kind. The program writes the last character of bank 0 and shifts the chain once.
 #[test]
 fn one_place_of_each_kind(rt: HostRuntime) {
     let program = [0x20, 0xFF, 0x21, 0xD9, 0xE0, 0x20, 0x00, 0x21, 0xD3, 0xE2];
@@ -72,8 +72,8 @@ fn one_place_of_each_kind(rt: HostRuntime) {
     assert!(rt; !Rig::<1, 1, 1, 79>::fits(&longer));
 }
 
-/// Runs LDM 15, WRR, RDR at a port `1i0i`. The latch stores lines 1 and 3, and RDR reads the
-/// constants of these lines.
+/// Runs LDM 15, WRR, RDR on a rig without chains, at a port `1i0i`. The latch stores lines 1 and 3.
+/// RDR reads the constants of these lines.
 #[test]
 fn no_place_for_a_chain(rt: HostRuntime) {
     let program = [0xDF, 0xE2, 0xEA];

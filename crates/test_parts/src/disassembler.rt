@@ -1,5 +1,5 @@
-//! Tests of the disassembler in ways that no command uses it: source texts, the text of words that
-//! are not in a ROM, and a listing of zero lines. All other listings are in
+//! Tests of the disassembler for cases that no command reaches: source texts, the text of words
+//! that are not in a ROM, and a listing of zero lines. All other listings are in
 //! checks/lib/scripts/listings.scripts.
 use mcs_dis::{line_of, listing, source};
 use mcs_nibble::Addr;
@@ -7,11 +7,10 @@ use std::alloc::Global;
 use std::process::Abort;
 use std::test::Fail;
 
-/// An address, the one or two words there, and their expected text.
+/// An address, the one or two words at that address, and the text expected for them.
 type TextRow<'a> = (u16, u8, Option<u8>, &'a str);
 
-/// The opcodes and second words of all instructions, each instruction once, in the order of the
-/// opcode table.
+/// The words of all instructions, each instruction once, in the order of the opcode table.
 const CODES: [u8; 50] = [
     0x00, 0x14, 0x10, 0x22, 0x20, 0x21, 0x3E, 0x37, 0x41, 0x23, 0x5F, 0xED, 0x65, 0x7F, 0x0A, 0x80,
     0x9A, 0xA9, 0xBB, 0xCC, 0xDF, 0xE0, 0xE1, 0xE2, 0xE4, 0xE5, 0xE6, 0xE7, 0xE8, 0xE9, 0xEA, 0xEB,
@@ -19,18 +18,18 @@ const CODES: [u8; 50] = [
     0xFC, 0xFD,
 ];
 
-/// The expected source of `CODES` from address 0 on.
+/// The source text expected for `CODES` at address 0.
 const TEXTS: &str =
     "ORG 0x000\nNOP\nJCN 4, 0x010\nFIM P1, 0x20\nSRC P0\nFIN P7\nJIN P3\nJUN 0x123\nJMS 0xFED\nINC R5\nISZ R15, 0x00A\nADD R0\nSUB R10\nLD R9\nXCH R11\nBBL 12\nLDM 15\nWRM\nWMP\nWRR\nWR0\nWR1\nWR2\nWR3\nSBM\nRDM\nRDR\nADM\nRD0\nRD1\nRD2\nRD3\nCLB\nCLC\nIAC\nCMC\nCMA\nRAL\nRAR\nTCC\nDAC\nTCS\nSTC\nDAA\nKBP\nDCL\n";
 
-/// A jump, and at its target an instruction and two data bytes.
+/// ROM bytes: a byte of a jump at address 0, then an instruction and two data bytes at 0x100.
 const JUMP_AND_DATA: [(usize, u8); 4] = [(0, 0x41), (0x100, 0xD5), (0x101, 1), (0x102, 0xFF)];
 
-/// A two-word instruction across a page boundary, and the first word of another one at the last
-/// address.
+/// ROM bytes: a two-word instruction across a page boundary, and the first word of another two-word
+/// instruction at the last address.
 const JUMP_AT_A_PAGE: [(usize, u8); 4] = [(0xFE, 0xE0), (0xFF, 0x14), (0x100, 0x10), (0xFFF, 0x7F)];
 
-/// Returns a ROM with the given bytes, and 0 at all other addresses.
+/// Returns the bytes of a ROM that has the given bytes, and 0 at all other addresses.
 fn holding(rt: &impl Abort, bytes: &[(usize, u8)]) -> [u8; 4096] {
     let mut rom = [0; 4096];
     for (at, byte) in bytes {
@@ -44,7 +43,7 @@ fn address(at: u16) -> Addr {
     Addr::of(at).unwrap_or(Addr::ZERO)
 }
 
-/// Checks that the listing of a ROM from an address on has the given lines.
+/// Checks that the listing of a ROM from an address on consists of the given lines.
 fn expect_listing(
     rt: &impl Abort,
     alloc: Global,
@@ -72,7 +71,7 @@ fn expect_source(
     Ok(())
 }
 
-/// Checks that an instruction has the given text.
+/// Checks that the words at an address have the text that the row expects.
 fn expect_line(rt: &impl Abort, alloc: Global, row: TextRow<'_>) -> Result<(), Fail> {
     let (at, first, second, text) = row;
     let line = line_of(alloc, address(at), first, second)?;
@@ -80,7 +79,7 @@ fn expect_line(rt: &impl Abort, alloc: Global, row: TextRow<'_>) -> Result<(), F
     Ok(())
 }
 
-/// Instructions at various addresses, and their expected texts.
+/// Words at various addresses, and their expected texts.
 const INSTRUCTIONS: [TextRow<'static>; 10] = [
     (0x0FE, 0x14, Some(0x10), "JCN 4, 0x110"),
     (0x0FD, 0x14, Some(0x10), "JCN 4, 0x010"),

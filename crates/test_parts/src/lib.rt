@@ -1,7 +1,8 @@
-//! Tests of the parts below the bench. The expected values for numbers, the opcode table and the
-//! processor were worked out manually from the instruction descriptions in Intel's manual. Chips
-//! are tested alone, and rigs with part counts that differ from the bench's. Command lines are
-//! parsed. Wiring, assembler and disassembler run on texts that no script can give to the program.
+//! Tests of the parts on which the bench is built. The expected values for numbers, the opcode
+//! table and the processor were worked out manually from the instruction descriptions in Intel's
+//! manual. Chips are tested alone. Rigs are tested with part counts that differ from the bench's.
+//! Command lines are parsed. Wiring, assembler and disassembler run on texts that no script can
+//! pass to the program.
 #![tactic(auto)]
 
 #[cfg(test)]

@@ -1,8 +1,8 @@
-//! Tests of command lines and the requests that they parse as.
+//! Tests of the parser of command lines: the request that each line parses to.
 use mcs_lines::requests::{Request, read_request};
 use std::test::Fail;
 
-/// Lines whose numbers are in range.
+/// Valid command lines, whose numbers are all in range.
 const IN_RANGE: [&str; 41] = [
     "",
     " \t ",
@@ -55,7 +55,7 @@ fn lines_in_range(rt: HostRuntime) {
     }
 }
 
-/// Lines, and the requests that they parse as.
+/// Command lines, and the requests that they parse to.
 const REQUESTS: [(&str, &str); 24] = [
     ("", "Nothing"),
     ("\t ", "Nothing"),

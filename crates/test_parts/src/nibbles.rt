@@ -1,5 +1,5 @@
-//! Tests of subtraction: the expected values follow from the manual's rule for SUB, applied
-//! manually.
+//! Tests of subtraction. The expected values were worked out manually from the manual's rule for
+//! SUB.
 use crate::checks::equal;
 use mcs_nibble::{Bit, Nibble};
 use std::test::Fail;

@@ -1,5 +1,5 @@
-//! Tests of the processor with a program memory. The expected results of the cycles were worked out
-//! manually from the instruction descriptions in Intel's manual.
+//! Tests of the processor on a bus with a program memory. The expected results of the cycles were
+//! worked out manually from the instruction descriptions in Intel's manual.
 ghost use Rattle.std.specs.Prelude.{◌≡◌, ℕ, ◌<◌};
 ghost use Rattle.mcs_model.specs.Bus.{BusState, zero_bus};
 
@@ -7,7 +7,7 @@ use crate::checks::equal;
 use mcs_cpu4004::{Bus, Cpu, Cycle, Regs};
 use mcs_nibble::{Addr, Bit, Nibble, RegNo};
 
-/// A bus with only a program memory and a TEST pin.
+/// A bus that has only a program memory and a TEST pin.
 #[derive(Drop)]
 struct Memory {
     rom: [u8; 4096],
@@ -68,7 +68,7 @@ fn nibble(n: u8) -> Nibble {
     Nibble::low_of(n)
 }
 
-/// Returns a memory with the given bytes, 0 at all other addresses, and TEST at 1.
+/// Returns a bus whose memory has the given bytes, and 0 at all other addresses. TEST is 1.
 fn holding(bytes: &[(u16, u8)]) -> Memory {
     let mut rom = [0; 4096];
     for (at, byte) in bytes {
@@ -81,8 +81,8 @@ fn holding(bytes: &[(u16, u8)]) -> Memory {
     }
 }
 
-/// Returns the index registers for the bytes of the eight pairs. The even register of a pair is the
-/// high nibble.
+/// Returns the index registers that have the given bytes as the contents of the eight pairs. The
+/// even register of a pair contains the high nibble.
 fn index_registers(bytes: [u8; 8]) -> [Nibble; 16] {
     let mut r = [Nibble::ZERO; 16];
     for i in 0..8 {
@@ -92,7 +92,7 @@ fn index_registers(bytes: [u8; 8]) -> [Nibble; 16] {
     r
 }
 
-/// Runs `cycles` cycles from an address, and returns the registers.
+/// Runs `cycles` cycles from the address `pc`, and returns the registers after the last cycle.
 fn after(cpu: &mut Cpu, bus: &mut Memory, pc: u16, cycles: u32) -> Regs {
     cpu.set_pc(address(pc));
     for _ in 0..cycles {

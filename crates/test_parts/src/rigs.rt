@@ -1,5 +1,5 @@
-//! Tests of a rig that is too small for some boards: absent parts, and keys. The expected values
-//! were worked out manually from the wiring rules.
+//! Tests of a rig that is too small for some boards: parts that a board lacks, and keys. The
+//! expected values were worked out manually from the wiring rules.
 use crate::boards::one_rom;
 use crate::checks::equal;
 use mcs_board::Rig;
@@ -32,7 +32,7 @@ fn address(at: u16) -> Addr {
     Addr::ZERO.plus(at)
 }
 
-/// Checks the first four lamps.
+/// Checks that the first four lamps have the wanted values; `None` means that there is no lamp.
 fn expect_lamps(rt: &impl Abort, rig: &SmallRig, wanted: [Option<Bit>; 4]) {
     let lamps = [rig.lamp(0), rig.lamp(1), rig.lamp(2), rig.lamp(3)];
     equal(rt, lamps, wanted);
@@ -48,8 +48,8 @@ fn an_absent_rom_reads_0_and_keeps_nothing(rt: HostRuntime) {
     equal(&rt, rig.fetch(address(0x0FF)), 0xD5);
 }
 
-/// Checks keys on driven rows. Two 1 bits that were shifted into the chain drive rows 0 and 1. The
-/// keys at (0, 1) and (1, 2) pull lines 1 and 2 of ROM 1.
+/// Checks that a port read returns the keys pressed on driven rows. Two 1 bits shifted into the
+/// chain drive rows 0 and 1. The keys at (0, 1) and (1, 2) pull lines 1 and 2 of ROM 1.
 #[test]
 fn keys_of_driven_rows_are_read(rt: HostRuntime) {
     let mut rig = wired(rt.alloc(), &rt, worked());

@@ -1,6 +1,6 @@
 //! Tests of chips that pack several values into one word. Some tests use values that were worked
-//! out manually. Others make calls that a seeded generator picks, and compare banks and chains of
-//! several sizes with plain lists.
+//! out manually. Other tests make calls that a seeded generator chooses, and compare banks and
+//! chains of several sizes with reference models in plain lists.
 ghost use Rattle.std.specs.Prelude.{◌<◌, ◌≤◌};
 
 use crate::checks::equal;
@@ -11,7 +11,7 @@ use mcs_shift4003::Chain;
 use std::process::Abort;
 use std::test::Fail;
 
-/// Returns a random byte, built from two random nibbles.
+/// Returns a pseudo-random byte, built from two pseudo-random nibbles.
 fn byte(numbers: &mut Numbers) -> u8 {
     numbers.below(16) * 16 + numbers.below(16)
 }
@@ -20,8 +20,8 @@ fn nibble(numbers: &mut Numbers) -> Nibble {
     Nibble::low_of(numbers.below(16))
 }
 
-/// Checks that the two nibbles in a byte do not affect each other, for RAM characters and status
-/// characters.
+/// Checks that setting one nibble of a byte does not change the other nibble, for RAM characters
+/// and status characters.
 #[test]
 fn two_characters_of_a_byte(rt: HostRuntime) -> Result<(), Fail> {
     let four = Nibble::of(4).ok_or("a nibble")?;
@@ -44,8 +44,8 @@ fn two_characters_of_a_byte(rt: HostRuntime) -> Result<(), Fail> {
     Ok(())
 }
 
-/// Shifts a 1 through a chain of 13 bits, from one storage word into the next, and out of the last
-/// one.
+/// Shifts a 1 through a chain of 13 bits: across the boundary between two storage words, and out at
+/// the end of the chain.
 #[test]
 fn thirteen_bits(rt: HostRuntime) {
     let mut chain = Chain::<13>::new(13);
@@ -59,7 +59,7 @@ fn thirteen_bits(rt: HostRuntime) {
     }
 }
 
-/// A reference model of a bank, as plain lists.
+/// A reference model of a RAM bank, which stores each value in its own list element.
 #[derive(Drop)]
 struct PlainBank {
     wired: usize,
@@ -114,7 +114,7 @@ impl PlainBank {
     }
 }
 
-/// Makes one random call on a bank, and the same change in its model.
+/// Makes one random call on a bank, and the same change in the bank's model.
 fn call_bank<const CHIPS: usize>(
     bank: &mut Bank<CHIPS>,
     plain: &mut PlainBank,
@@ -156,7 +156,7 @@ fn call_bank<const CHIPS: usize>(
     }
 }
 
-/// Compares everything that can be read from a bank with its model.
+/// Compares all values that can be read from a bank with the bank's model.
 fn compare_bank<const CHIPS: usize>(rt: &impl Abort, bank: &Bank<CHIPS>, plain: &PlainBank) {
     for src in 0..=255u8 {
         assert_eq!(rt;
@@ -188,8 +188,8 @@ fn compare_bank<const CHIPS: usize>(rt: &impl Abort, bank: &Bank<CHIPS>, plain: 
     }
 }
 
-/// Makes two rounds of 1,500 random calls, with a comparison after every 30 calls. Clears the bank
-/// after each round.
+/// Makes two rounds of 1,500 random calls on a bank and its model, and compares the two after every
+/// 30 calls. Clears the bank after each round.
 fn run_bank<const CHIPS: usize>(rt: &impl Abort, bank: &mut Bank<CHIPS>, wired: usize) {
     let mut numbers = Numbers::new(4002);
     for _ in 0..2 {
@@ -221,15 +221,16 @@ fn banks_under_seeded_calls(rt: HostRuntime) {
     }
 }
 
-/// A reference model of a chain of at most 80 bits, as a plain list. The list has room for bits
-/// beyond the end of the chain, and those bits are 0.
+/// A reference model of a chain of at most 80 bits, with one list element for each bit. The list is
+/// longer than the chain. Its elements after the end of the chain are 0.
 #[derive(Drop)]
 struct PlainChain {
     list: [u8; 96],
 }
 
 impl PlainChain {
-    /// Returns the ten bits from an index on as a number, with the first bit as its lowest bit.
+    /// Returns the ten bits from the index `first` on as a number. The bit at `first` is the lowest
+    /// bit.
     fn ten_from(&self, first: usize) -> u16
         requires { first ≤ 80 }
     {
@@ -242,7 +243,7 @@ impl PlainChain {
         ten
     }
 
-    /// Shifts the first `bits` bits up by one. The new bit 0 is `level`.
+    /// Shifts the first `bits` bits of the chain one index up. `level` becomes bit 0.
     fn shift(&mut self, bits: usize, level: Bit)
         requires { bits ≤ 80 }
     {
@@ -254,7 +255,7 @@ impl PlainChain {
     }
 }
 
-/// Makes one random call on a chain, and the same change in its model.
+/// Makes one random call on a chain, and the same change in the chain's model.
 fn call_chain<const MAX: usize>(
     chain: &mut Chain<MAX>,
     plain: &mut PlainChain,
@@ -275,7 +276,7 @@ fn call_chain<const MAX: usize>(
     }
 }
 
-/// Compares everything that can be read from a chain with its model.
+/// Compares all bits that can be read from a chain with the chain's model.
 fn compare_chain<const MAX: usize>(rt: &impl Abort, chain: &Chain<MAX>, plain: &PlainChain) {
     let bits = chain.bits();
     if bits > 80 {
@@ -289,8 +290,8 @@ fn compare_chain<const MAX: usize>(rt: &impl Abort, chain: &Chain<MAX>, plain: &
     equal(rt, chain.ten_from(bits), 0);
 }
 
-/// Makes 2,000 random calls, with a comparison after every five calls. Clears the chain before
-/// every 100 calls.
+/// Makes 2,000 random calls on a chain and its model, and compares the two after every five calls.
+/// Clears the chain before every 100 calls.
 fn run_chain<const MAX: usize>(rt: &impl Abort, chain: &mut Chain<MAX>) {
     let mut numbers = Numbers::new(4003);
     for _ in 0..20 {

@@ -3,7 +3,7 @@ use mcs_lines::requests::{Request, read_request};
 use mcs_model::query::Query;
 use std::process::Abort;
 
-/// Returns true if a line parses as the query for the state in one line.
+/// Returns true if a line parses as the query `state`, which reports the whole state in one line.
 fn asks_for_the_state(line: &[u8]) -> bool {
     matches!(read_request(line), Request::Ask(Query::State))
 }

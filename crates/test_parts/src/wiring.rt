@@ -1,12 +1,12 @@
-//! Tests of refusal numbers, and of board texts that no session passes to the wiring. These texts
-//! contain bytes other than LF, tab and printable ASCII, or end without LF. All other texts are in
-//! checks/lib/scripts/board_texts.scripts.
+//! Tests of refusal numbers, and of board texts that no session can pass to the wiring. These texts
+//! contain bytes other than LF, tab and printable ASCII, or do not end with LF. All other texts are
+//! in checks/lib/scripts/board_texts.scripts.
 use mcs_wiring::{WiringFault, board_of, board_text, wiring_text};
 use std::alloc::Global;
 use std::process::Abort;
 use std::test::Fail;
 
-/// A text and its refusal number.
+/// A board text and the refusal number expected for it.
 type Row = (&'static str, u8);
 
 fn is_refused(alloc: Global, text: &str, number: u8) -> bool {
@@ -16,7 +16,8 @@ fn is_refused(alloc: Global, text: &str, number: u8) -> bool {
     }
 }
 
-/// Texts with a byte other than printable ASCII, and texts that end without LF.
+/// Board texts that are rejected. Each has a byte other than printable ASCII, or does not end with
+/// LF.
 const REFUSED: [Row; 7] = [
     ("\u{0}", 20),
     ("\"\u{e9}\" = 1", 21),
@@ -34,7 +35,7 @@ fn texts_that_no_script_gives_are_refused(rt: HostRuntime) {
     }
 }
 
-/// Checks that the board that a text describes is written as the given text.
+/// Checks that `board_text` writes the board that `text` describes as the text `plain`.
 fn expect_spelling(rt: &impl Abort, alloc: Global, text: &str, plain: &str) -> Result<(), Fail> {
     let board = board_of(alloc, text)?;
     let found = board_text(alloc, &board)?;
@@ -42,8 +43,8 @@ fn expect_spelling(rt: &impl Abort, alloc: Global, text: &str, plain: &str) -> R
     Ok(())
 }
 
-/// Different texts for the same board with one ROM, some with CR at line ends, others without LF at
-/// the end.
+/// Different texts for the same board, which has one ROM. Some have CR at line ends, and some do
+/// not end with LF.
 const SPELLINGS: &[&str] = &[
     "rom = [{ chip = 10, port = \"1i0i\" }]",
     "rom = [ # one\n  { port = '1i0i', chip = 0x0A },\n]",
@@ -51,7 +52,7 @@ const SPELLINGS: &[&str] = &[
     "ram = []\nlamp = []\nchain = []\n[[rom]]\nport = \"1i0i\"\nchip = 10",
 ];
 
-/// Checks that several texts for the same board are written as the same text.
+/// Checks that `board_text` returns the same text for all texts that describe the same board.
 #[test]
 fn spellings(rt: HostRuntime) -> Result<(), Fail> {
     for text in SPELLINGS {
