@@ -1,4 +1,4 @@
--- A trace in two parts, and a count beside a trace.
+-- Lemmas: two traces in a row make one trace, and counts agree with a trace.
 use Rattle.std.proofs.Common.{◌≡◌, ℕ, ◌+◌, ◌-◌, ◌/◌, ◌%◌, true, false, cond, List, [], ◌∷◌, ◌++◌, codes, drop, get_or, length, map, inl, inr, refl, sym, ap, ◌∙◌, arith, eqb, nat_lt}
 use Rattle.std.specs.Fmt.{decimal}
 use Rattle.std.specs.List.{count_by, flat_map}
@@ -35,7 +35,7 @@ traces-add probes b m n e =
 
 -- ---- counts
 
--- a hexadecimal digit is of one number
+-- Different numbers have different hexadecimal digits.
 hex-one : (a b : ℕ) → hex_digit a ≡ hex_digit b → a ≡ b
 hex-one a b e =
     elim (cases_lt a 10) [
@@ -49,7 +49,7 @@ hex-one a b e =
       ]
     ]
 
--- the text of an address is of one address
+-- Different addresses have different texts.
 address-one : (a b : ℕ) → address_text a ≡ address_text b → a ≡ b
 address-one a b e =
     let high : a / 256 ≡ b / 256 = hex-one (a / 256) (b / 256) (ap (λ (l : List ℕ). get_or l 0 0) e) in
@@ -57,11 +57,11 @@ address-one a b e =
     let low : a % 16 ≡ b % 16 = hex-one (a % 16) (b % 16) (ap (λ (l : List ℕ). get_or l 2 0) e) in
     omega arith
 
--- the line of a trace without places
+-- the line of an instruction in a trace without probes
 abbrev plain_line : Begun → List ℕ
 plain_line x = decimal x.cycles ++ codes " " ++ address_text x.before.0.pc
 
--- what it ends with
+-- The line of an instruction ends with the address of the instruction.
 ends-with : (x : Begun) → drop (length (plain_line x) - 3) (plain_line x) ≡ address_text x.before.0.pc
 ends-with x = end_rest (plain_line x) (address_text x.before.0.pc) (decimal x.cycles ++ codes " ") refl
 
@@ -73,7 +73,7 @@ line-at at x =
       | inr other ↦ false_from_ne_true (bytes_eq (address_text x.before.0.pc) (address_text at)) (λ t. other (address-one x.before.0.pc at ((bytes_eq-Decides (address_text x.before.0.pc) (address_text at)).0 t))) ∙ sym (let f : eqb x.before.0.pc at ≡ false = grind (arith, nat_tests) in f)
     ]
 
--- without places nothing stands behind the address
+-- In a trace without probes, nothing follows the address in a line.
 line-of : (x : Begun) → trace_line [] x ≡ plain_line x ∷ []
 line-of x = ap (λ (l : List ℕ). l ∷ []) (append-nil (plain_line x))
 

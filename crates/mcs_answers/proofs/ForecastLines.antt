@@ -1,4 +1,4 @@
--- The lines of `count` and `trace`, one after the other.
+-- Lemmas about the lines of `count` and `trace`, one line at a time.
 use Rattle.std.proofs.Common.{◌≡◌, ℕ, suc, ◌+◌, ◌<◌, ◌≤◌, ◌==◌, Bool, true, false, cond, List, [], ◌∷◌, ◌++◌, codes, length, refl, sym, ap, ◌∙◌, subst, arith, nat_lt, length-append, if◌then◌else◌}
 use Rattle.std.specs.Fmt.{decimal}
 use Rattle.std.specs.List.{flat_map, range_with_len}
@@ -27,11 +27,11 @@ use Rattle.mcs_answers.specs.Traced.{IsTraced, cycle_lines, line_when}
 use Rattle.mcs_answers.specs.declared.traces.Traced.{Traced}
 use Rattle.mcs_bench.specs.Runs.{RanTo}
 
--- lines as a text
+-- the text of lines, each with its line feed
 abbrev pub lines_text : List (List ℕ) → List ℕ
 lines_text lines = flat_map as_line lines
 
--- lines that follow
+-- If more lines are appended, their text follows the text of the earlier lines.
 pub text-more : (lines more all : List (List ℕ)) (text next : List ℕ) → all ≡ lines ++ more → text ≡ lines_text lines → next ≡ text ++ lines_text more → next ≡ lines_text all
 text-more lines more all text next e so_far here =
     here ∙ ap (λ v. v ++ lines_text more) so_far ∙ sym (ap lines_text e ∙ flat_map-append as_line lines more)
@@ -39,7 +39,7 @@ text-more lines more all text next e so_far here =
 pub length-more : (lines more all : List (List ℕ)) (n m : ℕ) → all ≡ lines ++ more → n ≡ length lines → m ≡ n + length more → m ≡ length all
 length-more lines more all n m e so_far here = here ∙ ap (λ k. k + length more) so_far ∙ sym (ap length e ∙ length-append lines more)
 
--- one address more
+-- The lines of the addresses up to n are those below n, followed by those of n.
 pub addresses-more : (f : ℕ → List (List ℕ)) (n : ℕ) (piece : List (List ℕ)) → f n ≡ piece → flat_map f (addresses (n + 1)) ≡ flat_map f (addresses n) ++ piece
 unfolding addresses
 addresses-more f n piece e =
@@ -51,7 +51,7 @@ pub addresses-none : (f : ℕ → List (List ℕ)) → flat_map f (addresses 0) 
 unfolding addresses
 addresses-none f = refl
 
--- the line of an address
+-- the line of an address in the answer to `count`
 abbrev pub address_line : Machine → ℕ → ℕ → ℕ → List ℕ
 address_line s at runs jumps =
     address_text at ++ codes " " ++ decimal runs
@@ -67,7 +67,7 @@ line-none begun s at runs e none =
     let t : nat_lt 0 (runs_at begun at) ≡ false = grind (arith, nat_tests) in
     rw t refl
 
--- a head, by its numbers
+-- the start of the first line of an answer, from its numbers
 abbrev pub head_of : List ℕ → ℕ → Stop → ℕ → List ℕ
 head_of word cycles stop lines =
     word ++ codes " ran " ++ decimal cycles ++ codes " " ++ stop_name stop ++ codes " lines " ++ decimal lines
@@ -77,7 +77,7 @@ head-same word c d s t n m e f g = ap (λ x. head_of word x s n) e ∙ ap (λ x.
 
 -- ---- `trace`
 
--- the lines of the first k cycles
+-- the trace lines of the first k cycles
 abbrev pub lines_within : List Probe → ℕ → Machine → List (List ℕ)
 lines_within probes k s = flat_map (trace_line probes) (begun_within k s)
 
@@ -85,14 +85,14 @@ one-cycle : (probes : List Probe) (x : Begun) (b : Bool) → flat_map (trace_lin
 one-cycle probes x true = append-nil (trace_line probes x)
 one-cycle probes x false = refl
 
--- one instruction more
+-- After one more instruction, its trace line follows the earlier lines.
 within-more : (probes : List Probe) (k m : ℕ) (s : Machine) → begun_within m s ≡ begun_within k s ++ begun_at s k → lines_within probes m s ≡ lines_within probes k s ++ (if begins (cycle_at s k) then trace_line probes (cycle_at s k) else [])
 within-more probes k m s e =
     ap (flat_map (trace_line probes)) e
     ∙ flat_map-append (trace_line probes) (begun_within k s) (begun_at s k)
     ∙ ap (λ v. lines_within probes k s ++ v) (one-cycle probes (cycle_at s k) (begins (cycle_at s k)))
 
--- the lines of a cycle, by what was seen of it
+-- Cycle k of a run has the trace lines that `cycle_lines` computes from its registers and rows.
 pub cycle-same : (probes : List Probe) (k : ℕ) (s : Machine) (owed pc : ℕ) (before after : List ℕ) → owed ≡ (cycle_at s k).before.0.owed → pc ≡ (cycle_at s k).before.0.pc → before ≡ row probes (cycle_at s k).before → after ≡ row probes (cycle_at s k).after → cycle_lines probes owed k pc before after ≡ (if begins (cycle_at s k) then trace_line probes (cycle_at s k) else [])
 cycle-same probes k s owed pc before after e f g h =
     ap (λ o. cycle_lines probes o k pc before after) e
@@ -100,7 +100,8 @@ cycle-same probes k s owed pc before after e f g h =
     ∙ ap (λ r. cycle_lines probes (cycle_at s k).before.0.owed k (cycle_at s k).before.0.pc r after) g
     ∙ ap (λ r. cycle_lines probes (cycle_at s k).before.0.owed k (cycle_at s k).before.0.pc (row probes (cycle_at s k).before) r) h
 
--- a run that was told for k cycles
+-- Holds if `before`, `text` and `lines` are the row, the trace text and the number of trace lines
+-- after k cycles.
 pub record Reported (probes : List Probe) (k : ℕ) (s t : Machine) (before text : List ℕ) (lines : ℕ) : Type 0 where
   pub row_now : before ≡ row probes t
   pub so_far : text ≡ lines_text (lines_within probes k s)
@@ -127,7 +128,7 @@ few-of : (b : Bool) (lines : List (List ℕ)) → length lines ≤ 1 → length 
 few-of true lines l = l
 few-of false lines l = omega arith
 
--- one instruction more
+-- `Reported` still holds after one more instruction.
 pub report-more : (probes : List Probe) (left k d : ℕ) (s t u : Machine) (regs : Regs) (before text later longer : List ℕ) (lines added : ℕ) → t ≡ after_cycles k s → InstructionRan left t u d → 0 < d → regs ≡ t.0 → Reported probes k s t before text lines → later ≡ row probes u → added ≡ length (cycle_lines probes regs.owed k regs.pc before (row probes u)) → longer ≡ text ++ lines_text (cycle_lines probes regs.owed k regs.pc before (row probes u)) → Reported probes (k + d) s u later longer (lines + added)
 report-more probes left k d s t u regs before text later longer lines added at ran some e report now count grown =
     let more : List (List ℕ) = cycle_lines probes regs.owed k regs.pc before (row probes u) in

@@ -1,4 +1,4 @@
--- Texts that grow by a piece.
+-- Lemmas about texts to which pieces are appended.
 use Rattle.std.proofs.Common.{◌≡◌, ℕ, ◌+◌, ◌<◌, List, [], ◌∷◌, ◌++◌, length, map, take, drop, get_or, ap, sym, ◌∙◌, refl, append_assoc, arith}
 use Rattle.std.proofs.lemmas.Grind.{common_steps}
 use Rattle.std.proofs.lemmas.List.{map-append, take_more}
@@ -6,15 +6,15 @@ use Rattle.std.specs.List.{flat_map, range_with_len}
 use Rattle.mcs_wiring.proofs.PartTexts.{one_more}
 use Rattle.mcs_model.specs.QueryText.{or_dash, stretch}
 
--- a piece after what was written already
+-- If p and then x are appended, p ++ x is appended.
 pub one_after : (a p b x c : List ℕ) → b ≡ a ++ p → c ≡ b ++ x → c ≡ a ++ (p ++ x)
 one_after a p b x c so_far here = here ∙ ap (λ v. v ++ x) so_far ∙ append_assoc a p x
 
--- two pieces after it
+-- If p and then x ++ y are appended, p ++ x ++ y is appended.
 pub two_after : (a p b x y c : List ℕ) → b ≡ a ++ p → c ≡ b ++ x ++ y → c ≡ a ++ (p ++ x ++ y)
 two_after a p b x y c so_far here = here ∙ ap (λ v. v ++ x ++ y) so_far ∙ ap (λ v. v ++ y) (append_assoc a p x) ∙ append_assoc a (p ++ x) y
 
--- one element more of a list that is written element by element
+-- If a list is written up to element i, writing element i extends the text by that element.
 pub mapped : {X : Type 0} (f : X → ℕ) (xs : List X) (i : ℕ) (d : X) (a b c : List ℕ) → i < length xs
     → b ≡ a ++ map f (take i xs)
     → c ≡ b ++ f (get_or xs i d) ∷ []
@@ -25,7 +25,7 @@ mapped f xs i d a b c inside so_far here =
     ∙ append_assoc a (map f (take i xs)) (f (get_or xs i d) ∷ [])
     ∙ ap (λ v. a ++ v) (sym (ap (map f) (take_more xs i d inside) ∙ map-append f (take i xs) (get_or xs i d ∷ [])))
 
--- one number more of a stretch that is written number by number
+-- If k numbers of a stretch are written, writing the next number extends the text to k + 1 numbers.
 pub stretched : (f : ℕ → ℕ) (xs : List ℕ) (from k : ℕ) (a b c : List ℕ) → from + k < length xs
     → b ≡ a ++ map f (stretch xs from k)
     → c ≡ b ++ f (get_or xs (from + k) 0) ∷ []
@@ -35,7 +35,7 @@ stretched f xs from k a b c inside so_far here =
     let within : k < length (drop from xs) = grind (arith, common_steps) in
     mapped f (drop from xs) k 0 a b c within so_far (here ∙ ap (λ v. b ++ f v ∷ []) (sym there))
 
--- one piece more of pieces that are numbered
+-- If pieces 0 to n - 1 are written, writing piece n extends the text by that piece.
 pub pieced : (f : ℕ → List ℕ) (n : ℕ) (a b c : List ℕ)
     → b ≡ a ++ flat_map f (range_with_len 0 n)
     → c ≡ b ++ f n
@@ -46,7 +46,7 @@ pieced f n a b c so_far here =
     ∙ append_assoc a (flat_map f (range_with_len 0 n)) (f n)
     ∙ ap (λ v. a ++ v) (sym (one_more f n))
 
--- a list of something is told as it is
+-- A list that is not empty is written without a dash.
 pub some_or_dash : (xs : List ℕ) → 0 < length xs → or_dash xs ≡ xs
 some_or_dash [] h = absurd (omega arith)
 some_or_dash (x ∷ xs) h = refl

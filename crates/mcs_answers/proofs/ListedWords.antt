@@ -1,4 +1,4 @@
--- Lists in one word.
+-- Lemmas about lists that are written as one word with commas.
 use Rattle.std.proofs.Common.{◌≡◌, ℕ, suc, ◌+◌, ◌-◌, ◌≤◌, List, [], ◌∷◌, ◌++◌, codes, length, map, take, refl, ap, sym, ◌∙◌, append_assoc, append-nil, length-append, arith}
 use Rattle.std.proofs.lemmas.Grind.{common_steps, flat_map-append}
 use Rattle.std.proofs.lemmas.List.{map-append}
@@ -8,18 +8,18 @@ use Rattle.mcs_model.proofs.ListLemmas.{range_more}
 use Rattle.mcs_model.specs.QueryText.{one_word}
 use Rattle.mcs_answers.specs.Commas.{with_comma, with_commas}
 
--- items with commas between them, and one more comma
+-- If a comma is appended to items separated by commas, each item is followed by a comma.
 joined : (x : List ℕ) (xs : List (List ℕ)) → join_with_byte 44 (x ∷ xs) ++ 44 ∷ [] ≡ with_commas (x ∷ xs)
 joined x [] = sym (append-nil (with_comma x))
 joined x (y ∷ ys) =
     append_assoc x (44 ∷ join_with_byte 44 (y ∷ ys)) (44 ∷ [])
     ∙ (ap (λ t. x ++ 44 ∷ t) (joined y ys) ∙ sym (append_assoc x (44 ∷ []) (with_commas (y ∷ ys))))
 
--- a list without its last element
+-- If the last element of a list is removed after it was appended, the list is unchanged.
 last_off : (xs : List ℕ) (c : ℕ) → take (length (xs ++ c ∷ []) - 1) (xs ++ c ∷ []) ≡ xs
 last_off xs c = grind (arith, common_steps)
 
--- where nothing was written, nothing is listed
+-- If no item was written, a dash ends the list.
 pub ended_by_dash : (before old new : List ℕ) (items : List (List ℕ)) → length old ≡ length before
     → old ≡ before ++ with_commas items
     → new ≡ old ++ codes "-"
@@ -31,7 +31,7 @@ ended_by_dash before old new (x ∷ xs) same listed here =
     let more : length (x ++ 44 ∷ []) ≡ length x + 1 = length-append x (44 ∷ []) in
     absurd (omega arith)
 
--- where something was written, its last comma goes
+-- If items were written, removing the last comma ends the list.
 pub ended_by_pop : (before old new : List ℕ) (items : List (List ℕ)) → length before + 1 ≤ length old
     → old ≡ before ++ with_commas items
     → new ≡ take (length old - 1) old
@@ -45,7 +45,7 @@ ended_by_pop before old new (x ∷ xs) more listed here =
     listed ∙ ap (λ v. before ++ v) (sym (joined x xs)) ∙ sym (append_assoc before (join_with_byte 44 (x ∷ xs)) (44 ∷ [])) in
     here ∙ ap (λ v. take (length v - 1) v) whole ∙ last_off text 44
 
--- the items of all are the items of each
+-- The items of all lists, with commas, are the items of each list with commas.
 pub commas-flat_map : {A : Type 0} (f : A → List (List ℕ)) (xs : List A) → with_commas (flat_map f xs) ≡ flat_map (λ x. with_commas (f x)) xs
 commas-flat_map f [] = refl
 commas-flat_map f (x ∷ xs) = flat_map-append with_comma (f x) (flat_map f xs) ∙ ap (λ t. with_commas (f x) ++ t) (commas-flat_map f xs)
@@ -53,7 +53,7 @@ commas-flat_map f (x ∷ xs) = flat_map-append with_comma (f x) (flat_map f xs) 
 pub commas-map : {A : Type 0} (f : A → List ℕ) (xs : List A) → with_commas (map f xs) ≡ flat_map (λ x. with_comma (f x)) xs
 commas-map f xs = flat_map-map with_comma f xs
 
--- one number more of numbers that are written one by one
+-- If numbers 0 to n - 1 are written, writing number n extends the text by that number.
 pub numbered : (f : ℕ → ℕ) (n : ℕ) (a b c : List ℕ)
     → b ≡ a ++ map f (range_with_len 0 n)
     → c ≡ b ++ f n ∷ []

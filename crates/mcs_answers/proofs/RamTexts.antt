@@ -1,4 +1,4 @@
--- The text of a bank of RAM, chip by chip, and how many chips a bank has.
+-- Lemmas about the text of a RAM bank, chip by chip, and the number of chips in a bank.
 use Rattle.std.proofs.Common.{◌≡◌, ℕ, zero, suc, ◌≤◌, false, List, [], ◌∷◌, ◌++◌, codes, None, map, get_or, ap, sym, ◌∙◌, append_assoc, append-nil, arith, nat_lt}
 use Rattle.std.proofs.lemmas.Bool.Decides.{nat_tests}
 use Rattle.std.proofs.lemmas.Grind.{flat_map-append}
@@ -15,7 +15,7 @@ use Rattle.mcs_wiring.proofs.PartTexts.{text_of-flat_map}
 use Rattle.mcs_wiring.proofs.QueryLines.{joined_lines}
 use Rattle.mcs_model.proofs.SoundBoards.{sound}
 
--- the lines of a chip: those of its registers, and then that of its port
+-- The lines of a chip are those of its registers, then that of its port.
 pub chip_is : (s : BusState) (bank chip : ℕ) (a b c : List ℕ)
     → b ≡ a ++ flat_map (λ r. as_line (register_line s bank chip r)) (range_with_len 0 4)
     → c ≡ b ++ as_line (port_line s bank chip)
@@ -32,7 +32,7 @@ chip_is s bank chip a b c registers port =
     ∙ append_assoc a lines last
     ∙ ap (λ v. a ++ v) (sym written)
 
--- the lines of a bank: how many chips it has, and then those of its chips
+-- The lines of a bank are a line with the number of its chips, then the lines of each chip.
 pub ram_is : (s : BusState) (bank : ℕ) (a b : List ℕ)
     → a ≡ as_line (codes "ram " ++ digit_text bank ++ codes " chips " ++ digit_text (chips_of s bank))
     → b ≡ a ++ flat_map (λ chip. flat_map as_line (chip_lines s bank chip)) (range_with_len 0 (chips_of s bank))
@@ -45,12 +45,12 @@ ram_is s bank a b head chips =
     ∙ ap (λ v. as_line first ++ v) (sym (text_of-flat_map (chip_lines s bank) (range_with_len 0 (chips_of s bank))))
     ∙ sym (joined_lines first others)
 
--- where no number of a list is above 4
+-- If no number in a list is above 4, entry i is at most 4.
 none_above : (xs : List ℕ) (i : ℕ) → list_any (λ n. nat_lt 4 n) xs ≡ false → get_or xs i 0 ≤ 4
 none_above [] i e = omega arith
 none_above (x ∷ xs) zero e = let small : nat_lt 4 x ≡ false = (or_parts (nat_lt 4 x) (list_any (λ n. nat_lt 4 n) xs) e).0 in grind (arith, nat_tests)
 none_above (x ∷ xs) (suc i) e = none_above xs i (or_parts (nat_lt 4 x) (list_any (λ n. nat_lt 4 n) xs) e).1
 
--- a bank of a valid board has at most four chips
+-- A bank of a valid board has at most four chips.
 pub few_chips : (b : BoardParts) (bank : ℕ) → board_fault_of b ≡ None → get_or b.banks bank 0 ≤ 4
 few_chips b bank e = none_above b.banks bank (sound b e).values.banks

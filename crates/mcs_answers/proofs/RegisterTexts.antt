@@ -1,4 +1,4 @@
--- The text of the registers, piece after piece.
+-- The text of the registers is its parts, one after another.
 use Rattle.std.proofs.Common.{◌≡◌, ℕ, List, ◌++◌, codes, map, ◌∙◌, append_assoc}
 use Rattle.mcs_model.specs.declared.regs.Regs.{Regs}
 use Rattle.mcs_model.specs.QueryText.{address_text, digit_text, hex_digit, registers_text}

@@ -1,5 +1,6 @@
--- What an instruction leaves as it is: what stands at lines, but for a write to a port; RAM and status characters, but for a
--- write to these; the bytes of ROM.
+-- Lemmas about what an instruction leaves unchanged. Only WMP and WRR change the levels of lines.
+-- Only WRM changes RAM characters, and only WR0 to WR3 change status characters. No instruction
+-- changes the ROM.
 use Rattle.std.proofs.Common.{◌≡◌, ◌≢◌, ℕ, ◌/◌, Bool, true, false, cond, List, [], ◌∷◌, map, Option, Some, None, not, ◌⊎◌, inl, inr, refl, sym, ap, ◌∙◌, eqb, nat_lt, slice_index, if◌then◌else◌}
 use Rattle.mcs_nibble.specs.declared.lines.LineMask.{LineMask}
 use Rattle.mcs_model.specs.declared.regs.Regs.{Regs}
@@ -23,7 +24,8 @@ use Rattle.mcs_trace.proofs.Steps.{rests, with_owed}
 use Rattle.mcs_answers.specs.declared.traces.Seen.{Seen}
 use Rattle.mcs_answers.specs.Resting.{Keeps, Rests, RowKeeps, RowRests, SeesToo, WritesPort, WritesStatus, touches}
 
--- what holds of the bus that an instruction leaves, by what it does to it
+-- A property of the bus after an instruction holds if it holds for each way in which an instruction
+-- can change the bus.
 by-bus : (op : Op) (s : Regs) (m : BusState) (P : Op → BusState → Type 0)
     → ((o : Op) → P o m)
     → ((k : ℕ) → P (Src k) (after_src m s.dcl (pair_of s k)))
@@ -106,7 +108,7 @@ by-rom-port : (m : BusState) (n : ℕ) (P : BusState → Type 0) → ((ports : L
 unfolding after_rom_port chains_clocked
 by-rom-port m n P h = chosen (masks_on m.board (m.rom_src / 16)) m _ P (λ mask. h _ _) (h _ _)
 
--- ROM stays
+-- No instruction changes the ROM.
 pub keeps-rom : (op : Op) (s : Regs) (m : BusState) → (bus_after op s m).rom ≡ m.rom
 keeps-rom op s m =
     let P : Op → BusState → Type 0 = λ o n. n.rom ≡ m.rom in
@@ -114,7 +116,7 @@ keeps-rom op s m =
     by-bus op s m P (λ o. refl) (λ k. by-src m s.dcl _ Q (λ a b. refl)) (by-ram m s.dcl s.acc Q (λ a. refl)) (by-ram-port m s.dcl s.acc Q (λ a b. refl)) (by-rom-port m s.acc Q (λ a b. refl))
     (by-status m s.dcl 0 s.acc Q (λ a. refl), by-status m s.dcl 1 s.acc Q (λ a. refl), by-status m s.dcl 2 s.acc Q (λ a. refl), by-status m s.dcl 3 s.acc Q (λ a. refl))
 
--- RAM characters stay, but for WRM
+-- Only WRM changes RAM characters.
 pub keeps-ram : (op : Op) (s : Regs) (m : BusState) → op ≢ Wrm → (bus_after op s m).ram ≡ m.ram
 keeps-ram op s m off =
     let P : Op → BusState → Type 0 = λ o n. o ≢ Wrm → n.ram ≡ m.ram in
@@ -122,7 +124,7 @@ keeps-ram op s m off =
     by-bus op s m P (λ o h. refl) (λ k h. by-src m s.dcl _ Q (λ a b. refl)) (λ h. absurd (h refl)) (λ h. by-ram-port m s.dcl s.acc Q (λ a b. refl)) (λ h. by-rom-port m s.acc Q (λ a b. refl))
     ((λ h. by-status m s.dcl 0 s.acc Q (λ a. refl)), (λ h. by-status m s.dcl 1 s.acc Q (λ a. refl)), (λ h. by-status m s.dcl 2 s.acc Q (λ a. refl)), (λ h. by-status m s.dcl 3 s.acc Q (λ a. refl))) off
 
--- status characters stay, but for WR0 to WR3
+-- Only WR0 to WR3 change status characters.
 pub keeps-status : (op : Op) (s : Regs) (m : BusState) → (WritesStatus op → ⊥) → (bus_after op s m).status ≡ m.status
 keeps-status op s m off =
     let P : Op → BusState → Type 0 = λ o n. (WritesStatus o → ⊥) → n.status ≡ m.status in
@@ -130,7 +132,8 @@ keeps-status op s m off =
     by-bus op s m P (λ o h. refl) (λ k h. by-src m s.dcl _ Q (λ a b. refl)) (λ h. by-ram m s.dcl s.acc Q (λ a. refl)) (λ h. by-ram-port m s.dcl s.acc Q (λ a b. refl)) (λ h. by-rom-port m s.acc Q (λ a b. refl))
     ((λ h. absurd (h (inl refl))), (λ h. absurd (h (inr (inl refl)))), (λ h. absurd (h (inr (inr (inl refl))))), (λ h. absurd (h (inr (inr (inr refl)))))) off
 
--- what holds where RAM characters, status characters and SRC bytes are others holds after an instruction that writes no port
+-- A property holds after an instruction that writes no port if it does not depend on RAM
+-- characters, status characters or SRC bytes.
 keeps-but : (op : Op) (s : Regs) (m : BusState) → (WritesPort op → ⊥) → (Q : BusState → Type 0) → ((ram status srcs : List ℕ) (src : ℕ) → Q (record m { ram = ram; status = status; rom_src = src; ram_src = srcs })) → Q (bus_after op s m)
 keeps-but op s m off Q h =
     let P : Op → BusState → Type 0 = λ o n. (WritesPort o → ⊥) → Q n in
@@ -147,7 +150,7 @@ map-same : {A : Type 0} (f g : A → ℕ) (xs : List A) → ((x : A) → f x ≡
 map-same f g [] h = refl
 map-same f g (x ∷ xs) h = rw (h x, map-same f g xs h) refl
 
--- lines and lamps stay, but for WMP and WRR
+-- Only WMP and WRR change the levels of lines and lamps.
 pub keeps-level : (op : Op) (s : Regs) (m : BusState) (line : Line) → (WritesPort op → ⊥) → level_on (bus_after op s m) line ≡ level_on m line
 keeps-level op s m line off =
     keeps-but op s m off (λ n. level_on n line ≡ level_on m line)
@@ -187,7 +190,7 @@ text-owed place.Src t n = refl
 text-owed place.Lamps t n = refl
 text-owed place.Returns t n = refl
 
--- no place tells what is owed
+-- No probe shows the pending second cycle (`owed`).
 pub row-owed : (probes : List Probe) (t : Machine) (n : ℕ) → row probes (with_owed t n) ≡ row probes t
 row-owed [] t n = refl
 row-owed (p ∷ ps) t n = rw (text-owed p t n, row-owed ps t n) refl
@@ -200,21 +203,21 @@ does : (op : Op) (t : Machine) → eqb t.0.owed 1 ≡ false → instruction_at t
 unfolding cycle_of
 does op t off at = rw (off, at) refl
 
--- the bus that an instruction leaves
+-- After an instruction of a run, the bus is the one that `bus_after` returns.
 pub went-leaves : (stops : Stops) (left : ℕ) (t u : Machine) (w : Went) (op : Op) → WentTo stops left t u w → w.op ≡ Some op → u ≡ (u.0, bus_after op t.0 t.1)
 went-leaves stops left t u w op h e =
     let is = one-op (eqb t.0.owed 1) op (instruction_at t.0 t.1) w.op e h.op in
     let rest = rests left w.cycles t u h.ran h.some in
     ap (λ (m : BusState). (u.0, m)) (ap (λ (v : Machine). v.1) rest ∙ ap (λ (v : Machine). v.1) (does op t is.0 is.1))
 
--- a row that rests
+-- If `RowRests` holds for an instruction, the row is the same before and after it.
 row-of : (stops : Stops) (left : ℕ) (t u : Machine) (w : Went) (before after : Regs) (probes : List Probe) (did : Option Op) → WentTo stops left t u w → before ≡ t.0 → after ≡ u.0 → w.op ≡ did → RowRests did before after probes → row probes t ≡ row probes u
 row-of stops left t u w before after probes None h e f is same = absurd same
 row-of stops left t u w before after probes (Some op) h e f is same =
     sym (ap (row probes) (went-leaves stops left t u w op h is ∙ ap (λ (r : Regs). (r, bus_after op t.0 t.1)) (sym f) ∙ ap (λ (r : Regs). (after, bus_after op r t.1)) (sym e))
     ∙ same t.1 ∙ ap (λ (r : Regs). row probes (r, t.1)) e)
 
--- ---- what is found of a place
+-- ---- probes whose value an instruction leaves unchanged
 
 pub not-so : {A : Type 0} (r : Bool) → not r ≡ true → (A → r ≡ true) → A → ⊥
 not-so true off on a = absurd (cc)
@@ -251,13 +254,13 @@ lamps-rest op before after off m = keeps-lamps op before after m off
 pub returns-rest : (op : Op) (before after : Regs) → before.ret ≡ after.ret → Rests op before after place.Returns
 returns-rest op before after e m = ap (λ (xs : List ℕ). one_word (map address_text xs)) (sym e)
 
--- ---- what an instruction alone tells
+-- ---- what the instruction alone determines, whatever the registers
 
 either-returns : (b : Bool) (x y : Regs) (ret : List ℕ) → x.ret ≡ ret → y.ret ≡ ret → (cond b x y).ret ≡ ret
 either-returns true x y ret e f = e
 either-returns false x y ret e f = f
 
--- the return addresses stay, but for JMS and BBL
+-- Only JMS and BBL change the return addresses.
 keeps-returns : (op : Op) (s : Regs) (m : BusState) → ((high low : ℕ) → op ≢ Jms high low) → ((digit : ℕ) → op ≢ Bbl digit) → (registers_after op s m).ret ≡ s.ret
 keeps-returns Nop s m jms bbl = refl
 keeps-returns (Jcn a b) s m jms bbl = either-returns _ _ _ s.ret refl refl
@@ -308,11 +311,12 @@ keeps-returns Dcl s m jms bbl = refl
 pub returns-keep : (op : Op) → ((high low : ℕ) → op ≢ Jms high low) → ((digit : ℕ) → op ≢ Bbl digit) → Keeps op place.Returns
 returns-keep op jms bbl s m = ap (λ (xs : List ℕ). one_word (map address_text xs)) (keeps-returns op (after_words op s) m jms bbl)
 
--- a place that rests whatever the registers are
+-- A probe that is unchanged for any registers before and after an instruction is kept by the
+-- instruction.
 pub outside-keeps : (op : Op) (p : Probe) → ((before after : Regs) → Rests op before after p) → Keeps op p
 outside-keeps op p h s m = h s (registers_after op (after_words op s) m) m
 
--- a row that is kept
+-- If `RowKeeps` holds for an instruction, the row is the same before and after it.
 kept-of : (stops : Stops) (left : ℕ) (t u : Machine) (w : Went) (probes : List Probe) (did : Option Op) → WentTo stops left t u w → w.op ≡ did → RowKeeps did probes → row probes t ≡ row probes u
 kept-of stops left t u w probes None h is same = absurd same
 kept-of stops left t u w probes (Some op) h is same =
@@ -323,9 +327,10 @@ pub row-stays : (stops : Stops) (left : ℕ) (t u : Machine) (w : Went) (before 
 row-stays stops left t u w before after probes h e f (inl same) = row-of stops left t u w before after probes w.op h e f refl same
 row-stays stops left t u w before after probes h e f (inr same) = kept-of stops left t u w probes w.op h refl same
 
--- ---- what is seen of a row
+-- ---- the kinds of probes in a row
 
--- what leaves all that is seen leaves what was seen before
+-- If `more` has all kinds in `seen`, an instruction that touches none of `more` touches none of
+-- `seen`.
 fewer : (seen more : Seen) → (more.ports ≡ false → seen.ports ≡ false) → (more.ram ≡ false → seen.ram ≡ false) → (more.status ≡ false → seen.status ≡ false) → (more.src ≡ false → seen.src ≡ false) → (more.returns ≡ false → seen.returns ≡ false)
     → (op : Op) → touches more op ≡ false → touches seen op ≡ false
 fewer seen more ports ram status src returns Nop e = refl
@@ -374,7 +379,7 @@ fewer seen more ports ram status src returns Daa e = refl
 fewer seen more ports ram status src returns Kbp e = refl
 fewer seen more ports ram status src returns Dcl e = refl
 
--- what touches nothing that is seen, of something that is seen
+-- An instruction that touches no kind in `seen` differs from an instruction that touches one.
 off : (seen : Seen) (op other : Op) (b : Bool) → touches seen op ≡ false → touches seen other ≡ b → b ≡ true → op ≡ other → ⊥
 off seen op other b e is on same = let h = sym (ap (touches seen) same) ∙ e in absurd (cc)
 
@@ -419,7 +424,7 @@ sees-status seen bank high k =
       place = λ _ op e. outside-keeps op (place.Status bank high k) (λ before after. status-rests op before after bank high k (off-status more op e refl));
     }
 
--- a place at lines
+-- A probe that only WMP and WRR can change is of the kind `ports`.
 pub sees-port : (seen : Seen) (p : Probe) → ((op : Op) (before after : Regs) → (WritesPort op → ⊥) → Rests op before after p) → SeesToo seen (record seen { ports = true }) p
 sees-port seen p h =
     let more : Seen = record seen { ports = true } in

@@ -1,4 +1,4 @@
--- The text of `state`, piece after piece.
+-- The text of the answer to `state` is its parts, one after another.
 use Rattle.std.proofs.Common.{◌≡◌, ℕ, List, [], ◌∷◌, ◌++◌, codes, map, ap, ◌∙◌}
 use Rattle.std.specs.List.{flat_map, range_with_len}
 use Rattle.mcs_model.specs.declared.limits.TheConstants.{BANKS, ROMS}

@@ -12,25 +12,25 @@ use Rattle.mcs_model.specs.TextLines.{as_line, text_of}
 use Rattle.mcs_source.specs.Text.{listing_text}
 use Rattle.mcs_wiring.specs.BoardText.{query_lines}
 
--- the first line of a transcript
+-- the first line that the shell writes: the number of commands accepted so far
 abbrev pub session_text : BenchState → List ℕ
 session_text s = codes "session " ++ as_line (decimal s.seq)
 
--- the word for the reason that a run or a step stopped
+-- the word that an answer uses for the reason why a run or a step stopped
 abbrev pub stop_name : Stop → List ℕ
 stop_name Outside = codes "code"
 stop_name Breakpoint = codes "break"
 stop_name Watched = codes "watch"
 stop_name Ended = codes "end"
 
--- The part of an answer after the number of accepted commands: the number of bytes loaded, or the
--- number of cycles done and the reason to stop.
+-- The reply to a command, which follows the number of accepted commands in an answer: the number of
+-- bytes loaded, or the number of cycles done and the reason to stop.
 abbrev pub reply_text : Reply → List ℕ
 reply_text Done = []
 reply_text (Loaded bytes) = codes " bytes " ++ decimal bytes
 reply_text (Ran cycles stop) = codes " ran " ++ (decimal cycles ++ (codes " " ++ stop_name stop))
 
--- the answer to an accepted command, from its reply and the state after it
+-- the answer to an accepted command, from its reply and the state after the command
 abbrev pub ok_text : Reply → BenchState → List ℕ
 ok_text r s = codes "ok " ++ (decimal s.seq ++ as_line (reply_text r))
 
@@ -38,7 +38,7 @@ ok_text r s = codes "ok " ++ (decimal s.seq ++ as_line (reply_text r))
 abbrev pub no_text : ℕ → List ℕ
 no_text number = codes "no " ++ as_line (decimal number)
 
--- the answer to a text that is rejected for one of its lines, counted from 1
+-- the answer to a text that is rejected because of an error in a line; lines are counted from 1
 abbrev pub no_line_text : ℕ → ℕ → List ℕ
 no_line_text number line =
     codes "no " ++ (decimal number ++ (codes " line " ++ as_line (decimal line)))

@@ -1,4 +1,4 @@
--- Texts with commas. Only contracts of private functions cite them.
+-- Texts of items that are followed by commas. Only contracts of private functions cite this module.
 use Rattle.std.specs.Prelude.{ℕ, List, ◌++◌, codes}
 use Rattle.std.specs.List.{flat_map}
 

@@ -1,4 +1,4 @@
--- Agreement of the answers to `count` and `trace` with each other and with a run.
+-- Theorems: the answers to `count` and `trace` agree with each other and with a run.
 use Rattle.std.specs.Prelude.{◌≡◌, ℕ, ◌+◌, ◌-◌, ◌++◌, Bool, List, [], codes, drop, length}
 use Rattle.std.specs.Fmt.{decimal}
 use Rattle.std.specs.List.{count_by, flat_map}
@@ -13,22 +13,23 @@ use Rattle.mcs_probe.specs.Forecast.{begun_in, later, runs_at}
 use Rattle.mcs_answers.specs.ForecastTexts.{ahead_head, trace_line, trace_lines}
 use Rattle.mcs_answers.specs.AnswerTexts.{reply_text}
 
--- holds if a head reports the number of cycles and the reason to stop that the answer to `run n`
--- would report
+-- Holds if the first line of an answer reports the number of cycles and the reason to stop that the
+-- answer to `run n` would report.
 abbrev pub HeadsReportTheRun : Type 0
 HeadsReportTheRun =
     (word : List ℕ) (b : BenchState) (n : ℕ) (lines : List (List ℕ)) →
     ahead_head word b n lines
     ≡ word ++ reply_text (reply b (Run n)) ++ codes " lines " ++ decimal (length lines)
 
--- the lines of a trace of n cycles in a run that starts m cycles earlier
+-- the lines of a trace of n cycles that starts after m cycles of a run; cycles are counted from the
+-- start of the run
 abbrev pub later_lines : List Probe → ℕ → BenchState → ℕ → List (List ℕ)
 later_lines probes m b n =
     flat_map (λ x. trace_line probes (later m x)) (begun_in (stops_of b) n (machine_of b))
 
--- Holds if a trace of m + n cycles consists of one of m cycles and, after `run m`, one of n cycles.
--- The second trace counts its cycles from m. The premise is that nothing stops the run of m + n
--- cycles early.
+-- Holds if a trace of m + n cycles is a trace of m cycles, followed by a trace of n cycles that
+-- starts after `run m`. The second trace counts its cycles from m. The premise is that nothing
+-- stops the run of m + n cycles early.
 abbrev pub TracesAddUp : Type 0
 TracesAddUp =
     (probes : List Probe) (b : BenchState) (m n : ℕ) →
@@ -36,12 +37,12 @@ TracesAddUp =
     trace_lines probes b (m + n)
     ≡ trace_lines probes b m ++ later_lines probes m (after b (Run m)) n
 
--- true if a line of a trace without places is for an instruction at an address: it ends with that
--- address
+-- True if a line of a trace without probes is the line of an instruction at address `at`. This is
+-- so if the line ends with the text of the address.
 abbrev pub is_line_at : ℕ → List ℕ → Bool
 is_line_at at line = bytes_eq (drop (length line - 3) line) (address_text at)
 
--- holds if the count of each address is the number of its lines in a trace without places
+-- holds if the count of each address is the number of its lines in a trace without probes
 abbrev pub CountsAreOfTheTrace : Type 0
 CountsAreOfTheTrace =
     (b : BenchState) (n at : ℕ) →

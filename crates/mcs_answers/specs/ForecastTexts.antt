@@ -1,5 +1,5 @@
--- The answers to `count` and `trace`, which report what a run would do without doing it. (Our own
--- choice.)
+-- The answers to `count` and `trace`. They report what a run would do, without doing the run. (Our
+-- own choice.)
 use Rattle.std.specs.Prelude.{ℕ, Bool, true, not, List, [], ◌∷◌, ◌++◌, codes, length, nat_lt, if◌then◌else◌}
 use Rattle.std.specs.Fmt.{decimal}
 use Rattle.std.specs.List.{flat_map, range_with_len}
@@ -14,8 +14,8 @@ use Rattle.mcs_probe.specs.Forecast.{Begun, begun_in, is_branch, jumps_at, runs_
 use Rattle.mcs_probe.specs.Probes.{row}
 use Rattle.mcs_answers.specs.AnswerTexts.{stop_name}
 
--- the head: the number of cycles that the run would take, the reason that it would stop, and the
--- number of lines that follow
+-- the start of the first line of an answer: the number of cycles that the run would take, the
+-- reason why it would stop, and the number of lines that follow
 abbrev pub ahead_head : List ℕ → BenchState → ℕ → List (List ℕ) → List ℕ
 ahead_head word b n lines =
     word ++ codes " ran " ++ decimal (run_length (stops_of b) n (machine_of b))
@@ -23,8 +23,9 @@ ahead_head word b n lines =
     ++ codes " lines " ++ decimal (length lines)
 
 -- The lines of `count` for an address: one if the run begins an instruction there, else none. A
--- line has the address and the number of instructions begun there. For JCN and ISZ, it also has the
--- number of those after which the program counter is not that address plus 2 (`jumps_at`).
+-- line has the address and the number of instructions begun there. For JCN and ISZ, the line also
+-- has the number of these instructions after which the program counter is not the address plus 2
+-- (`jumps_at`).
 abbrev pub count_line : List Begun → Machine → ℕ → List (List ℕ)
 count_line begun s at =
     if nat_lt 0 (runs_at begun at)
@@ -45,14 +46,14 @@ abbrev pub count_answer : ℕ → BenchState → List ℕ
 count_answer n b =
     as_line (ahead_head (codes "count") b n (count_lines b n)) ++ text_of (count_lines b n)
 
--- True if an instruction has a line in a trace: always if there are no places, else if the row
--- after it differs from the row before.
+-- True if an instruction has a line in a trace. It has one if there are no probes, or if the row
+-- after it differs from the row before it.
 abbrev pub is_reported : List Probe → List ℕ → List ℕ → Bool
 is_reported [] before after = true
 is_reported probes before after = not (bytes_eq after before)
 
 -- The lines of `trace` for an instruction: one or none. A line has the number of cycles done before
--- the instruction, its address, and the row after it.
+-- the instruction, the address of the instruction, and the row after it.
 abbrev pub trace_line : List Probe → Begun → List (List ℕ)
 trace_line probes b =
     if is_reported probes (row probes b.before) (row probes b.after)
@@ -64,7 +65,7 @@ abbrev pub trace_lines : List Probe → BenchState → ℕ → List (List ℕ)
 trace_lines probes b n =
     flat_map (trace_line probes) (begun_in (stops_of b) n (machine_of b))
 
--- the answer to `trace`; its head ends with the present row
+-- the answer to `trace`; its first line ends with the row before the run
 abbrev pub trace_answer : List Probe → ℕ → BenchState → List ℕ
 trace_answer probes n b =
     as_line (ahead_head (codes "trace") b n (trace_lines probes b n) ++ row probes (machine_of b))

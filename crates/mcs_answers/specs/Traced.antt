@@ -1,4 +1,4 @@
--- The trace of a run, instruction by instruction.
+-- The lines that one cycle adds to a trace, and the result of a traced run.
 use Rattle.std.specs.Prelude.{◌≡◌, ◌==◌, ℕ, Bool, List, ◌∷◌, [], ◌++◌, codes, length, if◌then◌else◌}
 use Rattle.std.specs.Fmt.{decimal}
 use Rattle.std.specs.List.{flat_map}
@@ -11,17 +11,17 @@ use Rattle.mcs_probe.specs.declared.probe.Probe.{Probe}
 use Rattle.mcs_answers.specs.declared.traces.Traced.{Traced}
 use Rattle.mcs_answers.specs.ForecastTexts.{is_reported, trace_lines}
 
--- one line if `report` is true, else none
+-- one trace line if `report` is true, else none
 abbrev pub line_when : Bool → ℕ → ℕ → List ℕ → List (List ℕ)
 line_when report cycles at row =
     if report then (decimal cycles ++ codes " " ++ address_text at ++ row) ∷ [] else []
 
--- the lines of a cycle, which has none if it is the second cycle of an instruction
+-- the trace lines of a cycle; the second cycle of an instruction (`owed` is not 0) has none
 abbrev pub cycle_lines : List Probe → ℕ → ℕ → ℕ → List ℕ → List ℕ → List (List ℕ)
 cycle_lines probes owed cycles at before after =
     if owed == 0 then line_when (is_reported probes before after) cycles at after else []
 
--- holds if t and the text are the result and the lines of a trace of n cycles
+-- holds if `t` and `text` are the result and the lines of a trace of n cycles
 pub record IsTraced (probes : List Probe) (n : ℕ) (b : BenchState) (t : Traced) (text : List ℕ) : Type 0 where
   pub cycles : t.cycles ≡ run_length (stops_of b) n (machine_of b)
   pub stop : t.stop ≡ run_stop (stops_of b) n (machine_of b)

@@ -31,7 +31,7 @@ fn is_branch(bench: &Bench, at: Addr) -> bool
     }
 }
 
-/// Returns the count for an address.
+/// Returns the entry of an address in a table of counts. The table must have 4096 entries.
 fn number_at(numbers: &Vec<u32>, at: Addr) -> u32
     requires { length numbers.now.items ≡ 4096 }
     ensures { result ≡ slice_index numbers.now.items at }
@@ -39,7 +39,8 @@ fn number_at(numbers: &Vec<u32>, at: Addr) -> u32
     numbers[usize::from(at.get())]
 }
 
-/// Writes the line of `count` for an address into an empty buffer.
+/// Writes the line of an address in the answer to `count` into an empty buffer. For JCN and ISZ, the line
+/// also has `jumps`.
 fn put_line(line: &mut ArrayVec<u8, ANSWER_BYTES>, bench: &Bench, at: Addr, runs: u32, jumps: u32)
     requires { line.old.items ≡ [] }
     ensures { line.new.items ≡ as_line (address_text at ++ codes " " ++ decimal runs
@@ -53,9 +54,9 @@ fn put_line(line: &mut ArrayVec<u8, ANSWER_BYTES>, bench: &Bench, at: Addr, runs
     put(line, b"\n");
 }
 
-/// Counts the instructions that a run of at most `n` cycles would begin at each address. Writes the head into an empty
-/// answer and returns the lines after it in allocated memory. Fails if memory cannot be allocated. The contents of the
-/// head are then unspecified.
+/// Counts the instructions that a run of at most `n` cycles would begin at each address. Writes the first
+/// line of the answer into an empty buffer and returns the other lines in allocated memory. Fails if
+/// allocation fails; the contents of `head` are then unspecified.
 pub fn put_count(
     alloc: Global,
     head: &mut ArrayVec<u8, ANSWER_BYTES>,

@@ -17,7 +17,7 @@ pub fn put(answer: &mut ArrayVec<u8, ANSWER_BYTES>, bytes: &[u8])
     answer.try_extend_from_slice(bytes).unwrap();
 }
 
-/// Appends a number in decimal digits.
+/// Appends a number in decimal.
 #[tactic(auto, using(std::proofs::lemmas::Fmt::decimal_digit, std::proofs::lemmas::Fmt::decimal_step))]
 pub fn put_decimal(answer: &mut ArrayVec<u8, ANSWER_BYTES>, n: u64)
     requires { array_vec_len answer.old + length (decimal n) ≤ ANSWER_BYTES }

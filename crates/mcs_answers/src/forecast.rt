@@ -1,4 +1,4 @@
-//! The head that the answers to `count` and `trace` share.
+//! The start of the first line of an answer, which `count` and `trace` share.
 ghost use Rattle.std.specs.Prelude.{◌≡◌, ◌+◌, ◌++◌, ◌≤◌, [], codes, length};
 ghost use Rattle.std.specs.Fmt.{decimal};
 ghost use Rattle.mcs_answers.specs.AnswerTexts.{stop_name};
@@ -9,8 +9,8 @@ use crate::size::ANSWER_BYTES;
 use arrayvec::ArrayVec;
 use mcs_model::stop::Stop;
 
-/// Writes a head into an empty answer. It consists of a word, the number of cycles that a run would take, the reason
-/// that it would stop, and the number of lines that follow.
+/// Writes the start of the first line of an answer into an empty buffer: a word, the number of cycles that a
+/// run would take, the reason why it would stop, and the number of lines that follow.
 pub(crate) fn put_head(
     head: &mut ArrayVec<u8, ANSWER_BYTES>,
     word: &[u8],

@@ -1,4 +1,4 @@
-//! Laws of the definitions. Each is proved as the contract of an empty function.
+//! Theorems about the definitions of the answers. Each is the contract of an empty function.
 ghost use Rattle.std.specs.Prelude.{◌≡◌, ℕ};
 ghost use Rattle.mcs_version1.specs.BenchState.{BenchState1};
 ghost use Rattle.mcs_version1.specs.Lift.{lift};
@@ -6,27 +6,27 @@ ghost use Rattle.mcs_answers.specs.ForecastLaws.{CountsAreOfTheTrace, HeadsRepor
 ghost use Rattle.mcs_answers.specs.AnswerTexts.{board_answer, listing_answer};
 ghost use Rattle.mcs_answers.specs.Version1.{board_answer_1, listing_answer_1};
 
-/// Proves that `list` and `board` have the same answers for a version 1 state as for the version 2 state that `lift`
-/// converts it to.
+/// Proves that a version 1 state and its conversion to version 2 (`lift`) have the same answers to `list` and
+/// `board`.
 pub fn answers_lift()
     ensures listings { (s : BenchState1) (at lines : ℕ)
         → listing_answer at lines (lift s) ≡ listing_answer_1 s at lines }
     ensures board { (s : BenchState1) → board_answer (lift s) ≡ board_answer_1 s }
 {}
 
-/// Proves that the heads of `count n` and `trace n` report the same number of cycles and the same reason to stop as the
-/// answer to `run n` would.
+/// Proves that the first lines of the answers to `count n` and `trace n` report the same number of cycles and
+/// reason to stop as the answer to `run n`.
 pub fn heads_report_the_run()
     ensures { HeadsReportTheRun }
 {}
 
-/// Proves that a trace of m + n cycles consists of a trace of m cycles and, after `run m`, a trace of n cycles. The
-/// premise is that nothing stops the longer run early.
+/// Proves that a trace of m + n cycles is a trace of m cycles, followed by a trace of n cycles that starts
+/// after `run m`. This applies if nothing stops the run of m + n cycles early.
 pub fn traces_add_up()
     ensures { TracesAddUp }
 {}
 
-/// Proves that `count` gives each address the number of lines that a trace without places has for it.
+/// Proves that the count of each address equals the number of its lines in a trace without probes.
 pub fn counts_are_of_the_trace()
     ensures { CountsAreOfTheTrace }
 {}

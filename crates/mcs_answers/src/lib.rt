@@ -1,4 +1,4 @@
-//! The texts of answers.
+//! Writes the texts of answers: the replies to commands and the answers to queries.
 #![tactic(auto)]
 
 mod counts;

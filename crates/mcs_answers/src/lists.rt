@@ -94,7 +94,7 @@ pub fn put_breaks(answer: &mut ArrayVec<u8, ANSWER_BYTES>, bench: &Bench)
     }
 }
 
-/// Appends a word, then the bank and the SRC byte of a watched RAM character.
+/// Appends a word, then the bank and the SRC byte of a watched RAM character, as in `0.3F`.
 pub(crate) fn put_watch(answer: &mut ArrayVec<u8, ANSWER_BYTES>, word: &[u8], watch: Addr)
     requires { array_vec_len answer.old + length word.now + 4 ≤ ANSWER_BYTES }
     ensures text { answer.new.items ≡ answer.old.items ++ word.now ++ watch_text watch }
@@ -105,7 +105,7 @@ pub(crate) fn put_watch(answer: &mut ArrayVec<u8, ANSWER_BYTES>, word: &[u8], wa
     put_byte(answer, b".", (index % 256) as u8);
 }
 
-/// Appends the banks and SRC bytes of watched RAM characters, each pair after a space.
+/// Appends the bank and the SRC byte of each watched RAM character, after a space.
 fn put_watched(answer: &mut ArrayVec<u8, ANSWER_BYTES>, list: &[Addr])
     requires room { array_vec_len answer.old + 5 * length list.now ≤ ANSWER_BYTES }
     ensures text { answer.new.items

@@ -12,7 +12,7 @@ use mcs_bench::Bench;
 use mcs_model::command::Reply;
 use mcs_model::stop::Stop;
 
-/// Appends a word and a number in decimal digits.
+/// Appends a word and a number in decimal.
 pub(crate) fn put_counted(answer: &mut ArrayVec<u8, ANSWER_BYTES>, word: &[u8], n: u64)
     requires { array_vec_len answer.old + length word.now + 20 ≤ ANSWER_BYTES }
     ensures text { answer.new.items ≡ answer.old.items ++ (word.now ++ decimal n) }
@@ -32,8 +32,8 @@ pub fn put_number(answer: &mut ArrayVec<u8, ANSWER_BYTES>, word: &[u8], n: u64)
     put(answer, b"\n");
 }
 
-/// Writes the answer for an error in a text into an empty buffer. It has the refusal number, then the number of the
-/// line with the error, counted from 1.
+/// Writes the answer to a text with an error into an empty buffer. The answer has the refusal number, then
+/// the line number of the error, counted from 1.
 pub fn put_refusal_at(answer: &mut ArrayVec<u8, ANSWER_BYTES>, number: u8, line: u64)
     requires { answer.old.items ≡ [] }
     ensures { answer.new.items ≡ no_line_text number line }
@@ -43,7 +43,7 @@ pub fn put_refusal_at(answer: &mut ArrayVec<u8, ANSWER_BYTES>, number: u8, line:
     put(answer, b"\n");
 }
 
-/// Returns the word for a reason to stop.
+/// Returns the word that an answer uses for a reason to stop.
 pub(crate) fn stop_name(stop: Stop) -> &'static [u8]
     ensures name { result.now ≡ stop_name stop }
     ensures short { length result.now ≤ 5 }
@@ -56,7 +56,7 @@ pub(crate) fn stop_name(stop: Stop) -> &'static [u8]
     }
 }
 
-/// Appends the part of an answer that follows the number of accepted commands. It depends on the reply.
+/// Appends the reply to a command. In the answer, the reply follows the number of accepted commands.
 fn put_reply_text(answer: &mut ArrayVec<u8, ANSWER_BYTES>, reply: &Reply)
     requires { array_vec_len answer.old ≤ 100 }
     ensures text { answer.new.items ≡ answer.old.items ++ reply_text reply.now }
@@ -73,7 +73,8 @@ fn put_reply_text(answer: &mut ArrayVec<u8, ANSWER_BYTES>, reply: &Reply)
     }
 }
 
-/// Writes the answer to an accepted command into an empty buffer. `bench` is the bench after the command.
+/// Writes the answer to an accepted command into an empty buffer. `bench` must be the bench after the
+/// command.
 pub fn put_reply(answer: &mut ArrayVec<u8, ANSWER_BYTES>, reply: &Reply, bench: &Bench)
     requires { answer.old.items ≡ [] }
     ensures { answer.new.items ≡ ok_text reply.now bench.now }

@@ -1,4 +1,4 @@
-//! The levels of a port's four lines as a nibble.
+//! The levels of a port's four I/O lines, combined into a nibble.
 ghost use Rattle.std.specs.Prelude.{◌≡◌, ◌<◌};
 ghost use Rattle.mcs_model.specs.declared.board.Line.TheVariants as line;
 ghost use Rattle.mcs_probe.specs.Probes.{levels_on};
@@ -6,7 +6,7 @@ ghost use Rattle.mcs_probe.specs.Probes.{levels_on};
 use mcs_bench::Bench;
 use mcs_model::board::Line;
 
-/// Returns the levels of the four lines of a ROM's port as a nibble, with line k at bit k.
+/// Returns the levels of the four I/O lines of a ROM's port as a nibble. Line k is bit k.
 pub(crate) fn rom_levels(bench: &Bench, chip: u8) -> u8
     ensures value { result ≡ levels_on bench.now.bus (line.Rom chip) }
     ensures digit { result < 16 }
@@ -17,7 +17,7 @@ pub(crate) fn rom_levels(bench: &Bench, chip: u8) -> u8
         + 8 * bench.level(Line::Rom(chip, 3)).get()
 }
 
-/// Returns the levels of the four lines of a RAM chip's port as a nibble, with line k at bit k.
+/// Returns the levels of the four output lines of a RAM chip's port as a nibble. Line k is bit k.
 pub(crate) fn ram_levels(bench: &Bench, bank: u8, chip: u8) -> u8
     ensures value { result ≡ levels_on bench.now.bus (line.Ram bank chip) }
     ensures digit { result < 16 }

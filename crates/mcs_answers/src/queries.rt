@@ -17,7 +17,7 @@ use mcs_nibble::Addr;
 use mcs_wiring::board_text;
 use std::alloc::{AllocError, Global};
 
-/// Writes the answer to a query into an empty buffer. Allocates no memory.
+/// Writes the answer to a query into an empty buffer, without allocating memory.
 pub fn put_query(answer: &mut ArrayVec<u8, ANSWER_BYTES>, query: Query, bench: &Bench)
     requires { answer.old.items ≡ [] }
     ensures { answer.new.items ≡ query_answer query bench.now }
@@ -33,8 +33,8 @@ pub fn put_query(answer: &mut ArrayVec<u8, ANSWER_BYTES>, query: Query, bench: &
     }
 }
 
-/// Returns the answer to `list`: a listing of the bench's ROM from the address `from`. Fails if memory cannot be
-/// allocated.
+/// Returns the answer to `list`: a listing of the bench's ROM from the address `from`. Fails if allocation
+/// fails.
 pub fn listing_answer(
     alloc: Global,
     from: Addr,
@@ -47,8 +47,8 @@ pub fn listing_answer(
     Ok(listing(alloc, &rom, from, usize::from(lines))?.into_bytes())
 }
 
-/// Writes the head of the answer to `board` into an empty buffer and returns the lines after it in allocated memory.
-/// Fails if memory cannot be allocated. The contents of the head are then unspecified.
+/// Writes the first line of the answer to `board` into an empty buffer and returns the other lines in
+/// allocated memory. Fails if allocation fails; the contents of `head` are then unspecified.
 pub fn put_board(
     alloc: Global,
     head: &mut ArrayVec<u8, ANSWER_BYTES>,

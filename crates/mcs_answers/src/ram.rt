@@ -13,8 +13,8 @@ use arrayvec::ArrayVec;
 use mcs_bench::Bench;
 use mcs_nibble::Nibble;
 
-/// Proves that the lists of RAM and status characters have their full lengths, and that no bank has more than four
-/// chips.
+/// Proves that a bench has 2048 RAM characters and 512 status characters, and at most four chips in each
+/// bank.
 fn are_whole(bench: &Bench)
     ensures ram { length bench.now.bus.ram ≡ 2048 }
     ensures status { length bench.now.bus.status ≡ 512 }
@@ -58,7 +58,7 @@ fn put_status(answer: &mut ArrayVec<u8, ANSWER_BYTES>, bench: &Bench, bank: u8, 
     }
 }
 
-/// Appends the line of register `r` of a RAM chip.
+/// Appends the line of register `r` of a RAM chip: its RAM characters, then its status characters.
 fn put_register(answer: &mut ArrayVec<u8, ANSWER_BYTES>, bench: &Bench, bank: u8, chip: u8, r: u8)
     requires bank { bank < 8 }
     requires chip { chip < 4 }
@@ -93,7 +93,7 @@ fn put_port(answer: &mut ArrayVec<u8, ANSWER_BYTES>, bench: &Bench, bank: u8, ch
     put(answer, b"\n");
 }
 
-/// Appends the lines of a RAM chip.
+/// Appends the lines of a RAM chip: its four registers, then its output port.
 fn put_chip(answer: &mut ArrayVec<u8, ANSWER_BYTES>, bench: &Bench, bank: u8, chip: u8)
     requires bank { bank < 8 }
     requires chip { chip < 4 }
@@ -118,7 +118,8 @@ pub(crate) fn chips_of(bench: &Bench, bank: u8) -> u8
     bench.board().bank_chips(bank)
 }
 
-/// Writes the answer to `ram` into an empty buffer: the number of chips in a bank and their contents.
+/// Writes the answer to `ram` into an empty buffer: the number of chips in a bank, then the contents of each
+/// chip.
 pub fn put_ram(answer: &mut ArrayVec<u8, ANSWER_BYTES>, bench: &Bench, bank: u8)
     requires bank { bank < 8 }
     requires empty { answer.old.items ≡ [] }

@@ -9,7 +9,7 @@ use crate::size::{ANSWER_BYTES, REGISTER_BYTES};
 use arrayvec::ArrayVec;
 use mcs_bench::Bench;
 
-/// Appends the registers, except the return addresses, and the TEST level.
+/// Appends the TEST level and the registers except the return addresses.
 pub(crate) fn put_registers(answer: &mut ArrayVec<u8, ANSWER_BYTES>, bench: &Bench)
     requires { array_vec_len answer.old + REGISTER_BYTES ≤ ANSWER_BYTES }
     ensures text { answer.new.items

@@ -1,17 +1,17 @@
-//! The maximum lengths of answers and of their parts, in bytes, for answers that need no allocated memory.
+//! The maximum lengths in bytes of answers that need no allocated memory, and of their parts.
 
 use mcs_model::limits::{
     BANK_CHIPS, BANKS, BREAKPOINTS, CHAIN_CHIPS, CHAINS, KEYS, LAMPS, ROMS, WATCHES,
 };
 
-/// The length of the longest answer to `ram`: its head, then four registers and a port for each chip.
+/// The length of the longest answer to `ram`: its first line, then four registers and a port for each chip.
 const RAM_BYTES: usize = 14 + (4 * 28 + 10) * BANK_CHIPS as usize;
 
 /// The length of the answer to `regs` without its return addresses.
 pub(crate) const REGISTER_BYTES: usize = 56;
 
-/// The length of the longest `banks` list in `state`: its name, five bytes for each bank, and one byte that `end_list`
-/// needs.
+/// The length of the longest list of banks in `state`: its name, five bytes for each bank, and one free byte
+/// that `end_list` requires.
 pub(crate) const BANK_LIST_BYTES: usize = 8 + 5 * BANKS;
 
 /// The length of the longest list of ROM ports in `state`.
@@ -48,11 +48,11 @@ const STATE_BYTES: usize = 30
     + (10 + 5 * WATCHES)
     + 1;
 
-/// The length of the longest value that `trace` reports, a chain after a space. It includes the comma that is appended
-/// to a chain and then removed.
+/// The length of the longest value in a trace: a chain after a space. The length includes a comma, which is
+/// appended to the chain and then removed.
 pub(crate) const PROBE_BYTES: usize = 1 + CHAIN_ITEM_BYTES;
 
-/// The length of the longest answer that needs no allocated memory, which is that to `ram` or to `state`.
+/// The length of the longest answer that needs no allocated memory. It is the answer to `ram` or to `state`.
 pub const ANSWER_BYTES: usize = if RAM_BYTES < STATE_BYTES {
     STATE_BYTES
 } else {

@@ -15,7 +15,8 @@ use crate::state_lists::{
 use arrayvec::ArrayVec;
 use mcs_bench::Bench;
 
-/// Writes the answer to `state` into an empty buffer: one line with all state except the board, ROM and RAM.
+/// Writes the answer to `state` into an empty buffer. It is one line with all state except the board, the ROM
+/// and the RAM.
 pub fn put_state(answer: &mut ArrayVec<u8, ANSWER_BYTES>, bench: &Bench)
     requires { answer.old.items ≡ [] }
     ensures { answer.new.items ≡ as_line (state_text bench.now) }

@@ -1,5 +1,5 @@
-//! The lists in the answer to `state`, each as one word. Each item is appended with a comma. The last comma is then
-//! removed.
+//! The lists in the answer to `state`. Each list is one word with commas between its items. Every item is
+//! appended with a comma, and the last comma is then removed.
 ghost use Rattle.std.specs.Prelude.{◌≡◌, ℕ, ◌+◌, ◌*◌, ◌++◌, ◌<◌, ◌≤◌, List, true, Some, codes, length, map};
 ghost use Rattle.std.specs.Fmt.{decimal};
 ghost use Rattle.std.specs.List.{flat_map, range_with_len};
@@ -25,7 +25,7 @@ use mcs_model::limits::{
 };
 use mcs_nibble::{Addr, Bit, Nibble};
 
-/// Proves that the parts of a bench's board are within its limits.
+/// Proves that a bench has at most the maximum number of chains, chips in a chain, key rows and key columns.
 fn are_within_limits(bench: &Bench)
     ensures chains { chain_count bench.now.bus.board ≤ CHAINS }
     ensures chips { (n : ℕ) → (chain_part bench.now.bus.board n).chips ≤ CHAIN_CHIPS }
@@ -36,8 +36,8 @@ fn are_within_limits(bench: &Bench)
     bench.show_state_is_valid();
 }
 
-/// Ends a list whose items, each followed by a comma, begin at index `start`. Removes the last comma, or appends a dash
-/// if the list is empty.
+/// Ends a list that begins at index `start` of the answer. Removes the comma after its last item, or appends
+/// a dash if the list has no items.
 fn end_list(answer: &mut ArrayVec<u8, ANSWER_BYTES>, start: usize)
     requires { array_vec_len answer.old + 1 ≤ ANSWER_BYTES }
     ensures text { (before : List ℕ) (items : List (List ℕ)) → length before ≡ start
@@ -79,7 +79,7 @@ pub(crate) fn put_address_list(answer: &mut ArrayVec<u8, ANSWER_BYTES>, word: &[
     end_list(answer, start);
 }
 
-/// Appends the banks and SRC bytes of watched RAM characters, each pair followed by a comma.
+/// Appends the bank and the SRC byte of each watched RAM character, followed by a comma.
 fn put_watch_items(answer: &mut ArrayVec<u8, ANSWER_BYTES>, list: &[Addr])
     requires { array_vec_len answer.old + 5 * length list.now ≤ ANSWER_BYTES }
     ensures text { answer.new.items
@@ -105,7 +105,8 @@ pub(crate) fn put_watch_list(answer: &mut ArrayVec<u8, ANSWER_BYTES>, list: &[Ad
     end_list(answer, start);
 }
 
-/// Appends a bank's number and its latched SRC byte, followed by a comma, if the bank has chips.
+/// Appends the number of a bank and its latched SRC byte, followed by a comma. Appends nothing if the bank
+/// has no chips.
 fn put_bank_item(answer: &mut ArrayVec<u8, ANSWER_BYTES>, bench: &Bench, bank: u8)
     requires bank { bank < 8 }
     requires room { array_vec_len answer.old + 5 ≤ ANSWER_BYTES }
@@ -120,7 +121,7 @@ fn put_bank_item(answer: &mut ArrayVec<u8, ANSWER_BYTES>, bench: &Bench, bank: u
     }
 }
 
-/// Appends the list of the SRC bytes latched in the banks.
+/// Appends the list of banks that have chips, each with its latched SRC byte.
 pub(crate) fn put_bank_list(answer: &mut ArrayVec<u8, ANSWER_BYTES>, bench: &Bench)
     requires { array_vec_len answer.old + BANK_LIST_BYTES ≤ ANSWER_BYTES }
     ensures text { answer.new.items ≡ answer.old.items ++ codes " banks "
@@ -135,7 +136,7 @@ pub(crate) fn put_bank_list(answer: &mut ArrayVec<u8, ANSWER_BYTES>, bench: &Ben
     end_list(answer, start);
 }
 
-/// Appends a number below 100 in decimal digits.
+/// Appends a number below 100 in decimal.
 fn put_small(answer: &mut ArrayVec<u8, ANSWER_BYTES>, n: u8)
     requires small { n < 100 }
     requires room { array_vec_len answer.old + 2 ≤ ANSWER_BYTES }
@@ -145,8 +146,8 @@ fn put_small(answer: &mut ArrayVec<u8, ANSWER_BYTES>, n: u8)
     put_decimal(answer, u64::from(n));
 }
 
-/// Appends a ROM's number, its port latch and the value that a program would read at the port now, followed by a comma.
-/// Appends nothing if the board lacks the ROM.
+/// Appends the number of a ROM, its port latch, and the value that a program would now read at its port,
+/// followed by a comma. Appends nothing if the board lacks the ROM.
 fn put_rom_item(answer: &mut ArrayVec<u8, ANSWER_BYTES>, bench: &Bench, chip: u8)
     requires chip { chip < 16 }
     requires room { array_vec_len answer.old + 7 ≤ ANSWER_BYTES }
@@ -162,7 +163,7 @@ fn put_rom_item(answer: &mut ArrayVec<u8, ANSWER_BYTES>, bench: &Bench, chip: u8
     }
 }
 
-/// Appends the list of the ROM ports.
+/// Appends the list of ROM ports.
 pub(crate) fn put_rom_list(answer: &mut ArrayVec<u8, ANSWER_BYTES>, bench: &Bench)
     requires { array_vec_len answer.old + ROM_LIST_BYTES ≤ ANSWER_BYTES }
     ensures text { answer.new.items ≡ answer.old.items ++ codes " roms "
@@ -177,7 +178,7 @@ pub(crate) fn put_rom_list(answer: &mut ArrayVec<u8, ANSWER_BYTES>, bench: &Benc
     end_list(answer, start);
 }
 
-/// Appends the port latch of a RAM chip after its bank and number, followed by a comma.
+/// Appends the bank, the number and the port latch of a RAM chip, followed by a comma.
 fn put_ram_item(answer: &mut ArrayVec<u8, ANSWER_BYTES>, bench: &Bench, bank: u8, chip: u8)
     requires bank { bank < 8 }
     requires chip { chip < 4 }
@@ -192,7 +193,7 @@ fn put_ram_item(answer: &mut ArrayVec<u8, ANSWER_BYTES>, bench: &Bench, bank: u8
     put(answer, b",");
 }
 
-/// Appends the ports of the RAM chips in a bank, each followed by a comma.
+/// Appends the port of each RAM chip in a bank, followed by a comma.
 fn put_ram_items(answer: &mut ArrayVec<u8, ANSWER_BYTES>, bench: &Bench, bank: u8)
     requires bank { bank < 8 }
     requires room { array_vec_len answer.old + 24 ≤ ANSWER_BYTES }
@@ -206,7 +207,7 @@ fn put_ram_items(answer: &mut ArrayVec<u8, ANSWER_BYTES>, bench: &Bench, bank: u
     }
 }
 
-/// Appends the list of the RAM ports.
+/// Appends the list of RAM ports.
 pub(crate) fn put_ram_list(answer: &mut ArrayVec<u8, ANSWER_BYTES>, bench: &Bench)
     requires { array_vec_len answer.old + RAM_LIST_BYTES ≤ ANSWER_BYTES }
     ensures text { answer.new.items ≡ answer.old.items ++ codes " rams "
@@ -259,7 +260,7 @@ pub(crate) fn put_chain_bits(answer: &mut ArrayVec<u8, ANSWER_BYTES>, bench: &Be
     }
 }
 
-/// Appends the list of the chains.
+/// Appends the list of chains with their bits.
 pub(crate) fn put_chain_list(answer: &mut ArrayVec<u8, ANSWER_BYTES>, bench: &Bench)
     requires { array_vec_len answer.old + CHAIN_LIST_BYTES ≤ ANSWER_BYTES }
     ensures text { answer.new.items ≡ answer.old.items ++ codes " chains "
@@ -277,7 +278,7 @@ pub(crate) fn put_chain_list(answer: &mut ArrayVec<u8, ANSWER_BYTES>, bench: &Be
     end_list(answer, start);
 }
 
-/// Appends the row and the column of a key, followed by a comma, if the key is down.
+/// Appends the row and the column of a key, followed by a comma. Appends nothing if the key is up.
 fn put_key_item(answer: &mut ArrayVec<u8, ANSWER_BYTES>, bench: &Bench, row: u8, column: u8)
     requires key { has_key bench.now.bus.board row column ≡ true }
     requires row { row < 16 }
@@ -294,7 +295,7 @@ fn put_key_item(answer: &mut ArrayVec<u8, ANSWER_BYTES>, bench: &Bench, row: u8,
     }
 }
 
-/// Appends the keys of a row that are down, each followed by a comma.
+/// Appends the keys that are down in a row, each followed by a comma.
 fn put_row_items(answer: &mut ArrayVec<u8, ANSWER_BYTES>, bench: &Bench, columns: u8, row: u8)
     requires keys { (column : ℕ) → column < columns
         → has_key bench.now.bus.board row column ≡ true }
@@ -339,7 +340,7 @@ fn put_key_items(answer: &mut ArrayVec<u8, ANSWER_BYTES>, bench: &Bench)
     }
 }
 
-/// Appends the list of the keys that are down.
+/// Appends the list of keys that are down.
 pub(crate) fn put_key_list(answer: &mut ArrayVec<u8, ANSWER_BYTES>, bench: &Bench)
     requires { array_vec_len answer.old + KEY_LIST_BYTES ≤ ANSWER_BYTES }
     ensures text { answer.new.items

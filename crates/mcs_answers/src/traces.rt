@@ -79,7 +79,7 @@ fn put_probe(answer: &mut ArrayVec<u8, ANSWER_BYTES>, probe: Probe, bench: &Benc
     }
 }
 
-/// Appends the value of each probe in order, each after a space.
+/// Appends the values of the probes in order, each after a space.
 fn put_row(answer: &mut ArrayVec<u8, ANSWER_BYTES>, probes: &[Probe], bench: &Bench)
     requires { array_vec_len answer.old + PROBE_BYTES * length probes.now ≤ ANSWER_BYTES }
     ensures text { answer.new.items ≡ answer.old.items ++ row probes.now (machine_of bench.now) }
@@ -91,7 +91,8 @@ fn put_row(answer: &mut ArrayVec<u8, ANSWER_BYTES>, probes: &[Probe], bench: &Be
     }
 }
 
-/// Appends the line of an instruction: the number of cycles done before it, its address, and a row. Overwrites `start`.
+/// Appends the trace line of an instruction: the number of cycles done before it, its address, and the row
+/// after it. Overwrites the buffer `start`.
 fn add_line(
     text: &mut Vec<u8>,
     start: &mut ArrayVec<u8, ANSWER_BYTES>,
@@ -110,36 +111,35 @@ fn add_line(
     text.extend_from_slice(b"\n")
 }
 
-/// Returns true if an instruction is WMP or WRR, the only ones that change the levels of lines.
+/// Returns true if an instruction is WMP or WRR. Only these instructions change the levels of lines.
 fn writes_port(op: &Op) -> bool
     ensures { result ≡ true ↔ WritesPort op.now }
 {
     matches!(op, Op::Wmp | Op::Wrr)
 }
 
-/// Returns true if an instruction is WRM, the only one that changes RAM characters.
+/// Returns true if an instruction is WRM. Only this instruction changes RAM characters.
 fn writes_ram(op: &Op) -> bool
     ensures { result ≡ true ↔ op.now ≡ Wrm }
 {
     matches!(op, Op::Wrm)
 }
 
-/// Returns true if an instruction is one of WR0 to WR3, the only ones that change status characters.
+/// Returns true if an instruction is WR0, WR1, WR2 or WR3. Only these instructions change status characters.
 fn writes_status(op: &Op) -> bool
     ensures { result ≡ true ↔ WritesStatus op.now }
 {
     matches!(op, Op::Wr0 | Op::Wr1 | Op::Wr2 | Op::Wr3)
 }
 
-/// Returns true if an instruction is SRC, the only one that changes the SRC byte latched in the ROMs.
+/// Returns true if an instruction is SRC. Only this instruction changes the SRC byte latched in the ROMs.
 fn writes_src(op: &Op) -> bool
     ensures { (k : ℕ) → op.now ≡ Src k → result ≡ true }
 {
     matches!(op, Op::Src(_))
 }
 
-/// Returns true only if an instruction cannot change the value of a probe outside the processor. Returns false for
-/// every other probe.
+/// Returns true only if a probe is outside the processor and an instruction cannot change its value.
 #[inline(always)]
 fn keeps_outside(probe: Probe, op: &Op) -> bool
     ensures { result ≡ true → (before after : Regs) → Rests op.now before after probe }
@@ -171,12 +171,12 @@ struct Seen {
     src: bool,
     /// The return addresses, which JMS and BBL can change.
     returns: bool,
-    /// Any other register, which every instruction might change.
+    /// Any other register. Every instruction counts as changing it.
     registers: bool,
 }
 
-/// Returns true if an instruction can change the return addresses or a location outside the registers, and the row has
-/// a probe of that kind.
+/// Returns true if an instruction can change the return addresses or a location outside the registers, and
+/// the row has a probe of that kind.
 #[inline(always)]
 fn touches(seen: &Seen, op: &Op) -> bool
     ensures { result ≡ touches seen.now op.now }
@@ -191,7 +191,7 @@ fn touches(seen: &Seen, op: &Op) -> bool
     }
 }
 
-/// Returns the kinds of probes after another probe is added to the row.
+/// Returns the kinds of probes in a row after a probe is added to it.
 fn visible_too(seen: Seen, probe: Probe) -> Seen
     ensures { SeesToo seen result probe }
 {
@@ -252,8 +252,8 @@ fn seen_of(probes: &[Probe]) -> Seen
     seen
 }
 
-/// Returns true only if an instruction cannot change the row, whatever the registers hold. Decides by the kinds of
-/// probes alone. Returns false if no instruction was begun.
+/// Returns true only if an instruction cannot change the row, whatever values the registers have. Uses only
+/// the kinds of probes in the row. Returns false if no instruction was begun.
 #[inline(always)]
 fn all_keep(probes: &[Probe], seen: &Seen, op: Option<Op>) -> bool
     requires { SeesAll seen.now probes.now }
@@ -270,8 +270,8 @@ fn all_keep(probes: &[Probe], seen: &Seen, op: Option<Op>) -> bool
     }
 }
 
-/// Returns true only if an instruction that changed the registers from `before` to `after` leaves the value of a probe
-/// unchanged. Builds no text.
+/// Returns true only if an instruction leaves the value of a probe unchanged. `before` and `after` are the
+/// registers before and after the instruction. Builds no text.
 fn rests(probe: Probe, op: &Op, before: &Regs, after: &Regs) -> bool
     ensures { result ≡ true → Rests op.now before.now after.now probe }
 {
@@ -286,8 +286,8 @@ fn rests(probe: Probe, op: &Op, before: &Regs, after: &Regs) -> bool
     }
 }
 
-/// Returns true only if an instruction that changed the registers from `before` to `after` leaves the value of each
-/// probe unchanged. Returns false if no instruction was begun.
+/// Returns true only if an instruction leaves the values of all probes unchanged. `before` and `after` are
+/// the registers before and after it. Returns false if no instruction was begun.
 fn all_rest(probes: &[Probe], op: Option<Op>, before: &Regs, after: &Regs) -> bool
     ensures { result ≡ true → RowRests op before.now after.now probes.now }
 {
@@ -304,8 +304,8 @@ fn all_rest(probes: &[Probe], op: Option<Op>, before: &Regs, after: &Regs) -> bo
     }
 }
 
-/// Returns true only if an instruction that changed the registers from `before` to `after` leaves the row unchanged. If
-/// `REGISTERS` is false, decides from the instruction and the kinds of probes alone.
+/// Returns true only if an instruction leaves the row unchanged. `before` and `after` are the registers
+/// before and after it; if `REGISTERS` is false, they are not compared.
 #[inline(always)]
 fn row_stays<const REGISTERS: bool>(
     probes: &[Probe],
@@ -324,7 +324,8 @@ fn row_stays<const REGISTERS: bool>(
     }
 }
 
-/// The result of a traced run: its cycles, the reason that it stopped, and the number of lines in its trace.
+/// The result of a traced run: the number of cycles, the reason why it stopped, and the number of trace
+/// lines.
 #[derive(Drop)]
 struct Traced {
     cycles: u32,
@@ -332,7 +333,8 @@ struct Traced {
     lines: u32,
 }
 
-/// Returns the result of a run that led to this bench. `mark` is the breakpoint or watch that stopped the run, if any.
+/// Returns the result of a traced run. `bench` is the bench after the run, and `mark` is the breakpoint or
+/// watch that stopped it, if any.
 fn came_to(bench: &Bench, cycles: u32, mark: Option<Stop>, lines: u32) -> Traced
     ensures cycles { result.cycles ≡ cycles }
     ensures stop { result.stop ≡ stop_by (machine_of bench.now) mark }
@@ -345,14 +347,14 @@ fn came_to(bench: &Bench, cycles: u32, mark: Option<Stop>, lines: u32) -> Traced
     }
 }
 
-/// The last row, and a buffer for the next one.
+/// The row after the last cycle, and a buffer for the next row.
 #[derive(Drop)]
 struct Rows {
     last: ArrayVec<u8, ANSWER_BYTES>,
     next: ArrayVec<u8, ANSWER_BYTES>,
 }
 
-/// Returns the row of a bench before the first line, with an empty buffer for the next row.
+/// Returns the row of a bench before a run, with an empty buffer for the next row.
 fn first_row(probes: &[Probe], bench: &Bench) -> Rows
     requires { length probes.now ≤ PROBES }
     ensures { result.last.items ≡ row probes.now (machine_of bench.now) }
@@ -365,8 +367,8 @@ fn first_row(probes: &[Probe], bench: &Bench) -> Rows
     }
 }
 
-/// Appends the trace line of an instruction, if it has one, and returns true if so. The row after the instruction
-/// becomes the last row.
+/// Appends the trace line of an instruction if the instruction has one, and returns true if it has.
+/// `rows.last` becomes the row after the instruction. Fails if allocation fails.
 fn add_reported(
     text: &mut Vec<u8>,
     rows: &mut Rows,
@@ -393,9 +395,10 @@ fn add_reported(
     Ok(false)
 }
 
-/// Appends the trace line of a cycle that began at an address, if it has one. Returns the number of lines appended. A
-/// pending second cycle (`owed`) has no line. The row after the cycle becomes the last row. Not inlined, because a row
-/// is seldom built.
+/// Appends the trace line of a cycle that began at address `at`, if the cycle has one, and returns the number
+/// of lines appended (0 or 1). A pending second cycle (`owed` is not 0) has no line. `rows.last` becomes the
+/// row after the cycle. Fails if allocation fails. This function is not inlined because a row is seldom
+/// built.
 #[inline(never)]
 fn add_began(
     text: &mut Vec<u8>,
@@ -428,9 +431,9 @@ fn add_began(
     Ok(0)
 }
 
-/// Appends the trace line of an instruction, if it has one. `regs` are the registers before the instruction. Returns
-/// the number of lines appended. The row after the instruction becomes the last row. `rests` can be true only if the
-/// row is unchanged.
+/// Appends the trace line of an instruction, if it has one, and returns the number of lines appended (0 or
+/// 1). `regs` are the registers before the instruction. `rests` must be false if the instruction changed the
+/// row. `rows.last` becomes the row after the instruction. Fails if allocation fails.
 #[inline(always)]
 fn add_went(
     text: &mut Vec<u8>,
@@ -456,8 +459,8 @@ fn add_went(
     add_began(text, rows, cycles, regs.owed, regs.pc, probes, bench)
 }
 
-/// Appends a line for each instruction of a run of at most `n` cycles that changes the row. If there are no probes,
-/// every instruction has a line. `REGISTERS` is true if a probe is a register.
+/// Appends the trace lines of a run of at most `n` cycles. An instruction has a line if it changes the row,
+/// or if there are no probes. If `REGISTERS` is true, the loop compares registers to find unchanged rows.
 fn add_lines<const REGISTERS: bool>(
     alloc: Global,
     text: &mut Vec<u8>,
@@ -492,7 +495,7 @@ fn add_lines<const REGISTERS: bool>(
     Ok(came_to(&copy, n, None, lines))
 }
 
-/// Runs the variant of `add_lines` that suits the probes. If no probe is a register, the loop copies no registers.
+/// Calls `add_lines`. Sets `REGISTERS` to true only if a probe is a register other than the return addresses.
 fn add_lines_of(
     alloc: Global,
     text: &mut Vec<u8>,
@@ -512,9 +515,10 @@ fn add_lines_of(
     }
 }
 
-/// Traces a run of at most `n` cycles without doing it. Writes the head into an empty answer and returns the lines in
-/// allocated memory. Each instruction that changes the row has a line, or every instruction if there are no probes.
-/// Fails if memory cannot be allocated. The contents of the head are then unspecified.
+/// Returns the lines of a trace of a run of at most `n` cycles, in allocated memory, without doing the run.
+/// Writes the first line of the answer into the empty buffer `head`. An instruction has a line if it changes
+/// the row, or if there are no probes. Fails if allocation fails; the contents of `head` are then
+/// unspecified.
 pub fn put_trace(
     alloc: Global,
     head: &mut ArrayVec<u8, ANSWER_BYTES>,

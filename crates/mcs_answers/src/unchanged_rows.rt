@@ -1,4 +1,4 @@
-//! A comparison of the last row with the present state, without building the text of a new row.
+//! Compares the last row with the present values of the probes, without building the text of a new row.
 ghost use Rattle.std.specs.Prelude.{◌≡◌, ◌<◌, ◌∷◌, ◌++◌, IfSome, codes, map, true};
 ghost use Rattle.mcs_model.specs.Command.{machine_of};
 ghost use Rattle.mcs_model.specs.Levels.{level};
@@ -12,7 +12,7 @@ use mcs_bench::Bench;
 use mcs_nibble::{Addr, Bit};
 use mcs_probe::Probe;
 
-/// Returns the text after its first byte, if that is `byte`. Otherwise returns `None`.
+/// Returns the text after its first byte if that byte is `byte`. Otherwise returns `None`.
 #[inline(always)]
 fn after_byte(text: &[u8], byte: u8) -> Option<&[u8]>
     ensures { IfSome result (λ rest. text.now ≡ byte ∷ rest.now) }
@@ -23,7 +23,8 @@ fn after_byte(text: &[u8], byte: u8) -> Option<&[u8]>
     }
 }
 
-/// Returns the text after a leading space and digit, if `text` begins with them. Otherwise returns `None`.
+/// Returns the text after a space and a hexadecimal digit if `text` begins with them. Otherwise returns
+/// `None`.
 #[inline(always)]
 fn after_digit(text: &[u8], digit: u8) -> Option<&[u8]>
     requires { digit < 16 }
@@ -41,7 +42,7 @@ fn after_digit(text: &[u8], digit: u8) -> Option<&[u8]>
     }
 }
 
-/// Returns the text after a leading byte and address, if `text` begins with them. Otherwise returns `None`.
+/// Returns the text after a byte and an address if `text` begins with them. Otherwise returns `None`.
 #[inline(always)]
 fn after_address(text: &[u8], byte: u8, at: Addr) -> Option<&[u8]>
     ensures { IfSome result (λ rest. text.now ≡ byte ∷ address_text at ++ rest.now) }
@@ -63,7 +64,7 @@ fn after_address(text: &[u8], byte: u8, at: Addr) -> Option<&[u8]>
     }
 }
 
-/// Returns the text after a leading space and three addresses, separated by commas, if `text` begins with them.
+/// Returns the text after a space and three addresses with commas between them if `text` begins with them.
 /// Otherwise returns `None`.
 fn after_returns(text: &[u8], ret: [Addr; 3]) -> Option<&[u8]>
     ensures { IfSome result (λ rest. text.now ≡ codes " " ++ one_word (map address_text ret) ++ rest.now) }
@@ -74,7 +75,8 @@ fn after_returns(text: &[u8], ret: [Addr; 3]) -> Option<&[u8]>
     after_address(rest, b',', third)
 }
 
-/// Returns the text after the marks of the board's lamps, if `text` begins with them. Otherwise returns `None`.
+/// Returns the text after the marks of the board's lamps if `text` begins with them. Otherwise returns
+/// `None`.
 fn after_marks<'a>(text: &'a [u8], bench: &Bench) -> Option<&'a [u8]>
     ensures { IfSome result (λ rest. text.now
         ≡ map (λ line. lamp_mark (level bench.now.bus line)) bench.now.bus.board.lamps.items ++ rest.now) }
@@ -95,8 +97,8 @@ fn after_marks<'a>(text: &'a [u8], bench: &Bench) -> Option<&'a [u8]>
     Some(rest)
 }
 
-/// Returns the text after a leading space and the marks of the board's lamps, if `text` begins with them. Otherwise
-/// returns `None`. Also returns `None` if the board has no lamps.
+/// Returns the text after a space and the marks of the board's lamps if `text` begins with them. Returns
+/// `None` if it does not, or if the board has no lamps.
 fn after_lamps<'a>(text: &'a [u8], bench: &Bench) -> Option<&'a [u8]>
     ensures { IfSome result (λ rest. text.now ≡ codes " "
         ++ or_dash (map (λ line. lamp_mark (level bench.now.bus line)) bench.now.bus.board.lamps.items)
@@ -109,8 +111,8 @@ fn after_lamps<'a>(text: &'a [u8], bench: &Bench) -> Option<&'a [u8]>
     after_marks(marks, bench)
 }
 
-/// Returns the text after a leading space and the value of a probe, if `text` begins with them. Otherwise returns
-/// `None`. Also returns `None` for a probe whose text cannot be compared without building it.
+/// Returns the text after a space and the value of a probe if `text` begins with them. Returns `None` if it
+/// does not, or if the value cannot be compared without building its text.
 fn rest_of_row<'a>(text: &'a [u8], probe: Probe, bench: &Bench) -> Option<&'a [u8]>
     ensures { IfSome result (λ rest. text.now
         ≡ codes " " ++ probe_text (machine_of bench.now) probe ++ rest.now) }
@@ -125,8 +127,8 @@ fn rest_of_row<'a>(text: &'a [u8], probe: Probe, bench: &Bench) -> Option<&'a [u
     }
 }
 
-/// Returns true only if a text is the row of the probes' present values. A result of false does not mean that the text
-/// differs.
+/// Returns true only if `text` is the present row of the probes. A result of false does not mean that the
+/// text differs, because some values cannot be compared without building their text.
 pub(crate) fn stands(text: &[u8], probes: &[Probe], bench: &Bench) -> bool
     ensures { result ≡ true → text.now ≡ row probes.now (machine_of bench.now) }
 {

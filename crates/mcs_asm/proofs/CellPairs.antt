@@ -1,4 +1,4 @@
--- Cells against pairs.
+-- Lemmas: cells contain the same bytes as the (address, byte) pairs that were written to them.
 use Rattle.std.proofs.Common.{◌≡◌, ◌≢◌, cond, eqb, eq-eqb, find, ℕ, suc, zero, ◌+◌, ◌-◌, ◌<◌, ◌≤◌, Bool, true, false, ◌&&◌, ◌||◌, ltb, leb, List, [], ◌∷◌, ◌++◌, length, get_or, set, take, drop, Option, Some, None, refl, sym, ap, subst, ◌∙◌, ◌⊎◌, inl, inr, arith, append_assoc, append-nil, replicate}
 use Rattle.std.specs.Prelude.{◌↔◌, is_some}
 use Rattle.std.specs.List.{filter_map, list_any, range_with_len, Contains}
@@ -15,14 +15,14 @@ use Rattle.mcs_asm.specs.View.{HaveOneByteEach}
 abbrev pub within : ℕ → ℕ → ℕ × ℕ → Bool
 within at n p = leb at p.0 && ltb p.0 (at + n)
 
--- no pair at an address
+-- holds if no pair has the address
 abbrev pub IsFree : List (ℕ × ℕ) → ℕ → Type 0
 IsFree pairs a = (b : ℕ) → Contains pairs (a, b) → ⊥
 
 some_same : (b c : ℕ) → Some b ≡ Some c → b ≡ c
 some_same b c e = ap (λ (o : Option ℕ). elim o [ Some x ↦ x | None ↦ 0 ]) e
 
--- one more byte
+-- If no pair has an address, the cells still agree with the pairs after a byte is written there.
 one_kept : (cells : List (Option ℕ)) (pairs : List (ℕ × ℕ)) (x b : ℕ) → x < 4096 → HoldsPairs cells pairs → IsFree pairs x → HoldsPairs (set cells x (Some b)) (pairs ++ (x, b) ∷ [])
 one_kept cells pairs x b lt kept free =
     let within : x < length cells = omega (arith, kept.0) in (
@@ -54,7 +54,8 @@ free_more pairs x b y other free c h = elim (Contains-push_cases pairs (x, b) (y
   | inr e ↦ other (ap (λ (p : ℕ × ℕ). p.0) e)
 ]
 
--- bytes written where no pair was
+-- If no pair has one of the addresses, the cells still agree with the pairs after bytes are written
+-- there.
 pub all_kept : (bytes : List ℕ) (x : ℕ) (cells : List (Option ℕ)) (pairs : List (ℕ × ℕ)) → x + length bytes ≤ 4096 → HoldsPairs cells pairs → ((y : ℕ) → x ≤ y → y < x + length bytes → IsFree pairs y)
     → HoldsPairs (cells_after x bytes cells) (pairs ++ from_address x bytes)
 all_kept [] x cells pairs le kept free = subst (λ (ps : List (ℕ × ℕ)). HoldsPairs cells ps) (sym (append-nil pairs)) kept
@@ -67,14 +68,14 @@ all_kept (b ∷ bytes) x cells pairs le kept free =
     (λ y low high. free_more pairs x b y (λ e. omega (arith, e, low)) (free y (omega (arith, low)) (omega (arith, high)))) in
     subst (λ (ps : List (ℕ × ℕ)). HoldsPairs (cells_after (x + 1) bytes (set cells x (Some b))) ps) (append_assoc pairs ((x, b) ∷ []) (from_address (x + 1) bytes)) rest
 
--- the test on pairs says where no pair is
+-- If bytes at n addresses from x on overlap no pairs, no pair has any of these addresses.
 pub free_from : (pairs : List (ℕ × ℕ)) (x n : ℕ) → overlaps pairs x n ≡ false → (y : ℕ) → x ≤ y → y < x + n → IsFree pairs y
 free_from pairs x n untaken y low high b has =
     let P : ℕ × ℕ → Bool = λ p. leb x p.0 && ltb p.0 (x + n) in
     let yes : list_any P pairs ≡ true = list_any_at P pairs has.0 (y, b) (has.1) (rw has.2 (rw (le-leb x y low, lt-ltb y (x + n) high) refl)) in
     absurd (true≢false (sym yes ∙ untaken))
 
--- ---- in order of addresses
+-- ---- by ascending address
 
 Contains-cons_cases : (p : ℕ × ℕ) (ps : List (ℕ × ℕ)) (q : ℕ × ℕ) → Contains (p ∷ ps) q → (p ≡ q) ⊎ Contains ps q
 Contains-cons_cases p ps q has = elim (Contains-append_cases (p ∷ []) ps q has) [
@@ -86,7 +87,7 @@ Contains-cons_cases p ps q has = elim (Contains-append_cases (p ∷ []) ps q has
 Contains-head : (p : ℕ × ℕ) (ps : List (ℕ × ℕ)) → Contains (p ∷ ps) p
 Contains-head p ps = (0, omega arith, refl)
 
--- what is found has the address, and is one of the pairs
+-- the pair that `find` returns has the address and is one of the pairs
 found : (pairs : List (ℕ × ℕ)) (a : ℕ) (p : ℕ × ℕ) → find (λ (q : ℕ × ℕ). eqb q.0 a) pairs ≡ Some p → Contains pairs p × (p.0 ≡ a)
 found [] a p e = absurd (none-some p e)
 found (q ∷ pairs) a p e =
@@ -110,7 +111,8 @@ is_found (q ∷ pairs) a b has e =
       ]
     ]) refl e
 
--- the pair that has an address, by the cell of it
+-- The cell at an address determines the result of `find`: nothing if the cell is empty, else the
+-- pair.
 nowhere : (pairs : List (ℕ × ℕ)) (a : ℕ) → ((b : ℕ) → (None ≡ Some b) ↔ Contains pairs (a, b)) → find (λ (q : ℕ × ℕ). eqb q.0 a) pairs ≡ None
 nowhere pairs a h =
     (elim (find (λ (q : ℕ × ℕ). eqb q.0 a) pairs) as (λ (o : Option (ℕ × ℕ)). find (λ (q : ℕ × ℕ). eqb q.0 a) pairs ≡ o → o ≡ None) [
@@ -130,7 +132,8 @@ there pairs a b h =
           ap (λ (n : ℕ). Some (n, p.1)) f.1 ∙ ap (λ (n : ℕ). Some (a, n)) (sym value)
     ]) refl
 
--- what the cells hold, address by address
+-- The pairs read from the cells, cell by cell, are the pairs that `find` returns, address by
+-- address.
 in_turn : (pairs : List (ℕ × ℕ)) (cells : List (Option ℕ)) (at : ℕ) → ((k b : ℕ) → (get_or cells k None ≡ Some b) ↔ Contains pairs (at + k, b))
     → pairs_from at cells ≡ filter_map (λ a. find (λ (q : ℕ × ℕ). eqb q.0 a) pairs) (range_with_len at (length cells))
 in_turn pairs [] at h = refl
@@ -143,14 +146,14 @@ in_turn pairs (Some v ∷ cells) at h =
     let more = in_turn pairs cells (at + 1) (λ k b. subst (λ (n : ℕ). (get_or cells k None ≡ Some b) ↔ Contains pairs (n, b)) (omega arith) (h (suc k) b)) in
     rw here (ap (λ (l : List (ℕ × ℕ)). (at, v) ∷ l) more)
 
--- the cells, raised, are their pairs by rising address
+-- the image read from the cells is the pairs by ascending address
 pub image_of_kept : (cells : List (Option ℕ)) (pairs : List (ℕ × ℕ)) → HoldsPairs cells pairs → pairs_from 0 cells ≡ by_address pairs
 unfolding by_address
 image_of_kept cells pairs kept =
     in_turn pairs cells 0 (λ k b. subst (λ (n : ℕ). (get_or cells k None ≡ Some b) ↔ Contains pairs (n, b)) (omega arith) (kept.1 k b))
     ∙ ap (λ (n : ℕ). filter_map (λ a. find (λ (q : ℕ × ℕ). eqb q.0 a) pairs) (range_with_len 0 n)) kept.0
 
--- what the cells hold is one byte at an address
+-- If cells contain exactly these pairs, no address has two different bytes.
 pub one_each : (cells : List (Option ℕ)) (pairs : List (ℕ × ℕ)) → HoldsPairs cells pairs → HaveOneByteEach pairs
 one_each cells pairs kept = record {
   within = λ a b has. elim (cases_lt a 4096) [
@@ -169,7 +172,7 @@ replicate_none n a b e = elim (cases_lt a n) [
 pub none_kept : HoldsPairs (replicate 4096 None) []
 none_kept = (length-replicate {A = Option ℕ} 4096 None, λ a b. ((λ e. absurd (replicate_none 4096 a b e)), (λ has. absurd (omega (arith, has.1)))))
 
--- ---- the test on cells is the test on pairs
+-- ---- The overlap test on the cells gives the same result as the overlap test on the pairs.
 
 has_taken : (cells : List (Option ℕ)) (n : ℕ) → list_any is_some (take n cells) ≡ true → (k : ℕ) × (b : ℕ) × (k < n) × (get_or cells k None ≡ Some b)
 has_taken [] zero e = absurd (false≢true e)

@@ -1,4 +1,4 @@
--- All errors of a text, line by line, and the first of them.
+-- Lemmas about the list of all errors of a text: the loops that collect it, and its first error.
 use Rattle.std.proofs.Common.{◌≡◌, ◌⊎◌, ℕ, zero, suc, ◌+◌, ◌<◌, ◌≤◌, true, false, List, [], ◌∷◌, ◌++◌, length, take, get_or, find, filter_map, Bor, Option, Some, None, Result, Ok, Err, is_some, inl, inr, refl, sym, ap, subst, ◌∙◌, append-nil, arith, eqb}
 use Rattle.std.specs.Prelude.{option_map}
 use Rattle.std.specs.List.{range_with_len, cons_option}
@@ -24,7 +24,7 @@ use Rattle.mcs_source.specs.Lexical.{tokens}
 use Rattle.mcs_model.specs.Images.{from_address}
 use lib.ListN.{replicate}
 
--- ---- one line further
+-- ---- one more line
 
 up : (i : ℕ) → i + 1 ≡ suc i
 up i = omega arith
@@ -46,7 +46,7 @@ pub sound_pairs_next : (lines : List (Option SourceLine)) (names : Names) (i : �
 unfolding sound_pairs class_two_error
 sound_pairs_next lines names i = ap (sound_pairs lines names) (up i)
 
--- ---- as many as are reported
+-- ---- the limit on the number of reported errors
 
 take_again : (n : ℕ) (xs ys : List LineError) → take n (take n xs ++ ys) ≡ take n (xs ++ ys)
 take_again zero xs ys = refl
@@ -73,7 +73,7 @@ first_of_take zero xs lt = absurd (omega (arith, lt))
 first_of_take (suc n) [] lt = refl
 first_of_take (suc n) (x ∷ xs) lt = refl
 
--- ---- the first
+-- ---- the first error in the list
 
 first_in : (error : ℕ → Option SourceFault) (is : List ℕ) → first_of (filter_map (λ j. option_map (error_at j) (error j)) is) ≡ (find (λ i. is_some (error i)) is >>= λ i. error i >>= λ f. Some (i + 1, f))
 first_in error [] = refl
@@ -88,7 +88,7 @@ pub first_reported : (error : ℕ → Option SourceFault) (n : ℕ) → first_of
 unfolding errors_before
 first_reported error n = first_of_take 100 (errors_before error n) (omega arith) ∙ first_in error (range_with_len 0 n)
 
--- the least line with a fault, if there is one
+-- Holds if no line before line n has an error, or if one of these lines is the first with an error.
 abbrev Least : (ℕ → Option SourceFault) → ℕ → Type 0
 Least fault n = NoneBefore fault n ⊎ ((i : ℕ) × (f : SourceFault) × (i < n) × NoneBefore fault i × (fault i ≡ Some f))
 
@@ -118,7 +118,7 @@ class_two_is : (lines : List (Option SourceLine)) (names : Names) (i : ℕ) → 
 unfolding class_two_fault
 class_two_is lines names i e = e
 
--- up to the first fault of class one, nothing is left out
+-- If no line before line i has a first-pass error, no line before it is skipped.
 pub sound_is : (lines : List (Option SourceLine)) (i : ℕ) → NoneBefore (class_one_fault lines) i → sound_before lines i ≡ before lines i
 unfolding sound_before address_of names_before
 sound_is lines zero none = refl
@@ -136,7 +136,7 @@ one_agrees lines i none = ap (λ (b : Before). fault_one b.at b.names (ith_line 
 pub first_one : (lines : List (Option SourceLine)) → first_of (reported_errors (errors_of_class_one lines)) ≡ first_of_class_one lines
 first_one lines = first_reported (class_one_error lines) (length lines) ∙ firsts_agree (class_one_error lines) (class_one_fault lines) (length lines) (one_agrees lines)
 
--- the same of class two
+-- If no line before line i has a second-pass error, every line before it emits its bytes.
 pairs_are : (lines : List (Option SourceLine)) (names : Names) (i : ℕ) → NoneBefore (class_two_fault lines names) i → sound_pairs lines names i ≡ pairs_before lines names i
 unfolding sound_pairs pairs_before
 pairs_are lines names zero none = refl
@@ -153,7 +153,7 @@ two_agrees lines names i none = ap (λ (ps : List (ℕ × ℕ)). fault_two (addr
 pub first_two : (lines : List (Option SourceLine)) → first_of (reported_errors (errors_of_class_two lines)) ≡ first_of_class_two lines (all_names lines)
 first_two lines = first_reported (class_two_error lines (all_names lines)) (length lines) ∙ firsts_agree (class_two_error lines (all_names lines)) (class_two_fault lines (all_names lines)) (length lines) (two_agrees lines (all_names lines))
 
--- ---- the whole
+-- ---- the whole text
 
 first_of_or : {A : Type 0} (one two : List LineError) (x y : Option (ℕ × SourceFault)) (z : A) → first_of one ≡ x → first_of two ≡ y → first_of (or_errors one two) ≡ fault_of (unless_fault x (unless_fault y (Ok z)))
 first_of_or {A} [] [] x y z e f = rw (← e, ← f) refl
@@ -166,7 +166,7 @@ first_of_text text =
     let lines : List (Option SourceLine) = read (lines_of text) in
     first_of_or (reported_errors (errors_of_class_one lines)) (reported_errors (errors_of_class_two lines)) (first_of_class_one lines) (first_of_class_two lines (all_names lines)) (pairs_before lines (all_names lines) (length lines)) (first_one lines) (first_two lines)
 
--- ---- where no line has an error of class one
+-- ---- texts without first-pass errors
 
 pub none_reported : (lines : List (Option SourceLine)) → reported_errors (errors_of_class_one lines) ≡ [] → first_of_class_one lines ≡ None
 none_reported lines e = sym (first_one lines) ∙ ap first_of e
@@ -176,7 +176,8 @@ sound_all lines e = sound_is lines (length lines) (none_below (class_one_fault l
 
 -- ---- the loops
 
--- an error, or what a line says
+-- If adding a line succeeds, the line has no first-pass error, and the new state follows from the
+-- line.
 pub no_error : (b new : Before) (l : Option SourceLine) → before_with_line b l ≡ Ok new → (None ≡ fault_one b.at b.names l) × (new ≡ before_next b l)
 no_error b new l e =
     let p = line_passed (fault_one b.at b.names l) (before_next b l) new e in
@@ -185,7 +186,7 @@ no_error b new l e =
 pub an_error : (b : Before) (l : Option SourceLine) (f : SourceFault) → before_with_line b l ≡ Err f → Some f ≡ fault_one b.at b.names l
 an_error b l f e = sym (line_refused (fault_one b.at b.names l) (before_next b l) f e)
 
--- errors of the lines before line i are reported
+-- Holds if `b` and `errors` are the state and the reported errors of the first pass before line i.
 pub record IsReportedFirst (ls : List (Bor (List ℕ))) (i : ℕ) (b : Before) (errors : List LineError) : Type 0 where
   pub within : i ≤ length ls
   pub here : b ≡ sound_before (said ls) i
@@ -229,7 +230,8 @@ all_sent ls i b errors le h =
 pub reported_room_one : (ls : List (Bor (List ℕ))) (i : ℕ) (b : Before) (errors : List LineError) → IsReportedFirst ls i b errors → length errors ≤ 100
 reported_room_one ls i b errors h = rw h.reported (few_reported (errors_before (class_one_error (said ls)) i))
 
--- the same of class two
+-- Holds if `at`, `cells` and `errors` are the state and the reported errors of the second pass
+-- before line i.
 pub record IsReportedSecond (ls : List (Bor (List ℕ))) (names : Names) (i at : ℕ) (cells : List (Option ℕ)) (errors : List LineError) : Type 0 where
   pub within : i ≤ length ls
   pub here : at ≡ address_of (said ls) i
@@ -285,7 +287,7 @@ all_reported_two ls names i at cells errors le same h =
 pub reported_room_two : (ls : List (Bor (List ℕ))) (names : Names) (i at : ℕ) (cells : List (Option ℕ)) (errors : List LineError) → IsReportedSecond ls names i at cells errors → length errors ≤ 100
 reported_room_two ls names i at cells errors h = rw h.reported (few_reported (errors_before (class_two_error (said ls) names) i))
 
--- what comes of adding bytes
+-- If adding the bytes succeeds, they overlap no pairs, and the cells also contain them.
 pub added : (at next now : ℕ) (pairs : List (ℕ × ℕ)) (bytes : List ℕ) (cells : List (Option ℕ)) → Adds (Ok tt) now cells (spelled_with_bytes (record { at = at; pairs = pairs }) next (Ok bytes)) → (None ≡ fault_two at pairs (Ok bytes)) × HoldsPairs cells (pairs ++ from_address at bytes)
 added at next now pairs bytes cells r =
     let p = bytes_passed (record { at = at; pairs = pairs }) next (Ok bytes) r.0 r.1 in
@@ -298,7 +300,8 @@ passed at next now pairs bytes old cells f kind is kept same r =
     let refused : spelled_with_bytes s next (Ok bytes) ≡ Err f = subst (λ (k : FaultKind). Adds (Err k) now cells (spelled_with_bytes s next (Ok bytes))) is r in
     (sym (bytes_refused s next (Ok bytes) f refused), subst (λ (c : List (Option ℕ)). HoldsPairs c pairs) (sym same) kept)
 
--- where nothing is reported of class one, and where something is
+-- A list of errors with length 0 is empty. If the list of first-pass errors is not empty,
+-- `or_errors` returns it.
 pub nothing_in : (xs : List LineError) → eqb (length xs) 0 ≡ true → xs ≡ []
 nothing_in [] e = refl
 nothing_in (x ∷ xs) e =

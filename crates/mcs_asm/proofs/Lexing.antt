@@ -1,4 +1,4 @@
--- Where a word ends, and what comes after it.
+-- Lemmas about the first token of a line and the tokens after it.
 use Rattle.std.proofs.Common.{◌≡◌, ℕ, suc, ◌+◌, ◌-◌, ◌<◌, ◌≤◌, Bool, true, false, cond, eqb, List, [], ◌∷◌, ◌++◌, length, get_or, take, drop, refl, sym, ap, ◌≢◌, ◌∙◌, append_assoc, arith}
 use Rattle.std.specs.List.{prefix_len}
 use Rattle.std.proofs.lemmas.Bool.{ne_eqb}
@@ -7,7 +7,7 @@ use Rattle.mcs_source.specs.Lexical.{Token, Word, is_word_byte, symbol, tokens}
 use Rattle.mcs_source.proofs.Tokens.{byte_by_byte, no_word, tokens_after, word_then}
 use Rattle.mcs_model.specs.TextLines.{is_blank}
 
--- what comes after the end of a word
+-- the tokens of the bytes after a word
 abbrev pub after_word : List ℕ → List Token
 after_word [] = []
 after_word (b ∷ bytes) = cond (is_blank b) (tokens_after [] bytes) (cond (eqb b 59) [] (symbol b ∷ tokens_after [] bytes))
@@ -39,7 +39,7 @@ blanks_after (b ∷ bytes) =
 pub blanks_before : (bytes : List ℕ) → tokens bytes ≡ tokens (drop (prefix_len is_blank bytes) bytes)
 blanks_before bytes = byte_by_byte bytes ∙ blanks_after bytes ∙ sym (byte_by_byte (drop (prefix_len is_blank bytes) bytes))
 
--- with no word in front, the tokens are those after the empty word
+-- If the bytes do not begin with a word, their tokens are those after an empty word.
 none_in_front : (bytes : List ℕ) → prefix_len is_word_byte bytes ≡ 0 → tokens_after [] bytes ≡ after_word bytes
 none_in_front bytes e = word_ends [] bytes ∙ rw e refl
 
@@ -59,11 +59,11 @@ stops p (x ∷ xs) =
       | false ↦ λ no. rw no refl
     ]) refl
 
--- after the longest word comes no word
+-- The bytes after a word do not begin with another word.
 after_word_is : (bytes : List ℕ) → after_word (drop (prefix_len is_word_byte bytes) bytes) ≡ tokens_after [] (drop (prefix_len is_word_byte bytes) bytes)
 after_word_is bytes = sym (none_in_front (drop (prefix_len is_word_byte bytes) bytes) (stops is_word_byte bytes))
 
--- a word, and what comes after it
+-- If the bytes begin with a word, it is their first token.
 pub word_first : (word rest bytes : List ℕ) (n : ℕ) → n ≡ prefix_len is_word_byte bytes → 0 < n → word ≡ take n bytes → rest ≡ drop n bytes → n ≤ length bytes → tokens bytes ≡ Word word ∷ tokens rest
 word_first [] rest bytes n len some front back within = absurd (omega (arith, ap length front, length-take n bytes))
 word_first (b ∷ word) rest bytes n len some front back within =
@@ -76,13 +76,14 @@ unfolding tokens_after
 no_bytes [] e = byte_by_byte []
 no_bytes (b ∷ bytes) e = absurd (omega (arith, e))
 
--- a comment
+-- A comment has no tokens.
 pub comment_first : (bytes : List ℕ) → 1 ≤ length bytes → get_or bytes 0 0 ≡ 59 → tokens bytes ≡ []
 unfolding tokens_after
 comment_first [] some e = absurd (omega (arith, some))
 comment_first (b ∷ bytes) some e = byte_by_byte (b ∷ bytes) ∙ rw e refl
 
--- a byte that is not in a word, not a blank, and begins no comment
+-- A byte that is neither part of a word, nor a blank, nor the start of a comment is the first
+-- token.
 pub symbol_first : (bytes : List ℕ) → 1 ≤ length bytes → get_or bytes 0 0 ≢ 59 → prefix_len is_word_byte bytes ≡ 0 → prefix_len is_blank bytes ≡ 0 → tokens bytes ≡ symbol (get_or bytes 0 0) ∷ tokens (take (length bytes - 1) (drop 1 bytes))
 symbol_first [] some other no_w no_b = absurd (omega (arith, some))
 symbol_first (b ∷ rest) some other no_w no_b =

@@ -1,4 +1,4 @@
--- Where a line ends, and what comes after it.
+-- Lemmas about the first line of a text and the lines after it.
 use Rattle.std.proofs.Common.{◌≡◌, ℕ, suc, ◌+◌, ◌-◌, ◌<◌, ◌≤◌, Bool, true, false, cond, not, eqb, List, [], ◌∷◌, ◌++◌, length, take, drop, refl, sym, ap, ◌∙◌, append_assoc, arith}
 use Rattle.std.specs.List.{position_or_len}
 use Rattle.std.proofs.lemmas.List.{append-nil, length-take, length-drop, take_all}
@@ -6,7 +6,7 @@ use Rattle.std.specs.Str.Lines.{strip_carriage_return}
 use Rattle.mcs_model.specs.TextLines.{is_line_feed, last_line, lines, lines_of}
 use Rattle.mcs_model.proofs.LineLemmas.{byte_by_byte, lines_after, some_last}
 
--- the lines, where one ends
+-- the lines of a text, given its first line and the bytes from the first line feed on
 abbrev pub ended : List ℕ → List ℕ → List (List ℕ)
 ended line [] = last_line true line
 ended line (b ∷ bytes) = strip_carriage_return line ∷ lines_of bytes
@@ -26,7 +26,7 @@ line_goes_on line (b ∷ bytes) =
 pub line_ends : (text : List ℕ) → lines_of text ≡ ended (take (position_or_len is_line_feed text) text) (drop (position_or_len is_line_feed text) text)
 line_ends text = byte_by_byte text true ∙ line_goes_on [] text
 
--- the last line
+-- If no line feed follows the first line, it is the only line.
 pub last_front : (text line rest cut : List ℕ) (n : ℕ) → n ≡ position_or_len is_line_feed text → n ≤ length text → 0 < length text → line ≡ take n text → rest ≡ drop n text → length rest ≡ 0 → cut ≡ strip_carriage_return line
     → (lines_of text ≡ cut ∷ lines_of rest) × (length rest < length text)
 unfolding lines
@@ -36,7 +36,8 @@ last_front text line [] cut n len within some front back none is =
     (line_ends text ∙ rw (← len, ← back, ← front) (some_last line full ∙ rw is refl), omega (arith, some))
 last_front text line (b ∷ rest) cut n len within some front back none is = absurd (omega (arith, none))
 
--- a line before another
+-- If a line feed follows the first line, the other lines are those of the bytes after the line
+-- feed.
 pub more_front : (text line rest cut : List ℕ) (n : ℕ) → n ≡ position_or_len is_line_feed text → n ≤ length text → line ≡ take n text → rest ≡ drop n text → 1 ≤ length rest → cut ≡ strip_carriage_return line
     → (lines_of text ≡ cut ∷ lines_of (take (length rest - 1) (drop 1 rest))) × (length (take (length rest - 1) (drop 1 rest)) < length text)
 more_front text line [] cut n len within front back some is = absurd (omega (arith, some))

@@ -1,4 +1,5 @@
--- A name among names, on slices and on lists, and in a map of the names.
+-- Lemmas: a lookup of a name gives the same result in a list of slices, in a list of names, and in
+-- a map.
 use Rattle.std.proofs.Common.{◌≡◌, true≢false, ℕ, ◌||◌, Bool, true, false, cond, List, [], ◌∷◌, ◌++◌, map, refl, sym, ap, ◌∙◌, Bor, Option, Some}
 use Rattle.std.specs.List.{list_any}
 use Rattle.std.specs.Str.{bytes_eq}

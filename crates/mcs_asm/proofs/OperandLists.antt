@@ -1,11 +1,11 @@
--- Reading operands one after the other, as a loop does.
+-- Lemmas about the loop that reads a list of operands.
 use Rattle.std.proofs.Common.{◌≡◌, List, [], ◌∷◌, ◌++◌, Option, Some, None, refl, sym, ap, ◌∙◌, append_assoc}
 use Rattle.mcs_source.specs.Lexical.{Token, Word, Comma, Colon, Equals, Other}
 use Rattle.mcs_source.specs.Lines.{Operand, operand_of, operands_of}
 use Rattle.mcs_asm.specs.ListItems.{list_item}
 use Rattle.mcs_model.specs.Options.{◌>>=◌}
 
--- what was read before, and what is still read
+-- the operands in front, followed by the other operands; nothing if those are invalid
 abbrev pub with_front : List Operand → Option (List Operand) → Option (List Operand)
 with_front front None = None
 with_front front (Some vs) = Some (front ++ vs)

@@ -1,4 +1,4 @@
--- One line after the other, as the loops of the passes do.
+-- Lemmas about the loops of the two passes, line by line.
 use Rattle.std.proofs.Common.{◌≡◌, ℕ, ◌+◌, ◌<◌, ◌≤◌, Bool, true, false, cond, leb, ◌&&◌, List, [], ◌∷◌, ◌++◌, length, get_or, map, Bor, Option, Some, None, Result, Ok, Err, is_some, refl, sym, ap, subst, ◌∙◌, append-nil, arith}
 use Rattle.std.specs.List.{cons_option}
 use Rattle.std.specs.Result.{result_map_both}
@@ -26,7 +26,7 @@ use Rattle.mcs_asm.proofs.CellPairs.{none_kept}
 abbrev pub texts : List (Bor (List ℕ)) → List (List ℕ)
 texts ls = map (λ l. l.now) ls
 
--- what the lines say
+-- the lines, parsed
 abbrev pub said : List (Bor (List ℕ)) → List (Option SourceLine)
 said ls = read (texts ls)
 
@@ -40,7 +40,8 @@ said_length ls = length-map (texts ls) (λ (l : List ℕ). line_of (tokens l)) �
 
 -- ---- the first pass
 
--- before line i, where no line before it has a fault of class one
+-- Holds if `b` is the state of the first pass before line i, and no line before it has a first-pass
+-- error.
 pub record IsBeforeFirst (ls : List (Bor (List ℕ))) (i : ℕ) (b : Before) : Type 0 where
   pub within : i ≤ length ls
   pub here : b ≡ before (said ls) i
@@ -69,7 +70,8 @@ pub line_refused : {A : Type 0} (fault : Option SourceFault) (next : A) (f : Sou
 line_refused {A} None next f e = absurd (cc)
 line_refused {A} (Some g) next f e = cc
 
--- a step from what the lines before line i say
+-- Restates the result of adding line i: the state is `before`, and the line is taken from the
+-- parsed lines.
 step_is : (b : Before) (ls : List (Bor (List ℕ))) (i : ℕ) (d : Bor (List ℕ)) (wanted : Result Before SourceFault) → i < length ls → b ≡ before (said ls) i → before_with_line b (line_of (tokens (get_or ls i d).now)) ≡ wanted
     → before_with_line (before (said ls) i) (ith_line (said ls) i) ≡ wanted
 step_is b ls i d wanted lt here step =
@@ -99,7 +101,8 @@ is_done b ls i le h =
 
 -- ---- the second pass
 
--- before line i, where all names are `names` and no line before it has a fault of class two
+-- Holds if the address, cells and spans are the state of the second pass before line i. All names
+-- are `names`, and no line before line i has a second-pass error.
 pub record IsBeforeSecond (ls : List (Bor (List ℕ))) (names : Names) (i at : ℕ) (cells : List (Option ℕ)) (spans : List Span) : Type 0 where
   pub within : i ≤ length ls
   pub here : at ≡ address_of (said ls) i
@@ -122,7 +125,7 @@ pub no_fault : (at : ℕ) (names : Names) (line : Option SourceLine) → fault_o
 no_fault at names None e = absurd (cc)
 no_fault at names (Some line) e = four_false (has_bad_number line) (is_known_name (defined_name line) names) (is_some (defined_name line) && leb 512 (length names)) (passes_end line at) OutOfRange DoubleName TooManyNames PastEnd e
 
--- a line of a text without a fault of class one
+-- If no line of a text has a first-pass error, line i has none of the errors in `HasNoFault`.
 pub line_passes : (ls : List (Bor (List ℕ))) (names : Names) (i at : ℕ) (cells : List (Option ℕ)) (spans : List Span) (d : Bor (List ℕ)) → i < length ls → first_of_class_one (said ls) ≡ None → IsBeforeSecond ls names i at cells spans → HasNoFault at (line_of (tokens (get_or ls i d).now))
 unfolding class_one_fault
 line_passes ls names i at cells spans d lt one h =
@@ -177,7 +180,7 @@ spans_more ls names i at spans d lt here stand =
     ap (λ (s : List Span). s ++ span_at at (line_bytes at names (line_of (tokens (get_or ls i d).now))) ∷ []) stand
     ∙ (ap (λ (p : Span). spans_before lines names i ++ p ∷ []) (line ∙ place) ∙ sym (spans_next lines names i))
 
--- one more line is spelled
+-- If line i is added without an error, the loop invariant holds before line i + 1.
 pub next_line : (ls : List (Bor (List ℕ))) (names : Names) (i at now : ℕ) (cells new : List (Option ℕ)) (spans more : List Span) (d : Bor (List ℕ)) → i < length ls → IsBeforeSecond ls names i at cells spans → (t : SpelledLines)
     → spelled_with_line names (spelt_at at (pairs_before (said ls) names i)) (line_of (tokens (get_or ls i d).now)) ≡ Ok t → t.at ≡ now → HoldsPairs new t.pairs → more ≡ spans ++ span_at at (line_bytes at names (line_of (tokens (get_or ls i d).now))) ∷ [] → IsBeforeSecond ls names (i + 1) now new more
 unfolding class_two_fault
@@ -193,7 +196,7 @@ next_line ls names i at now cells new spans more d lt h t step is kept added =
       none = none_before_next (class_two_fault lines names) i h.none p.0;
     }
 
--- a line is refused
+-- If line i has a second-pass error, it is the first one of the text.
 pub line_stops : (kind : FaultKind) (line : ℕ) (ls : List (Bor (List ℕ))) (names : Names) (i at now : ℕ) (cells new : List (Option ℕ)) (spans : List Span) (d : Bor (List ℕ)) → i < length ls → IsBeforeSecond ls names i at cells spans
     → Adds (Err kind) now new (spelled_with_line names (spelt_at at (pairs_before (said ls) names i)) (line_of (tokens (get_or ls i d).now))) → NumbersLine kind i line → IsFirst kind line (first_of_class_two (said ls) names)
 unfolding class_two_fault
@@ -203,7 +206,7 @@ line_stops (Refused f) line ls names i at now cells new spans d lt h refused is 
     first_of_line (class_two_fault lines names) ls i line f lt h.none
     (bytes_refused (spelled_before lines names i) (next_at (ith_line lines i) (address_of lines i)) (line_bytes (address_of lines i) names (ith_line lines i)) f (spell_is ls names i at d (Err f) lt h.here refused)) is
 
--- all lines are spelled
+-- After the last line, the second pass has the survey and the bytes of all lines.
 pub all_spelt : (ls : List (Bor (List ℕ))) (names : Names) (i at : ℕ) (cells : List (Option ℕ)) (spans : List Span) (found : Survey) → length ls ≤ i → IsBeforeSecond ls names i at cells spans → found ≡ record { spans = spans; names = names }
     → PassesSecond (Ok (found, cells)) (said ls) names
 all_spelt ls names i at cells spans found le h is =
@@ -215,7 +218,7 @@ all_spelt ls names i at cells spans found le h is =
 
 -- ---- both passes
 
--- a fault of class one is that of the text
+-- The first first-pass error is the error of the text.
 pub one_fails : (kind : FaultKind) (line : ℕ) (text : List ℕ) (ls : List (List ℕ)) → ls ≡ lines_of text → IsFirst kind line (first_of_class_one (read ls)) → FailsAs kind line (assembly_of_text text)
 unfolding assembly_of
 one_fails NoMemory line text ls is fails = fails
@@ -223,7 +226,7 @@ one_fails (Refused f) line text ls is fails =
     let whole : assembly_of (read ls) ≡ Err (line, f) = rw fails refl in
     ap (λ (l : List (List ℕ)). assembly_of (read l)) (sym is) ∙ whole
 
--- a fault of class two is that of a text without one of class one
+-- If no line has a first-pass error, the first second-pass error is the error of the text.
 pub two_fails : (kind : FaultKind) (line : ℕ) (text : List ℕ) (ls : List (List ℕ)) (names : Names) → ls ≡ lines_of text → first_of_class_one (read ls) ≡ None → names ≡ all_names (read ls) → IsFirst kind line (first_of_class_two (read ls) names)
     → FailsAs kind line (assembly_of_text text)
 unfolding assembly_of
@@ -233,7 +236,7 @@ two_fails (Refused f) line text ls names is one same fails =
     let whole : assembly_of (read ls) ≡ Err (line, f) = rw (one, fails') refl in
     ap (λ (l : List (List ℕ)). assembly_of (read l)) (sym is) ∙ whole
 
--- what the second pass finds is what both find
+-- If no line has a first-pass error, the result of the second pass is the result of both passes.
 pub both_pass : (r : Result (Survey × List (Option ℕ)) AsmFault) (text : List ℕ) (ls : List (List ℕ)) (names : Names) → ls ≡ lines_of text → first_of_class_one (read ls) ≡ None → names ≡ all_names (read ls) → PassesSecond r (read ls) names → PassesBoth r text
 both_pass (Err f) text ls names is one same fails = two_fails f.kind f.line text ls names is one same fails
 both_pass (Ok found) text ls names is one same passed =
@@ -242,7 +245,7 @@ both_pass (Ok found) text ls names is one same passed =
     let found_is : survey_of (read ls) ≡ found.0 = ap (λ (n : Names). record { spans = spans_before (read ls) n (length (read ls)); names = n }) (sym same) ∙ sym passed.1 in
     (ap (result_map_both (λ ps. survey_of (read (lines_of text))) (λ f. f)) spelt_is ∙ ap Ok (lines ∙ found_is), (pairs_before (read ls) names (length (read ls)), spelt_is, passed.2))
 
--- a text without an image has no survey, for the same fault
+-- If a text has no image, it has no survey, with the same error.
 pub survey_fails : (kind : FaultKind) (line : ℕ) (text : List ℕ) → FailsAs kind line (assembly_of_text text) → FailsAs kind line (survey_of_text text)
 survey_fails NoMemory line text fails = fails
 survey_fails (Refused f) line text fails = ap (result_map_both (λ ps. survey_of (read (lines_of text))) (λ f. f)) fails

@@ -1,4 +1,5 @@
--- One line's bytes, in cells and in pairs.
+-- Lemmas: the bytes of a line are added in the same way to the cells and to the (address, byte)
+-- pairs.
 use Rattle.std.proofs.Common.{◌≡◌, ℕ, ◌+◌, ◌≤◌, Bool, true, false, List, ◌++◌, length, take, drop, Option, Result, Ok, Err, refl, sym, ◌∙◌}
 use Rattle.std.proofs.Common.{suc, ltb, leb, ap, subst, arith, None, Some, ◌&&◌, [], ◌∷◌}
 use Rattle.std.proofs.lemmas.Bool.{true≢false, ltb-false, or_parts}
@@ -32,19 +33,19 @@ free_goes cells pairs at next bytes within free kept =
     let over : overlaps pairs at (length bytes) ≡ false = sym (taken_is cells pairs at (length bytes) kept) ∙ free in
     (record { at = next; pairs = pairs ++ from_address at bytes }, rw over refl, refl, all_kept bytes at cells pairs within kept (free_from pairs at (length bytes) over))
 
--- what a line that has a form adds
+-- The result of adding the bytes of a parsed line is the result of adding the line.
 pub second_is : (names : Names) (s : SpelledLines) (l : Option asm.SourceLine) (line : asm.SourceLine) (bytes : List ℕ) (next : ℕ) → Some line ≡ l → line_bytes s.at names (Some line) ≡ Ok bytes → next ≡ next_at (Some line) s.at
     → spelled_with_bytes s next (Ok bytes) ≡ spelled_with_line names s l
 second_is names s l line bytes next form is at =
     ap (λ (n : ℕ). spelled_with_bytes s n (Ok bytes)) at ∙ (ap (λ (r : Result (List ℕ) SourceFault). spelled_with_bytes s (next_at (Some line) s.at) r) (sym is) ∙ ap (λ (o : Option asm.SourceLine). spelled_with_line names s o) form)
 
--- ---- the bytes of a line fit, where class one found no fault
+-- ---- If a line has no first-pass error, its bytes fit into the ROM.
 
 spelling_size : (o : Op) → length (spelling o) ≡ word_count_of o
 spelling_size (op.Jcn r b) = refl
 spelling_size _ = refl
 
--- what an answer that is Ok went through
+-- Holds if the result is an error or n bytes.
 abbrev pub HasLength : ℕ → Result (List ℕ) SourceFault → Type 0
 HasLength n (Ok bytes) = length bytes ≡ n
 HasLength n (Err f) = Unit {0}

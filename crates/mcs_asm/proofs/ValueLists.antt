@@ -1,4 +1,4 @@
--- Values one after the other, as a loop finds them.
+-- Lemmas about the loop that collects the values of operands.
 use Rattle.std.proofs.Common.{◌≡◌, ℕ, ◌+◌, ◌<◌, ◌≤◌, List, [], ◌∷◌, ◌++◌, length, get_or, drop, map, Option, Some, None, refl, sym, ap, ◌∙◌, append_assoc, append-nil}
 use Rattle.std.proofs.lemmas.List.{drop_more, drop_all}
 use Rattle.mcs_source.specs.Assembly.{Names, value_in, values_in}

@@ -1,5 +1,5 @@
--- All errors of a source text: the first one of each line. For the lines after it, a line with a
--- class-one error counts as empty, and a line with a class-two error emits no bytes. (Our own
+-- All errors of a source text, at most one for each line. When later lines are checked, a line with
+-- a first-pass error counts as empty, and a line with a second-pass error emits no bytes. (Our own
 -- choice.)
 use Rattle.std.specs.Prelude.{◌≡◌, ℕ, zero, suc, ◌+◌, List, [], ◌∷◌, ◌++◌, length, take, map, codes, Option, Some, None, option_map, Result, Ok, Err}
 use Rattle.std.specs.List.{filter_map, range_with_len}
@@ -15,28 +15,28 @@ use Rattle.mcs_asm.specs.declared.all_errors.LineError.{LineError}
 use Rattle.mcs_asm.specs.declared.all_errors.TheConstants.{ERROR_ROWS}
 use Rattle.mcs_asm.specs.Passes.{Before, nothing_before, before_next}
 
--- ---- class one: a line with an error defines no name and does not change the address
+-- ---- first-pass errors: a line with an error defines no name and does not change the address
 
 abbrev pub unless_error : {A : Type 0} → Option SourceFault → A → A → A
 unless_error (Some f) old new = old
 unless_error None old new = new
 
--- the next address and the defined names after the lines before line i, without the lines that have
--- an error
+-- the next address and the defined names after the lines before line i; a line with an error is
+-- skipped
 unfoldable pub sound_before : List (Option SourceLine) → ℕ → Before
 sound_before lines zero = nothing_before
 sound_before lines (suc i) =
     unless_error (fault_one (sound_before lines i).at (sound_before lines i).names (ith_line lines i))
     (sound_before lines i) (before_next (sound_before lines i) (ith_line lines i))
 
--- the class-one error of line i, if it has one
+-- the first-pass error of line i, if it has one
 unfoldable pub class_one_error : List (Option SourceLine) → ℕ → Option SourceFault
 class_one_error lines i =
     fault_one (sound_before lines i).at (sound_before lines i).names (ith_line lines i)
 
--- ---- class two: a line with an error emits no bytes, but its address and its name remain
+-- ---- second-pass errors: a line with an error emits no bytes; its address and its name remain
 
--- the (address, byte) pairs of the lines before line i that have no error
+-- the (address, byte) pairs that the lines before line i emit; a line with an error emits none
 unfoldable pub sound_pairs : List (Option SourceLine) → Names → ℕ → List (ℕ × ℕ)
 sound_pairs lines names zero = []
 sound_pairs lines names (suc i) =
@@ -44,15 +44,16 @@ sound_pairs lines names (suc i) =
     (line_bytes (address_of lines i) names (ith_line lines i)))
     (sound_pairs lines names i) (sound_pairs lines names i ++ line_pairs lines names i)
 
--- the class-two error of line i, if it has one
+-- the second-pass error of line i, if it has one
 unfoldable pub class_two_error : List (Option SourceLine) → Names → ℕ → Option SourceFault
 class_two_error lines names i =
     fault_two (address_of lines i) (sound_pairs lines names i)
     (line_bytes (address_of lines i) names (ith_line lines i))
 
--- Holds if the result is the class-two error of a line that emits the given bytes at the address
--- `at`, and the cells contain `pairs`. If the line has no error, the cells also contain its bytes.
--- If allocation fails, nothing is stated. Only contracts of private functions cite this definition.
+-- Holds if the result is the second-pass error of a line that emits the given bytes at address
+-- `at`. `pairs` are the pairs of earlier lines. The cells must contain these pairs and, if the line
+-- has no error, also the bytes of the line. If allocation fails, nothing is stated. Only contracts
+-- of private functions cite this definition.
 abbrev pub ReportsError : {E : Type 0} → Result (Option SourceFault) E → ℕ → List (ℕ × ℕ)
     → Result (List ℕ) SourceFault → List (Option ℕ) → Type 0
 ReportsError (Err e) at pairs bytes cells = Unit {0}
@@ -62,7 +63,7 @@ ReportsError (Ok error) at pairs bytes cells =
 
 -- ---- the whole text
 
--- the error of line i, with its line number counted from 1
+-- the error of line i, with the line number i + 1
 abbrev pub error_at : ℕ → SourceFault → LineError
 error_at i f = record { line = i + 1; fault = f }
 
@@ -80,11 +81,11 @@ abbrev pub or_errors : List LineError → List LineError → List LineError
 or_errors [] other = other
 or_errors (e ∷ es) other = e ∷ es
 
--- the errors that are reported: the first `ERROR_ROWS` errors
+-- the errors that are reported: at most the first `ERROR_ROWS`
 abbrev pub reported_errors : List LineError → List LineError
 reported_errors errors = take ERROR_ROWS errors
 
--- the class-one errors, or the class-two errors if there are no class-one errors
+-- the first-pass errors or, if there are none, the second-pass errors
 abbrev pub errors_of : List (Option SourceLine) → List LineError
 errors_of lines =
     or_errors (reported_errors (errors_of_class_one lines)) (reported_errors (errors_of_class_two lines))
@@ -92,8 +93,8 @@ errors_of lines =
 abbrev pub errors_of_text : List ℕ → List LineError
 errors_of_text text = errors_of (read (lines_of text))
 
--- ---- the law: the first error is the error of the assembly; if there are no errors, the assembly
--- has none
+-- ---- The law: the first error in the list is the error of the assembly. If the list is empty, the
+-- assembly has no error.
 
 abbrev pub first_of : List LineError → Option (ℕ × SourceFault)
 first_of [] = None

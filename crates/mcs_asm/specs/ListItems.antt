@@ -4,12 +4,12 @@ use Rattle.mcs_source.specs.Lexical.{Token, Word, Comma}
 use Rattle.mcs_source.specs.Lines.{Operand, operand_of}
 use Rattle.mcs_model.specs.Options.{◌>>=◌}
 
--- the remaining tokens if a comma precedes them
+-- the remaining tokens if a comma precedes them, else nothing
 abbrev pub rest_if : Bool → List Token → Option (List Token)
 rest_if true ts = Some ts
 rest_if false ts = None
 
--- the first operand, and the tokens after its comma if there is a comma
+-- the first operand of a list, with the tokens after its comma if there is a comma
 abbrev pub list_item : List Token → Option (Operand × Option (List Token))
 list_item (Word w ∷ []) = operand_of w >>= λ v. Some (v, None)
 list_item (Word w ∷ Comma ∷ more) = operand_of w >>= λ v. Some (v, Some more)

@@ -1,4 +1,4 @@
--- Definitions that the contracts of the two passes cite; no public contract cites them.
+-- Definitions for the contracts of the two passes. No public contract cites them.
 use Rattle.std.specs.Prelude.{◌≡◌, ℕ, ◌+◌, List, [], ◌∷◌, ◌++◌, length, Option, Some, None, Result, Ok, Err, false, if◌then◌else◌}
 use Rattle.mcs_source.specs.declared.fault.SourceFault.{SourceFault}
 use Rattle.mcs_source.specs.declared.fault.SourceFault.TheVariants.{Overlap}
@@ -15,7 +15,7 @@ use Rattle.mcs_asm.specs.View.{FailsAs}
 
 -- ---- the first pass
 
--- the state after the lines so far: the address of the next statement, and the defined names
+-- the state of the first pass: the address of the next statement, and the names defined so far
 pub record Before : Type 0 where
   pub at : ℕ
   pub names : Names
@@ -40,14 +40,14 @@ with_names None at names = names
 abbrev pub before_next : Before → Option SourceLine → Before
 before_next b line = record { at = next_at line b.at; names = with_names line b.at b.names }
 
--- the state of the first pass after one more line, or the class-one error of that line
+-- the state of the first pass after one more line, or the first-pass error of that line
 abbrev pub before_with_line : Before → Option SourceLine → Result Before SourceFault
 before_with_line b line = unless_fault (fault_one b.at b.names line) (Ok (before_next b line))
 
 -- ---- the second pass
 
--- the state after the lines so far: the address of the next statement, and the (address, byte)
--- pairs
+-- the state of the second pass: the address of the next statement, and the (address, byte) pairs
+-- emitted so far
 pub record SpelledLines : Type 0 where
   pub at : ℕ
   pub pairs : List (ℕ × ℕ)
@@ -56,7 +56,8 @@ pub record SpelledLines : Type 0 where
 abbrev pub spelled_before : List (Option SourceLine) → Names → ℕ → SpelledLines
 spelled_before lines names i = record { at = address_of lines i; pairs = pairs_before lines names i }
 
--- the state of the second pass after one more line, or the class-two error of that line
+-- the state of the second pass after a line with the given bytes; an overlap error if they overlap
+-- earlier bytes; or the given error
 abbrev pub spelled_with_bytes : SpelledLines → ℕ → Result (List ℕ) SourceFault → Result SpelledLines SourceFault
 spelled_with_bytes s next (Err f) = Err f
 spelled_with_bytes s next (Ok bytes) =
@@ -66,47 +67,49 @@ spelled_with_bytes s next (Ok bytes) =
 abbrev pub spelled_with_line : Names → SpelledLines → Option SourceLine → Result SpelledLines SourceFault
 spelled_with_line names s line = spelled_with_bytes s (next_at line s.at) (line_bytes s.at names line)
 
--- Holds for a line that parses, has its numbers in range, and does not pass the end of the ROM if
--- it is at address `at`.
+-- Holds for a line that parses and, at address `at`, does not pass the end of the ROM. The number
+-- in its `ORG` or `=` must also be below 4096.
 abbrev pub HasNoFault : ℕ → Option SourceLine → Type 0
 HasNoFault at None = ⊥
 HasNoFault at (Some line) = (has_bad_number line ≡ false) × (passes_end line at ≡ false)
 
--- ---- the results for a line and for a pass; if allocation fails, nothing is stated about the text
+-- ---- The results for a line and for a pass. If allocation fails, nothing is stated about the
+-- text.
 
--- Holds if the error and its line number are the first error of a class, or if allocation failed
--- and the line number is 0.
+-- Holds if `first` is this error with this line number. If allocation failed, holds if the line
+-- number is 0.
 abbrev pub IsFirst : FaultKind → ℕ → Option (ℕ × SourceFault) → Type 0
 IsFirst NoMemory line first = line ≡ 0
 IsFirst (Refused f) line first = first ≡ Some (line, f)
 
--- Holds if the result is the wanted one: success with the value `new`, or the error. It also holds
--- if allocation failed.
+-- Holds if the result agrees with `wanted`: either `wanted` is success with the value `new`, or
+-- both are the same error. Also holds if allocation failed.
 abbrev pub GivesNew : {A B : Type 0} → Result B FaultKind → A → Result A SourceFault → Type 0
 GivesNew (Ok u) new wanted = wanted ≡ Ok new
 GivesNew (Err NoMemory) new wanted = Unit {0}
 GivesNew (Err (Refused f)) new wanted = wanted ≡ Err f
 
--- Holds if the result is the state after all lines, none of which has a class-one error, or the
--- first class-one error.
+-- Holds if the result is the state after all lines, none of which has a first-pass error, or the
+-- first first-pass error.
 abbrev pub PassesFirst : Result Before AsmFault → List (Option SourceLine) → Type 0
 PassesFirst (Ok b) lines = (first_of_class_one lines ≡ None) × (b ≡ before lines (length lines))
 PassesFirst (Err f) lines = IsFirst f.kind f.line (first_of_class_one lines)
 
--- Holds if the result is the wanted one: success with the next address `at` and cells that contain
--- the pairs, or the error. It also holds if allocation failed.
+-- Holds if the result agrees with `wanted`. On success, `at` must be the next address in `wanted`,
+-- and the cells must contain its pairs. An error must be the error in `wanted`. Also holds if
+-- allocation failed.
 abbrev pub Adds : Result (Unit {0}) FaultKind → ℕ → List (Option ℕ)
     → Result SpelledLines SourceFault → Type 0
 Adds (Ok u) at cells wanted = (s : SpelledLines) × (wanted ≡ Ok s) × (s.at ≡ at) × HoldsPairs cells s.pairs
 Adds (Err NoMemory) at cells wanted = Unit {0}
 Adds (Err (Refused f)) at cells wanted = wanted ≡ Err f
 
--- the address of a line, and the number of bytes that it emits
+-- the address of a line and the number of bytes that the line emits, 0 if it has an error
 abbrev pub span_at : ℕ → Result (List ℕ) SourceFault → Span
 span_at at r = record { at = at; size = length (bytes_or_none r) }
 
--- Holds if the result is the survey of all lines and cells with their bytes, or the first class-two
--- error.
+-- Holds if the result is the survey of all lines and cells with their bytes, or the first
+-- second-pass error.
 abbrev pub PassesSecond : Result (Survey × List (Option ℕ)) AsmFault → List (Option SourceLine)
     → Names → Type 0
 PassesSecond (Ok found) lines names =
@@ -117,7 +120,8 @@ PassesSecond (Err f) lines names = IsFirst f.kind f.line (first_of_class_two lin
 
 -- ---- both passes
 
--- Holds if the result is the survey of the text and cells with its bytes, or the error of the text.
+-- Holds if the result is the survey of the text and cells with the bytes of the text, or the error
+-- of the text.
 abbrev pub PassesBoth : Result (Survey × List (Option ℕ)) AsmFault → List ℕ → Type 0
 PassesBoth (Ok found) text =
     (survey_of_text text ≡ Ok found.0)
@@ -126,13 +130,13 @@ PassesBoth (Err f) text = FailsAs f.kind f.line (assembly_of_text text)
 
 -- ---- the number of a line
 
--- Holds if `line` is the number of the line with the given index, or 0 if allocation failed.
+-- Holds if `line` is `index` plus 1, or 0 if allocation failed.
 abbrev pub NumbersLine : FaultKind → ℕ → ℕ → Type 0
 NumbersLine NoMemory index line = line ≡ 0
 NumbersLine (Refused f) index line = line ≡ index + 1
 
--- Holds if the final result is the result of the line with the given index, except that an error
--- also has the line number.
+-- Holds if the final result equals the result `came` of line `index`, except that an error also
+-- gets its line number.
 abbrev pub ComesOf : ℕ → Result (Unit {0}) FaultKind → Result (Unit {0}) AsmFault → Type 0
 ComesOf index came (Ok u) = came ≡ Ok u
 ComesOf index came (Err f) = (came ≡ Err f.kind) × NumbersLine f.kind index f.line

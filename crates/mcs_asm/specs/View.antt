@@ -1,5 +1,5 @@
--- The promises of `assemble` and `survey`, and the specification values that correspond to the
--- tokens, statements and lines in the code.
+-- The promises of `assemble` and `survey`, and the conversions of tokens, statements and lines from
+-- the code to the specification.
 use Rattle.std.specs.Prelude.{◌≡◌, ◌<◌, ◌∷◌, [], List, ℕ, map, option_map, Option, Some, Result, Ok, Err, None}
 use Rattle.std.specs.List.{Contains}
 use Rattle.std.specs.Option.{option_copied, option_to_list}
@@ -30,10 +30,10 @@ use Rattle.mcs_model.specs.Images.{by_address}
 use Rattle.mcs_source.specs.Assembly.{Names, value_of}
 use Rattle.mcs_source.specs.Survey.{Survey}
 
--- ---- the promises of `assemble` and `survey`; if allocation fails, nothing is stated about the
--- text
+-- ---- The promises of `assemble` and `survey`. If allocation fails, nothing is stated about the
+-- text.
 
--- Holds if the error and its line number are the wanted ones, or if allocation failed and the line
+-- Holds if `wanted` is this error with this line number. If allocation failed, holds if the line
 -- number is 0.
 abbrev pub FailsAs : FaultKind → ℕ → {A : Type 0} → Result A (ℕ × SourceFault) → Type 0
 FailsAs NoMemory line wanted = line ≡ 0
@@ -44,8 +44,8 @@ pub record HaveOneByteEach (pairs : List (ℕ × ℕ)) : Type 0 where
   pub within : (at byte : ℕ) → Contains pairs (at, byte) → at < 4096
   pub once : (at one other : ℕ) → Contains pairs (at, one) → Contains pairs (at, other) → one ≡ other
 
--- Holds if the result is the wanted pairs in ascending order of address, with one byte per address,
--- or the wanted error.
+-- Holds if the result agrees with `wanted`: either it is the wanted pairs by ascending address,
+-- with one byte for each address, or it is the wanted error.
 abbrev pub Assembles : Result (List (ℕ × ℕ)) AsmFault → Result (List (ℕ × ℕ)) (ℕ × SourceFault)
     → Type 0
 Assembles (Ok image) wanted =
@@ -58,8 +58,8 @@ abbrev pub Surveys : Result Survey AsmFault → Result Survey (ℕ × SourceFaul
 Surveys (Ok s) wanted = wanted ≡ Ok s
 Surveys (Err f) wanted = FailsAs f.kind f.line wanted
 
--- ---- the views of the code's values; from here on, only contracts of private functions cite the
--- definitions
+-- ---- The values in the code, converted to values of the specification. From here on, only
+-- contracts of private functions cite the definitions.
 
 abbrev pub token_view : Token → spec.Token
 token_view (code.Word w) = spec.Word w.now
@@ -88,8 +88,8 @@ abbrev pub line_view : SourceLine → lines.SourceLine
 line_view (line.Code label s) = lines.Code (option_copied label) (option_map statement_view s)
 line_view (line.Define w n) = lines.Define w.now n
 
--- `NoLabel` holds if the tokens parse as a line without a label. `NoDefinition` holds if an
--- unlabelled line parses as one without `NAME =`.
+-- `NoLabel` holds if the tokens parse as a line without a label. `NoDefinition` holds if a line
+-- without a label parses as one that is not a definition `NAME = NUMBER`.
 abbrev pub NoLabel : List spec.Token → Type 0
 NoLabel ts = lines.line_of ts ≡ lines.unlabelled ts
 
@@ -99,20 +99,20 @@ NoDefinition ts = lines.unlabelled ts ≡ lines.rest_of None ts
 abbrev pub words_view : Words → List ℕ
 words_view w = w.first ∷ option_to_list w.second
 
--- Holds if the view of the result is the wanted value, or the result is the wanted error. It also
--- holds if allocation failed.
+-- Holds if the converted result is the wanted value, or the result is the wanted error. Also holds
+-- if allocation failed.
 abbrev pub GivesAs : {A B : Type 0} → (A → B) → Result A FaultKind → Result B SourceFault → Type 0
 GivesAs view (Ok x) wanted = wanted ≡ Ok (view x)
 GivesAs view (Err NoMemory) wanted = Unit {0}
 GivesAs view (Err (Refused f)) wanted = wanted ≡ Err f
 
--- Holds if the result is an instruction whose encoding is the wanted bytes, or the wanted error.
+-- Holds if the result is an instruction that is encoded as the wanted bytes, or the wanted error.
 abbrev pub GivesOp : Result Op SourceFault → Result (List ℕ) SourceFault → Type 0
 GivesOp (Ok o) wanted = wanted ≡ Ok (spelling o)
 GivesOp (Err f) wanted = wanted ≡ Err f
 
--- Holds if the result is the instruction of a statement other than `DB`, no instruction for an
--- `ORG`, or the wanted error.
+-- Holds if the result is an instruction that is encoded as the wanted bytes, nothing if no bytes
+-- are wanted, or the wanted error.
 abbrev pub SaysOp : Result (Option Op) SourceFault → Result (List ℕ) SourceFault → Type 0
 SaysOp (Ok None) wanted = wanted ≡ Ok []
 SaysOp (Ok (Some o)) wanted = wanted ≡ Ok (spelling o)
@@ -126,7 +126,7 @@ abbrev pub IsNoData : lines.Statement → Type 0
 IsNoData (lines.Data vs) = ⊥
 IsNoData s = Unit {0}
 
--- Holds if a lookup in the map gives the same value for each name as the list of names.
+-- Holds if the map gives each name the same value as the list of names does.
 abbrev pub HasNames : BTreeMap (Bor (List ℕ)) ℕ → Names → Type 0
 HasNames values names =
     (w : List ℕ) → get_by (λ k. slice_cmp nat_cmp w k.now) values ≡ value_of w names

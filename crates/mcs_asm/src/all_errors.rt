@@ -1,4 +1,4 @@
-//! Finds all errors of a text: the first one of each line.
+//! Finds all errors of a source text, at most one in each line.
 ghost use Rattle.std.specs.Prelude.{◌≡◌, ◌==◌, ◌≤◌, ◌<◌, ◌^◌, ◌++◌, ◌∷◌, [], ℕ, List, IfOk, OnOk, map, length, string_bytes, option_map, None, Some, Ok, ◌+◌};
 ghost use Rattle.std.specs.List.{cons_option};
 ghost use Rattle.mcs_model.specs.TextLines.{as_line, text_of};
@@ -27,11 +27,12 @@ pub const ERROR_ROWS: usize = 100;
 pub struct LineError {
     /// The line number, from 1.
     pub line: usize,
-    /// The error.
+    /// The kind of the error.
     pub fault: SourceFault,
 }
 
-/// Appends an error if the list is not full.
+/// Appends the error of the line at `index`, unless the list already has [`ERROR_ROWS`] errors.
+/// Fails if allocation fails.
 fn push_error(
     errors: &mut Vec<LineError>,
     index: usize,
@@ -50,7 +51,8 @@ fn push_error(
     Ok(())
 }
 
-/// Appends an error, if there is one, if the list is not full.
+/// Appends the error of the line at `index`, if it has one, unless the list already has
+/// [`ERROR_ROWS`] errors. Fails if allocation fails.
 fn report_error(
     errors: &mut Vec<LineError>,
     index: usize,
@@ -67,8 +69,8 @@ fn report_error(
     }
 }
 
-/// Returns the class-one error of the next line. If the line has none, adds its name and advances
-/// the address. Fails if allocation fails.
+/// Returns the first-pass error of the next line. If the line has none, adds its name and sets the
+/// address of the line after it. Fails if allocation fails.
 fn first_error<'a>(
     alloc: Global,
     names: &mut Names<'a>,
@@ -85,8 +87,8 @@ fn first_error<'a>(
     }
 }
 
-/// Returns the names that the lines define, and the class-one errors. Lines with an error define no
-/// names.
+/// Runs the first pass over all lines. Returns the names, and at most [`ERROR_ROWS`] errors. A line
+/// with an error defines no name and does not change the address. Fails if allocation fails.
 fn errors_of_names<'a>(
     alloc: Global,
     lines: &[&'a [u8]],
@@ -104,8 +106,9 @@ fn errors_of_names<'a>(
 }
 
 impl SpelledLines {
-    /// Returns an overlap error if one of the addresses already has a byte, else adds the bytes. In
-    /// both cases, the next statement is at `next`. Fails if allocation fails.
+    /// Adds the bytes of a line, or returns an overlap error if an earlier line fills one of the
+    /// addresses. In both cases, sets the address of the next statement to `next`. Fails if
+    /// allocation fails.
     fn add_or_pass(&mut self, bytes: &[u8], next: u16) -> Result<Option<SourceFault>, AllocError>
         requires room { self.old.at + length bytes.now ≤ 4096 }
         requires next { next ≤ 4096 }
@@ -123,8 +126,9 @@ impl SpelledLines {
         }
     }
 
-    /// Returns the class-two error of a parsed line without a class-one error, or adds the line's
-    /// bytes if it has no error. Fails if allocation fails.
+    /// Adds the bytes of a parsed line, or returns its second-pass error. The line must not pass
+    /// the end of the ROM, and the number in an `ORG` or `=` must be below 4096. Fails if
+    /// allocation fails.
     fn error_of_line<'a>(
         &mut self,
         alloc: Global,
@@ -148,8 +152,9 @@ impl SpelledLines {
         }
     }
 
-    /// Parses the next line, which must have no class-one error. Returns its class-two error, or
-    /// adds its bytes if it has no error. Fails if allocation fails.
+    /// Parses the next line, and adds its bytes or returns its second-pass error. The line must be
+    /// valid and must not pass the end of the ROM. The number in an `ORG` or `=` must be below
+    /// 4096. Fails if allocation fails.
     fn second_error<'a>(
         &mut self,
         alloc: Global,
@@ -170,7 +175,8 @@ impl SpelledLines {
     }
 }
 
-/// Returns the class-two errors of lines that have no class-one errors.
+/// Runs the second pass over lines without first-pass errors. Returns at most [`ERROR_ROWS`]
+/// errors. Fails if allocation fails.
 fn errors_of_bytes<'a>(
     alloc: Global,
     names: &Names<'a>,
@@ -199,8 +205,8 @@ fn are_none(errors: &[LineError]) -> bool
     errors.is_empty()
 }
 
-/// Returns the class-one errors of the lines, or the class-two errors if there are none of class
-/// one.
+/// Returns the first-pass errors of the lines or, if there are none, the second-pass errors. Fails
+/// if allocation fails.
 fn errors_of_lines<'a>(alloc: Global, lines: &[&'a [u8]]) -> Result<Vec<LineError>, AllocError>
     ensures { IfOk result (λ found. found.items ≡ errors_of (read (map (λ l. l.now) lines.now))) }
 {
@@ -212,10 +218,12 @@ fn errors_of_lines<'a>(alloc: Global, lines: &[&'a [u8]]) -> Result<Vec<LineErro
     }
 }
 
-/// Returns the first error of each line of a text, at most [`ERROR_ROWS`] errors. All are of class
-/// one, or all are of class two if no line has an error of class one. Later lines are checked as if
-/// a line with a class-one error were empty, and as if a line with a class-two error emitted no
-/// bytes. Fails if allocation fails.
+/// Returns the first error of each line of a source text, at most [`ERROR_ROWS`] errors. If the
+/// first pass finds errors (30, 31, 33, 36 or 37), only these are returned. Otherwise, the errors
+/// of the second pass (32 to 35) are returned.
+///
+/// When later lines are checked, a line with a first-pass error counts as empty, and a line with a
+/// second-pass error emits no bytes. Fails if allocation fails.
 pub fn errors(alloc: Global, source: &str) -> Result<Vec<LineError>, AllocError>
     ensures { IfOk result (λ found. found.items ≡ errors_of_text source.now) }
 {
@@ -223,8 +231,8 @@ pub fn errors(alloc: Global, source: &str) -> Result<Vec<LineError>, AllocError>
     errors_of_lines(alloc, &lines)
 }
 
-/// Proves that the first error of a text is the error of its assembly, with the same line number.
-/// The assembly of a text without errors has no error.
+/// Proves that the first error in the list for a source text is the error that its assembly
+/// reports, with the same line number. If the list is empty, the assembly succeeds.
 pub fn the_first_error_is_the_fault()
     ensures { (text : List ℕ) → first_of (errors_of_text text) ≡ fault_of (assembly_of_text text) }
 {}
@@ -248,15 +256,17 @@ fn push_errors(out: &mut String, errors: &[LineError]) -> Result<(), AllocError>
     Ok(())
 }
 
-/// Appends the row with the number of errors.
+/// Appends the header row, which has the number of errors.
 fn push_count(out: &mut String, count: usize) -> Result<(), AllocError>
     ensures { OnOk result (string_bytes out.new ≡ string_bytes out.old ++ as_line (errors_head count)) }
 {
     write!(out, "errors {count}\n")
 }
 
-/// Returns the report on errors: their number, then a row for each error, as in `errors 2`, `error
-/// 3 30`, `error 7 31`. Fails if allocation fails.
+/// Returns the report on errors: a header row with their number, then a row for each error with its
+/// line number and its refusal number.
+///
+/// For example: `errors 2`, `error 3 30`, `error 7 31`. Fails if allocation fails.
 pub fn errors_text(alloc: Global, errors: &[LineError]) -> Result<Vec<u8>, AllocError>
     ensures { IfOk result (λ text. text.items ≡ errors_text errors.now) }
 {

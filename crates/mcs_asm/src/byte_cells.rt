@@ -1,4 +1,4 @@
-//! The bytes of an image that is being built.
+//! The bytes of an image that the assembler is building.
 ghost use Rattle.std.specs.Prelude.{◌≡◌, ℕ, ◌<◌, ◌≤◌, ◌+◌, IfOk, length, take, drop, is_some, None};
 ghost use Rattle.std.specs.List.{list_any};
 ghost use lib.ListN.{replicate};
@@ -9,7 +9,7 @@ use mcs_nibble::Addr;
 use std::alloc::{AllocError, Global};
 use std::marker::Model;
 
-/// A byte or nothing for each of the 4096 addresses.
+/// For each of the 4096 addresses, the byte stored there, or nothing.
 #[derive(Drop)]
 pub struct ByteCells {
     bytes: Vec<Option<u8>>,
@@ -26,7 +26,7 @@ impl Model for ByteCells {
 }
 
 impl ByteCells {
-    /// Returns cells without a byte at any address.
+    /// Returns cells without a byte at any address. Fails if allocation fails.
     #[tactic(auto, using(crate::proofs::CellPairs::new_rules))]
     pub fn new(alloc: Global) -> Result<ByteCells, AllocError>
         ensures { IfOk result (λ c. c ≡ replicate 4096 None) }
@@ -38,7 +38,7 @@ impl ByteCells {
         Ok(ByteCells { bytes })
     }
 
-    /// Returns true if one of the `count` addresses from `at` on already has a byte.
+    /// Returns true if at least one of the `count` addresses from `at` on has a byte.
     pub fn is_taken(&self, at: usize, count: usize) -> bool
         requires { at + count ≤ 4096 }
         ensures { result ≡ list_any is_some (take count (drop at self.now)) }
@@ -56,7 +56,8 @@ impl ByteCells {
         }
     }
 
-    /// Returns the stored bytes with their addresses, in ascending order.
+    /// Returns the stored bytes with their addresses, by ascending address. Fails if allocation
+    /// fails.
     pub fn image(&self, alloc: Global) -> Result<Image, AllocError>
         ensures { IfOk result (λ i. i ≡ pairs_from 0 self.now) }
     {

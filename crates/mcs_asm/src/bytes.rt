@@ -14,7 +14,8 @@ use mcs_model::op::Op;
 use mcs_nibble::{Addr, Nibble, PairNo, RegNo};
 use std::alloc::{AllocError, Global};
 
-/// Returns the values of the operands, or `None` if a name is not defined.
+/// Returns the values of the operands, or `None` if one of them is an undefined name. Fails if
+/// allocation fails.
 fn values<'a>(
     alloc: Global,
     names: &Names<'a>,
@@ -52,7 +53,8 @@ fn as_bytes(alloc: Global, values: &[u64]) -> Result<Vec<u8>, AllocError>
     Ok(bytes)
 }
 
-/// Returns the bytes that a `DB` statement emits.
+/// Returns the bytes that a `DB` statement emits. Fails if an operand is an undefined name or its
+/// value is above 255, or if allocation fails.
 fn data_bytes<'a>(
     alloc: Global,
     names: &Names<'a>,
@@ -104,7 +106,7 @@ fn target(value: u64) -> Result<Addr, SourceFault>
         .ok_or(SourceFault::OutOfRange)
 }
 
-/// Returns the low byte of the target of a two-word instruction at `at`. Fails if the target is not
+/// Returns the low byte of the target of a JCN or ISZ at address `at`. Fails if the target is not
 /// on the page of the address after the instruction.
 fn near_byte(at: u16, target: Addr) -> Result<u8, SourceFault>
     requires { at ≤ 4096 }
@@ -117,8 +119,8 @@ fn near_byte(at: u16, target: Addr) -> Result<u8, SourceFault>
     }
 }
 
-/// Returns the value of an operand as a nibble. Fails if the name is not defined or the value is
-/// above 15.
+/// Returns the value of an operand as a nibble. Fails if the operand is an undefined name or its
+/// value is above 15.
 fn nibble_value<'a>(names: &Names<'a>, operand: &Operand<'a>) -> Result<Nibble, SourceFault>
     ensures { result ≡ if_known (value_in names.now.names (operand_view operand.now))
         (λ n. if_in_range (nat_lt n 16) (Ok n)) }
@@ -126,8 +128,8 @@ fn nibble_value<'a>(names: &Names<'a>, operand: &Operand<'a>) -> Result<Nibble, 
     nibble(value(names, operand)?)
 }
 
-/// Returns the value of an operand as an address. Fails if the name is not defined or the value is
-/// above 4095.
+/// Returns the value of an operand as an address. Fails if the operand is an undefined name or its
+/// value is above 4095.
 fn target_value<'a>(names: &Names<'a>, operand: &Operand<'a>) -> Result<Addr, SourceFault>
     ensures { result ≡ if_known (value_in names.now.names (operand_view operand.now))
         (λ t. if_in_range (nat_lt t 4096) (Ok t)) }
@@ -172,8 +174,8 @@ fn jcn<'a>(at: u16, names: &Names<'a>, v: &Operand<'a>, t: &Operand<'a>) -> Resu
     ensures { GivesOp result
         (statement_bytes at names.now.names (Jcn (operand_view v.now) (operand_view t.now))) }
 {
-    // Both values are looked up first: an unknown name (32) takes precedence over a value out of
-    // range (33).
+    // Both operands are looked up first: an undefined name (error 32) takes precedence over a value
+    // out of range (error 33).
     let v = value(names, v)?;
     let t = value(names, t)?;
     let v = nibble(v)?;
@@ -187,7 +189,8 @@ fn isz<'a>(at: u16, names: &Names<'a>, register: RegNo, t: &Operand<'a>) -> Resu
     Ok(Op::Isz(register, near_byte(at, target_value(names, t)?)?))
 }
 
-/// Returns the instruction of a statement at an address, or `None` for an `ORG`.
+/// Returns the instruction of a statement at address `at`, or `None` for an `ORG`. The statement
+/// must not be a `DB`. Fails with error 32, 33 or 34 if an operand is invalid.
 fn op<'a>(at: u16, names: &Names<'a>, statement: &Statement<'a>) -> Result<Option<Op>, SourceFault>
     requires start { at ≤ 4096 }
     requires statement { IsNoData (statement_view statement.now) }
@@ -213,7 +216,7 @@ fn words(op: Op) -> Words
     encode(op)
 }
 
-/// Returns the one or two words of an instruction as a list.
+/// Returns the one or two words of an instruction as a list of bytes. Fails if allocation fails.
 fn word_list(alloc: Global, words: Words) -> Result<Vec<u8>, AllocError>
     ensures { IfOk result (λ v. v.items ≡ words_view words) }
 {
@@ -225,7 +228,8 @@ fn word_list(alloc: Global, words: Words) -> Result<Vec<u8>, AllocError>
     Ok(bytes)
 }
 
-/// Returns the bytes that a statement at an address emits.
+/// Returns the bytes that a statement at address `at` emits. Fails with error 32, 33 or 34 if an
+/// operand is invalid, or if allocation fails.
 fn statement_bytes<'a>(
     alloc: Global,
     at: u16,
@@ -245,7 +249,8 @@ fn statement_bytes<'a>(
     }
 }
 
-/// Returns the bytes that a line at an address emits.
+/// Returns the bytes that a line at address `at` emits. Fails with error 32, 33 or 34 if an operand
+/// is invalid, or if allocation fails.
 pub fn line_bytes<'a>(
     alloc: Global,
     at: u16,

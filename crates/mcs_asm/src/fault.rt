@@ -7,7 +7,7 @@ pub use mcs_source::fault::SourceFault;
 use std::alloc::AllocError;
 use thiserror::Error;
 
-/// The reason why a text has no image.
+/// The reason why assembly fails.
 #[derive(Clone, Copy, Debug, PartialEq, Eq, Error)]
 pub enum FaultKind {
     /// Allocation failed (no 90).
@@ -19,7 +19,7 @@ pub enum FaultKind {
 }
 
 impl FaultKind {
-    /// Returns the refusal number of the error.
+    /// Returns the refusal number of the error: 30 to 37, or 90 if allocation failed.
     pub fn number(self) -> u8
         ensures { result ≡ assembler_fault_number self }
     {
@@ -36,7 +36,7 @@ impl FaultKind {
 pub struct AsmFault {
     /// The line number, from 1, or 0 if allocation failed.
     pub line: usize,
-    /// The error.
+    /// The error in that line, or the allocation failure.
     pub kind: FaultKind,
 }
 

@@ -1,4 +1,5 @@
-//! The assembler: translates a source text to its image or its survey, or reports its first error.
+//! The assembler: translates a source text to an image, surveys its lines and names, and reports
+//! its errors.
 #![tactic(auto)]
 
 mod all_errors;

@@ -1,4 +1,4 @@
-//! The names that a text defines, and the addresses of its statements.
+//! The names that a source text defines, and the addresses of its statements.
 ghost use Rattle.std.specs.Prelude.{◌≡◌, ◌<◌, ◌≤◌, ◌&&◌, ◌++◌, ◌∷◌, length, map, option_map, is_some, OnOk, OnErr, [], None, Some, false, nat_le, ◌+◌};
 ghost use Rattle.std.specs.Option.{option_copied};
 ghost use Rattle.std.specs.List.{list_any};
@@ -25,8 +25,7 @@ use std::marker::Model;
 pub struct Names<'a> {
     at: u16,
     names: ArrayVec<(&'a [u8], u16), NAMES>,
-    // The same pairs, indexed by name. Each operand needs a lookup, and a lookup must not scan all
-    // names.
+    // The same pairs, indexed by name, so that the lookup of an operand does not scan all names.
     values: BTreeMap<&'a [u8], u16>,
 }
 
@@ -67,7 +66,7 @@ fn size(statement: &Statement<'_>) -> usize
 }
 
 impl<'a> Names<'a> {
-    /// Returns the state before the first line: no names, and address 0.
+    /// Returns the state before the first line: no names, and the next statement at address 0.
     pub fn new(alloc: Global) -> Names<'a>
         ensures { result ≡ nothing_before }
     {
@@ -114,7 +113,8 @@ impl<'a> Names<'a> {
         self.at
     }
 
-    /// Returns the first class-one error of a line that parses, if it has one.
+    /// Returns the error that the first pass finds in a parsed line, or `None`. If several apply,
+    /// it is the first of 33, 31, 37 and 36.
     pub fn fault(&self, line: &SourceLine<'a>) -> Option<SourceFault>
         ensures { result ≡ fault_one self.now.at self.now.names (Some (line_view line.now)) }
     {
@@ -133,7 +133,7 @@ impl<'a> Names<'a> {
     }
 
     /// Adds the name that a line defines, if any, and sets the address of the next statement. The
-    /// line must have no class-one error. If allocation fails, nothing changes.
+    /// line must have no first-pass error. If allocation fails, nothing changes.
     pub fn add(&mut self, line: &SourceLine<'a>) -> Result<(), AllocError>
         requires { fault_one self.old.at self.old.names (Some (line_view line.now)) ≡ None }
         ensures added { OnOk result (self.new ≡ before_next self.old (Some (line_view line.now))) }
@@ -148,7 +148,8 @@ impl<'a> Names<'a> {
         Ok(())
     }
 
-    /// Adds a name with its value. The name must not be known yet, and there must be room for it.
+    /// Adds a name with its value. The name must be new, and fewer than `NAMES` names must be
+    /// defined. If allocation fails, nothing changes.
     fn define(&mut self, name: &'a [u8], value: u16) -> Result<(), AllocError>
         requires unknown { is_known name.now self.old.names ≡ false }
         requires room { length self.old.names < NAMES }
@@ -161,7 +162,7 @@ impl<'a> Names<'a> {
         Ok(())
     }
 
-    /// Returns the value of an operand, or `None` for a name that is not defined.
+    /// Returns the value of an operand, or `None` if the operand is an undefined name.
     pub fn value(&self, operand: &Operand<'a>) -> Option<u64>
         ensures { result ≡ value_in self.now.names (operand_view operand.now) }
     {
@@ -185,7 +186,7 @@ fn value_of<'a>(values: &BTreeMap<&'a [u8], u16>, name: &'a [u8]) -> Option<u64>
     values.get(&name).map(|value| u64::from(*value))
 }
 
-/// Returns the name that a line defines, if it defines one.
+/// Returns the name that a line defines as a label or with `=`, or `None`.
 fn defined_name<'a>(line: &SourceLine<'a>) -> Option<&'a [u8]>
     ensures { option_copied result ≡ defined_name (line_view line.now) }
 {
@@ -214,7 +215,8 @@ fn has_bad_number(line: &SourceLine<'_>) -> bool
     }
 }
 
-/// Returns true if a line at `at` has a label at address 4096, or emits a byte at 4096 or above.
+/// Returns true if a line at address `at` passes the end of the ROM: it has a label at 4096, or
+/// emits a byte at 4096 or above.
 fn passes_end(line: &SourceLine<'_>, at: u16) -> bool
     requires { at ≤ 4096 }
     ensures { result ≡ passes_end (line_view line.now) at }
@@ -239,8 +241,8 @@ fn next_statement(statement: &Option<Statement<'_>>, at: u16) -> u16
     }
 }
 
-/// Returns the address of the next line's statement, after a line at `at` without a class-one
-/// error.
+/// Returns the address after a line at address `at`. The number in an `ORG` or `=` must be below
+/// 4096, and the line must not pass the end of the ROM.
 pub fn next_at(line: &SourceLine<'_>, at: u16) -> u16
     requires start { at ≤ 4096 }
     requires number { has_bad_number (line_view line.now) ≡ false }

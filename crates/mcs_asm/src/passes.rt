@@ -1,5 +1,5 @@
-//! The two passes over the lines of a text: the first collects the names, the second emits the
-//! bytes.
+//! The two passes over the lines of a source text. The first pass collects the names, and the
+//! second pass emits the bytes.
 ghost use Rattle.std.specs.Prelude.{List, ℕ, ◌+◌, length, Ok, ◌≡◌, ◌<◌, ◌≤◌, ◌^◌, ◌++◌, ◌∷◌, [], map, None, OnErr, OnOk};
 ghost use Rattle.mcs_source.specs.Lexical.{tokens};
 ghost use Rattle.mcs_source.specs.Lines.{line_of};
@@ -20,7 +20,8 @@ use mcs_model::image::Image;
 use mcs_source::survey::Span;
 use std::alloc::{AllocError, Global};
 
-/// Adds the name that the next line defines, if any, and advances the address.
+/// Adds the name that the next line defines, if any, and sets the address of the line after it. If
+/// the line has a first-pass error or allocation fails, returns the error and changes nothing.
 pub(crate) fn add_line<'a>(
     alloc: Global,
     names: &mut Names<'a>,
@@ -38,8 +39,7 @@ pub(crate) fn add_line<'a>(
     }
 }
 
-/// Returns an error with the number of its line, which is the line's index plus 1. The number is 0
-/// if allocation failed.
+/// Returns an error with its line number, which is `index` plus 1, or 0 if allocation failed.
 fn fault_at(index: usize, kind: FaultKind) -> AsmFault
     requires { index < 2 ^ 63 }
     ensures { (result.kind ≡ kind) × NumbersLine kind index result.line }
@@ -53,7 +53,8 @@ fn fault_at(index: usize, kind: FaultKind) -> AsmFault
     }
 }
 
-/// Returns the result for the line with the given index. An error gets the number of the line.
+/// Returns the given result. Adds the line number if it is an error: `index` plus 1, or 0 if
+/// allocation failed.
 fn at_line(index: usize, came: Result<(), FaultKind>) -> Result<(), AsmFault>
     requires { index < 2 ^ 63 }
     ensures { ComesOf index came result }
@@ -64,7 +65,8 @@ fn at_line(index: usize, came: Result<(), FaultKind>) -> Result<(), AsmFault>
     }
 }
 
-/// Returns the names of all lines and the address after them, or the first error of class one (30, 31, 33, 36, 37).
+/// Runs the first pass. Returns the names of all lines and the address after the last line, or the
+/// first error that this pass finds (30, 31, 33, 36 or 37).
 fn first_pass<'a>(alloc: Global, lines: &[&'a [u8]]) -> Result<Names<'a>, AsmFault>
     ensures { PassesFirst result (read (map (λ l. l.now) lines.now)) }
 {
@@ -86,7 +88,7 @@ fn push_span(spans: &mut Vec<Span>, at: u16, bytes: &[u8]) -> Result<(), AllocEr
     Ok(())
 }
 
-/// The bytes that the lines so far emit, their spans, and the address of the next statement.
+/// The bytes and the spans of the lines so far, and the address of the next statement.
 #[derive(Drop)]
 pub(crate) struct SpelledLines {
     pub(crate) at: u16,
@@ -96,7 +98,9 @@ pub(crate) struct SpelledLines {
 }
 
 impl SpelledLines {
-    /// Adds the bytes of a line, and sets the address of the next statement to `next`.
+    /// Adds the bytes and the span of a line, and sets the address of the next statement to `next`.
+    /// Fails with an overlap error if an earlier line fills one of the addresses, or if allocation
+    /// fails. The bytes are then unchanged.
     #[tactic(auto, using(crate::proofs::SpelledLists::taken_stops, crate::proofs::SpelledLists::free_goes))]
     pub(crate) fn add(&mut self, bytes: &[u8], next: u16) -> Result<(), FaultKind>
         requires room { self.old.at + length bytes.now ≤ 4096 }
@@ -119,7 +123,8 @@ impl SpelledLines {
         Ok(())
     }
 
-    /// Adds the bytes of the next line, which must have no class-one error.
+    /// Adds the bytes and the span of the next line, or returns its error. The line must parse and
+    /// must not pass the end of the ROM. The number in an `ORG` or `=` must be below 4096.
     fn spell<'a>(
         &mut self,
         alloc: Global,
@@ -143,7 +148,8 @@ impl SpelledLines {
     }
 }
 
-/// Returns the survey of all lines and the bytes that they emit, or the first error of class two (32 to 35).
+/// Runs the second pass over lines without first-pass errors. Returns the survey and the bytes of
+/// all lines, or the first error that this pass finds (32 to 35).
 fn second_pass<'a>(
     alloc: Global,
     names: Names<'a>,
@@ -164,7 +170,8 @@ fn second_pass<'a>(
     Ok((Survey::new(spelled.spans, names), spelled.cells))
 }
 
-/// Returns the survey of a source text and the bytes that it emits, or its first error.
+/// Runs both passes. Returns the survey of a source text and the bytes that it emits, or its first
+/// error.
 fn both_passes<'a>(alloc: Global, source: &'a str) -> Result<(Survey<'a>, ByteCells), AsmFault>
     ensures { PassesBoth result source.now }
 {

@@ -1,4 +1,4 @@
-//! Writes a survey as text, the answer of the shell to `map`.
+//! Writes a survey as text. The text is the answer of the shell to `map`.
 ghost use Rattle.std.specs.Prelude.{◌≡◌, ◌<◌, ◌++◌, string_bytes, map, OnOk, IfOk};
 ghost use Rattle.mcs_model.specs.QueryText.{address_text, hex_digit};
 ghost use Rattle.mcs_model.specs.TextLines.{as_line, text_of};
@@ -33,7 +33,7 @@ fn push_address(out: &mut String, at: u16) -> Result<(), AllocError>
     Ok(())
 }
 
-/// Appends an address in hexadecimal; 4096, the end of the ROM, becomes `1000`.
+/// Appends an address as three hexadecimal digits, or `1000` for 4096, the end of the ROM.
 fn push_address_or_end(out: &mut String, at: u16) -> Result<(), AllocError>
     ensures { OnOk result (string_bytes out.new ≡ string_bytes out.old ++ address_or_end_text at) }
 {

@@ -1,4 +1,4 @@
-//! Parses the statement or the definition in a line of a source text.
+//! Parses a source line: an optional label and statement, or the definition of a name.
 ghost use Rattle.std.specs.Prelude.{◌≡◌, map, option_map, IfOk, MatchOption, ◌∷◌, Some, None};
 ghost use Rattle.std.specs.Option.{option_copied};
 ghost use Rattle.mcs_source.specs.Lexical.{Word, Colon, Equals, tokens, Token};
@@ -22,8 +22,8 @@ pub enum Operand<'a> {
     Name(&'a [u8]),
 }
 
-/// A statement as written in the source. `Whole` is an instruction whose operands, if any, are only
-/// registers or a pair.
+/// A statement as written in the source. `Whole` is an instruction that has no operand, or whose
+/// only operand is a register or a pair.
 #[derive(Drop)]
 pub enum Statement<'a> {
     Origin(u64),
@@ -38,14 +38,14 @@ pub enum Statement<'a> {
     Isz(RegNo, Operand<'a>),
 }
 
-/// A line that parses: an optional label and an optional statement, or the definition of a name.
+/// A parsed line: an optional label and an optional statement, or the definition of a name.
 #[derive(Drop)]
 pub enum SourceLine<'a> {
     Code(Option<&'a [u8]>, Option<Statement<'a>>),
     Define(&'a [u8], u64),
 }
 
-/// Parses a word as an operand: a number or a name.
+/// Parses a word as a number or a name. Returns `None` if it is neither.
 fn operand_in(word: &[u8]) -> Option<Operand<'_>>
     ensures { option_map operand_view result ≡ operand_of word.now }
 {
@@ -56,7 +56,7 @@ fn operand_in(word: &[u8]) -> Option<Operand<'_>>
     }
 }
 
-/// Reads a word that must be the last token.
+/// Returns the next token if it is a word and no token follows. Otherwise returns `None`.
 fn only_word<'a>(tokens: &mut Tokens<'a>) -> Option<&'a [u8]>
     ensures { option_copied result ≡ word_only tokens.old }
 {
@@ -69,7 +69,8 @@ fn only_word<'a>(tokens: &mut Tokens<'a>) -> Option<&'a [u8]>
     Some(word)
 }
 
-/// Reads a word that must be followed by a comma.
+/// Returns the next token if it is a word and a comma follows, and skips the comma. Otherwise
+/// returns `None`.
 fn word_before_comma<'a>(tokens: &mut Tokens<'a>) -> Option<&'a [u8]>
     ensures { option_map (λ w. (w, tokens.new)) (option_copied result) ≡ word_first tokens.old }
 {
@@ -124,7 +125,8 @@ fn first_pair(tokens: &mut Tokens<'_>) -> Option<PairNo>
     pair_named(word_before_comma(tokens)?)
 }
 
-/// Reads an instruction that must have no operands.
+/// Returns the statement of an instruction without operands, or `None` if a token follows the
+/// mnemonic.
 fn without_operands<'a>(op: Op, tokens: &mut Tokens<'a>) -> Option<Statement<'a>>
     ensures { option_map statement_view result ≡ bare_statement op tokens.old }
 {
@@ -135,7 +137,8 @@ fn without_operands<'a>(op: Op, tokens: &mut Tokens<'a>) -> Option<Statement<'a>
     }
 }
 
-/// Reads the next operand of a list. The second value is true if a comma follows the operand.
+/// Reads the next operand of a list. Also returns true if a comma follows it. Returns `None` if the
+/// operand is invalid, or if a token other than a comma follows it.
 fn list_item<'a>(tokens: &mut Tokens<'a>) -> Option<(Operand<'a>, bool)>
     ensures { option_map (λ x. (operand_view x.0, rest_if x.1 tokens.new)) result
         ≡ list_item tokens.old }
@@ -151,7 +154,8 @@ fn list_item<'a>(tokens: &mut Tokens<'a>) -> Option<(Operand<'a>, bool)>
     }
 }
 
-/// Reads one or more operands, separated by commas.
+/// Reads all remaining tokens as one or more operands, separated by commas. Returns `None` if they
+/// have another form. Fails if allocation fails.
 fn operands<'a>(
     alloc: Global,
     tokens: &mut Tokens<'a>,
@@ -171,7 +175,7 @@ fn operands<'a>(
     }
 }
 
-/// Reads the operands of JCN.
+/// Reads the operands of JCN, a condition and a jump address. Returns `None` if they are invalid.
 fn jump_on_condition<'a>(tokens: &mut Tokens<'a>) -> Option<Statement<'a>>
     ensures { option_map statement_view result ≡ after_mnemonic Jcn tokens.old }
 {
@@ -180,7 +184,7 @@ fn jump_on_condition<'a>(tokens: &mut Tokens<'a>) -> Option<Statement<'a>>
     Some(Statement::Jcn(condition, target))
 }
 
-/// Reads the operands of FIM.
+/// Reads the operands of FIM, a pair and a value. Returns `None` if they are invalid.
 fn fetch_immediate<'a>(tokens: &mut Tokens<'a>) -> Option<Statement<'a>>
     ensures { option_map statement_view result ≡ after_mnemonic Fim tokens.old }
 {
@@ -189,7 +193,7 @@ fn fetch_immediate<'a>(tokens: &mut Tokens<'a>) -> Option<Statement<'a>>
     Some(Statement::Fim(pair, value))
 }
 
-/// Reads the operands of ISZ.
+/// Reads the operands of ISZ, a register and a jump address. Returns `None` if they are invalid.
 fn increment_and_skip<'a>(tokens: &mut Tokens<'a>) -> Option<Statement<'a>>
     ensures { option_map statement_view result ≡ after_mnemonic Isz tokens.old }
 {
@@ -198,7 +202,7 @@ fn increment_and_skip<'a>(tokens: &mut Tokens<'a>) -> Option<Statement<'a>>
     Some(Statement::Isz(register, target))
 }
 
-/// Reads the operand of `ORG`.
+/// Reads the operand of `ORG`, a number. Returns `None` if it is invalid.
 fn origin<'a>(tokens: &mut Tokens<'a>) -> Option<Statement<'a>>
     ensures { option_map statement_view result ≡ after_mnemonic Org tokens.old }
 {
@@ -213,7 +217,8 @@ fn whole<'a>(op: Option<Op>) -> Option<Statement<'a>>
     Some(Statement::Whole(op))
 }
 
-/// Reads the statement for a mnemonic from the tokens after it. The mnemonic must not be `DB`.
+/// Reads the operands of a mnemonic other than `DB` and returns the statement, or `None` if they
+/// are invalid.
 fn plain_statement<'a>(mnemonic: Mnemonic, tokens: &mut Tokens<'a>) -> Option<Statement<'a>>
     requires { IsNotDb mnemonic }
     ensures { option_map statement_view result ≡ after_mnemonic mnemonic tokens.old }
@@ -240,7 +245,8 @@ fn plain_statement<'a>(mnemonic: Mnemonic, tokens: &mut Tokens<'a>) -> Option<St
     }
 }
 
-/// Reads the statement for a mnemonic from the tokens after it.
+/// Reads the operands of a mnemonic and returns the statement, or `None` if they are invalid. Fails
+/// if allocation fails.
 fn statement_after<'a>(
     alloc: Global,
     mnemonic: Mnemonic,
@@ -254,7 +260,8 @@ fn statement_after<'a>(
     }
 }
 
-/// Reads the statement that consists of all remaining tokens.
+/// Reads all remaining tokens as a mnemonic and its operands. Returns the statement, or `None` if
+/// they are invalid. Fails if allocation fails.
 #[tactic(auto, unfolding(mcs_source::specs::Lines::statement_of))]
 fn read_statement<'a>(
     alloc: Global,
@@ -271,7 +278,8 @@ fn read_statement<'a>(
     statement_after(alloc, mnemonic, tokens)
 }
 
-/// Reads the optional statement that consists of all remaining tokens, and adds the label.
+/// Reads all remaining tokens as an optional statement, and returns the line with this statement
+/// and the given label. Returns `None` if the tokens are invalid. Fails if allocation fails.
 fn rest_of_line<'a>(
     alloc: Global,
     label: Option<&'a [u8]>,
@@ -289,8 +297,8 @@ fn rest_of_line<'a>(
     }
 }
 
-/// Returns the label of a line, if it begins with a word and a colon, and the tokens after the
-/// colon.
+/// Returns the word and the tokens after the colon if a line begins with a word and a colon.
+/// Otherwise returns `None`.
 fn label_of<'a>(line: &'a [u8]) -> Option<(&'a [u8], Tokens<'a>)>
     ensures { MatchOption result (NoLabel (tokens line.now))
         (λ x. tokens line.now ≡ Word x.0.now ∷ Colon ∷ x.1) }
@@ -302,7 +310,8 @@ fn label_of<'a>(line: &'a [u8]) -> Option<(&'a [u8], Tokens<'a>)>
     }
 }
 
-/// Returns the word before `=`, if a line begins with a word and `=`, and the tokens after `=`.
+/// Returns the word and the tokens after `=` if a line begins with a word and `=`. Otherwise
+/// returns `None`.
 fn definition_of<'a>(line: &'a [u8]) -> Option<(&'a [u8], Tokens<'a>)>
     ensures { MatchOption result (NoDefinition (tokens line.now))
         (λ x. tokens line.now ≡ Word x.0.now ∷ Equals ∷ x.1) }
@@ -314,7 +323,8 @@ fn definition_of<'a>(line: &'a [u8]) -> Option<(&'a [u8], Tokens<'a>)>
     }
 }
 
-/// Parses a line without a label.
+/// Parses a line that does not begin with a label. Returns `None` if the line has no valid form.
+/// Fails if allocation fails.
 fn read_unlabelled<'a>(alloc: Global, line: &'a [u8]) -> Result<Option<SourceLine<'a>>, AllocError>
     ensures { IfOk result (λ o. option_map line_view o ≡ unlabelled (tokens line.now)) }
 {
@@ -327,7 +337,7 @@ fn read_unlabelled<'a>(alloc: Global, line: &'a [u8]) -> Result<Option<SourceLin
     }
 }
 
-/// Parses a line. Returns `None` if the line has no valid form.
+/// Parses a source line. Returns `None` if the line has no valid form. Fails if allocation fails.
 pub fn read_line<'a>(alloc: Global, line: &'a [u8]) -> Result<Option<SourceLine<'a>>, AllocError>
     ensures { IfOk result (λ o. option_map line_view o ≡ line_of (tokens line.now)) }
 {

@@ -1,4 +1,4 @@
-//! The survey of a text: the addresses and sizes of its lines, and the values of its names.
+//! The survey of a source text: the addresses and sizes of its lines, and the values of its names.
 ghost use Rattle.std.specs.Prelude.{◌≡◌, map};
 
 use crate::names::Names;
@@ -28,7 +28,7 @@ impl<'a> Survey<'a> {
         Survey { spans, names }
     }
 
-    /// Returns the span of each line, in line order.
+    /// Returns the address and the size of each line, in line order.
     pub fn spans(&self) -> &[Span]
         ensures { result.now ≡ self.now.spans }
     {

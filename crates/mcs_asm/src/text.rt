@@ -6,7 +6,7 @@ ghost use Rattle.mcs_model.specs.TextLines.{is_line_feed, lines_of};
 use mcs_model::text_lines::without_return;
 use std::alloc::{AllocError, Global};
 
-/// Returns the number of bytes before the first LF.
+/// Returns the number of bytes before the first line feed, or of all bytes if there is none.
 fn line_len(bytes: &[u8]) -> usize
     ensures len { result ≡ position_or_len is_line_feed bytes.now }
     ensures within { result ≤ length bytes.now }
@@ -32,7 +32,7 @@ fn first_line(bytes: &[u8]) -> Option<(&[u8], &[u8])>
     }
 }
 
-/// Returns the lines without their line endings.
+/// Returns the lines of a text without their line endings. Fails if allocation fails.
 pub fn lines(alloc: Global, bytes: &[u8]) -> Result<Vec<&[u8]>, AllocError>
     ensures { IfOk result (λ v. map (λ l. l.now) v.items ≡ lines_of bytes.now) }
 {

@@ -1,4 +1,4 @@
-//! Splits a line into tokens.
+//! Splits a source line into tokens.
 ghost use Rattle.std.specs.Prelude.{◌≡◌, ◌≤◌, ◌∷◌, [], length, IsTrue, ◌↔◌, MatchOption};
 ghost use Rattle.std.specs.List.{prefix_len};
 ghost use Rattle.mcs_source.specs.Lexical.{is_word_byte, symbol, tokens};
@@ -8,7 +8,7 @@ ghost use Rattle.mcs_asm.specs.View.{token_view};
 use mcs_model::text_lines::is_blank;
 use std::marker::Model;
 
-/// A token. `Other` is any byte that is not allowed in a line.
+/// A token of a source line. `Other` is a byte that makes the line invalid.
 #[derive(Clone, Copy)]
 pub enum Token<'a> {
     Word(&'a [u8]),
@@ -25,7 +25,7 @@ fn is_word_byte(b: u8) -> bool
     b.is_ascii_digit() || b.is_ascii_uppercase() || b.is_ascii_lowercase() || b == b'_'
 }
 
-/// Returns the length of the word at the front, or 0 if there is none.
+/// Returns the length of the word at the start of `bytes`, or 0 if there is none.
 fn word_len(bytes: &[u8]) -> usize
     ensures len { result ≡ prefix_len is_word_byte bytes.now }
     ensures within { result ≤ length bytes.now }
@@ -33,7 +33,7 @@ fn word_len(bytes: &[u8]) -> usize
     bytes.iter().take_while(|b| is_word_byte(**b)).count()
 }
 
-/// Returns the number of spaces and tabs at the front.
+/// Returns the number of spaces and tabs at the start of `bytes`.
 fn blank_len(bytes: &[u8]) -> usize
     ensures len { result ≡ prefix_len is_blank bytes.now }
     ensures within { result ≤ length bytes.now }
@@ -63,8 +63,8 @@ fn symbol<'a>(b: u8) -> Token<'a>
     }
 }
 
-/// Returns the first token of a line that does not begin with a word or a blank, and the bytes
-/// after the token. Returns `None` at the end of the line or at a comment.
+/// Returns the first token and the bytes after it. The bytes must not begin with a word, a space or
+/// a tab. Returns `None` if there are no bytes, or if they begin a comment.
 #[tactic(auto, using(crate::proofs::Lexing::symbol_rules))]
 fn first_symbol(bytes: &[u8]) -> Option<(Token<'_>, &[u8])>
     requires no_word { prefix_len is_word_byte bytes.now ≡ 0 }
@@ -96,7 +96,7 @@ fn first_token(line: &[u8]) -> Option<(Token<'_>, &[u8])>
     Some((Token::Word(word), rest))
 }
 
-/// The remaining tokens of a line.
+/// The tokens of a line that have not been read yet.
 #[derive(Drop)]
 pub struct Tokens<'a> {
     rest: &'a [u8],
@@ -112,7 +112,7 @@ impl<'a> Model for Tokens<'a> {
 }
 
 impl<'a> Tokens<'a> {
-    /// Returns a reader that is before the first token of a line.
+    /// Returns a reader at the first token of a line.
     pub fn new(line: &'a [u8]) -> Tokens<'a>
         ensures { result ≡ tokens line.now }
     {

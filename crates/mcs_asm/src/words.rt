@@ -27,7 +27,8 @@ macro_rules! asked {
     };
 }
 
-/// Returns a row's mnemonic from the enclosing function if the word equals the row's name.
+/// Expands to code that returns a row's mnemonic from the enclosing function if the word equals the
+/// row's name.
 macro_rules! answered {
     ($word:ident $name:ident $kind:ident $text:literal) => {
         if equals_ignoring_case($word, $text) {
@@ -36,10 +37,10 @@ macro_rules! answered {
     };
 }
 
-/// Tests the word against a row of the wanted group, and expands to nothing for any other row.
+/// Expands to a test of the word if the row is in the wanted group, and to nothing if it is not.
 ///
-/// The rows are in six numbered groups: a proof about one list of 45 names takes far longer than
-/// six proofs about eight names each.
+/// The instruction table is split into six groups for the proofs: one proof about 45 names takes
+/// far longer than six proofs about eight names each.
 macro_rules! tried {
     (group1 group1 $word:ident $name:ident $kind:ident $text:literal) => {
         answered!($word $name $kind $text)
@@ -62,7 +63,7 @@ macro_rules! tried {
     ($wanted:ident $group:ident $word:ident $name:ident $kind:ident $text:literal) => {};
 }
 
-/// Looks up the word in the rows of a group, in table order.
+/// Expands to a lookup of the word in the rows of a group, in table order.
 macro_rules! group_rows {
     (($wanted:ident, $word:ident) $($codes:pat, $name:ident $kind:ident $words:literal $cycles:literal $group:ident $text:literal;)*) => {{
         $(tried!($wanted $group $word $name $kind $text);)*
@@ -70,7 +71,8 @@ macro_rules! group_rows {
     }};
 }
 
-/// Looks up `ORG`, `DB` and the instructions with opcodes 10 to 5F.
+/// Returns the mnemonic if the word is `ORG`, `DB` or an instruction with an opcode from 10 to 5F.
+/// Otherwise returns `None`.
 #[tactic(auto, unfolding(mcs_source::specs::Mnemonics::in_group1))]
 fn on_address(word: &[u8]) -> Option<Mnemonic>
     ensures { result ≡ in_group1 word.now }
@@ -84,7 +86,8 @@ fn on_address(word: &[u8]) -> Option<Mnemonic>
     instructions!(group_rows!(group1, word))
 }
 
-/// Looks up `NOP` and the instructions with opcodes 60 to DF.
+/// Returns the mnemonic if the word is `NOP` or an instruction with an opcode from 60 to DF.
+/// Otherwise returns `None`.
 #[tactic(auto, unfolding(mcs_source::specs::Mnemonics::in_group2))]
 fn on_register(word: &[u8]) -> Option<Mnemonic>
     ensures { result ≡ in_group2 word.now }
@@ -92,7 +95,8 @@ fn on_register(word: &[u8]) -> Option<Mnemonic>
     instructions!(group_rows!(group2, word))
 }
 
-/// Looks up the instructions with opcodes E0 to E7. They write to RAM and ports.
+/// Returns the mnemonic if the word is an instruction with an opcode from E0 to E7. Otherwise
+/// returns `None`. These instructions write to RAM and ports.
 #[tactic(auto, unfolding(mcs_source::specs::Mnemonics::in_group3))]
 fn on_port(word: &[u8]) -> Option<Mnemonic>
     ensures { result ≡ in_group3 word.now }
@@ -100,7 +104,8 @@ fn on_port(word: &[u8]) -> Option<Mnemonic>
     instructions!(group_rows!(group3, word))
 }
 
-/// Looks up the instructions with opcodes E8 to EF. They read from RAM and ports.
+/// Returns the mnemonic if the word is an instruction with an opcode from E8 to EF. Otherwise
+/// returns `None`. These instructions read from RAM and ports.
 #[tactic(auto, unfolding(mcs_source::specs::Mnemonics::in_group4))]
 fn on_memory_word(word: &[u8]) -> Option<Mnemonic>
     ensures { result ≡ in_group4 word.now }
@@ -108,7 +113,8 @@ fn on_memory_word(word: &[u8]) -> Option<Mnemonic>
     instructions!(group_rows!(group4, word))
 }
 
-/// Looks up the instructions with opcodes F0 to F6.
+/// Returns the mnemonic if the word is an instruction with an opcode from F0 to F6. Otherwise
+/// returns `None`.
 #[tactic(auto, unfolding(mcs_source::specs::Mnemonics::in_group5))]
 fn on_accumulator_word(word: &[u8]) -> Option<Mnemonic>
     ensures { result ≡ in_group5 word.now }
@@ -116,7 +122,8 @@ fn on_accumulator_word(word: &[u8]) -> Option<Mnemonic>
     instructions!(group_rows!(group5, word))
 }
 
-/// Looks up the instructions with opcodes F7 to FD.
+/// Returns the mnemonic if the word is an instruction with an opcode from F7 to FD. Otherwise
+/// returns `None`.
 #[tactic(auto, unfolding(mcs_source::specs::Mnemonics::in_group6))]
 fn on_carry_word(word: &[u8]) -> Option<Mnemonic>
     ensures { result ≡ in_group6 word.now }
@@ -124,7 +131,7 @@ fn on_carry_word(word: &[u8]) -> Option<Mnemonic>
     instructions!(group_rows!(group6, word))
 }
 
-/// Returns the mnemonic for a word that begins a statement, or `None` if it is not a mnemonic.
+/// Returns the mnemonic that a word spells, or `None` if the word is not a mnemonic.
 #[tactic(auto, unfolding(mcs_source::specs::Mnemonics::mnemonic_of))]
 pub fn mnemonic_in(word: &[u8]) -> Option<Mnemonic>
     ensures { result ≡ mnemonic_of word.now }
@@ -147,7 +154,7 @@ pub fn mnemonic_in(word: &[u8]) -> Option<Mnemonic>
     on_carry_word(word)
 }
 
-/// Parses a number from 0 to 15 in decimal without a leading zero.
+/// Parses a decimal number from 0 to 15 without a leading zero. Returns `None` for any other text.
 fn small_decimal(digits: &[u8]) -> Option<u8>
     ensures value { result ≡ up_to_15 digits.now }
     ensures within { IfSome result (λ n. n < 16) }
@@ -159,7 +166,8 @@ fn small_decimal(digits: &[u8]) -> Option<u8>
     }
 }
 
-/// Parses a register name, `R0` to `R15`, in upper or lower case.
+/// Parses a register name, `R0` to `R15`, in upper or lower case. Returns `None` for any other
+/// word.
 pub fn register_named(word: &[u8]) -> Option<RegNo>
     ensures { result ≡ register_named word.now }
 {
@@ -169,7 +177,8 @@ pub fn register_named(word: &[u8]) -> Option<RegNo>
     }
 }
 
-/// Parses a pair name, `P0` to `P7`, in upper or lower case.
+/// Parses the name of a register pair, `P0` to `P7`, in upper or lower case. Returns `None` for any
+/// other word.
 pub fn pair_named(word: &[u8]) -> Option<PairNo>
     ensures { result ≡ pair_named word.now }
 {
@@ -179,7 +188,8 @@ pub fn pair_named(word: &[u8]) -> Option<PairNo>
     }
 }
 
-/// Returns true if a word is reserved, in upper or lower case, and cannot be a name.
+/// Returns true if a word is reserved: a mnemonic, `WPM`, or the name of a register or a pair, in
+/// upper or lower case.
 #[tactic(auto, unfolding(mcs_source::specs::Lines::is_reserved))]
 fn is_reserved(word: &[u8]) -> bool
     ensures { result ≡ is_reserved word.now }

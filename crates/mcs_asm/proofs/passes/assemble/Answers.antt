@@ -7,7 +7,7 @@ use Rattle.mcs_asm.specs.View.{Assembles, FailsAs}
 use Rattle.mcs_asm.proofs.CellPairs.{image_of_kept, one_each}
 use Rattle.mcs_asm.proofs.passes.assemble.Goals as goal
 
--- a fault that is handed on
+-- If `f` is the error that `assemble` must return, a result that returns `f` is correct.
 handed_on : (r : Result (List (ℕ × ℕ)) AsmFault) (f : AsmFault) (wanted : Result (List (ℕ × ℕ)) (ℕ × SourceFault)) → IsErrAnd r (λ e. e ≡ f) → FailsAs f.kind f.line wanted → Assembles r wanted
 handed_on (Ok image) f wanted is fails = absurd is
 handed_on (Err e) f wanted is fails = subst (λ (x : AsmFault). FailsAs x.kind x.line wanted) (sym is) fails

@@ -9,7 +9,7 @@ use Rattle.mcs_asm.specs.Passes.{Before, PassesBoth}
 use Rattle.mcs_asm.proofs.PassLists.{texts, said, one_fails, both_pass}
 use Rattle.mcs_asm.proofs.passes.both_passes.Goals as goal
 
--- a fault that is handed on
+-- If `f` is the error that both passes must return, a result that returns `f` is correct.
 handed_on : (r : Result (Survey × List (Option ℕ)) AsmFault) (f : AsmFault) (text : List ℕ) → IsErrAnd r (λ e. e ≡ f) → FailsAs f.kind f.line (assembly_of_text text) → PassesBoth r text
 handed_on (Ok found) f text is fails = absurd is
 handed_on (Err e) f text is fails = subst (λ (x : AsmFault). FailsAs x.kind x.line (assembly_of_text text)) (sym is) fails

@@ -8,7 +8,7 @@ use Rattle.mcs_asm.specs.Passes.{IsFirst, NumbersLine, PassesSecond}
 use Rattle.mcs_asm.proofs.PassLists.{said, second_begins, line_passes, next_line, line_stops, all_spelt}
 use Rattle.mcs_asm.proofs.passes.second_pass.Goals as goal
 
--- a fault that is handed on
+-- If `f` is the error that the second pass must return, a result that returns `f` is correct.
 handed_on : (r : Result (Survey × List (Option ℕ)) AsmFault) (f : AsmFault) (lines : List (Option SourceLine)) (names : Names) → IsErrAnd r (λ e. e ≡ f) → IsFirst f.kind f.line (first_of_class_two lines names) → PassesSecond r lines names
 handed_on (Ok found) f lines names is fails = absurd is
 handed_on (Err e) f lines names is fails = subst (λ (x : AsmFault). IsFirst x.kind x.line (first_of_class_two lines names)) (sym is) fails
