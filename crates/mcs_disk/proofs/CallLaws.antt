@@ -1,5 +1,5 @@
--- What holds after any calls: of the bytes, of what a power cut may leave, and of a stretch of calls
--- that come after others.
+-- Properties of a disk after any calls: its bytes, the bytes that a power cut can leave, and how a
+-- stretch of further calls changes both.
 use Rattle.std.proofs.Common.{◌≡◌, ◌⊎◌, inl, inr, ⊎_elim, ℕ, zero, suc, ◌+◌, ◌≤◌, ◌<◌, List, [], ◌∷◌, ◌++◌, length, take, refl, arith, sym, ◌∙◌, ap, subst, get_or, length-take}
 use Rattle.mcs_disk.specs.Calls.{DiskCall, WasRead, Wrote, Failed, Synced, Torn, put, bytes_after, clock_of, images_after, since_after}
 use Rattle.mcs_disk.specs.Stretches.{writes_of}
@@ -34,7 +34,7 @@ put_torn at from file = record {
   after = put_after at from file;
 }
 
--- no more than so many of these bytes
+-- a write of at most n bytes changes nothing outside a range of n bytes
 pub put_torn_less : (at n : ℕ) (from file : List ℕ) → Torn at n file (put at (take n from) file)
 put_torn_less at n from file =
     let few : length (take n from) ≤ n = omega (arith, length-take n from) in
@@ -87,8 +87,8 @@ longer start (call ∷ calls) t u c le (inl now) = inl now
 longer start (call ∷ calls) t u c le (inr past) =
     inr (omega (arith, le, past.0), longer start calls t u c le (past.1))
 
--- a moment since its own clock is this moment: a failed call, which is no step of the clock, leaves what
--- could be left before, too
+-- a power cut since the current time of the clock leaves an image of this moment; a failed call
+-- does not advance the clock, so the images before it are images after it too
 pub since_now : (start : List ℕ) (calls : List DiskCall) (c : List ℕ) → since_after start calls (clock_of calls) c → images_after start calls c
 since_now start [] c left = left
 since_now start (WasRead ∷ calls) c (inl now) = now
@@ -105,18 +105,18 @@ since_sized start [] t c left = sized start [] c left
 since_sized start (call ∷ calls) t c (inl now) = sized start (call ∷ calls) c now
 since_sized start (call ∷ calls) t c (inr past) = since_sized start calls t c past.1
 
--- ---- of a disk
+-- ---- properties of a disk's state
 
--- what holds at each moment
+-- the properties of a disk at any moment
 pub record IsLawful (disk : DiskState) : Type 0 where
-  -- what a read gives is one of the images
+  -- the bytes of the disk are one of its images
   pub current : images_of disk (bytes_of disk)
   pub sized : (c : List ℕ) → images_of disk c → length c ≡ size_of disk
-  -- this moment is one of those since an earlier time
+  -- an image of this moment is also an image since any time
   pub counts_now : (t : ℕ) (c : List ℕ) → images_of disk c → images_since t disk c
-  -- and the only one since its own clock
+  -- an image since the current time of the clock is an image of this moment
   pub only_now : (c : List ℕ) → images_since (time_of disk) disk c → images_of disk c
-  -- a moment since a later time is one since an earlier time
+  -- an image since a later time is also an image since an earlier time
   pub longer : (t u : ℕ) (c : List ℕ) → t ≤ u → images_since u disk c → images_since t disk c
 
 pub lawful : (disk : DiskState) → IsLawful disk
@@ -140,18 +140,18 @@ clock_of-more (Wrote at from ∷ more) calls = omega (arith, clock_of-more more 
 clock_of-more (Failed at from now ∷ more) calls = omega (arith, clock_of-more more calls)
 clock_of-more (Synced ∷ more) calls = omega (arith, clock_of-more more calls)
 
--- what a power cut may have left since an earlier time, it still may have
+-- later calls keep every image since a time that is not later than the clock before them
 pub since_more : (start : List ℕ) (more calls : List DiskCall) (t : ℕ) (c : List ℕ) → t ≤ clock_of calls → since_after start calls t c → since_after start (more ++ calls) t c
 since_more start [] calls t c le left = left
 since_more start (call ∷ more) calls t c le left = inr (omega (arith, le, clock_of-more more calls), since_more start more calls t c le left)
 
--- and besides only what it may have left since the stretch began
+-- an image after later calls is an image from before them, or an image since they began
 pub since_before : (start : List ℕ) (more calls : List DiskCall) (t : ℕ) (c : List ℕ) → since_after start (more ++ calls) t c → since_after start calls t c ⊎ since_after start (more ++ calls) (clock_of calls) c
 since_before start [] calls t c left = inl left
 since_before start (call ∷ more) calls t c (inl now) = inr (inl now)
 since_before start (call ∷ more) calls t c (inr past) = ⊎_elim (λ old. inl old) (λ new. inr (inr (clock_of-more more calls, new))) (since_before start more calls t c past.1)
 
--- ---- reads and syncs
+-- ---- stretches of reads and syncs
 
 writes_of-more : (more calls : List DiskCall) → writes_of calls ≤ writes_of (more ++ calls)
 writes_of-more [] calls = omega arith
@@ -160,7 +160,7 @@ writes_of-more (Wrote at from ∷ more) calls = omega (arith, writes_of-more mor
 writes_of-more (Failed at from now ∷ more) calls = omega (arith, writes_of-more more calls)
 writes_of-more (Synced ∷ more) calls = writes_of-more more calls
 
--- none of these calls is a write
+-- holds if none of these calls is a write
 abbrev pub Quiet : List DiskCall → Type 0
 Quiet [] = Unit {0}
 Quiet (WasRead ∷ more) = Quiet more

@@ -1,10 +1,10 @@
--- Calls that are made one after another, and how many writes are not synced after each.
+-- Calls that are made one after another, and the number of unsynced writes after each call.
 use Rattle.std.proofs.Common.{◌≡◌, inl, inr, ⊎_elim, ◌≤◌, List, [], ◌∷◌, ◌++◌, ℕ, zero, suc, replicate, refl, sym, ◌∙◌, ap, subst, append_assoc, Result, Ok, Err}
 use Rattle.mcs_disk.specs.CallList.{CutShort, FailureOf, Makes, OneUnsynced, unsynced}
 use Rattle.mcs_disk.specs.Calls.{DiskCall, Failed, Synced, WasRead, Wrote}
 use Rattle.mcs_disk.specs.Stretches.{writes_of}
 
--- no call was made
+-- an empty stretch leaves at most one unsynced write after each call
 pub none_added : (calls : List DiskCall) → OneUnsynced calls calls
 none_added calls = record { added = []; all = refl; each = none }
   where
@@ -12,7 +12,7 @@ none_added calls = record { added = []; all = refl; each = none }
     none [] sooner call is = cc
     none (c ∷ later) sooner call is = cc
 
--- a plan that was cut short, behind others
+-- if `first` succeeded and `second` was cut short, then `first` followed by `second` was cut short
 pub cut_behind : (first second : List DiskCall) (old mid new : List DiskCall) → mid ≡ first ++ old → CutShort second mid new → CutShort (second ++ first) old new
 cut_behind first [] old mid new is none = absurd none
 cut_behind first (Wrote at from ∷ second) old mid new is (inl failed) = inl (subst (λ (l : List DiskCall). FailureOf (Wrote at from) l new) (ap (λ (l : List DiskCall). second ++ l) is ∙ sym (append_assoc second first old)) failed)
@@ -21,32 +21,33 @@ cut_behind first (Failed at from now ∷ second) old mid new is (inl failed) = i
 cut_behind first (Synced ∷ second) old mid new is (inl failed) = inl (failed ∙ ap (λ (l : List DiskCall). second ++ l) is ∙ sym (append_assoc second first old))
 cut_behind first (call ∷ second) old mid new is (inr before) = inr (cut_behind first second old mid new is before)
 
--- a plan that was cut short in its first part
+-- if `first` was cut short, then `first` followed by `second` was cut short
 pub cut_before : (first second : List DiskCall) (old new : List DiskCall) → CutShort first old new → CutShort (second ++ first) old new
 cut_before first [] old new cut = cut
 cut_before first (call ∷ second) old new cut = inr (cut_before first second old new cut)
 
--- a first part that was made, and then the rest
+-- if `first` succeeded and `second` was then made, both together were made, with the result of
+-- `second`
 pub makes_then : {T E : Type 0} (first second : List DiskCall) (old mid new : List DiskCall) (result : Result T E)
     → mid ≡ first ++ old → Makes second mid new result → Makes (second ++ first) old new result
 makes_then first second old mid new (Ok x) is made = record { all = made.all ∙ ap (λ (l : List DiskCall). second ++ l) is ∙ sym (append_assoc second first old); cut = tt }
 makes_then first second old mid new (Err e) is made = record { all = tt; cut = cut_behind first second old mid new is made.cut }
 
--- a first part that failed
+-- if `first` failed, then `first` followed by `second` failed
 pub makes_first : {T E U V : Type 0} (first second : List DiskCall) (old new : List DiskCall) (e : E) (f : V) → Makes {T = T} {E = E} first old new (Err e) → Makes {T = U} {E = V} (second ++ first) old new (Err f)
 makes_first first second old new e f made = record { all = tt; cut = cut_before first second old new made.cut }
 
--- a read writes nothing
+-- a read adds no write to the list
 pub reads_write_nothing : {T E : Type 0} (old new : List DiskCall) (result : Result T E) → Makes (WasRead ∷ []) old new result → writes_of new ≡ writes_of old
 reads_write_nothing old new (Ok x) made = ap writes_of made.all
 reads_write_nothing old new (Err e) made = ⊎_elim (λ same. ap writes_of same) (λ none. absurd none) made.cut
 
--- nor does a sync
+-- a sync adds no write to the list
 pub syncs_write_nothing : {T E : Type 0} (old new : List DiskCall) (result : Result T E) → Makes (Synced ∷ []) old new result → writes_of new ≡ writes_of old
 syncs_write_nothing old new (Ok x) made = ap writes_of made.all
 syncs_write_nothing old new (Err e) made = ⊎_elim (λ same. ap writes_of same) (λ none. absurd none) made.cut
 
--- after each of these calls at most one write is not synced
+-- holds if at most one write is unsynced after each of these calls
 abbrev pub EachOne : List DiskCall → List DiskCall → Type 0
 EachOne old [] = Unit {0}
 EachOne old (call ∷ made) = (unsynced (call ∷ made ++ old) ≤ 1) × EachOne old made
@@ -68,7 +69,7 @@ ones_then old first (c ∷ second) before ones = (subst (λ (l : List DiskCall).
 pub one_by_one : (old new made : List DiskCall) → new ≡ made ++ old → EachOne old made → OneUnsynced old new
 one_by_one old new made is ones = record { added = made; all = is; each = λ later sooner call cut. at_each old made later sooner call ones cut }
 
--- one stretch after another
+-- two stretches, one after another: at most one write is unsynced after each call
 pub one_then : (old mid new : List DiskCall) → OneUnsynced old mid → OneUnsynced mid new → OneUnsynced old new
 one_then old mid new first second =
     one_by_one old new (second.added ++ first.added) (second.all ∙ ap (λ (l : List DiskCall). second.added ++ l) first.all ∙ sym (append_assoc second.added first.added old))
@@ -84,12 +85,12 @@ one_of_cut (Failed at from now ∷ plan) old new ones (inl same) = one_by_one ol
 one_of_cut (Synced ∷ plan) old new ones (inl same) = one_by_one old new plan same ones.1
 one_of_cut (call ∷ plan) old new ones (inr before) = one_of_cut plan old new ones.1 before
 
--- a plan of which each call leaves at most one write that is not synced
+-- if each planned call leaves at most one unsynced write, so does each call that was made
 pub one_of_made : {T E : Type 0} (plan old new : List DiskCall) (result : Result T E) → EachOne old plan → Makes plan old new result → OneUnsynced old new
 one_of_made plan old new (Ok x) ones made = one_by_one old new plan made.all ones
 one_of_made plan old new (Err e) ones made = one_of_cut plan old new ones made.cut
 
--- reads leave as many as there were
+-- reads leave the number of unsynced writes unchanged
 pub unsynced-reads : (n : ℕ) (old : List DiskCall) → unsynced (replicate n WasRead ++ old) ≡ unsynced old
 unsynced-reads zero old = refl
 unsynced-reads (suc n) old = unsynced-reads n old

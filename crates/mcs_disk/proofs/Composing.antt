@@ -1,4 +1,4 @@
--- Stretches of calls, one after another.
+-- Stretches of calls that follow one another, and what they do to the disk together.
 use Rattle.std.proofs.Common.{◌≡◌, ◌⊎◌, inl, inr, ⊎_elim, ◌+◌, ◌≤◌, ℕ, List, [], ◌∷◌, ◌++◌, refl, sym, ◌∙◌, ap, subst, append_assoc, length, min, Result, Ok, Err, IsErr}
 use Rattle.std.proofs.lemmas.Result.{on_ok_weaker}
 use Rattle.mcs_disk.specs.CallList.{CutShort, Makes}
@@ -10,7 +10,7 @@ use Rattle.mcs_disk.specs.PowerCut.{IsDurable}
 use Rattle.mcs_disk.proofs.CallLaws.{Quiet, clock_of-more, lawful, quiet, quiet_bytes, quiet_durable, quiet_images, quiet_since, since_before, since_more, since_sized}
 use Rattle.mcs_disk.proofs.Calling.{reads_write_nothing, syncs_write_nothing}
 
--- a count of faults, by another name of the failure
+-- `CountsFault` for an equivalent statement of the failure
 pub counts_as : (old new : DiskState) (F G : Type 0) → (F → G) → (G → F) → CountsFault old new F → CountsFault old new G
 counts_as old new F G to from counts = record {
   start = counts.start;
@@ -19,7 +19,7 @@ counts_as old new F G to from counts = record {
   no_fault = λ none. counts.no_fault (λ failed. none (to failed));
 }
 
--- calls of which none failed, and then some
+-- `CountsFault` of two stretches together, if the first had no failure
 pub counts_then : (old mid new : DiskState) (F G : Type 0) → ¬ F → CountsFault old mid F → CountsFault mid new G → CountsFault old new G
 counts_then old mid new F G none first second = record {
   start = second.start ∙ first.start;
@@ -28,9 +28,9 @@ counts_then old mid new F G none first second = record {
   no_fault = λ no. second.no_fault no ∙ first.no_fault none;
 }
 
--- ---- later
+-- ---- later states of a disk
 
--- what is said of the calls so far and some more
+-- a property of the later state, stated of the earlier calls and the added ones
 pub of_more : (P : List ℕ → List DiskCall → Type 0) (old new : DiskState) (x : IsLater old new) → P new.start new.calls → P old.start (x.added ++ old.calls)
 of_more P old new x it = subst (λ (s : List ℕ). P s (x.added ++ old.calls)) x.start (subst (P new.start) x.all it)
 
@@ -58,11 +58,11 @@ later_before old new x t c left =
     ⊎_elim (λ past. inl past) (λ now. inr (to_more (λ start calls. since_after start calls (clock_of old.calls) c) old new x now))
     (since_before old.start x.added old.calls t c (of_more (λ start calls. since_after start calls t c) old new x left))
 
--- what a power cut leaves has the size of the disk
+-- every image has the size of the disk
 pub since_size : (disk : DiskState) (t : ℕ) (c : List ℕ) → images_since t disk c → length c ≡ size_of disk
 since_size disk t c left = since_sized disk.start disk.calls t c left
 
--- what a cut since its own clock leaves of a durable disk
+-- on a durable disk, the bytes of the disk are the only image since the clock's current time
 pub durable_since : (disk : DiskState) → IsDurable disk → (c : List ℕ) → images_since (time_of disk) disk c → c ≡ bytes_of disk
 durable_since disk durable c left = durable c ((lawful disk).only_now c left)
 
@@ -99,13 +99,13 @@ sync_reads old new result call made = record {
   rests = record { later = makes_later _ old new result call.start made; unwritten = syncs_write_nothing old.calls new.calls result made };
 }
 
--- ---- reads and syncs
+-- ---- stretches of reads and syncs
 
--- calls that rest, one after another
+-- two stretches that add no image add none together
 pub rests_then : (old mid new : DiskState) → AddsNoImage old mid → AddsNoImage mid new → AddsNoImage old new
 rests_then old mid new first second = record { later = later_then old mid new first.later second.later; unwritten = second.unwritten ∙ first.unwritten }
 
--- calls that never were
+-- an empty stretch adds no image
 pub rests_still : (disk : DiskState) → AddsNoImage disk disk
 rests_still disk = record { later = no_later disk; unwritten = refl }
 
@@ -128,27 +128,27 @@ rests_durable old new rests held = to_more (λ start calls. (c : List ℕ) → i
 pub reads_as : (old new : DiskState) (F G : Type 0) → (F → G) → (G → F) → ReadsOnly old new F → ReadsOnly old new G
 reads_as old new F G to from reads = record { counts = counts_as old new F G to from reads.counts; rests = reads.rests }
 
--- calls that only read, one after another, of which none of the first has failed
+-- two stretches of reads and syncs are one stretch of reads and syncs if the first had no failure
 pub reads_then : (old mid new : DiskState) (F G : Type 0) → ¬ F → ReadsOnly old mid F → ReadsOnly mid new G → ReadsOnly old new G
 reads_then old mid new F G none first second = record {
   counts = counts_then old mid new F G none first.counts second.counts;
   rests = rests_then old mid new first.rests second.rests;
 }
 
--- ---- what a stretch leaves
+-- ---- the images of a stretch
 
--- what a stretch leaves, seen as less
+-- a stretch that leaves only images with P leaves only images with the weaker Q
 pub leaves_map : (old new : DiskState) (P Q : List ℕ → Type 0) → ((c : List ℕ) → P c → Q c) → LeavesOnly old new P → LeavesOnly old new Q
 leaves_map old new P Q weaker stretch = record { later = stretch.later; each = λ c left. weaker c (stretch.each c left) }
 
--- two stretches that leave nothing else, one after another
+-- if two stretches each leave only images with P, then so do both together
 pub leaves_then : (old mid new : DiskState) (P : List ℕ → Type 0) → LeavesOnly old mid P → LeavesOnly mid new P → LeavesOnly old new P
 leaves_then old mid new P first second = record {
   later = later_then old mid new first.later second.later;
   each = λ c left. ⊎_elim (λ past. first.each c past) (λ now. second.each c now) (later_before mid new second.later (time_of old) c left);
 }
 
--- a change, seen as one of less
+-- a change from P to Q is also a change from the weaker R to the weaker S
 pub changes_map : {T E : Type 0} (steps : ℕ) (old new : DiskState) (P Q R S : List ℕ → Type 0) (result : Result T E)
     → ((c : List ℕ) → P c → R c) → ((c : List ℕ) → Q c → S c) → Changes steps old new P Q result → Changes steps old new R S result
 changes_map steps old new P Q R S result before after change = record {

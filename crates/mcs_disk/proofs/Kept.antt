@@ -1,4 +1,4 @@
--- What stands where bytes were written, or where a write failed.
+-- The bytes of a disk after a write, and after a failed write.
 use Rattle.std.proofs.Common.{◌≡◌, ℕ, zero, suc, ◌+◌, ◌≤◌, List, [], ◌∷◌, ◌++◌, length, take, drop, refl, sym, ◌∙◌, ap, arith, length-take}
 use Rattle.std.proofs.lemmas.List.{drop_at, take_at}
 use Rattle.mcs_disk.specs.Calls.{bytes_after, part, put}
@@ -28,6 +28,6 @@ put_none zero zero (y ∷ ys) = refl
 put_none zero (suc n) (y ∷ ys) = refl
 put_none (suc at) n (y ∷ ys) = ap (λ (l : List ℕ). y ∷ l) (put_none at n ys)
 
--- a write that failed, after which a read gives what it gave
+-- after a failed write was added to the record, the bytes are still those that the record implies
 pub failed_kept : (h h' : Record Call) (at : ℕ) (from b : List ℕ) → h' ≡ record h { notes = (FailedWrite at, from) ∷ h.notes } → b ≡ bytes_after h.start (calls_in h.notes) → b ≡ bytes_after h'.start (calls_in h'.notes)
 failed_kept h h' at from b noted kept = rw noted (kept ∙ sym (put_none at (length from) (bytes_after h.start (calls_in h.notes))))

@@ -1,13 +1,12 @@
 -- The effect of calls on a disk's bytes, and the bytes that a power cut can leave after them. Lists
--- of calls are newest first. (Our own choice: a device that writes in ranges. Before a sync, it
--- promises that bytes outside the written ranges are unchanged, and nothing about the bytes inside.
--- After a sync, it promises that all bytes stay. We assume this of POSIX's read, write and
--- fdatasync on a file that was synced when it was opened. POSIX itself says nothing about power
--- cuts.)
+-- of calls are newest first. (Our own choice of device: it writes ranges of bytes. Before a sync,
+-- it promises only that bytes outside the written ranges are unchanged. After a sync, it promises
+-- that all bytes stay. We assume this of POSIX's read, write and fdatasync on a file that was
+-- synced when it was opened. POSIX itself says nothing about power cuts.)
 use Rattle.std.specs.Prelude.{◌≡◌, ◌⊎◌, ℕ, zero, suc, ◌+◌, ◌≤◌, ◌<◌, List, [], ◌∷◌, length, take, drop, slice_index}
 
--- A call on a disk as lists note it: one that returned Ok, or a failed write. Failed reads and
--- syncs are not noted. A failed write that had no effect need not be noted (`Makes` in CallList).
+-- A call in a list of calls: a call that returned Ok, or a failed write. Failed reads and syncs are
+-- not listed. A failed write that had no effect can be missing too (`Makes` in CallList).
 pub data DiskCall : Type 0 where
   -- a read that returned Ok; on an honest disk it returned the bytes that the disk holds
   WasRead : DiskCall
@@ -15,18 +14,19 @@ pub data DiskCall : Type 0 where
   Wrote : ℕ → List ℕ → DiskCall
   -- `Failed at tried seen`: a write of the bytes `tried` at offset `at` that failed, or that a
   -- close, a process kill or a power cut interrupted (`IsCutInWrite` of mcs_host). A power cut can
-  -- leave any bytes in its range. From then on, a read of the range returns the bytes `seen`,
-  -- truncated to the length of `tried`. At offsets beyond the end of `seen`, a read returns the
-  -- same bytes as before.
+  -- leave any bytes in the range of the write. From then on, a read of the range returns the bytes
+  -- `seen`, truncated to the length of `tried`. If `seen` is shorter, a read of the rest of the
+  -- range returns the same bytes as before.
   Failed : ℕ → List ℕ → List ℕ → DiskCall
-  -- a sync that returned Ok: it made all bytes of the disk stable
+  -- a sync that returned Ok: it has made all bytes of the disk stable
   Synced : DiskCall
 
--- the n bytes that start at this offset
+-- the n bytes of `file` that start at offset `at`; fewer if the file ends before that
 abbrev pub part : ℕ → ℕ → List ℕ → List ℕ
 part at n file = take n (drop at file)
 
--- a file after these bytes have overwritten it from this offset on
+-- the bytes of a file after a write of the given bytes at the given offset; bytes beyond the end of
+-- the file are dropped
 abbrev pub put : ℕ → List ℕ → List ℕ → List ℕ
 put at bytes [] = []
 put zero [] (y ∷ ys) = y ∷ ys
@@ -40,7 +40,7 @@ pub record Torn (at n : ℕ) (old new : List ℕ) : Type 0 where
   pub before : (i : ℕ) → i < at → slice_index new i ≡ slice_index old i
   pub after : (i : ℕ) → at + n ≤ i → slice_index new i ≡ slice_index old i
 
--- the bytes that a read returns after these calls on an honest disk that held `start` before them
+-- the bytes of an honest disk after these calls, if it held `start` before them
 abbrev pub bytes_after : List ℕ → List DiskCall → List ℕ
 bytes_after start [] = start
 bytes_after start (WasRead ∷ calls) = bytes_after start calls
@@ -49,8 +49,8 @@ bytes_after start (Failed at tried seen ∷ calls) =
     put at (take (length tried) seen) (bytes_after start calls)
 bytes_after start (Synced ∷ calls) = bytes_after start calls
 
--- holds if `image` is an image: a power cut after these calls can leave it on a disk that held
--- `start`
+-- holds if a power cut after these calls can leave the bytes `image` on a disk that held `start`
+-- before them
 abbrev pub images_after : List ℕ → List DiskCall → List ℕ → Type 0
 images_after start [] image = image ≡ start
 images_after start (WasRead ∷ calls) image = images_after start calls image
@@ -60,7 +60,7 @@ images_after start (Failed at tried seen ∷ calls) image =
     (before : List ℕ) × images_after start calls before × Torn at (length tried) before image
 images_after start (Synced ∷ calls) image = image ≡ bytes_after start calls
 
--- a disk's clock: the number of calls that have returned Ok, one tick each
+-- a disk's clock, in ticks: the number of calls that have returned Ok
 abbrev pub clock_of : List DiskCall → ℕ
 clock_of [] = 0
 clock_of (WasRead ∷ calls) = clock_of calls + 1
@@ -68,9 +68,9 @@ clock_of (Wrote at bytes ∷ calls) = clock_of calls + 1
 clock_of (Failed at tried seen ∷ calls) = clock_of calls
 clock_of (Synced ∷ calls) = clock_of calls + 1
 
--- Holds if a power cut can leave `image`, after all of these calls or before some of the newest of
--- them. A cut after all of them counts whatever `time` is. A cut before some of them counts only if
--- the clock was at `time` or later.
+-- Holds if a power cut can leave `image`, either after all of these calls or earlier, before the
+-- newest of them. An earlier cut counts only if the clock was at `time` or later; a cut after all
+-- of the calls always counts.
 abbrev pub since_after : List ℕ → List DiskCall → ℕ → List ℕ → Type 0
 since_after start [] time image = images_after start [] image
 since_after start (call ∷ calls) time image =

@@ -1,17 +1,18 @@
 -- The state of a disk: the bytes that it held at the start, and the calls on it since. Everything
--- else is a function of these two, except its fault count and its honesty. (Our own choice.)
+-- else is a function of these two, except the fault count and the honesty of the disk. (Our own
+-- choice.)
 use Rattle.std.specs.Prelude.{◌≡◌, ◌↔◌, ℕ, ◌+◌, ◌-◌, ◌^◌, min, List, ◌++◌, length}
 use Rattle.mcs_disk.specs.Calls.{DiskCall, bytes_after, images_after, clock_of, since_after}
 pub use Rattle.mcs_disk.specs.Calls.{part, put, Torn}
 
--- everything that a contract can see of a disk
+-- the state of a disk: everything that a contract can see of it
 pub record DiskState : Type 1 where
   -- the number of failed calls, saturating at `most_faults`
   pub faults : ℕ
-  -- the premise on the device; each kind of disk states its own: if it holds, a read returns
-  -- `bytes_of`
+  -- the premise that the device is honest: if it holds, a read returns `bytes_of`; each kind of
+  -- disk states its own premise
   pub honest : Type 0
-  -- the bytes before any call, which a power cut at that point would have left
+  -- the bytes before any call; a power cut before the first call leaves exactly these bytes
   pub start : List ℕ
   -- the calls on the disk, newest first
   pub calls : List DiskCall
@@ -24,8 +25,8 @@ size_of disk = length disk.start
 abbrev pub bytes_of : DiskState → List ℕ
 bytes_of disk = bytes_after disk.start disk.calls
 
--- holds if a power cut at this moment can leave these bytes; PowerCut defines the disk that is
--- found after the cut
+-- holds if a power cut at this moment can leave these bytes (PowerCut defines the disk that is
+-- found after the cut)
 abbrev pub images_of : DiskState → List ℕ → Type 0
 images_of disk = images_after disk.start disk.calls
 
@@ -33,9 +34,9 @@ images_of disk = images_after disk.start disk.calls
 abbrev pub time_of : DiskState → ℕ
 time_of disk = clock_of disk.calls
 
--- Holds if a power cut now can leave these bytes, or one at some moment since `time` could have
--- left them. (A cut during a write leaves one of the images after the write. A cut during a read or
--- a sync leaves one of the images before it.)
+-- Holds if a power cut now can leave these bytes, or if a cut at some moment since `time` could
+-- have left them. (A cut during a write leaves one of the images after the write. A cut during a
+-- read or a sync leaves one of the images before it.)
 abbrev pub images_since : ℕ → DiskState → List ℕ → Type 0
 images_since time disk = since_after disk.start disk.calls time
 
@@ -43,7 +44,7 @@ images_since time disk = since_after disk.start disk.calls time
 abbrev pub most_faults : ℕ
 most_faults = 2 ^ 64 - 1
 
--- The effect of calls on any disk. Its bytes at the start and its honesty stay the same. Its
+-- Holds if calls on a disk kept its initial bytes and its honesty, and counted their faults. The
 -- saturating fault count rises by one if a call failed, and stays the same otherwise. `failed`
 -- states that a call failed; it is `⊥` if none did.
 pub record CountsFault (old new : DiskState) (failed : Type 0) : Type 0 where
@@ -52,8 +53,8 @@ pub record CountsFault (old new : DiskState) (failed : Type 0) : Type 0 where
   pub fault : failed → new.faults ≡ min (old.faults + 1) most_faults
   pub no_fault : ¬ failed → new.faults ≡ old.faults
 
--- Holds if `new` is later than `old`: both start from the same bytes, and the calls of `new` are
--- those of `old`, perhaps followed by more. It states nothing about faults or honesty
+-- Holds if `new` is later than `old`: both have the same initial bytes, and the calls of `new` are
+-- those of `old`, possibly followed by more. It states nothing about faults or honesty
 -- (`CountsFault` does).
 pub record IsLater (old new : DiskState) : Type 0 where
   pub start : new.start ≡ old.start

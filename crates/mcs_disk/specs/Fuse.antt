@@ -1,4 +1,4 @@
--- The calls that a `FuseDisk` fails.
+-- The calls that a `FuseDisk` fails, and those that it passes on.
 use Rattle.std.specs.Prelude.{◌≡◌, ◌↔◌, ℕ, ◌+◌, ◌≤◌, IsErr, IsOk, Result}
 use Rattle.mcs_disk.specs.Disk.{CountsFault}
 use Rattle.mcs_disk.specs.States.{mem_disk_state}
@@ -7,7 +7,7 @@ use Rattle.mcs_disk.specs.declared.fuse.Fuse.TheVariants.{Whole, AllAfter, OneAf
 use Rattle.mcs_disk.specs.declared.fuse.FuseDisk.{FuseDisk}
 use Rattle.mcs_disk.specs.declared.memory.MemDisk.{MemDisk}
 
--- holds if the call after the next n calls fails
+-- holds if the schedule fails the call that follows the next n calls
 abbrev pub Fails : Fuse → ℕ → Type 0
 Fails Whole n = ⊥
 Fails (AllAfter passed) n = passed ≤ n
@@ -17,16 +17,17 @@ Fails (OneAfter passed) n = n ≡ passed
 abbrev pub FailsAfter : FuseDisk → ℕ → Type 0
 FailsAfter disk n = Fails disk.fuse n
 
--- the wrapped disk, to which calls are passed on
+-- the wrapped disk, which receives the calls that are passed on
 abbrev pub inner_disk : FuseDisk → MemDisk
 inner_disk disk = disk.disk
 
--- A call on the disk. If the fuse fails it, the result is an error and the call is not passed on.
--- Otherwise the wrapped disk answers it, with Ok. In both cases the fuse advances by one call.
+-- The effect of a call on a `FuseDisk`. If the fuse fails the call, the result is an error and the
+-- wrapped disk is unchanged. Otherwise the wrapped disk answers the call with Ok. In both cases the
+-- fuse advances by one call.
 pub record FuseCall {T E : Type 0} (old new : FuseDisk) (result : Result T E) : Type 0 where
   pub fails : FailsAfter old 0 → IsErr result
   pub kept_back : FailsAfter old 0 → inner_disk new ≡ inner_disk old
-  -- the wrapped disk's answer: the result is an error only if that disk counted a fault
+  -- if the call is passed on, the wrapped disk counts a fault only if the result is an error
   pub passed_on : ¬ (FailsAfter old 0)
       → CountsFault (mem_disk_state (inner_disk old)) (mem_disk_state (inner_disk new))
       (IsErr result)

@@ -5,7 +5,8 @@ use Rattle.mcs_disk.specs.NotedCalls.{calls_in}
 use Rattle.mcs_disk.specs.declared.fuse.FuseDisk.{FuseDisk}
 use Rattle.mcs_disk.specs.declared.memory.MemDisk.{MemDisk}
 
--- the state of an in-memory disk: no premise, no faults, and the calls since its initial bytes
+-- the state of an in-memory disk: it is always honest, has no faults, and has the calls since its
+-- initial bytes
 abbrev pub mem_disk_state : MemDisk → DiskState
 mem_disk_state disk = record {
   faults = 0;
@@ -14,11 +15,12 @@ mem_disk_state disk = record {
   calls = calls_in disk.history.notes;
 }
 
--- the state of a `FuseDisk`: that of the wrapped disk, with its own fault count
+-- the state of a `FuseDisk`: the state of the wrapped disk, but with the fault count of the
+-- `FuseDisk`
 abbrev pub fuse_disk_state : FuseDisk → DiskState
 fuse_disk_state disk = record (mem_disk_state disk.disk) { faults = disk.faults }
 
--- holds if the disk is honest and holds these bytes, and no call has reached it
+-- holds if the disk is honest, holds these bytes, and has had no calls and no faults
 pub record IsFresh (file : List ℕ) (disk : DiskState) : Type 0 where
   pub honest : disk.honest
   pub faults : disk.faults ≡ 0

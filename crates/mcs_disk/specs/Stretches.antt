@@ -1,10 +1,10 @@
--- Stretches of calls on a disk, from one state to a later one. The definitions cover the writes in
--- a stretch, and the bytes that a power cut at any moment of it can leave. (Our own choice.)
+-- Stretches of calls on a disk, from one state to a later one: the writes in a stretch, and the
+-- bytes that a power cut at any moment of the stretch can leave. (Our own choice.)
 use Rattle.std.specs.Prelude.{◌≡◌, ◌⊎◌, ℕ, ◌+◌, List, [], ◌∷◌}
 use Rattle.mcs_disk.specs.Calls.{DiskCall, WasRead, Wrote, Failed, Synced}
 use Rattle.mcs_disk.specs.Disk.{DiskState, IsLater, images_since, time_of}
 
--- the number of writes in the list, including failed ones
+-- the number of writes in the list, including failed writes
 abbrev pub writes_of : List DiskCall → ℕ
 writes_of [] = 0
 writes_of (WasRead ∷ calls) = writes_of calls
@@ -12,14 +12,14 @@ writes_of (Wrote at bytes ∷ calls) = writes_of calls + 1
 writes_of (Failed at tried seen ∷ calls) = writes_of calls + 1
 writes_of (Synced ∷ calls) = writes_of calls
 
--- Holds if `new` lists as many writes as `old`. If `new` is also later (not stated here), no
--- further write returned Ok, whether the disk is honest or not. On an honest disk, no failed write
--- has had any effect either.
+-- Holds if the lists of `old` and `new` contain the same number of writes. If `new` is also later
+-- than `old` (not stated here), no further write returned Ok, whether the disk is honest or not. On
+-- an honest disk, no failed write has had any effect either.
 abbrev pub WritesNothing : DiskState → DiskState → Type 0
 WritesNothing old new = writes_of new.calls ≡ writes_of old.calls
 
--- Holds if no calls but reads and syncs were made. They change no byte and add no image that a
--- power cut could leave.
+-- Holds if only reads and syncs were made between `old` and `new`. They change no byte and add no
+-- image that a power cut could leave.
 pub record AddsNoImage (old new : DiskState) : Type 0 where
   pub later : IsLater old new
   pub unwritten : WritesNothing old new

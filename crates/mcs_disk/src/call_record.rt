@@ -1,8 +1,8 @@
 //! The record of the calls on a disk.
 use crate::record::Record;
 
-/// A call that a disk has answered. The bytes of a write are not part of it; a [`Record`] stores
-/// them next to the call.
+/// A call that a disk has answered. The call does not contain the bytes of a write: a [`Record`]
+/// stores them next to the call.
 #[derive(Clone, Copy)]
 pub enum Call {
     /// A read that returned Ok.
@@ -15,5 +15,6 @@ pub enum Call {
     Sync,
 }
 
-/// The bytes that a disk held before any call, and all calls on it since.
+/// The record of the calls on one disk. It starts with the bytes that the disk held before any
+/// call.
 pub type CallRecord = Record<Call>;

@@ -1,4 +1,5 @@
-//! The [`Disk`] trait: a byte device of fixed size, which may or may not be honest.
+//! The [`Disk`] trait: a byte device of fixed size. Reads of an honest disk return the bytes that
+//! the calls on it have left.
 ghost use Rattle.std.specs.Prelude.{◌≡◌, ◌≤◌, ◌+◌, [], ◌∷◌, length, IsErr, OnOk};
 ghost use Rattle.mcs_disk.specs.Disk.{DiskState, bytes_of, part, put, size_of, CountsFault};
 ghost use Rattle.mcs_disk.specs.CallList.{Makes};
@@ -14,18 +15,19 @@ pub struct DiskFault;
 /// A byte device that can read and write ranges, and sync.
 ///
 /// Every disk has a size, a fault count and a list of the calls on it. On an honest disk, a read
-/// returns the bytes that the list implies. The list also implies which bytes a power cut can
-/// leave. Between two syncs, a cut can leave any bytes in a written range. After a successful sync,
-/// it leaves the current bytes.
+/// returns the bytes that follow from the list. The list also determines which bytes a power cut
+/// can leave. Between two syncs, a cut can leave any bytes in a written range. After a successful
+/// sync, it leaves the current bytes.
 pub trait Disk {
-    /// The disk as contracts see it.
+    /// The state of the disk, as contracts see it.
     ghost state: { Self → DiskState };
 
     /// Returns the size in bytes. No call changes it.
     fn size(&self) -> usize
         ensures { result ≡ size_of (state self.now) };
 
-    /// Reads the bytes that start at offset `at`, until `into` is full.
+    /// Fills `into` with the bytes that start at offset `at`. The range must lie within the disk.
+    /// It fails if the device fails. The bytes are those of the disk only if the disk is honest.
     fn read(&mut self, at: usize, into: &mut [u8]) -> Result<(), DiskFault>
         requires { at + length into.old ≤ size_of (state self.old) }
         ensures call { CountsFault (state self.old) (state self.new) (IsErr result) }
@@ -33,15 +35,16 @@ pub trait Disk {
         ensures honest { (state self.old).honest
             → OnOk result (into.new ≡ part at (length into.old) (bytes_of (state self.old))) };
 
-    /// Writes `from` at offset `at`. Until a sync succeeds, a power cut can leave any bytes in that
-    /// range.
+    /// Writes `from` at offset `at`. The range must lie within the disk. It fails if the device
+    /// fails. Until a sync succeeds, a power cut can leave any bytes in that range.
     fn write(&mut self, at: usize, from: &[u8]) -> Result<(), DiskFault>
         requires { at + length from.now ≤ size_of (state self.old) }
         ensures call { CountsFault (state self.old) (state self.new) (IsErr result) }
         ensures noted { Makes (Wrote at from.now ∷ []) (state self.old).calls
             (state self.new).calls result };
 
-    /// Makes all written bytes stable. After Ok, a power cut leaves the bytes that a read returns.
+    /// Makes all written bytes stable: after Ok, a power cut leaves the bytes that a read returns.
+    /// It fails if the device fails.
     fn sync(&mut self) -> Result<(), DiskFault>
         ensures call { CountsFault (state self.old) (state self.new) (IsErr result) }
         ensures noted { Makes (Synced ∷ []) (state self.old).calls (state self.new).calls result };

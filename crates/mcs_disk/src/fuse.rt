@@ -6,21 +6,21 @@ ghost use Rattle.mcs_disk.specs.Calls.{WasRead, Wrote, Synced};
 
 use crate::{Disk, DiskFault, MemDisk};
 
-/// A schedule of the calls that will fail.
+/// A schedule: it decides which calls will fail.
 #[derive(Clone, Copy)]
 enum Fuse {
     /// No call fails.
     Whole,
-    /// This number of calls pass; every later call fails.
+    /// This number of calls succeed; every later call fails.
     AllAfter(usize),
-    /// This number of calls pass; only the call after them fails.
+    /// This number of calls succeed; only the next call after them fails.
     OneAfter(usize),
 }
 
 impl Fuse {
     ghost use Rattle.mcs_disk.specs.Fuse.{Fails};
 
-    // Returns true if the next call fails, and advances the schedule by this call.
+    // Returns true if the next call fails, and advances the schedule by one call.
     fn blows(&mut self) -> bool
         ensures now { IsTrue result ↔ Fails self.old 0 }
         ensures later { (n : ℕ) → Fails self.new n ↔ Fails self.old (n + 1) }
@@ -46,8 +46,8 @@ impl Fuse {
 
 /// A wrapper around a [`MemDisk`] that fails chosen calls without passing them on.
 ///
-/// It counts its own faults, and it is honest, as the wrapped disk is. The wrapped disk answers
-/// every call that is passed on, and always with Ok.
+/// It counts its own faults. It is honest because the wrapped disk is. The wrapped disk answers
+/// every call that is passed on, always with Ok.
 #[derive(Drop)]
 pub struct FuseDisk {
     disk: MemDisk,
@@ -59,7 +59,7 @@ impl FuseDisk {
     ghost use Rattle.mcs_disk.specs.Fuse.{FailsAfter, inner_disk};
     ghost use Rattle.mcs_disk.specs.States.{fuse_disk_state, mem_disk_state};
 
-    /// Wraps a disk: passes on the first `calls` calls and fails every later one.
+    /// Wraps a disk. The result passes on the first `calls` calls and fails every later call.
     pub fn after(disk: MemDisk, calls: usize) -> FuseDisk
         ensures counts { CountsFault (mem_disk_state disk) (fuse_disk_state result) ⊥ }
         ensures calls { (fuse_disk_state result).calls ≡ (mem_disk_state disk).calls }
@@ -73,7 +73,8 @@ impl FuseDisk {
         }
     }
 
-    /// Wraps a disk: fails only the call after the first `calls` calls.
+    /// Wraps a disk. The result fails only one call, the first after `calls` calls, and passes on
+    /// all others.
     pub fn once(disk: MemDisk, calls: usize) -> FuseDisk
         ensures counts { CountsFault (mem_disk_state disk) (fuse_disk_state result) ⊥ }
         ensures calls { (fuse_disk_state result).calls ≡ (mem_disk_state disk).calls }
@@ -87,7 +88,7 @@ impl FuseDisk {
         }
     }
 
-    /// Disarms the fuse: every later call is passed on.
+    /// Disarms the fuse: every later call is passed on to the wrapped disk.
     pub fn mend(&mut self)
         ensures counts { CountsFault (fuse_disk_state self.old) (fuse_disk_state self.new) ⊥ }
         ensures calls { (fuse_disk_state self.new).calls ≡ (fuse_disk_state self.old).calls }
@@ -97,7 +98,7 @@ impl FuseDisk {
         self.fuse = Fuse::Whole;
     }
 
-    // Adds one to the saturating fault count and returns the fault. It changes nothing else.
+    // Adds one to the saturating fault count and returns the fault. Changes nothing else.
     fn fail(&mut self) -> DiskFault
         ensures inner { self.new.disk ≡ self.old.disk }
         ensures fuse { self.new.fuse ≡ self.old.fuse }

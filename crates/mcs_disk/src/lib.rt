@@ -3,7 +3,7 @@
 //!
 //! The journal is generic over the trait [`Disk`]. [`MemDisk`] is an honest in-memory disk.
 //! [`FuseDisk`], for tests, is an in-memory disk that fails chosen calls. [`Record`] lists the
-//! calls on a disk, and only contracts can see the list.
+//! calls on a disk; only contracts can see that list.
 #![tactic(auto)]
 
 mod call_record;

@@ -11,8 +11,8 @@ use std::alloc::{AllocError, Global};
 
 /// An honest in-memory disk. Every call returns Ok, and no call allocates memory.
 ///
-/// The bytes that a power cut would have left at each moment follow from the calls on the disk.
-/// Only contracts can see these calls.
+/// The calls on the disk determine the bytes that a power cut would have left at each moment. Only
+/// contracts can see these calls.
 #[derive(Drop)]
 pub struct MemDisk {
     pub(crate) bytes: Vec<u8>,
@@ -24,14 +24,14 @@ pub struct MemDisk {
 impl MemDisk {
     ghost use Rattle.mcs_disk.specs.States.{IsFresh, mem_disk_state};
 
-    /// Creates a disk of `size` zero bytes. It fails if memory runs out.
+    /// Creates a disk of `size` zero bytes. Fails if memory runs out.
     pub fn new(alloc: Global, size: usize) -> Result<MemDisk, AllocError>
         ensures { IfOk result (λ disk. IsFresh (replicate size 0) (mem_disk_state disk)) }
     {
         Ok(MemDisk::with_bytes(vec![in alloc; 0u8; size]?))
     }
 
-    /// Creates a disk that holds these bytes and has not been called yet.
+    /// Creates a disk that holds these bytes and has had no calls.
     pub fn with_bytes(bytes: Vec<u8>) -> MemDisk
         ensures { IsFresh bytes.items (mem_disk_state result) }
     {
@@ -39,7 +39,7 @@ impl MemDisk {
         MemDisk { bytes, history }
     }
 
-    /// Returns the bytes that the disk holds now.
+    /// Returns the current bytes of the disk.
     pub fn bytes(&self) -> &[u8]
         ensures { result.now ≡ bytes_of (mem_disk_state self.now) }
     {

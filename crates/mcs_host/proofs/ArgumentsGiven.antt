@@ -1,4 +1,4 @@
--- What a parse of the arguments gives: whether it entered a subcommand, which one, and the FILE in it.
+-- The result of parsing the arguments: the subcommand, if there is one, and its FILE.
 use Rattle.std.proofs.Common.{◌≡◌, ◌∙◌, sym, ap, refl, List, Bool, true, false, ◌||◌, if◌then◌else◌, Option, Some, None, codes, option_map}
 use Rattle.std.specs.Prelude.{option_and_then, Box}
 use Rattle.std.specs.Box.{box_value}
@@ -10,7 +10,7 @@ use Rattle.clap.specs.declared.parser.matches.SubCommand.{SubCommand}
 use Rattle.clap.proofs.WalkLemmas.{first_value-rows}
 use Rattle.mcs_host.specs.CommandLine.{choice_in, file_in, program}
 
--- a name and rows that are there belong together
+-- if the name and the rows of an optional pair are given, so is the pair
 both_there : (entered : Option (Text × List Row)) (name : Text) (rows : List Row) → option_map (λ p. p.0) entered ≡ Some name → option_map (λ p. p.1) entered ≡ Some rows → entered ≡ Some (name, rows)
 both_there None name rows named rowed = absurd (cc)
 both_there (Some p) name rows named rowed =
@@ -18,7 +18,7 @@ both_there (Some p) name rows named rowed =
     let same_rows : p.1 ≡ rows = cc in
     ap (λ n. Some (n, p.1)) same_name ∙ ap (λ r. Some (name, r)) same_rows
 
--- the name that the matches tell is that of their rows
+-- the subcommand's name in the matches is the one in its rows
 names_agree : {Z : Type 0} (sub : Option (Box SubCommand Z)) → option_map (λ p. p.0) (subcommand_rows sub) ≡ option_map (λ b. (out-SubCommand (box_value b)).name.now) sub
 names_agree None = refl
 names_agree (Some b) = refl
@@ -27,7 +27,7 @@ no_rows : {Z : Type 0} (sub : Option (Box SubCommand Z)) → option_map (λ b. (
 no_rows None unnamed = refl
 no_rows (Some b) unnamed = absurd (cc)
 
--- the parse entered this subcommand
+-- if the matches have this subcommand, the choice is its FILE
 pub chosen_from : (arguments : List Text) (m sub : ArgMatches) (name : Text) → subcommand_rows_of m ≡ subcommand_of program arguments
     → subcommand_name_of m ≡ Some name
     → option_map (λ p. p.1) (subcommand_rows (out-ArgMatches m).subcommand) ≡ Some (rows_of (found_of sub))
@@ -36,7 +36,7 @@ unfolding choice_in
 chosen_from arguments m sub name parsed named rowed = ap (option_and_then file_in)
     (sym parsed ∙ both_there (subcommand_rows_of m) name (rows_of (found_of sub)) (names_agree (out-ArgMatches m).subcommand ∙ named) rowed)
 
--- the parse entered none
+-- if the matches have no subcommand, there is no choice
 pub chosen_none : (arguments : List Text) (m : ArgMatches) → subcommand_rows_of m ≡ subcommand_of program arguments → subcommand_name_of m ≡ None → choice_in arguments ≡ None
 unfolding choice_in
 chosen_none arguments m parsed unnamed = ap (option_and_then file_in) (sym parsed ∙ no_rows (out-ArgMatches m).subcommand unnamed)

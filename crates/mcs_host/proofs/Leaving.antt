@@ -1,15 +1,15 @@
--- What is found in a file that was left after some first part of its calls.
+-- The bytes that are found in a file that was left after an initial part of its calls.
 use Rattle.std.proofs.Common.{◌≡◌, ◌⊎◌, inl, inr, ℕ, ◌≤◌, List, [], ◌∷◌, ◌++◌, sym, subst, arith}
 use Rattle.mcs_disk.specs.Calls.{DiskCall, Wrote, images_after, clock_of, since_after}
 use Rattle.mcs_disk.proofs.CallLaws.{clock_of-more, counts_now}
 use Rattle.mcs_host.specs.Ending.{IsCutInWrite}
 
--- what was an image after the calls that were made is one since then, whatever comes after them
+-- an image after the calls that were made is an image since then, even after further calls
 pub image_since : (start : List ℕ) (more calls : List DiskCall) (t : ℕ) (c : List ℕ) → t ≤ clock_of calls → images_after start calls c → since_after start (more ++ calls) t c
 image_since start [] calls t c le now = counts_now start calls t c now
 image_since start (call ∷ more) calls t c le now = inr (omega (arith, le, clock_of-more more calls), image_since start more calls t c le now)
 
--- the same, where the newest of the calls that were made may have been cut off
+-- the same holds if the newest of the calls that were made was interrupted
 pub found_since : (start : List ℕ) (all more made by_the_end : List DiskCall) (t : ℕ) (c : List ℕ) → all ≡ more ++ made → (by_the_end ≡ made) ⊎ IsCutInWrite made by_the_end → t ≤ clock_of by_the_end
     → images_after start by_the_end c → since_after start all t c
 found_since start all more made by_the_end t c are (inl whole) le now =

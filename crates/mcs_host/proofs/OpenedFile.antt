@@ -1,10 +1,10 @@
--- The calls on a file that was filled, or written again, as it was opened.
+-- The calls on a file that was filled, or rewritten, while it was opened.
 use Rattle.std.proofs.Common.{◌≡◌, ◌∙◌, ap, ap₂, subst, sym, refl, inl, inr, ℕ, min, ◌+◌, List, ◌∷◌, length, Bool, true, IsTrue, arith}
 use Rattle.mcs_journal.specs.declared.format.TheConstants.{FILE_SIZE}
 use Rattle.mcs_host.specs.HostCalls.{HostCall, HostState, IsSame, Length, asked}
 use Rattle.mcs_host.specs.Opening.{IsBegun, IsAllZeros, IsFilledAfter, IsOpening, IsReadAfter, IsWrittenAfter, locking_calls}
 
--- the calls on a file that was locked and whose length was asked for
+-- the calls on a file that was locked and whose length was requested
 measured_calls : (name : List ℕ) (found n : ℕ) (first locked measured : HostState) → locked.calls ≡ locking_calls name first.calls → measured ≡ asked (Length found true) locked → found ≡ n
     → measured.calls ≡ Length n true ∷ locking_calls name first.calls
 measured_calls name found n first locked measured lock long is =

@@ -1,4 +1,4 @@
--- Lists of zeros.
+-- Properties of lists of zeros.
 use Rattle.std.proofs.Common.{◌==◌, ℕ, zero, suc, List, [], ◌∷◌, replicate, take, refl}
 use Rattle.std.proofs.lemmas.Bool.{and_parts, and_from}
 use Rattle.mcs_host.specs.Opening.{AreZeros}

@@ -8,20 +8,20 @@ use Rattle.mcs_host.specs.HostDisk.{host_disk}
 use Rattle.mcs_host.specs.SystemFile.{system_state}
 use Rattle.mcs_host.specs.declared.file_disk.FileDisk.{FileDisk}
 
--- the state of a file as a disk, as contracts see it
+-- the state of a session file, seen as a disk
 abbrev pub as_disk : FileDisk → DiskState
 as_disk file = host_disk file.on
 
--- the state of a file as an open file of the host, as contracts see it
+-- the state of a session file, seen as an open file of the host
 abbrev pub as_host_file : FileDisk → HostState
 as_host_file file = system_state file.on.file
 
--- the bytes that are found when the file is next opened, after a close, a process kill or a power
--- cut
+-- the bytes that are found in the file at its next opening, after a close, a process kill or a
+-- power cut
 abbrev pub found_in : FileDisk → List ℕ
 found_in file = file.on.end.start
 
--- holds if the newest of `calls` is a write, and `cut` is `calls` with that write interrupted
+-- holds if the newest of `calls` is a write, and `cut` is the same list with that write interrupted
 pub record IsCutInWrite (calls cut : List DiskCall) : Type 0 where
   pub at : ℕ
   pub bytes : List ℕ
@@ -30,8 +30,8 @@ pub record IsCutInWrite (calls cut : List DiskCall) : Type 0 where
   pub torn : cut ≡ Failed at bytes [] ∷ before
 
 -- Holds if the file was left after an initial part of its calls, with the clock at `time` or later.
--- Lists of calls are newest first, so this part is the tail of the list. Its newest call can be a
--- write that was interrupted.
+-- Lists of calls are newest first, so the initial part is the tail of the list. Its newest call can
+-- be a write that was interrupted.
 pub record IsLeftSince (time : ℕ) (file : FileDisk) : Type 0 where
   pub never_made : List DiskCall
   pub made : List DiskCall
@@ -40,14 +40,14 @@ pub record IsLeftSince (time : ℕ) (file : FileDisk) : Type 0 where
       ⊎ IsCutInWrite made (calls_in file.on.end.notes)
   pub late : time ≤ clock_of (calls_in file.on.end.notes)
 
--- holds if the bytes that are found after the end are an image after the calls by then: the
--- statement of `IsHonest` about a file, spelled out
+-- holds if the bytes that are found after the end are an image after the calls before the end; this
+-- spells out `IsHonest` for a file
 abbrev pub IsFoundAfterTheEnd : FileDisk → Type 0
 IsFoundAfterTheEnd file =
     images_after file.on.history.start (calls_in file.on.end.notes) (found_in file)
 
--- Holds if `like` agrees with `file` in everything that any call on it has answered. In addition,
--- `like` was left after all of its calls, and `image` is found in it.
+-- Holds if `like` and `file` have given the same answers to all calls. In addition, `like` was left
+-- after all of its calls, and the bytes `image` are found in it.
 pub record IsFoundWith (image : List ℕ) (file like : FileDisk) : Type 0 where
   pub faults : like.on.faults ≡ file.on.faults
   pub bytes : like.on.bytes.items ≡ file.on.bytes.items

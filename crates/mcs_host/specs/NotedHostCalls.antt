@@ -5,7 +5,7 @@ use Rattle.mcs_host.specs.HostCalls.{HostCall}
 use Rattle.mcs_host.specs.declared.host_record.Asked.{Asked}
 use Rattle.mcs_host.specs.declared.host_record.Asked.TheVariants as asked
 
--- the `HostCall` for an `Asked`, and its bytes or its name if it has any
+-- the `HostCall` for an `Asked` of the code, given the bytes or the name of the call
 abbrev pub host_call_of : Asked → List ℕ → HostCall
 host_call_of (asked.Lock ok) bytes = calls.Lock ok
 host_call_of (asked.LookUp ok) bytes = calls.LookUp bytes ok

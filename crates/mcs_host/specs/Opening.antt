@@ -1,5 +1,5 @@
--- The calls that are made to open a file, newest first. (Our own choice: FORMAT, "A file of the
--- host".)
+-- The calls that the program makes to open a file, newest first. (Our own choice; FORMAT, "A file
+-- of the host", describes them.)
 use Rattle.std.specs.Prelude.{◌≡◌, ◌⊎◌, ◌+◌, ◌==◌, ℕ, min, Bool, true, false, IsTrue, IsFalse, List, [], ◌∷◌, length, codes, Option, Some, None}
 use Rattle.std.specs.List.{list_all}
 use Rattle.std.specs.Path.{path_parent}
@@ -11,18 +11,19 @@ use Rattle.mcs_host.specs.HostCalls.{HostCall, HostState, IsLink, Length, Lock, 
 abbrev pub AreZeros : List ℕ → Type 0
 AreZeros bytes = IsTrue (list_all (λ b. b == 0) bytes)
 
--- Holds if a file has the size of a session file and all its bytes are 0. This module calls such a
--- file blank (for `IsBlank` of mcs_journal, the first 16 bytes are 0).
+-- Holds if a file is blank: it has the size of a session file, and all its bytes are 0. (`IsBlank`
+-- of mcs_journal requires only the first 16 bytes to be 0.)
 pub record IsAllZeros (bytes : List ℕ) : Type 0 where
   pub size : length bytes ≡ FILE_SIZE
   pub zeros : AreZeros bytes
 
--- holds if a file has the size of a session file and begins with its name
+-- holds if a file has the size of a session file and begins with the name of one
 pub record IsNamedSession (bytes : List ℕ) : Type 0 where
   pub size : length bytes ≡ FILE_SIZE
   pub name : part 0 NAME_SIZE bytes ≡ NAME
 
--- the parent of a name, or the program's working folder if there is no parent or its name is empty
+-- this parent folder, or the program's working folder if there is no parent or the parent's name is
+-- empty
 abbrev pub folder_or_here : Option (List ℕ) → List ℕ
 folder_or_here None = codes "."
 folder_or_here (Some []) = codes "."
@@ -33,8 +34,8 @@ abbrev pub folder_of : List ℕ → List ℕ
 folder_of name = folder_or_here (path_parent name)
 
 -- Holds if the calls after `before` sync the folder of a file. This is the folder of its name or,
--- for a link, that of its real name. `ok` is true if the folder was synced. Otherwise one of the
--- calls failed (an `IsLink` that failed has `false`).
+-- if the name is a link, the folder of its real name. `ok` is true if the folder was synced.
+-- Otherwise one of the calls failed. (An `IsLink` that failed has the Bool `false`.)
 abbrev pub FolderCalls : List ℕ → Bool → List HostCall → List HostCall → Type 0
 FolderCalls name ok before after =
     (after ≡ SyncFolder (folder_of name) ok ∷ IsLink name false ∷ before)
@@ -43,12 +44,12 @@ FolderCalls name ok before after =
     ⊎ (IsFalse ok × ((after ≡ IsLink name false ∷ before)
     ⊎ (after ≡ RealName [] false ∷ IsLink name true ∷ before))))
 
--- holds if the file was opened, or created if `make` is true, and no other call was made on it
+-- holds if the file was opened, or created if `make` is true, and no further call was made on it
 abbrev pub IsBegun : Bool → List HostCall → Type 0
 IsBegun make calls = (calls ≡ []) ⊎ (IsTrue make × (calls ≡ Made ∷ []))
 
--- the calls that lock the file, before any other call on it, and find that its name still refers to
--- it
+-- the calls that lock the file, before any other call on it, and then find that its name still
+-- refers to it
 abbrev pub locking_calls : List ℕ → List HostCall → List HostCall
 locking_calls name before = LookUp name true ∷ Lock true ∷ before
 
@@ -57,28 +58,28 @@ abbrev pub writing_calls : List ℕ → List HostCall → List HostCall
 writing_calls bytes before =
     SyncAll true ∷ WriteAt 0 bytes true ∷ SetLength (length bytes) true ∷ before
 
--- Holds if the file was synced after `before`, then its folder, and then these bytes were read. The
--- sync of the folder succeeded if `is_name_stable` is true, and otherwise failed.
+-- Holds if, after the calls `before`, the file was synced, then its folder, and then these bytes
+-- were read. If `is_name_stable` is true, the sync of the folder succeeded; otherwise it failed.
 pub record IsReadAfter
     (name bytes : List ℕ) (is_name_stable : Bool) (before after : List HostCall) : Type 0 where
   pub synced : List HostCall
   pub folder : FolderCalls name is_name_stable (SyncAll true ∷ before) synced
   pub read : after ≡ ReadAt 0 bytes true ∷ synced
 
--- holds if, after `before`, these bytes were written as the whole file, and the file and its folder
--- were synced
+-- holds if, after the calls `before`, these bytes were written as the whole file, and the file and
+-- its folder were synced
 abbrev pub IsWrittenAfter : List ℕ → List ℕ → List HostCall → List HostCall → Type 0
 IsWrittenAfter name bytes before after = FolderCalls name true (writing_calls bytes before) after
 
--- holds if `written` was written and synced after `before` (`IsWrittenAfter`), and then `bytes`
--- were read
+-- holds if, after the calls `before`, `written` was written and synced (`IsWrittenAfter`), and then
+-- `bytes` were read
 pub record IsFilledAfter
     (name written bytes : List ℕ) (before after : List HostCall) : Type 0 where
   pub filled : List HostCall
   pub writes : IsWrittenAfter name written before filled
   pub read : after ≡ ReadAt 0 bytes true ∷ filled
 
--- Holds if the file was empty, and was filled with zeros and read back because `make` is true.
+-- Holds if the file was empty and `make` is true: the file was filled with zeros and read back.
 pub record IsFilled
     (make : Bool) (name bytes : List ℕ) (is_name_stable : Bool) (locked calls : List HostCall)
     : Type 0 where
@@ -89,20 +90,20 @@ pub record IsFilled
   pub is_blank : IsAllZeros written
   pub asked : IsFilledAfter name written bytes (Length 0 true ∷ locked) calls
 
--- Holds if the file was read. Of a longer file, only one byte more than a session file has was
--- read: this size shows that it is not a session file.
+-- Holds if the file was read as it is. Of a longer file, only one byte more than a session file has
+-- was read; this size shows that it is not a session file.
 pub record IsRead
     (make : Bool) (name bytes : List ℕ) (is_name_stable : Bool) (locked calls : List HostCall)
     : Type 0 where
   pub found : ℕ
   pub size : length bytes ≡ min found (FILE_SIZE + 1)
-  -- if `make` is true, the file is not empty and not blank
+  -- if `make` is true, the file is neither empty nor blank
   pub not_empty : IsTrue make → ¬ (found ≡ 0)
   pub not_blank : IsTrue make → ¬ (IsAllZeros bytes)
   pub asked : IsReadAfter name bytes is_name_stable (Length found true ∷ locked) calls
 
--- Holds if the file was blank, and was read and then written because `make` is true. A blank file
--- can have holes.
+-- Holds if the file was blank and `make` is true: the file was read, and then written again because
+-- a blank file can have holes.
 pub record IsRewritten
     (make : Bool) (name bytes : List ℕ) (is_name_stable : Bool) (locked calls : List HostCall)
     : Type 0 where
@@ -112,8 +113,8 @@ pub record IsRewritten
   pub asked : IsReadAfter name bytes is_name_stable (Length FILE_SIZE true ∷ locked) read
   pub writes : IsWrittenAfter name bytes read calls
 
--- Holds if the file of this name was opened and locked, and holds these bytes. `is_name_stable` is
--- true if its folder was synced before these bytes were read.
+-- Holds if the file of this name was opened and locked, and holds these bytes. If `is_name_stable`
+-- is true, its folder was synced before the bytes were read.
 pub record IsOpening
     (make : Bool) (name bytes : List ℕ) (is_name_stable : Bool) (file : HostState)
     : Type 0 where

@@ -2,6 +2,6 @@
 use Rattle.std.specs.Prelude.{false}
 use Rattle.mcs_host.specs.declared.streams.Streams.{Streams}
 
--- the empty set
+-- the empty set of streams
 abbrev pub none_of_them : Streams
 none_of_them = record { input = false; output = false; errors = false }

@@ -1,4 +1,4 @@
-//! The task that the command-line arguments select.
+//! The task that the command-line arguments select: a new or an existing session.
 ghost use Rattle.std.specs.Prelude.{◌≡◌, ℕ, List, string_bytes};
 ghost use Rattle.mcs_host.specs.declared.arguments.WordsFault.TheVariants.{NoMemory};
 
@@ -25,7 +25,7 @@ impl FileName {
         FileName { name }
     }
 
-    /// Returns the name with which the file is opened.
+    /// Returns the name as text, as it was given in the arguments.
     pub fn as_str(&self) -> &str
         ensures { result.now ≡ self.now }
     {
@@ -33,22 +33,22 @@ impl FileName {
     }
 }
 
-/// The task that the arguments select.
+/// The task that the arguments select: which session to run.
 #[derive(Drop)]
 pub enum Choice {
-    /// Begin a new session in this file.
+    /// Create a new session in this file.
     New(FileName),
-    /// Continue the session in this file.
+    /// Continue the session that this file holds.
     Open(FileName),
 }
 
-/// The reason why the arguments select no task.
+/// The reason why the arguments do not select a task.
 #[derive(Clone, Copy, Debug, Error)]
 pub enum WordsFault {
-    /// The program does not accept the arguments. It prints its usage.
+    /// The program does not accept the arguments, and prints its usage.
     #[error("the arguments are none of the program's")]
     Usage,
-    /// Memory ran out.
+    /// Memory ran out while the arguments were parsed.
     #[error("out of memory")]
     NoMemory,
 }

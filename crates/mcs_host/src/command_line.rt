@@ -20,8 +20,8 @@ impl Choice {
     }
 }
 
-// Parses the arguments with clap. If clap's definition accepts them, only lack of memory is an
-// error.
+// Parses the arguments with clap. Fails only if clap's definition rejects the arguments, or if
+// memory runs out.
 fn matches<'a, S: AsStr>(alloc: Global, arguments: &'a [S]) -> Result<ArgMatches<'a>, Error>
     ensures ok { IfOk result (λ m. subcommand_rows_of m
         ≡ subcommand_of program (map S.text arguments.entry.now)) }
@@ -40,9 +40,9 @@ fn matches<'a, S: AsStr>(alloc: Global, arguments: &'a [S]) -> Result<ArgMatches
 
 /// Returns the task that the arguments select. The first argument is the program's name.
 ///
-/// The subcommand and the FILE are those that clap's definition of the matches gives. The function
-/// fails with `Usage` only if that definition does not accept the arguments or gives no choice, for
-/// example for a request for help. It fails with `NoMemory` if memory runs out.
+/// On success, the subcommand and the FILE are those of clap's definition of the matches. It fails
+/// with `Usage` only if that definition rejects the arguments or gives no choice, for example for a
+/// request for help. It fails with `NoMemory` if memory runs out.
 pub fn choice<S: AsStr>(alloc: Global, arguments: &[S]) -> Result<Choice, WordsFault>
     ensures given { IfOk result (λ c.
         choice_in (map S.text arguments.entry.now) ≡ Some (arguments_of_choice c)) }

@@ -1,4 +1,4 @@
-//! A session file of the host, as a disk.
+//! A session file of the host, used as a disk.
 ghost use Rattle.std.specs.Prelude.{◌≡◌, ◌<◌, ◌≤◌, ◌+◌, ℕ, List, [], ◌∷◌, IfOk, IsErr, OnOk, IsTrue, is_ok, length, ◌↔◌};
 ghost use Rattle.mcs_disk.specs.Disk.{part, CountsFault, Torn, bytes_of, size_of, images_of};
 ghost use Rattle.mcs_disk.specs.CallList.{Makes};
@@ -13,8 +13,8 @@ use std::alloc::Global;
 use std::fs::File;
 use std::rt::Files;
 
-/// A session file of the host, as a disk: a [`HostDisk`] over a file of the operating system. The
-/// file stays open.
+/// A session file of the host, used as a disk: a [`HostDisk`] over a file of the operating system.
+/// The file stays open.
 ///
 /// If the file has more than [`FILE_SIZE`] bytes, the disk has only the first `FILE_SIZE + 1` of
 /// them. No session file has that size.
@@ -29,15 +29,15 @@ impl FileDisk {
     ghost use Rattle.mcs_host.specs.Opening.{IsNamedSession, IsOpening};
 
     /// Opens a file for reading and writing. If `make` is true, it creates a missing file, and
-    /// fills an empty one with [`FILE_SIZE`] zero bytes. When it returns Ok, the file's contents
-    /// are on the device, and so is its name (but see `is_name_stable`).
+    /// fills an empty file with [`FILE_SIZE`] zero bytes. When it returns Ok, the file's contents
+    /// are on the device. The file's name is there too if `is_name_stable` returns true.
     ///
     /// It fails with:
     ///
     /// - `NoMemory` if memory runs out for the bytes, or for the name that a link leads to
-    /// - `Stream` if the file is also a standard stream, which is checked before the file is opened
-    /// - `StreamsUnknown` if the host does not say whether it is one, also before the file is
-    ///   opened
+    /// - `Stream` if the file is also a standard stream (checked before the file is opened)
+    /// - `StreamsUnknown` if the host does not say whether the file is a standard stream (also
+    ///   checked before the file is opened)
     /// - `FolderUnsynced` if `make` is true, the file was missing, empty or all zeros, and its
     ///   folder cannot be synced
     /// - another error if the host rejects the file
@@ -58,15 +58,15 @@ impl FileDisk {
     }
 
     /// Returns true if the file's name survives a power cut, because its folder was synced. For an
-    /// existing file it returns false if the folder may not be read or the host does not sync
-    /// folders. It also returns false if a link leads to a folder whose name is not text.
+    /// existing file, it returns false if the program cannot read the folder, or if the host does
+    /// not sync folders. It also returns false if a link leads to a folder whose name is not text.
     pub fn is_name_stable(&self) -> bool
         ensures { result ≡ self.now.on.is_name_stable }
     {
         self.on.is_name_stable()
     }
 
-    /// Returns true if the last failed call failed for lack of space on the device.
+    /// Returns true if the last call that failed did so because the device had no space.
     pub fn is_full(&self) -> bool
         ensures { result ≡ self.now.on.is_full }
     {
@@ -74,7 +74,7 @@ impl FileDisk {
     }
 
     /// Returns true if the file has the size of a session file and begins with the name `MCS4BEN1`.
-    /// `open` can then continue with it.
+    /// Only then can `open` continue with it.
     pub fn is_named_session(&self) -> bool
         ensures { IsTrue result ↔ IsNamedSession (bytes_of (as_disk self.now)) }
     {
@@ -99,7 +99,7 @@ impl Disk for FileDisk {
             result }
         ensures honest { (as_disk self.old).honest → OnOk result
             (into.new ≡ part at (length into.old) (bytes_of (as_disk self.old))) }
-        // Holds on every file, honest or not.
+        // The next clause holds for every file, honest or not.
         ensures given { OnOk result
             (into.new ≡ part at (length into.old) (bytes_of (as_disk self.old))) }
         ensures asked { AsksToRead at into.new result
@@ -113,7 +113,8 @@ impl Disk for FileDisk {
         ensures call { CountsFault (as_disk self.old) (as_disk self.new) (IsErr result) }
         ensures noted { Makes (Wrote at from.now ∷ []) (as_disk self.old).calls
             (as_disk self.new).calls result }
-        // Holds even if the write failed, because it can have reached any part of the range.
+        // The next clause holds even if the write failed: it can have changed any part of the
+        // range.
         ensures torn { (before image : List ℕ) → images_of (as_disk self.old) before
             → Torn at (length from.now) before image → images_of (as_disk self.new) image }
         ensures asked { as_host_file self.new

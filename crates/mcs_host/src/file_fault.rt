@@ -1,4 +1,4 @@
-//! The errors of opening a file.
+//! The errors that opening a file can return.
 ghost use Rattle.std.specs.Prelude.{◌≡◌, ◌≢◌, ◌⊎◌, ◌↔◌, IsTrue, MatchResult, false};
 ghost use Rattle.std.specs.IoError.{error_kind};
 ghost use Rattle.std.specs.declared.fs.locks.TryLockError.TheVariants.{WouldBlock};
@@ -11,32 +11,34 @@ use std::fs::TryLockError;
 use std::io::{self, ErrorKind};
 use thiserror::Error;
 
-/// The error number for a program that has reached its limit of open files (POSIX's EMFILE).
+/// The number of the error that the host returns if the program has reached its limit of open files
+/// (POSIX's EMFILE).
 const PROGRAM_FILES: i32 = 24;
 
-/// The error number for a host that has reached its limit of open files (POSIX's ENFILE).
+/// The number of the error that the host returns if it has reached its own limit of open files
+/// (POSIX's ENFILE).
 const HOST_FILES: i32 = 23;
 
-/// The reason why a file was not opened. All except `NoMemory` are errors of the host. Errors that
-/// somebody can act on have named variants.
+/// The reason why a file was not opened. All except `NoMemory` are errors of the host. Each error
+/// that a user can act on has its own variant.
 #[derive(Clone, Copy, Debug, PartialEq, Eq, Error)]
 pub enum FileFault {
-    /// Another program is using the file: it holds the lock.
+    /// Another program is using the file and holds its lock.
     #[error("in use")]
     InUse,
-    /// The host cannot lock this file, as on some network file systems.
+    /// The host cannot lock this file. Some network file systems have no locks.
     #[error("no lock")]
     NoLock,
-    /// No file has this name, or its folder does not exist.
+    /// No file has this name, or the folder in the name does not exist.
     #[error("not there")]
     NotThere,
     /// The program is not permitted to read and write the file.
     #[error("no permission")]
     Denied,
-    /// The name is that of a folder.
+    /// The name refers to a folder, not to a file.
     #[error("a folder")]
     Folder,
-    /// The file is not a regular file, but for example a device.
+    /// The file is not a regular file. It is a device, for example.
     #[error("not a regular file")]
     NotAFile,
     /// The file's name, or a part of it, is too long.
@@ -45,20 +47,20 @@ pub enum FileFault {
     /// The device has no space for the file.
     #[error("no space")]
     NoSpace,
-    /// The file was to be created, but its folder cannot be synced. A power cut could lose its
-    /// name.
+    /// The file was to be created or filled, but its folder cannot be synced. A power cut could
+    /// lose the file's name.
     #[error("folder not synced")]
     FolderUnsynced,
-    /// Too many files are open.
+    /// The program or the host has reached its limit of open files.
     #[error("too many open files")]
     TooManyFiles,
-    /// These standard streams of the program are the same file.
+    /// The file is also one of the program's standard streams. The set names the streams.
     #[error("a standard stream")]
     Stream(Streams),
     /// The host does not say whether a standard stream is this file.
     #[error("standard streams unknown")]
     StreamsUnknown,
-    /// The host rejected the file for another reason.
+    /// The host rejected the file for a reason that has no variant of its own.
     #[error("refused")]
     Device,
     /// Memory ran out for the file's bytes, or for the name that a link leads to.
@@ -77,7 +79,7 @@ impl From<io::Error> for FileFault {
     }
 }
 
-// Returns the reason for an error by its kind, or `None` for a kind that nobody can act on.
+// Returns the fault for an error of this kind, or `None` if the kind has no variant of its own.
 fn named_fault(kind: ErrorKind) -> Option<FileFault>
     ensures { result ≡ fault_of_kind kind }
 {
@@ -94,7 +96,7 @@ fn named_fault(kind: ErrorKind) -> Option<FileFault>
     }
 }
 
-// Returns the reason for any other error, by its number.
+// Returns the fault for any other error, given its error number.
 fn unnamed_fault(number: Option<i32>) -> FileFault
     ensures { IsFaultOfNumber number result }
 {
@@ -104,7 +106,7 @@ fn unnamed_fault(number: Option<i32>) -> FileFault
     }
 }
 
-/// Returns true if the call failed because the device is full or a quota is used up.
+/// Returns true if the call failed because the device is full or because a quota is used up.
 pub(crate) fn is_for_space(answer: &io::Result<()>) -> bool
     ensures { MatchResult answer.now (λ _. result ≡ false) (λ error. IsTrue result
         ↔ (error_kind error ≡ ErrorKind.StorageFull) ⊎ (error_kind error ≡ ErrorKind.QuotaExceeded)) }

@@ -1,4 +1,4 @@
-//! An open file of the host, as a disk.
+//! An open file of the host, used as a disk.
 ghost use Rattle.std.specs.Prelude.{◌≡◌, ◌↔◌, ◌<◌, ◌≤◌, ◌+◌, ℕ, List, [], ◌∷◌, IfOk, IsErr, OnOk, IsTrue, is_ok, length, min, vec_len};
 ghost use Rattle.mcs_disk.specs.Disk.{most_faults, part, CountsFault, Torn, bytes_of, size_of, images_of};
 ghost use Rattle.mcs_disk.specs.CallList.{Makes};
@@ -16,12 +16,12 @@ use mcs_disk::{Call, CallRecord, Disk, DiskFault, overwrite};
 use mcs_journal::FILE_SIZE;
 use std::alloc::{AllocError, Global};
 
-/// An open file of the host, as a disk.
+/// An open file of the host, used as a disk.
 ///
-/// The file is read once into memory, when it is opened, and each write also updates this copy. So
-/// a read that returns different bytes is detected, and is a device fault. The premise `honest`
-/// states what no call can detect: the bytes that are found in the file after a power cut are one
-/// of the images of a disk with these calls.
+/// The file is read into memory once, when it is opened, and each write also updates this copy. A
+/// read that returns other bytes than the copy is therefore detected as a device fault. What no
+/// call can detect is the premise `honest`: the bytes that are found in the file after a power cut
+/// are one of the images of a disk with these calls.
 #[derive(Drop)]
 pub struct HostDisk<H: HostFile> {
     file: H,
@@ -41,7 +41,7 @@ impl<H: HostFile> HostDisk<H> {
     ghost use Rattle.mcs_host.specs.FileDisk.{IsUncalled};
     ghost use Rattle.mcs_host.specs.Opening.{IsOpening};
 
-    /// Opens the file of this name. See `FileDisk::open_at`.
+    /// Opens the file of this name. `FileDisk::open_at` describes the parameters and the errors.
     pub fn open_at<N: Host<File = H>>(
         host: &N,
         alloc: Global,
@@ -54,7 +54,7 @@ impl<H: HostFile> HostDisk<H> {
         ensures asked { IfOk result (λ disk. IsOpening make file.now (bytes_of (host_disk disk))
             disk.is_name_stable (H.HostFile.state disk.file)) }
     {
-        // Allocate first, so that no call on the host is made if memory runs out.
+        // Allocate first, so that no call is made on the host if memory runs out.
         let mut bytes = zeros(alloc, MOST_BYTES)?;
         let (opened, is_name_stable) = open_and_read(host, alloc, file, make, &mut bytes)?;
         let history = CallRecord::new(&bytes);
@@ -77,7 +77,7 @@ impl<H: HostFile> HostDisk<H> {
         self.is_name_stable
     }
 
-    /// Returns true if the last failed call failed for lack of space on the device.
+    /// Returns true if the last call that failed did so because the device had no space.
     pub fn is_full(&self) -> bool
         ensures { result ≡ self.now.is_full }
     {
@@ -91,7 +91,7 @@ impl<H: HostFile> HostDisk<H> {
         self.bytes.len() == FILE_SIZE && is_session_name(&self.bytes[0..8])
     }
 
-    // Returns true if `given` equals the bytes at offset `at` in the copy of the file.
+    // Returns true if `given` equals the bytes at offset `at` of the copy in memory.
     fn holds(&self, at: usize, given: &[u8]) -> bool
         requires { at + length given.now ≤ length self.now.bytes.items }
         ensures { IsTrue result ↔ (given.now ≡ part at (length given.now) self.now.bytes.items) }
@@ -99,8 +99,8 @@ impl<H: HostFile> HostDisk<H> {
         given == &self.bytes[at..at + given.len()]
     }
 
-    // Adds one to the saturating fault count, stores `is_full` and returns the fault. It changes
-    // nothing else. `is_full` is true if the fault is due to lack of space.
+    // Adds one to the saturating fault count, stores `is_full`, and returns the fault. Changes
+    // nothing else. `is_full` is true if the device had no space.
     fn fail(&mut self, is_full: bool) -> DiskFault
         ensures file { self.new.file ≡ self.old.file }
         ensures bytes { self.new.bytes ≡ self.old.bytes }
@@ -114,7 +114,7 @@ impl<H: HostFile> HostDisk<H> {
     }
 }
 
-// Returns `size` zero bytes. It fails if memory runs out.
+// Returns a vector of `size` zero bytes. Fails if memory runs out.
 #[tactic(auto, using(crate::proofs::ZeroBytes::zeros_of))]
 fn zeros(alloc: Global, size: usize) -> Result<Vec<u8>, AllocError>
     ensures len { IfOk result (λ bytes. vec_len bytes ≡ size) }
@@ -140,7 +140,7 @@ impl<H: HostFile> Disk for HostDisk<H> {
             result }
         ensures honest { (host_disk self.old).honest → OnOk result
             (into.new ≡ part at (length into.old) (bytes_of (host_disk self.old))) }
-        // Holds on every file, honest or not.
+        // The next clause holds for every file, honest or not.
         ensures given { OnOk result
             (into.new ≡ part at (length into.old) (bytes_of (host_disk self.old))) }
         ensures asked { AsksToRead at into.new result
@@ -159,7 +159,8 @@ impl<H: HostFile> Disk for HostDisk<H> {
         ensures call { CountsFault (host_disk self.old) (host_disk self.new) (IsErr result) }
         ensures noted { Makes (Wrote at from.now ∷ []) (host_disk self.old).calls
             (host_disk self.new).calls result }
-        // Holds even if the write failed, because it can have reached any part of the range.
+        // The next clause holds even if the write failed: it can have changed any part of the
+        // range.
         ensures torn { (before image : List ℕ) → images_of (host_disk self.old) before
             → Torn at (length from.now) before image → images_of (host_disk self.new) image }
         ensures asked { H.HostFile.state self.new.file
@@ -175,7 +176,7 @@ impl<H: HostFile> Disk for HostDisk<H> {
         Ok(())
     }
 
-    // The length of the file never changes here, so a sync of its data is enough.
+    // The length of the file does not change while it is a disk, so a sync of its data is enough.
     fn sync(&mut self) -> Result<(), DiskFault>
         ensures call { CountsFault (host_disk self.old) (host_disk self.new) (IsErr result) }
         ensures noted { Makes (Synced ∷ []) (host_disk self.old).calls (host_disk self.new).calls

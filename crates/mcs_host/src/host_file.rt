@@ -1,5 +1,5 @@
 //! The calls on the host that a session file needs, as traits. Code that is generic over these
-//! traits is proved to make the calls that its contracts state, in that order, and no others.
+//! traits is proved to make exactly the calls that its contracts state, in that order.
 ghost use Rattle.std.specs.Prelude.{◌≡◌, [], ◌∷◌, IfOk, MatchResult, false, is_ok, true};
 ghost use Rattle.std.specs.Path.{path_buf_bytes};
 ghost use Rattle.mcs_host.specs.HostCalls.{HostState, HasCalls, IsLink, Length, Lock, LookUp, Made, ReadAt, RealName, SetLength, SyncAll, SyncData, SyncFolder, WriteAt, asked, is_yes};
@@ -11,81 +11,88 @@ use std::fs::TryLockError;
 use std::io;
 use std::path::PathBuf;
 
-/// An open file of the host. Each method makes one call. Contracts see all calls so far, with their
-/// answers.
+/// An open file of the host. Each method except `number` makes one call on the host. Contracts see
+/// all calls so far, with their answers.
 pub trait HostFile {
-    /// The file as contracts see it.
+    /// The state of the open file, as contracts see it.
     ghost state: { Self → HostState };
 
-    /// Returns the host's number for the file, its descriptor.
+    /// Returns the file's descriptor, the number by which the host identifies the open file.
     fn number(&self) -> i32
         ensures { result ≡ (state self.now).number };
 
-    /// Requests the exclusive lock, without waiting.
+    /// Requests the exclusive lock on the file, without waiting. Fails if another program holds the
+    /// lock, or if the host cannot lock the file.
     fn try_lock(&mut self) -> Result<(), TryLockError>
         ensures { state self.new ≡ asked (Lock (is_ok result)) (state self.old) };
 
-    /// Returns the file's length in bytes.
+    /// Returns the file's length in bytes. Fails if the host returns an error.
     fn length(&mut self) -> io::Result<u64>
         ensures { MatchResult result
             (λ n. state self.new ≡ asked (Length n true) (state self.old))
             (λ _. state self.new ≡ asked (Length 0 false) (state self.old)) };
 
-    /// Sets the file's length in bytes.
+    /// Sets the file's length in bytes. Fails if the host returns an error.
     fn set_length(&mut self, to: u64) -> io::Result<()>
         ensures { state self.new ≡ asked (SetLength to (is_ok result)) (state self.old) };
 
-    /// Reads the bytes that start at offset `at`, until `into` is full.
+    /// Fills `into` with the bytes of the file that start at offset `at`. Fails if the host returns
+    /// an error, or if the file ends too early.
     fn read_at(&mut self, at: usize, into: &mut [u8]) -> io::Result<()>
         ensures { state self.new ≡ asked (ReadAt at into.new (is_ok result)) (state self.old) };
 
-    /// Writes all of `from` at offset `at`.
+    /// Writes all of `from` at offset `at`. If the host returns an error, any part of the range can
+    /// have been written.
     fn write_at(&mut self, at: usize, from: &[u8]) -> io::Result<()>
         ensures { state self.new ≡ asked (WriteAt at from.now (is_ok result)) (state self.old) };
 
-    /// Syncs the file's bytes.
+    /// Syncs the file's bytes to the device. Fails if the host returns an error.
     fn sync_data(&mut self) -> io::Result<()>
         ensures { state self.new ≡ asked (SyncData (is_ok result)) (state self.old) };
 
-    /// Syncs the file's bytes and its length.
+    /// Syncs the file's bytes and its length to the device. Fails if the host returns an error.
     fn sync_all(&mut self) -> io::Result<()>
         ensures { state self.new ≡ asked (SyncAll (is_ok result)) (state self.old) };
 }
 
-/// The host, which opens files by name.
+/// A host: it opens files by name.
 pub trait Host {
-    /// An open file of this host.
+    /// The type of an open file on this host.
     type File: HostFile + Drop;
 
-    /// Returns the standard streams that are the file of this name. The file must be regular or
-    /// missing. The call fails for any other file, and if the host does not say which files the
-    /// streams are.
+    /// Returns the standard streams that refer to the file of this name. The file must be regular
+    /// or missing. The call fails for any other file, and if the host does not say which files the
+    /// streams refer to.
     fn streams_that_are(&self, name: &str) -> Result<Streams, FileFault>;
 
     /// Checks that a file created under this name can be removed again. If the name is a link, the
-    /// folder that it leads to must have a name without links. The call allocates memory.
+    /// folder that it leads to must have a name without links; otherwise the call fails. The call
+    /// allocates memory.
     fn can_be_removed(&self, alloc: Global, name: &str) -> io::Result<()>;
 
-    /// Opens the file of this name for reading and writing.
+    /// Opens the existing file of this name for reading and writing. Fails if the host returns an
+    /// error.
     fn open(&self, name: &str) -> io::Result<Self::File>
         ensures { IfOk result (λ file. HasCalls name.now [] (Self.File.state file)) };
 
-    /// Opens the file of this name for reading and writing, and creates it if it is missing.
+    /// Opens the file of this name for reading and writing. If the file is missing, the call
+    /// creates it. Fails if the host returns an error.
     fn open_or_make(&self, name: &str) -> io::Result<Self::File>
         ensures { IfOk result (λ file. HasCalls name.now (Made ∷ []) (Self.File.state file)) };
 
-    /// Returns true if this name still refers to the file.
+    /// Returns true if this name still refers to the open file. Fails if the host returns an error.
     fn is_named(&self, file: &mut Self::File, name: &str) -> io::Result<bool>
         ensures { Self.File.state file.new
             ≡ asked (LookUp name.now (is_yes result)) (Self.File.state file.old) };
 
-    /// Returns true if this name of the file is a symbolic link.
+    /// Returns true if this name of the file is a symbolic link. Fails if the host returns an
+    /// error.
     fn is_link(&self, file: &mut Self::File, name: &str) -> io::Result<bool>
         ensures { Self.File.state file.new
             ≡ asked (IsLink name.now (is_yes result)) (Self.File.state file.old) };
 
     /// Returns the name, without links, of the file that this name leads to. The call allocates
-    /// memory.
+    /// memory. Fails if the host returns an error.
     fn real_name(
         &self,
         alloc: Global,
@@ -98,11 +105,12 @@ pub trait Host {
             (λ _. Self.File.state file.new
             ≡ asked (RealName [] false) (Self.File.state file.old)) };
 
-    /// Syncs the folder of this name. The call is noted with `file`, which is in that folder.
+    /// Syncs the folder of this name. The folder contains `file`, and the call is recorded with
+    /// `file`. Fails if the host returns an error.
     fn sync_folder(&self, file: &mut Self::File, folder: &str) -> io::Result<()>
         ensures { Self.File.state file.new
             ≡ asked (SyncFolder folder.now (is_ok result)) (Self.File.state file.old) };
 
-    /// Removes the file of this name.
+    /// Removes the file of this name. Fails if the host returns an error.
     fn remove(&self, name: &str) -> io::Result<()>;
 }

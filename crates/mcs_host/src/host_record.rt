@@ -1,36 +1,37 @@
 //! The record of the calls on a file of the host.
 use mcs_disk::Record;
 
-/// A call on a file of the host that has been answered. The flag is true if the call returned Ok,
-/// and for a question only if the answer was also yes. The bytes or the name of the call are not
-/// part of it.
+/// A call on a file of the host that has been answered. The flag is true if the call returned Ok;
+/// for a question, the answer must also be yes. The value does not contain the bytes or the name of
+/// the call; a `Record` stores them next to the call.
 #[derive(Clone, Copy)]
 pub(crate) enum Asked {
-    /// A request for the exclusive lock.
+    /// A request to lock the file exclusively.
     Lock(bool),
-    /// The question whether a name refers to the file.
+    /// A question: does a name refer to the file?
     LookUp(bool),
-    /// A request for the length, and the length that the host answered.
+    /// A request for the length of the file, with the length that the host returned.
     Length(u64, bool),
-    /// A request to set the length to this number of bytes.
+    /// A request to set the length of the file to this number of bytes.
     SetLength(u64, bool),
-    /// A request to read at this offset.
+    /// A request to read bytes at this offset.
     ReadAt(usize, bool),
-    /// A request to write at this offset.
+    /// A request to write bytes at this offset.
     WriteAt(usize, bool),
-    /// A request to sync the file's bytes.
+    /// A request to sync the bytes of the file.
     SyncData(bool),
-    /// A request to sync the file's bytes and its length.
+    /// A request to sync the bytes and the length of the file.
     SyncAll(bool),
-    /// A request to sync a folder.
+    /// A request to sync the folder of the file.
     SyncFolder(bool),
-    /// The question whether a name is a symbolic link.
+    /// A question: is a name a symbolic link?
     IsLink(bool),
-    /// A request for the file's name without links.
+    /// A request for the name of the file without links.
     RealName(bool),
-    /// The request that opened the file, and that creates it if it is missing.
+    /// The call that opened the file and created it if it was missing.
     Made,
 }
 
-/// The name with which a file of the host was opened, and the calls on it since.
+/// The record of an open file of the host: the name with which it was opened, and the calls on it
+/// since.
 pub(crate) type HostRecord = Record<Asked>;

@@ -1,5 +1,5 @@
-//! Laws about the premise that a file is honest: its meaning, its consequences, and that it can
-//! hold. The contract of each function states a law; its body does nothing.
+//! Laws about the premise that a file is honest: what it means, what follows from it, and that it
+//! can hold. The contract of each function states a law; the function itself does nothing.
 ghost use Rattle.std.specs.Prelude.{◌≡◌, ◌↔◌, ℕ, List};
 ghost use Rattle.mcs_disk.specs.Disk.{bytes_of, images_of, images_since};
 ghost use Rattle.mcs_disk.specs.PowerCut.{IsLeftByCut};
@@ -8,19 +8,19 @@ ghost use Rattle.mcs_host.specs.FileDisk.{IsApart, IsUncalled};
 
 use crate::FileDisk;
 
-/// Shows that the bytes that are found in an honest file are an image since a given time. The
-/// premise is that the file was left after an initial part of its calls, with the clock at that
-/// time or later.
+/// Shows that the bytes that are found in an honest file after its end are an image since a given
+/// time. The premise is that the file was left after an initial part of its calls, with the clock
+/// at that time or later.
 pub fn what_is_found_is_an_image()
     ensures { (time : ℕ) (file : FileDisk) → (as_disk file).honest
         → IsLeftSince time file → images_since time (as_disk file) (found_in file) }
 {}
 
-/// Shows that a file that is opened again is a disk that a power cut since a given time leaves. The
-/// premises are:
+/// Shows that a file that is opened again is a disk that a power cut since a given time can leave.
+/// The premises are:
 ///
-/// - The file is honest and was left with the clock at that time or later.
-/// - The file opened again is honest and holds the bytes that were found, before any call on it.
+/// - The file is honest, and it was left with the clock at that time or later.
+/// - The file opened again is honest. Before any call on it, it holds the bytes that were found.
 pub fn opened_again_is_left_by_cut()
     ensures { (time : ℕ) (file again : FileDisk) → (as_disk file).honest
         → IsLeftSince time file → (as_disk again).honest
@@ -29,22 +29,22 @@ pub fn opened_again_is_left_by_cut()
         → IsLeftByCut time (as_disk file) (as_disk again) }
 {}
 
-/// Shows that a file is honest if and only if the bytes that are found after its end are an image
-/// after the calls by then.
+/// Shows that a file is honest if, and only if, the bytes that are found after its end are an image
+/// after the calls before that end.
 pub fn honest_where_an_image_is_found()
     ensures { (file : FileDisk) → (as_disk file).honest ↔ IsFoundAfterTheEnd file }
 {}
 
-/// Shows that the premise can hold, for a newly opened file and for any other. For each image that
-/// the calls on a file can leave, there is an honest file in which that image is found after the
-/// end. All answers are the same for both files. So no answer of a file refutes the premise.
+/// Shows that no answer of a file can refute the premise that the file is honest. For each image
+/// that the calls on a file can leave, there is an honest file with the same answers in which that
+/// image is found after the end.
 pub fn each_image_may_be_found()
     ensures { (file : FileDisk) (image : List ℕ) → images_of (as_disk file) image
         → (like : FileDisk) × (as_disk like).honest × IsFoundWith image file like }
 {}
 
-/// Shows that no file ever has the number of a standard stream. Nothing that the program writes to
-/// a standard stream goes into a session file.
+/// Shows that no open `FileDisk` has the descriptor of a standard stream. Nothing that the program
+/// writes to a standard stream goes into a session file.
 pub fn each_file_is_apart()
     ensures { (file : FileDisk) → IsApart (as_host_file file).number }
 {}

@@ -2,8 +2,8 @@
 //! as a disk.
 //!
 //! [`choice`] parses the command line. [`StandIns`] replace closed standard streams. [`FileDisk`]
-//! implements the trait `Disk` of mcs_disk on a file of the host. That the file keeps its bytes
-//! after a power cut is a premise on the host, not a theorem.
+//! implements the trait `Disk` of mcs_disk for a file of the host. It is a premise on the host, not
+//! a theorem, that the file keeps its bytes after a power cut.
 #![tactic(auto)]
 
 mod arguments;

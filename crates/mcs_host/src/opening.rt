@@ -1,4 +1,4 @@
-//! Functions that open and lock a file of the host, and create and fill it on request.
+//! Functions that open and lock a file of the host. On request, they create the file and fill it.
 ghost use Rattle.std.specs.Prelude.{◌≡◌, ◌==◌, ◌↔◌, ◌<◌, ◌≤◌, [], ◌∷◌, IfOk, OnOk, IsTrue, is_ok, true, vec_len};
 ghost use Rattle.std.specs.List.{list_all};
 ghost use Rattle.mcs_host.specs.FileDisk.{IsApart};
@@ -13,19 +13,19 @@ use std::alloc::Global;
 use std::io::{self, ErrorKind};
 use std::path::Path;
 
-/// The maximum number of bytes that are read from a file. It is one more than a session file has,
-/// so that the size of a longer file shows that it is not a session file.
+/// The maximum number of bytes that are read from a file: one more than a session file has. If a
+/// file is longer, the number of bytes read shows that it is not a session file.
 pub(crate) const MOST_BYTES: usize = FILE_SIZE + 1;
 
-/// The descriptor number of standard error, the highest of the three standard streams.
+/// The descriptor of standard error, the highest of the three standard streams.
 const STANDARD_ERROR: i32 = 2;
 
 /// Opens a file for reading and writing, locks it, and reads it into `bytes`, which must be zeros.
-/// It returns the file, and true if the file's name survives a power cut.
+/// Returns the file, and true if the file's name survives a power cut.
 ///
-/// If `make` is true, it creates a missing file, and fills an empty one with [`FILE_SIZE`] zero
+/// If `make` is true, it creates a missing file, and fills an empty file with [`FILE_SIZE`] zero
 /// bytes. If the fill fails, the file is made empty again. If the call fails after it created the
-/// file, the file is removed if it is empty and not in use by another program.
+/// file, it removes the file if it is empty and no other program uses it.
 ///
 /// It does not open a file that is also a standard stream. It opens no file if the host does not
 /// say whether the file is a standard stream.
@@ -53,7 +53,7 @@ pub(crate) fn open_and_read<N: Host>(
         Ok(is_name_stable) => Ok((opened, is_name_stable)),
         Err(fault) => {
             if is_made && fault != FileFault::InUse {
-                // return the first error, even if the empty file cannot be removed
+                // the first error is returned, even if the empty file cannot be removed
                 let _ = remove_empty(host, alloc, &mut opened, file);
             }
             Err(fault)
@@ -61,8 +61,8 @@ pub(crate) fn open_and_read<N: Host>(
     }
 }
 
-// Opens a file. It creates the file if it is missing and `make` is true. It returns the file, and
-// true if the file was created.
+// Opens a file. If the file is missing and `make` is true, creates it. Returns the file, and true
+// if the file was created.
 fn open_or_make<N: Host>(
     host: &N,
     alloc: Global,
@@ -83,7 +83,8 @@ fn open_or_make<N: Host>(
 }
 
 // Locks a file before any other call on it, fills it if necessary, and reads it. When it returns
-// Ok, the file's contents are on the device. The result is true if its name is there too.
+// Ok, the file's contents are on the device. The result is true if the file's name is on the device
+// too.
 fn lock_and_read<N: Host>(
     host: &N,
     alloc: Global,
@@ -112,15 +113,15 @@ fn lock_and_read<N: Host>(
     bytes.truncate(found.min(MOST_BYTES as u64) as usize);
     let is_name_stable = sync_and_read(host, alloc, opened, file, bytes)?;
     if make && is_blank(bytes) {
-        // It can have holes, for example after an earlier fill that was interrupted.
+        // A blank file can have holes, for example after an earlier fill that was interrupted.
         write_whole(host, alloc, opened, file, bytes)?;
     }
     Ok(is_name_stable)
 }
 
-// Locks a file and checks that its name still refers to it. Another program can have removed the
-// file before the lock was granted. A file with the number of a standard stream is rejected,
-// because output to the stream would go into it.
+// Locks a file and checks that its name still refers to it, because another program can have
+// removed the file before the lock was granted. Fails if the file has the descriptor of a standard
+// stream, because output to the stream would go into the file.
 fn lock<N: Host>(host: &N, opened: &mut N::File, file: &str) -> Result<(), FileFault>
     ensures apart { OnOk result (IsApart (N.File.state opened.new).number) }
     ensures same { OnOk result (IsSame (N.File.state opened.old) (N.File.state opened.new)) }
@@ -137,7 +138,7 @@ fn lock<N: Host>(host: &N, opened: &mut N::File, file: &str) -> Result<(), FileF
     Ok(())
 }
 
-// Fills an empty file with `bytes`, which are zeros, and reads it back into `bytes`.
+// Writes `bytes`, which are zeros, to an empty file, and reads the file back into `bytes`.
 fn fill_and_read<N: Host>(
     host: &N,
     alloc: Global,
@@ -155,8 +156,8 @@ fn fill_and_read<N: Host>(
     Ok(())
 }
 
-// Makes an existing file stable, and then reads its first bytes until `bytes` is full. It returns
-// true if the file's name is stable too.
+// Makes an existing file stable, and then fills `bytes` with the start of the file. Returns true if
+// the file's name is stable too.
 fn sync_and_read<N: Host>(
     host: &N,
     alloc: Global,
@@ -175,7 +176,7 @@ fn sync_and_read<N: Host>(
     Ok(is_name_stable)
 }
 
-// Returns true if the bytes are those of a blank file: `FILE_SIZE` zeros.
+// Returns true if the bytes are those of a blank file, which has `FILE_SIZE` zeros.
 fn is_blank(bytes: &[u8]) -> bool
     ensures { IsTrue result ↔ IsAllZeros bytes.now }
 {
@@ -188,8 +189,8 @@ fn are_zeros(bytes: &[u8]) -> bool
     bytes.iter().all(|byte| *byte == 0)
 }
 
-// Returns the reason why a file's name was not made stable. The reason can be lack of memory,
-// because the name that a link leads to is allocated.
+// Returns the fault for an error of making a file's name stable. It can be a lack of memory,
+// because the call allocates the name that a link leads to.
 fn name_fault(error: io::Error) -> FileFault
     ensures { IsNameFault error result }
 {
@@ -199,8 +200,8 @@ fn name_fault(error: io::Error) -> FileFault
     }
 }
 
-// Returns the reason why no file can be created at the target of a link. If the target's name is
-// not text, the reason is that its folder could not be synced.
+// Returns the fault for an error of creating a file at the target of a link. If the target's name
+// is not text, the fault is `FolderUnsynced`.
 fn link_fault(error: io::Error) -> FileFault
     ensures { IsLinkFault error result }
 {
@@ -210,7 +211,7 @@ fn link_fault(error: io::Error) -> FileFault
     }
 }
 
-// Writes `zeros` to an empty file. If that fails, the file is made empty again.
+// Writes `zeros` to an empty file. If the write fails, makes the file empty again.
 fn fill<N: Host>(
     host: &N,
     alloc: Global,
@@ -224,16 +225,16 @@ fn fill<N: Host>(
 {
     let filled = write_whole(host, alloc, opened, file, zeros);
     if filled.is_err() {
-        // return the first error
+        // the first error is returned, even if the file cannot be made empty
         let _ = opened.set_length(0);
     }
     filled
 }
 
 // Writes the whole file, so that each byte has space on the device, and makes the file and its name
-// stable. The length is set first, so that a stop halfway leaves a file in which a new session can
-// still begin. A folder that cannot be synced is an error here. Otherwise a power cut could lose
-// the name of a new file, and with it a command that was answered `ok`.
+// stable. Sets the length first: if the program stops halfway, a new session can still be created
+// in the file. Fails if the folder cannot be synced. Otherwise a power cut could lose the name of a
+// new file, and with it a command that was answered `ok`.
 fn write_whole<N: Host>(
     host: &N,
     alloc: Global,
@@ -255,7 +256,7 @@ fn write_whole<N: Host>(
 }
 
 // Syncs the folder of a file, so that the file's name survives a power cut. If the name is a link,
-// the folder is that of the file that the link leads to.
+// the folder is the one of the file that the link leads to.
 fn sync_folder<N: Host>(host: &N, alloc: Global, opened: &mut N::File, file: &str) -> io::Result<()>
     ensures same { IsSame (N.File.state opened.old) (N.File.state opened.new) }
     ensures asked { FolderCalls file.now (is_ok result)
@@ -268,7 +269,7 @@ fn sync_folder<N: Host>(host: &N, alloc: Global, opened: &mut N::File, file: &st
     host.sync_folder(opened, folder_of(real_path.as_str()))
 }
 
-/// Returns the folder that contains the file of this name, or `.` if the name has none.
+/// Returns the folder that contains the file of this name, or `.` if the name contains no folder.
 pub(crate) fn folder_of(name: &str) -> &str
     ensures { result.now ≡ folder_of name.now }
 {
@@ -278,9 +279,9 @@ pub(crate) fn folder_of(name: &str) -> &str
     }
 }
 
-// Makes a file's name survive a power cut, and returns true if that was done. It returns false if
-// the folder may not be read, if the host does not sync folders, or if a link leads to a folder
-// whose name is not text.
+// Makes a file's name survive a power cut, and returns true if that succeeded. Returns false if the
+// program cannot read the folder, if the host does not sync folders, or if a link leads to a
+// folder whose name is not text.
 fn sync_folder_if_it_may_be<N: Host>(
     host: &N,
     alloc: Global,
@@ -302,7 +303,7 @@ fn sync_folder_if_it_may_be<N: Host>(
     }
 }
 
-// Removes a file if it is empty. A link to the file stays.
+// Removes a file if it is empty. If the name is a link, the link itself stays.
 fn remove_empty<N: Host>(
     host: &N,
     alloc: Global,

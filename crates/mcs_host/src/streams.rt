@@ -1,6 +1,7 @@
-//! The standard streams of the program. Each is open before any file is opened, and none of them
-//! goes into a session file. std does not say which file a descriptor refers to, so the host is
-//! asked about the names in /proc/self/fd. If it does not answer, the program does not start.
+//! The standard streams of the program. Each of them is open before any file is opened, and no
+//! output goes into a session file. std does not say which file a descriptor refers to, so the
+//! program asks the host about the names in /proc/self/fd. If the host does not answer, the program
+//! does not start.
 ghost use Rattle.std.specs.Prelude.{◌≡◌, ◌≢◌, ◌⊎◌, ◌↔◌, IfErr, IfOk, IsErr, IsErrAnd, IsErrOf, IsNone, IsOk, IsTrue, Err, None, Ok, Some, false};
 ghost use Rattle.std.specs.Fs.{file_type, metadata_len, IsDir, IsFile};
 ghost use Rattle.mcs_host.specs.declared.file_fault.FileFault.TheVariants.{Folder, NotAFile};
@@ -23,19 +24,19 @@ const OUTPUT: &str = "/proc/self/fd/1";
 
 const ERRORS: &str = "/proc/self/fd/2";
 
-/// A set of standard streams.
+/// A set of standard streams of the program.
 #[derive(Clone, Copy, Debug, PartialEq, Eq)]
 pub struct Streams {
-    /// True if standard input is in the set.
+    /// True if the set contains standard input.
     pub input: bool,
-    /// True if standard output is in the set.
+    /// True if the set contains standard output.
     pub output: bool,
-    /// True if standard error is in the set.
+    /// True if the set contains standard error.
     pub errors: bool,
 }
 
 impl Streams {
-    /// Returns the empty set.
+    /// Returns the empty set of streams.
     pub fn none() -> Streams
         ensures { result ≡ none_of_them }
     {
@@ -46,7 +47,7 @@ impl Streams {
         }
     }
 
-    /// Returns true if the set is not empty.
+    /// Returns true if the set contains at least one stream.
     pub fn any(self) -> bool
         ensures { result ≡ false ↔ self ≡ none_of_them }
     {
@@ -57,28 +58,29 @@ impl Streams {
 /// The reason why the program cannot start with its standard streams.
 #[derive(Clone, Copy, Debug, PartialEq, Eq, Error)]
 pub enum StreamsFault {
-    /// Standard output or standard error goes into a session file.
+    /// Standard output or standard error is a session file.
     #[error("standard output or standard error is a session file")]
     IntoSession,
-    /// The host does not say which file a stream is, for example if /proc is not mounted.
+    /// The host does not say which file a stream refers to, for example because /proc is not
+    /// mounted.
     #[error("the files of the standard streams are unknown")]
     Unknown,
-    /// A stream is closed, and /dev/null cannot be opened in its place.
+    /// A standard stream is closed, and /dev/null cannot be opened to replace it.
     #[error("a closed standard stream has no stand-in")]
     NoStandIn,
 }
 
-/// The error for standard streams with which the program cannot start.
+/// The error if the program cannot start with its standard streams.
 #[derive(Clone, Copy, Debug)]
 pub struct RefusedStreams {
-    /// The reason for the error.
+    /// The reason why the program cannot start.
     pub fault: StreamsFault,
-    /// The streams that could be session files. The program writes nothing to them.
+    /// The output streams that are session files, or could be. The program writes nothing to them.
     pub unusable: Streams,
 }
 
-/// Files in place of the standard streams that were closed when the program started. While they
-/// exist, no file that is opened gets the number of a standard stream. A read from such a file
+/// The files that replace the standard streams that were closed when the program started. While
+/// they exist, no other file gets the descriptor of a standard stream. A read from a stand-in
 /// returns end of file, and a write to it fails.
 #[derive(Drop)]
 pub struct StandIns {
@@ -88,8 +90,9 @@ pub struct StandIns {
 }
 
 impl StandIns {
-    /// Opens a stand-in for each closed standard stream, and checks all three streams. It fails if
-    /// one of them could go into a session file. See [`StreamsFault`].
+    /// Opens a stand-in for each closed standard stream, and checks all three streams. Fails if a
+    /// stand-in cannot be opened, if an output stream is a session file, or if the host does not
+    /// say what a stream is.
     pub fn open(rt: &HostRuntime) -> Result<StandIns, RefusedStreams> {
         let opened = StandIns::in_place(rt);
         let input = what_is_found(answers(rt, INPUT), rt.stdin().is_terminal());
@@ -106,8 +109,8 @@ impl StandIns {
         Err(RefusedStreams { fault, unusable })
     }
 
-    // Opens the stand-ins in the order of their numbers. The host assigns the lowest free number,
-    // so each stand-in gets the number of its stream.
+    // Opens the stand-ins in the order of their descriptors. The host assigns the lowest free
+    // descriptor, so each stand-in gets the descriptor of its stream.
     fn in_place(rt: &HostRuntime) -> io::Result<StandIns> {
         Ok(StandIns {
             input: stand_in(rt, &rt.stdin())?,
@@ -117,7 +120,7 @@ impl StandIns {
     }
 }
 
-// Returns a stand-in for a closed stream, and `None` for an open one. A stream is closed if its
+// Returns a stand-in if the stream is closed, and `None` if it is open. A stream is closed if its
 // descriptor cannot be duplicated.
 fn stand_in<S: AsFd>(rt: &HostRuntime, stream: &S) -> io::Result<Option<File>> {
     match stream.as_fd().try_clone_to_owned() {
@@ -126,18 +129,19 @@ fn stand_in<S: AsFd>(rt: &HostRuntime, stream: &S) -> io::Result<Option<File>> {
     }
 }
 
-/// The host's answer about a standard stream.
+/// The kind of file that a standard stream is, according to the host.
 #[derive(Clone, Copy, Debug, PartialEq, Eq)]
 enum Found {
-    /// The stream is a session file, or a file of that size that cannot be read.
+    /// The stream is a session file, or a file of the same size that cannot be read.
     Session,
-    /// The stream is something else.
+    /// The stream is another file or a terminal. Standard input counts as this even if it is a
+    /// session file.
     Other,
-    /// The host does not say what the stream is.
+    /// The host does not say which file the stream is.
     Unknown,
 }
 
-// Classifies a stream, given the answer to the question whether it is a session file. Without an
+// Returns what a stream is, given the host's answer whether it is a session file. If there is no
 // answer, a terminal counts as `Other`.
 fn what_is_found(answer: io::Result<bool>, is_terminal: bool) -> Found
     ensures session { IfOk answer (λ yes. IsTrue yes → result ≡ Found.Session) }
@@ -152,7 +156,8 @@ fn what_is_found(answer: io::Result<bool>, is_terminal: bool) -> Found
     }
 }
 
-// Returns the reason why the program cannot start with these streams, or `None` if it can.
+// Returns the reason why the program cannot start with these streams, or `None` if the program can
+// start.
 fn refused(input: Found, output: Found, errors: Found) -> Option<StreamsFault>
     ensures input { IsNone result → input ≢ Found.Unknown }
     ensures output { IsNone result → output ≡ Found.Other }
@@ -172,7 +177,7 @@ fn refused(input: Found, output: Found, errors: Found) -> Option<StreamsFault>
     }
 }
 
-// Returns the streams to which the program must write nothing.
+// Returns the output streams to which the program must write nothing.
 fn unusable(output: Found, errors: Found) -> Streams
     ensures output { result.output ≡ false ↔ output ≡ Found.Other }
     ensures errors { result.errors ≡ false ↔ errors ≡ Found.Other }
@@ -193,14 +198,14 @@ fn may_be_session(stream: Found) -> bool
     }
 }
 
-// Checks that the host says which file a stream is, and returns false. (For standard input, it does
-// not matter whether that file is a session file.)
+// Checks that the host says which file a stream is, and returns false. (This is for standard input,
+// which is allowed to be a session file.)
 fn answers<R: Files>(rt: &R, stream: &str) -> io::Result<bool> {
     fs::metadata(rt, stream)?;
     Ok(false)
 }
 
-// Returns true if a stream is any session file, or a file of that size that cannot be read.
+// Returns true if a stream is a session file, or a file of the same size that cannot be read.
 fn is_session<R: Files<File = File>>(rt: &R, stream: &str) -> io::Result<bool> {
     if !has_session_size(&fs::metadata(rt, stream)?) {
         return Ok(false);
@@ -208,7 +213,7 @@ fn is_session<R: Files<File = File>>(rt: &R, stream: &str) -> io::Result<bool> {
     Ok(has_session_name(rt, stream).unwrap_or(true))
 }
 
-// Returns true if the file is regular and has the size of a session file.
+// Returns true if the file is a regular file and has the size of a session file.
 fn has_session_size(file: &Metadata) -> bool
     ensures file { IsTrue result → IsFile (file_type file.now) }
     ensures size { IsTrue result → metadata_len file.now ≡ FILE_SIZE }
@@ -223,15 +228,15 @@ fn has_session_name<R: Files<File = File>>(rt: &R, stream: &str) -> io::Result<b
     Ok(is_session_name(&found))
 }
 
-/// Returns true if these bytes are the name that a session file begins with.
+/// Returns true if these bytes are the name at the start of a session file.
 pub(crate) fn is_session_name(found: &[u8]) -> bool
     ensures { IsTrue result ↔ (found.now ≡ NAME) }
 {
     found == b"MCS4BEN1".as_slice()
 }
 
-/// Returns the standard streams that are the file of this name. The file must be regular or
-/// missing.
+/// Returns the standard streams that refer to the file of this name. Fails if the name refers to
+/// something that is not a regular file, or if the host does not say which files the streams are.
 pub(crate) fn streams_that_are<R: Files>(rt: &R, file: &str) -> Result<Streams, FileFault> {
     match regular_file(fs::metadata(rt, file))? {
         Some(named) => streams_on(rt, &named),
@@ -239,8 +244,8 @@ pub(crate) fn streams_that_are<R: Files>(rt: &R, file: &str) -> Result<Streams, 
     }
 }
 
-// Returns the regular file that the host found for a name, or `None` if no file has that name. It
-// fails for a folder, for another kind of file, and for any other error of the host.
+// Returns the regular file that the host found for a name, or `None` if no file has that name.
+// Fails for a folder, for any other kind of file, and for any other error of the host.
 fn regular_file(answer: io::Result<Metadata>) -> Result<Option<Metadata>, FileFault>
     ensures file { IfOk answer (λ named. IsFile (file_type named) → result ≡ Ok (Some named)) }
     ensures folder { IfOk answer (λ named. IsDir (file_type named) → result ≡ Err Folder) }
@@ -267,8 +272,8 @@ fn streams_on<R: Files>(rt: &R, named: &Metadata) -> Result<Streams, FileFault> 
     })
 }
 
-// Returns true if the stream that the host answered for is the file `named`. A missing answer is an
-// error, not false.
+// Returns true if a stream is the file `named`, given the host's answer about the stream. Fails if
+// the host did not answer.
 fn is_stream(answer: io::Result<Metadata>, named: &Metadata) -> Result<bool, FileFault>
     ensures answered { IsOk answer → IsOk result }
     ensures unanswered { IsErr answer → IsErrOf result FileFault.StreamsUnknown }
@@ -279,7 +284,7 @@ fn is_stream(answer: io::Result<Metadata>, named: &Metadata) -> Result<bool, Fil
     }
 }
 
-/// Returns true if both describe the same file.
+/// Returns true if both arguments describe the same file.
 pub(crate) fn is_same_file(one: &Metadata, other: &Metadata) -> bool {
     one.dev() == other.dev() && one.ino() == other.ino()
 }

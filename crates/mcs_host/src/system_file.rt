@@ -1,5 +1,5 @@
-//! Files of the operating system. Each method makes the call that it is named after, and notes the
-//! call with its answer. No contract can check this, so a reader must check this file.
+//! Files of the operating system. Each method makes the call that it is named after, and records
+//! the call with its answer. No contract can check this, so a human reviewer must.
 ghost use Rattle.mcs_host.specs.SystemFile.{system_state};
 ghost use Rattle.std.specs.Prelude.{◌≡◌, [], length};
 
@@ -16,7 +16,7 @@ use std::os::unix::fs::FileExt;
 use std::path::PathBuf;
 use std::rt::Files;
 
-/// The maximum number of links that the host follows from a name.
+/// The maximum number of links that the host follows from a name to a file.
 const MOST_LINKS: u32 = 40;
 
 /// An open file of the operating system.
@@ -174,8 +174,8 @@ fn is_name_of_link<R: Files<File = File>>(rt: &R, name: &str) -> io::Result<bool
     Ok(fs::symlink_metadata(rt, name)?.is_symlink())
 }
 
-// Follows links that lead to no file, as far as the host does. It fails if the folder of a link's
-// target has no name without links.
+// Follows a chain of links that leads to no file, as far as the host would follow it. Fails if the
+// folder of a link's target has no name without links.
 fn can_be_removed<R: Files<File = File>>(rt: &R, alloc: Global, name: &str) -> io::Result<()> {
     let mut link = PathBuf::from_str(alloc, name)?;
     for _ in 0..MOST_LINKS {

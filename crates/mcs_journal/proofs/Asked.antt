@@ -1,4 +1,4 @@
--- Reads, one after another, and what was asked for where one failed.
+-- Reads that follow one another, and the list of calls if a read fails.
 use Rattle.std.proofs.Common.{◌≡◌, ◌+◌, List, [], ◌∷◌, ◌++◌, ℕ, sym, ◌∙◌, ap, append_assoc, Result, Ok, Err, OnErr, ⊎_elim}
 use Rattle.std.proofs.lemmas.List.{replicate-append-replicate}
 use Rattle.mcs_disk.specs.CallList.{Makes}
@@ -17,11 +17,11 @@ reads_sum a b old mid new first second =
 pub reads_more : (a : ℕ) (old mid new : List DiskCall) → mid ≡ many_reads a ++ old → AreReads mid new → AreReads old new
 reads_more a old mid new first then_some = record { count = then_some.count + a; all = reads_sum a then_some.count old mid new first then_some.all }
 
--- a read that failed
+-- a read that failed adds no call to the list
 pub read_failed : {T E : Type 0} (old new : List DiskCall) (e : E) → Makes {T = T} {E = E} (WasRead ∷ []) old new (Err e) → AreReads old new
 read_failed old new e made = record { count = 0; all = ⊎_elim (λ same. same) (λ none. absurd none) made.cut }
 
--- one that did not
+-- a read that returned Ok adds one read to the list
 pub was_read : {T E : Type 0} (old new : List DiskCall) (x : T) → Makes {T = T} {E = E} (WasRead ∷ []) old new (Ok x) → new ≡ many_reads 1 ++ old
 was_read old new x made = made.all
 

@@ -1,4 +1,4 @@
--- What the calls of a store ask of its disk, by what their parts ask.
+-- The disk calls of each method of a store, derived from the disk calls of its parts.
 use Rattle.std.proofs.Common.{◌≡◌, ◌⊎◌, inl, inr, ⊎_elim, ◌+◌, ◌*◌, List, [], ◌∷◌, ◌++◌, ℕ, append_assoc, sym, ◌∙◌, ap, subst, arith, refl, Result, Ok, Err, IsErrOf}
 use Rattle.mcs_disk.specs.CallList.{CutShort, Makes, OneUnsynced, unsynced}
 use Rattle.mcs_disk.specs.Calls.{DiskCall, Synced, WasRead}
@@ -9,7 +9,7 @@ use Rattle.mcs_journal.proofs.Refusing.{IsHeaderFault}
 use Rattle.mcs_journal.specs.declared.fault.StoreFault.{StoreFault}
 use Rattle.mcs_journal.specs.declared.fault.StoreFault.TheVariants as store_fault
 
--- two commits after calls that are synced
+-- Two commits, one after another, made when no write is unsynced.
 module _ (old : List DiskCall) (synced : unsynced old ≡ 0) where
   pub append_one : {T E : Type 0} (at : ℕ) (payload : List ℕ) (new : List DiskCall) (result : Result T E) → Makes (append_calls at payload) old new result → OneUnsynced old new
   append_one at payload new result made = one_of_made (append_calls at payload) old new result (omega arith, (omega arith, (omega arith, (omega (arith, synced), tt)))) made
@@ -37,7 +37,7 @@ module _ (old : List DiskCall) (synced : unsynced old ≡ 0) where
   refused_create_one store_fault.NotASession snap new result none = absurd none
   refused_create_one store_fault.Damaged snap new result none = absurd none
 
--- the same calls, told of an answer of another type
+-- the same calls, stated for a result of another type
 pub area_ok : {T E U V : Type 0} (snap : List ℕ) (calls : List ℕ → List DiskCall) (old mid new : List DiskCall) (x : T) (y : U) → mid ≡ old
     → MakesWithArea {T = T} {E = E} snap calls mid new (Ok x) → MakesWithArea {T = U} {E = V} snap calls old new (Ok y)
 area_ok snap calls old mid new x y same makes =
@@ -48,7 +48,7 @@ pub area_err : {T E U V : Type 0} (snap : List ℕ) (calls : List ℕ → List D
 area_err snap calls old mid new e f same makes =
     record { area = makes.area; is_area = makes.is_area; made = record { all = tt; cut = subst (λ (l : List DiskCall). CutShort (calls makes.area) l new) same makes.made.cut } }
 
--- the header was read
+-- if the header was read without an error, the list has one more read
 pub header_read : (old new : List DiskCall) {T : Type 0} (x : T) (A : Type 0) → Makes {T = T} {E = StoreFault} (WasRead ∷ []) old new (Ok x) ⊎ (IsErrOf {T = T} {E = StoreFault} (Ok x) store_fault.NotBlank × A) → new ≡ WasRead ∷ old
 header_read old new x A (inl made) = made.all
 header_read old new x A (inr other) = absurd (erred other.0)
@@ -59,7 +59,7 @@ header_read old new x A (inr other) = absurd (erred other.0)
 not_both : {T : Type 0} (read : Result T StoreFault) → read ≡ Err store_fault.Device → read ≡ Err store_fault.NotBlank → ⊥
 not_both read device not_blank = cc
 
--- it was not, or was not blank
+-- a `create` that fails because the header cannot be read, or because it is not blank
 pub refused_by_header : {T U V : Type 0} (fault : StoreFault) (snap : List ℕ) (old new : List DiskCall) (read : Result T StoreFault) (result : Result U V) → read ≡ Err fault → IsHeaderFault fault
     → Makes (WasRead ∷ []) old new read ⊎ (IsErrOf read store_fault.NotBlank × (new ≡ WasRead ∷ old)) → RefusedCreateCalls fault snap old new result
 refused_by_header fault snap old new (Ok x) result is of calls = absurd (no is)
@@ -74,7 +74,7 @@ refused_by_header store_fault.NoMemory snap old new (Err e) result is of calls =
 refused_by_header store_fault.NotASession snap old new (Err e) result is of calls = absurd (⊎_elim (λ same. cc) (λ same. cc) of)
 refused_by_header store_fault.Damaged snap old new (Err e) result is of calls = absurd (⊎_elim (λ same. cc) (λ same. cc) of)
 
--- after a sync, reads
+-- a sync and then reads leave at most one unsynced write after each call
 pub open_one : (n : ℕ) (old new : List DiskCall) → new ≡ open_calls n ++ old → OneUnsynced old new
 open_one n old new made = one_then old (Synced ∷ old) new synced_one (one_by_one (Synced ∷ old) new (many_reads (4 + 3 * n)) (made ∙ append_assoc (many_reads (4 + 3 * n)) (Synced ∷ []) old) (one_of_reads (4 + 3 * n) (Synced ∷ old) (omega arith)))
   where
@@ -87,6 +87,6 @@ refused_open_one old new (inr only) =
     one_then old (Synced ∷ old) new (one_by_one old (Synced ∷ old) (Synced ∷ []) refl (omega arith, tt))
     (one_by_one (Synced ∷ old) new (many_reads only.count) only.all (one_of_reads only.count (Synced ∷ old) (omega arith)))
 
--- none is unsynced then
+-- after the calls of an `open`, no write is unsynced
 pub open_synced : (n : ℕ) (old new : List DiskCall) → new ≡ open_calls n ++ old → unsynced new ≡ 0
 open_synced n old new made = ap unsynced (made ∙ append_assoc (many_reads (4 + 3 * n)) (Synced ∷ []) old) ∙ unsynced-reads (4 + 3 * n) (Synced ∷ old)

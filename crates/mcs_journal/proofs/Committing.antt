@@ -1,4 +1,4 @@
--- A write and a sync, by the calls that were made.
+-- The effect of a write and a sync, derived from the calls that were made.
 use Rattle.std.proofs.Common.{◌≡◌, ◌⊎◌, inl, inr, ◌+◌, ◌≤◌, List, [], ◌∷◌, ℕ, length, refl, sym, subst, arith, Result, Ok, Err}
 use Rattle.mcs_disk.specs.CallList.{CutShort, Makes}
 use Rattle.mcs_disk.specs.Calls.{Torn, bytes_after, clock_of, images_after, put, since_after, DiskCall, Failed, Synced, Wrote}
@@ -15,7 +15,7 @@ module _ (old : DiskState) (g : ℕ) (q : Type 0) (at : ℕ) (from : List ℕ) w
   abbrev bytes : List ℕ
   bytes = bytes_after old.start old.calls
 
-  -- one of before, or one of these with the range torn
+  -- an image from before the write, possibly with other bytes in the written range
   abbrev MayBe : List ℕ → Type 0
   MayBe c = images_after old.start old.calls c ⊎ ((d : List ℕ) × images_after old.start old.calls d × Torn at (length from) d c)
 
@@ -34,7 +34,7 @@ module _ (old : DiskState) (g : ℕ) (q : Type 0) (at : ℕ) (from : List ℕ) w
   durable : (c : List ℕ) → images_after old.start (Synced ∷ Wrote at from ∷ old.calls) c → c ≡ put at from bytes
   durable c now = now
 
-  -- both were answered
+  -- both calls returned Ok
   committed : {T E : Type 0} (x : T) → at + length from ≤ size_of old → Commits {T = T} {E = E} at from old (left_with old.start (Synced ∷ Wrote at from ∷ old.calls)) (Ok x)
   committed x fits = record {
     written = part_put at from bytes (omega (arith, fits, length-bytes_after old.start old.calls));
@@ -45,7 +45,7 @@ module _ (old : DiskState) (g : ℕ) (q : Type 0) (at : ℕ) (from : List ℕ) w
     each = since_sync;
   }
 
-  -- one of them failed
+  -- one of the two calls failed
   failed : {T E : Type 0} (e : E) (new : List DiskCall) → CutShort (commit_calls at from) old.calls new → Commits {T = T} {E = E} at from old (left_with old.start new) (Err e)
   failed {T = T} {E = E} e new (inl wrote) = subst (λ (l : List DiskCall). Commits {T = T} {E = E} at from old (left_with old.start l) (Err e)) (sym wrote) (record {
     written = tt;

@@ -1,4 +1,5 @@
--- What a file holds by the parts of it, and after each of the two steps that add a record.
+-- The contents of a file, derived from its parts, and the contents after each of the two writes
+-- that add a record.
 use Rattle.std.proofs.Common.{◌≡◌, ◌⊎◌, inl, inr, ◌≤◌, ◌+◌, ◌-◌, List, [], ◌∷◌, ◌++◌, ℕ, length, get_or, drop, sym, ◌∙◌, ap, subst, arith, length-append}
 use Rattle.std.proofs.lemmas.List.{drop_more}
 use Rattle.mcs_disk.specs.Disk.{part, Torn}
@@ -17,11 +18,12 @@ start_bounds B = (omega arith, omega arith)
 pub slot_bounds : (file : List ℕ) → (16 ≤ slot_at file) × (slot_at file ≤ 81936)
 slot_bounds file = start_bounds (slot_of file)
 
--- files of the same selector have the same slot
+-- files with the same selector byte have the same active slot
 pub same_slot : (f c : List ℕ) → get_or c 8 0 ≡ get_or f 8 0 → slot_at c ≡ slot_at f
 same_slot f c selector = ap (λ (t : ℕ). start_of (slot_named t)) selector
 
--- a file whose header and active snapshot are those of another
+-- a file with the same header and active snapshot as another file, and with a log of the records
+-- `news`
 pub holds_on : (f c snap : List ℕ) (rs news : List (List ℕ)) → Holds f snap rs → length c ≡ length f → slot_at c ≡ slot_at f → part 0 8 c ≡ part 0 8 f → part 9 7 c ≡ part 9 7 f
     → ((lo k : ℕ) → slot_at f ≤ lo → lo + k ≤ slot_at f + 16384 → part lo k c ≡ part lo k f) → IsLog news (part (slot_at f + 16384) 65536 c) → Holds c snap news
 holds_on f c snap rs news old sized slot name zeros same log = record {
@@ -54,7 +56,7 @@ area_holds c snap area long name zeros is_area there =
       log = record { commit_byte = 0; rest = drop 1 log; is = drop_more log 0 0 (omega (arith, sized)) ∙ ap (λ (q : ℕ). q ∷ drop 1 log) closed; closed = λ no. cc; records_ok = tt };
     }
 
--- a write inside the active log leaves the rest of the contents
+-- a write inside the active log changes only the list of records
 kept_outside : (f c snap : List ℕ) (rs news : List (List ℕ)) (at n : ℕ) → Holds f snap rs → Torn at n f c → slot_at f + 16384 ≤ at → IsLog news (part (slot_at f + 16384) 65536 c) → Holds c snap news
 kept_outside f c snap rs news at n old torn after log =
     let bounds = slot_bounds f in
@@ -62,7 +64,8 @@ kept_outside f c snap rs news at n old torn after log =
     holds_on f c snap rs news old torn.size (same_slot f c (torn.before 8 (omega (arith, after, bounds.0)))) (same 0 8 (omega (arith, after))) (same 9 7 (omega (arith, after)))
     (λ lo k from to. same lo k (omega (arith, after, to))) log
 
--- A record is put after the commit byte, as what is written spells it.
+-- `from` encodes the record `r` and a commit byte of 0, to be written after the commit byte at
+-- `commit_at`.
 module _ (f snap r from : List ℕ) (rs : List (List ℕ)) (commit_at : ℕ) (spells : from ≡ be16 (length r) ++ r ++ 0 ∷ []) (old : Holds f snap rs) (at_commit : IsCommitOffset f rs commit_at (length r)) (good : IsRecord r) where
   abbrev lo : ℕ
   lo = slot_at f + 16384
@@ -76,7 +79,7 @@ module _ (f snap r from : List ℕ) (rs : List (List ℕ)) (commit_at : ℕ) (sp
   log_torn : (c : List ℕ) → Torn (commit_at + 1) (length from) f c → Torn (length (frames_of rs) + 1) (length from) (part lo 65536 f) (part lo 65536 c)
   log_torn c torn = part_torn (commit_at + 1) (length from) lo 65536 (length (frames_of rs) + 1) f c torn fits (omega (arith, at_commit.at)) (omega (arith, at_commit.room, long))
 
-  -- any bytes after the commit byte leave the contents
+  -- any bytes after the commit byte leave the contents unchanged
   pub first_torn : (c : List ℕ) → Torn (commit_at + 1) (length from) f c → Holds c snap rs
   first_torn c torn = kept_outside f c snap rs rs (commit_at + 1) (length from) old torn (omega (arith, at_commit.at)) (after_commit rs (length from) _ _ old.log (log_torn c torn))
 
@@ -87,7 +90,8 @@ module _ (f snap r from : List ℕ) (rs : List (List ℕ)) (commit_at : ℕ) (sp
       staged rs r from _ _ spells old.log (log_torn c torn)
       (part_part lo 65536 (length (frames_of rs) + 1) (length from) m c (omega (arith, at_commit.room)) (omega (arith, at_commit.room, long)) ∙ ap (λ (p : ℕ). part p (length from) c) place ∙ here)
 
-  -- any byte at the commit byte then leaves the old contents or the new ones, and 1 the new ones
+  -- then any byte written at the commit byte leaves the old contents or the new contents, and the
+  -- byte 1 leaves the new contents
   module _ (g c : List ℕ) (first : Torn (commit_at + 1) (length from) f g) (here : part (commit_at + 1) (length from) g ≡ from) (torn : Torn commit_at 1 g c) where
     slot_stays : slot_at g ≡ slot_at f
     slot_stays = same_slot f g (first.before 8 (omega (arith, at_commit.at, slot_bounds f)))

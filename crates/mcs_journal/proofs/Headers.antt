@@ -1,4 +1,4 @@
--- What the first 16 bytes say.
+-- The meaning of the first 16 bytes of a file.
 use Rattle.std.proofs.Common.{◌≡◌, ◌≢◌, true, false, not, List, ℕ, sym, ◌∙◌, ap, arith, get_or, take, drop}
 use Rattle.std.proofs.lemmas.Slice.Eq.{bytes_eq-Decides}
 use Rattle.std.specs.Str.{bytes_eq}

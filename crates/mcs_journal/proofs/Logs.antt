@@ -1,4 +1,4 @@
--- A log after each of the two steps that add a record.
+-- A log after each of the two writes that add a record.
 use Rattle.std.proofs.Common.{◌≡◌, ◌≢◌, ◌⊎◌, inl, inr, ◌≤◌, ◌+◌, List, [], ◌∷◌, ◌++◌, ℕ, length, take, drop, get_or, sym, ◌∙◌, ap, subst, arith, append_assoc, length-append, take-append-drop}
 use Rattle.std.proofs.lemmas.List.{append-nil, drop_at}
 use Rattle.std.proofs.lemmas.Bool.{cases_eq}
@@ -17,7 +17,7 @@ pub AreRecords-push : (rs : List (List ℕ)) (r : List ℕ) → AreRecords rs �
 AreRecords-push [] r all ok = (ok, tt)
 AreRecords-push (x ∷ rs) r all ok = (all.0, AreRecords-push rs r all.1 ok)
 
--- what stands after the commit byte doesn't matter
+-- any bytes after the commit byte that ends the log leave its records unchanged
 pub after_commit : (rs : List (List ℕ)) (n : ℕ) (log c : List ℕ) → IsLog rs log → Torn (length (frames_of rs) + 1) n log c → IsLog rs c
 after_commit rs n log c old torn =
     let p = frames_of rs ++ old.commit_byte ∷ [] in
@@ -33,7 +33,7 @@ after_commit rs n log c old torn =
       records_ok = old.records_ok;
     }
 
--- a record stands after the commit byte that ends the log, and a commit byte of 0 after it
+-- holds if a record and a commit byte of 0 follow the commit byte that ends the log
 pub record IsStaged (rs : List (List ℕ)) (r log : List ℕ) : Type 0 where
   pub commit_byte : ℕ
   pub rest : List ℕ
@@ -56,7 +56,7 @@ staged rs r from log c spells old torn here =
       records_ok = next.records_ok;
     }
 
--- the commit byte decides
+-- the commit byte decides whether the record after it counts
 pub commit_set : (rs : List (List ℕ)) (r rest : List ℕ) (commit_byte : ℕ) → AreRecords rs → IsRecord r → commit_byte ≡ 1 → IsLog (rs ++ r ∷ []) (frames_of rs ++ commit_byte ∷ ((be16 (length r) ++ r ++ 0 ∷ []) ++ rest))
 commit_set rs r rest commit_byte ok good one = record {
   commit_byte = 0;

@@ -1,4 +1,4 @@
--- Parts of a list of bytes after a write.
+-- Parts of a list of bytes after a write, possibly a torn one.
 use Rattle.std.proofs.Common.{◌≡◌, ◌⊎◌, inl, inr, ◌≤◌, ◌<◌, ◌+◌, List, [], ◌∷◌, ◌++◌, ℕ, suc, length, take, drop, get_or, refl, sym, ◌∙◌, ap, arith, length-drop, length-take}
 use Rattle.std.proofs.lemmas.List.{ext_get_or, get_or-take, get_or-drop, take-take, drop-take, drop-drop, get_or_past}
 use Rattle.std.proofs.lemmas.Bool.{cases_lt}
@@ -10,7 +10,7 @@ length-part at n f fits = omega (arith, length-take n (drop at f), length-drop a
 pub part_at : (at n : ℕ) (f : List ℕ) (i : ℕ) → i < n → get_or (part at n f) i 0 ≡ get_or f (at + i) 0
 part_at at n f i lt = get_or-take n (drop at f) i 0 lt ∙ get_or-drop at f i 0
 
--- a part outside the range stays
+-- a part that does not overlap the written range is unchanged
 pub part_same : (at n lo k : ℕ) (f c : List ℕ) → Torn at n f c → (lo + k ≤ at) ⊎ (at + n ≤ lo) → part lo k c ≡ part lo k f
 part_same at n lo k f c torn apart =
     let long : length (part lo k c) ≡ length (part lo k f) = omega (arith, length-take k (drop lo c), length-drop lo c, length-take k (drop lo f), length-drop lo f, torn.size) in
@@ -22,7 +22,7 @@ part_same at n lo k f c torn apart =
     at_index : (i : ℕ) → i < k → get_or (part lo k c) i 0 ≡ get_or (part lo k f) i 0
     at_index i lt = part_at lo k c i lt ∙ same i lt ∙ sym (part_at lo k f i lt)
 
--- a part round the range is torn in its turn
+-- within a part that contains the written range, only that range can have changed
 pub part_torn : (at n lo k j : ℕ) (f c : List ℕ) → Torn at n f c → lo + k ≤ length f → at ≡ lo + j → j + n ≤ k → Torn j n (part lo k f) (part lo k c)
 part_torn at n lo k j f c torn fits is inside =
     let long : length (part lo k c) ≡ k = length-part lo k c (omega (arith, fits, torn.size)) in
@@ -35,7 +35,7 @@ part_torn at n lo k j f c torn fits is inside =
       ];
     }
 
--- a part of a part
+-- a part of a part is a part of the whole
 pub part_part : (lo k j n m : ℕ) (f : List ℕ) → k ≡ j + m → n ≤ m → part j n (part lo k f) ≡ part (lo + j) n f
 part_part lo k j n m f is inside =
     ap (λ (q : ℕ). take n (drop j (take q (drop lo f)))) is
@@ -43,7 +43,7 @@ part_part lo k j n m f is inside =
     ∙ take-take n m (drop j (drop lo f)) inside
     ∙ ap (λ (l : List ℕ). take n l) (drop-drop j lo f)
 
--- a list that starts as another does
+-- a list that agrees with p at each index of p starts with p
 pub starts_as : (p q c : List ℕ) → length p ≤ length c → ((i : ℕ) → i < length p → get_or c i 0 ≡ get_or (p ++ q) i 0) → c ≡ p ++ drop (length p) c
 starts_as [] q c long same = refl
 starts_as (x ∷ p) q [] long same = absurd (omega arith)
@@ -52,7 +52,7 @@ starts_as (x ∷ p) q (y ∷ c) long same =
     let tail = starts_as p q c (omega arith) (λ i lt. same (suc i) (omega (arith, lt))) in
     (λ k. head k ∷ tail k)
 
--- a list that differs from another in one byte at most
+-- a list that differs from another in at most one byte
 pub but_one : (p q c : List ℕ) (x : ℕ) → length c ≡ length (p ++ x ∷ q) → ((i : ℕ) → i < length p → get_or c i 0 ≡ get_or (p ++ x ∷ q) i 0) → ((i : ℕ) → length p + 1 ≤ i → get_or c i 0 ≡ get_or (p ++ x ∷ q) i 0) → c ≡ p ++ get_or c (length p) 0 ∷ q
 but_one [] q [] x long before after = absurd (omega arith)
 but_one [] q (y ∷ c) x long before after =

@@ -1,4 +1,4 @@
--- What `create` and `open` answer follows from what their parts answered.
+-- The results of `create` and `open`, derived from the results of their parts.
 use Rattle.std.proofs.Common.{◌≡◌, ◌≢◌, ◌⊎◌, inl, inr, ⊎_elim, refl, sym, ◌∙◌, ap, subst, Result, Ok, Err, IsErrOf}
 use Rattle.mcs_disk.specs.Disk.{CountsFault, DiskState, part, bytes_of, size_of}
 use Rattle.mcs_disk.specs.Stretches.{AddsNoImage}
@@ -15,7 +15,7 @@ counts_ok old new result device x is counts = counts_as old new (IsErrOf result 
 pub counts_err : {T E : Type 0} (old new : DiskState) (result : Result T E) (device fault : E) → result ≡ Err fault → CountsFault old new (IsErrOf result device) → CountsFault old new (fault ≡ device)
 counts_err old new result device fault is counts = counts_as old new (IsErrOf result device) (fault ≡ device) (λ failed. cc) (λ same. is ∙ ap Err same) counts
 
--- what the read of the header answers of these
+-- holds if the check of the header can return this error
 abbrev pub IsHeaderFault : StoreFault → Type 0
 IsHeaderFault fault = (fault ≡ store_fault.NotBlank) ⊎ (fault ≡ store_fault.Device)
 

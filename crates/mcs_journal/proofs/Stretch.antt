@@ -1,4 +1,4 @@
--- A change of a durable disk in two commits.
+-- A change of a durable disk in two commits, each a write and a sync.
 use Rattle.std.proofs.Common.{◌≡◌, inl, ⊎_elim, ◌+◌, ℕ, List, length, arith, Result, Ok, subst, sym}
 use Rattle.std.proofs.lemmas.Result.{on_ok_weaker}
 use Rattle.mcs_disk.specs.Disk.{DiskState, Torn, part, bytes_of, time_of}
@@ -9,7 +9,7 @@ use Rattle.mcs_disk.specs.PowerCut.{IsDurable}
 use Rattle.mcs_disk.proofs.Composing.{leaves_then}
 use Rattle.mcs_journal.specs.Writing.{Commits}
 
--- a commit on a durable disk, each torn write of which has P
+-- a commit on a durable disk, if each of its torn writes satisfies P
 commit_leaves : {T E : Type 0} (old new : DiskState) (P : List ℕ → Type 0) (at : ℕ) (from : List ℕ) (result : Result T E)
     → IsDurable old → ((c : List ℕ) → Torn at (length from) (bytes_of old) c → P c) → Commits at from old new result → LeavesOnly old new P
 commit_leaves old new P at from result durable torn step = record {
@@ -21,7 +21,7 @@ commit_leaves old new P at from result durable torn step = record {
       (step.each c left);
 }
 
--- The first commit leaves the old and the second the old or the new.
+-- The first commit leaves the old contents. The second leaves the old or the new contents.
 module _ (old mid : DiskState) (Before After : List ℕ → Type 0) (at : ℕ) (from : List ℕ) (durable : IsDurable old)
     (torn : (c : List ℕ) → Torn at (length from) (bytes_of old) c → Before c) where
   pub first_step : {T E : Type 0} (result : Result T E) → Commits at from old mid result → LeavesOnly old mid (Either Before After)

@@ -1,4 +1,4 @@
--- What a file holds after each of the two steps that replace its contents.
+-- The contents of a file after each of the two writes that replace them.
 use Rattle.std.proofs.Common.{◌≡◌, ◌⊎◌, inl, inr, ◌≤◌, ◌+◌, List, [], ◌∷◌, ℕ, get_or, refl, sym, ◌∙◌, ap, subst, arith}
 use Rattle.mcs_disk.specs.Disk.{part, Torn}
 use Rattle.mcs_journal.specs.File.{Holds, IsLog, slot_at, slot_of, slot_named, start_of}
@@ -14,7 +14,7 @@ one_of_two A B = inr refl
 one_of_two B A = inr refl
 one_of_two B B = inl refl
 
--- a slot is outside the area of the other
+-- bytes inside a slot do not overlap the other slot's area and commit byte
 apart : (s : Slot) (lo k : ℕ) → start_of s ≤ lo → lo + k ≤ start_of s + 81920 → (lo + k ≤ start_of (other_slot s)) ⊎ (start_of (other_slot s) + 16385 ≤ lo)
 apart A lo k from to = inl (omega (arith, to))
 apart B lo k from to = inr (omega (arith, from))
@@ -23,7 +23,7 @@ module _ (f snap fresh area : List ℕ) (rs : List (List ℕ)) (start : ℕ) (ol
   beyond : 16 ≤ start
   beyond = let bounds = start_bounds (other_slot (slot_of f)) in omega (arith, at, bounds.0)
 
-  -- any bytes in the other slot leave the contents
+  -- any bytes in the area of the other slot leave the contents unchanged
   pub other_torn : (c : List ℕ) → Torn start 16385 f c → Holds c snap rs
   other_torn c torn =
       holds_on f c snap rs rs old torn.size (same_slot f c (torn.before 8 (omega (arith, beyond)))) (front 0 8 (omega arith)) (front 9 7 (omega arith))
@@ -35,7 +35,7 @@ module _ (f snap fresh area : List ℕ) (rs : List (List ℕ)) (start : ℕ) (ol
       here : (lo k : ℕ) → slot_at f ≤ lo → lo + k ≤ slot_at f + 81920 → part lo k c ≡ part lo k f
       here lo k from to = part_same start 16385 lo k f c torn (subst (λ (o : ℕ). (lo + k ≤ o) ⊎ (o + 16385 ≤ lo)) (sym at) (apart (slot_of f) lo k from to))
 
-  -- any selector then names the old contents or the new ones
+  -- then any selector names the old contents or the new contents
   module _ (g c : List ℕ) (first : Torn start 16385 f g) (there : part start 16385 g ≡ area) (torn : Torn 8 1 g c) where
     held : Holds g snap rs
     held = other_torn g first

@@ -1,10 +1,10 @@
--- A file holds one snapshot and list of records at most.
+-- A file holds at most one snapshot with one list of records.
 use Rattle.std.proofs.Common.{◌≡◌, ◌≢◌, ◌≤◌, ◌+◌, ◌/◌, ◌%◌, List, [], ◌∷◌, ◌++◌, ℕ, length, take, drop, refl, sym, ◌∙◌, ap, arith, append_assoc}
 use Rattle.std.proofs.lemmas.List.{take_at, drop_at}
 use Rattle.mcs_disk.specs.Disk.{part}
 use Rattle.mcs_journal.specs.File.{Holds, frames_of, be32, slot_at}
 
--- records of the same bytes, up to a commit byte that is not 1
+-- two lists of records with equal bytes, up to a commit byte that is not 1, are equal
 same_frames : (rs ss : List (List ℕ)) (g h : ℕ) (xs ys : List ℕ) → g ≢ 1 → h ≢ 1 → frames_of rs ++ g ∷ xs ≡ frames_of ss ++ h ∷ ys → rs ≡ ss
 same_frames [] [] g h xs ys shut closed same = refl
 same_frames [] (s ∷ ss) g h xs ys shut closed same = let one : g ≡ 1 = cc in absurd (shut one)
@@ -20,7 +20,7 @@ same_frames (r ∷ rs) (s ∷ ss) g h xs ys shut closed same =
     let more = same_frames rs ss g h xs ys shut closed rest in
     (λ k. head k ∷ more k)
 
--- two numbers of the same four bytes
+-- two numbers up to 16,380 with the same four bytes are equal
 same_32 : (m n : ℕ) → m ≤ 16380 → n ≤ 16380 → be32 m ≡ be32 n → m ≡ n
 same_32 m n small short same =
     let high : m / 256 % 256 ≡ n / 256 % 256 = cc in

@@ -1,4 +1,4 @@
--- The walk over a log: the records so far, and the rest.
+-- Reading a log record by record: the records that were read, and the rest of the log.
 use Rattle.std.proofs.Common.{◌≡◌, ◌≢◌, ◌≤◌, ◌<◌, ◌+◌, ◌-◌, ◌/◌, ◌%◌, List, [], ◌∷◌, ◌++◌, ℕ, length, take, drop, get_or, refl, sym, ◌∙◌, ap, arith, append_assoc, length-append, length-drop, take-append-drop}
 use Rattle.std.proofs.lemmas.List.{take_at, drop_at, drop-drop, drop_more}
 use Rattle.mcs_disk.specs.Disk.{part}
@@ -7,7 +7,7 @@ use Rattle.mcs_journal.specs.Writing.{IsNext, IsNoRecord}
 use Rattle.mcs_journal.proofs.Parts.{part_at, part_part, length-part}
 use Rattle.mcs_journal.proofs.Logs.{spelled-push, AreRecords-push, length-framed}
 
--- what was read of a log, whose rest starts at this place
+-- holds if the log begins with the frames of these records, which occupy `used` bytes
 pub record IsPrefix (records : List (List ℕ)) (used : ℕ) (log : List ℕ) : Type 0 where
   pub is : log ≡ frames_of records ++ drop used log
   pub count : used ≡ length (frames_of records)

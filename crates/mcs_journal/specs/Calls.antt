@@ -1,5 +1,5 @@
--- The calls on the disk that each method of a store makes. Lists of calls are newest first. (Our
--- own choice.)
+-- The calls on the disk that each method of a store makes. All lists of calls are newest first.
+-- (Our own choice.)
 use Rattle.std.specs.Prelude.{◌≡◌, ◌⊎◌, ◌+◌, ◌*◌, ℕ, List, [], ◌∷◌, ◌++◌, length, replicate, Result}
 use Rattle.mcs_disk.specs.CallList.{Makes}
 use Rattle.mcs_disk.specs.Calls.{DiskCall, Synced, WasRead, Wrote}
@@ -11,11 +11,11 @@ use Rattle.mcs_journal.specs.declared.format.TheConstants.{FIRST_HEADER, SELECTO
 use Rattle.mcs_journal.specs.declared.slot.Slot.{Slot}
 use Rattle.mcs_journal.specs.declared.slot.Slot.TheVariants.{A}
 
--- a write of these bytes at this offset, and then a sync
+-- a write of the given bytes at the given offset, and then a sync
 abbrev pub commit_calls : ℕ → List ℕ → List DiskCall
 commit_calls at bytes = Synced ∷ Wrote at bytes ∷ []
 
--- n reads
+-- the given number of reads
 abbrev pub many_reads : ℕ → List DiskCall
 many_reads n = replicate n WasRead
 
@@ -24,40 +24,41 @@ pub record AreReads (old new : List DiskCall) : Type 0 where
   pub count : ℕ
   pub all : new ≡ many_reads count ++ old
 
--- The calls of an `append` of a record whose commit byte is at `commit_at`. The first write has the
--- record's length, the record, and a commit byte of 0. The second sets the commit byte at
--- `commit_at` to 1. A sync follows each write.
+-- The calls that an `append` makes. The commit byte of the record is at `commit_at`. The first
+-- write has the record's length, the record, and a commit byte of 0. The second write sets the
+-- commit byte at `commit_at` to 1. A sync follows each write.
 abbrev pub append_calls : ℕ → List ℕ → List DiskCall
 append_calls commit_at payload =
     commit_calls commit_at (1 ∷ [])
     ++ commit_calls (commit_at + 1) (be16 (length payload) ++ payload ++ 0 ∷ [])
 
--- The calls of a `replace` that writes into this slot. The first write puts an area into the slot
--- (`IsArea`: with a commit byte of 0 after it). The second sets the selector to the slot. A sync
--- follows each write.
+-- The calls that a `replace` makes when it writes into this slot. The first write puts an area into
+-- the slot (`IsArea`: a snapshot area, then a commit byte of 0). The second write sets the selector
+-- to the slot. A sync follows each write.
 abbrev pub replace_calls : Slot → List ℕ → List DiskCall
 replace_calls slot area =
     commit_calls SELECTOR_OFFSET (selector_of slot ∷ []) ++ commit_calls (start_of slot) area
 
--- The calls of a `create` after its read of the header. The first write puts an area into the first
--- slot, and the second writes the header. A sync follows each write.
+-- The calls that a `create` makes after its read of the header. The first write puts an area into
+-- the first slot, and the second write is the header. A sync follows each write.
 abbrev pub create_calls : List ℕ → List DiskCall
 create_calls area = commit_calls 0 FIRST_HEADER ++ commit_calls (start_of A) area
 
--- The calls of an `open` that finds this number of records. They are a sync, one read of the
--- header, two of the snapshot, three of each record, and one of the commit byte that ends the log.
+-- The calls that an `open` makes if it finds the given number of records. It makes one sync, then
+-- reads: one of the header, two of the snapshot, three of each record, and one of the commit byte
+-- that ends the log.
 abbrev pub open_calls : ℕ → List DiskCall
 open_calls records = many_reads (4 + 3 * records) ++ Synced ∷ []
 
--- holds if the calls that `calls` lists for some area of this snapshot were made (`Makes`)
+-- holds if the calls `calls area` were made (`Makes`), for some area of this snapshot
 pub record MakesWithArea {T E : Type 0} (snap : List ℕ) (calls : List ℕ → List DiskCall)
     (old new : List DiskCall) (result : Result T E) : Type 0 where
   pub area : List ℕ
   pub is_area : IsArea snap area
   pub made : Makes (calls area) old new result
 
--- holds if `new` is the list of calls after a failed `create`, and `old` the one before (failed
--- reads and syncs are not noted)
+-- Holds if a failed `create` turned the list of calls `old` into `new`. (The lists do not contain
+-- failed reads and syncs.)
 abbrev pub RefusedCreateCalls : {T E : Type 0} → StoreFault → List ℕ → List DiskCall → List DiskCall
     → Result T E → Type 0
 RefusedCreateCalls store_fault.NotBlank snap old new result = (new ≡ old) ⊎ (new ≡ WasRead ∷ old)
@@ -67,7 +68,7 @@ RefusedCreateCalls store_fault.NoMemory snap old new result = new ≡ old
 RefusedCreateCalls store_fault.NotASession snap old new result = ⊥
 RefusedCreateCalls store_fault.Damaged snap old new result = ⊥
 
--- holds if `new` is the list of calls after a failed `open`, and `old` the one before: no call was
--- added, or a sync and then zero or more reads
+-- holds if a failed `open` turned the list of calls `old` into `new`: it added no call, or a sync
+-- and then zero or more reads
 abbrev pub RefusedOpenCalls : List DiskCall → List DiskCall → Type 0
 RefusedOpenCalls old new = (new ≡ old) ⊎ AreReads (Synced ∷ old) new

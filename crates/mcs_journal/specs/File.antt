@@ -15,16 +15,16 @@ start_of B = SECOND_SLOT
 abbrev pub slot_named : ℕ → Slot
 slot_named selector = if selector % 2 == 0 then A else B
 
--- the slot that a file's selector names
+-- the active slot of a file: its selector names this slot
 abbrev pub slot_of : List ℕ → Slot
 slot_of file = slot_named (slice_index file 8)
 
--- the offset of the slot that a file's selector names
+-- the offset of a file's active slot, which its selector names
 abbrev pub slot_at : List ℕ → ℕ
 slot_at file = start_of (slot_of file)
 
--- A number in two and in four bytes, big-endian. If it is below 2^16 or 2^32, these are the bytes
--- that std's `to_be_bytes` returns.
+-- A number as two bytes (`be16`) and as four bytes (`be32`), big-endian. If it is below 2^16 or
+-- 2^32 respectively, these are the bytes that std's `to_be_bytes` returns.
 abbrev pub be16 : ℕ → List ℕ
 be16 n = n / 256 ∷ n % 256 ∷ []
 
@@ -35,7 +35,7 @@ be32 n = n / 16777216 ∷ n / 65536 % 256 ∷ n / 256 % 256 ∷ n % 256 ∷ []
 abbrev pub frame_of : List ℕ → List ℕ
 frame_of payload = 1 ∷ (be16 (length payload) ++ payload)
 
--- the frames of some records, one after another
+-- the frames of the given records, one after another
 abbrev pub frames_of : List (List ℕ) → List ℕ
 frames_of [] = []
 frames_of (r ∷ rs) = frame_of r ++ frames_of rs
@@ -47,8 +47,8 @@ abbrev pub AreRecords : List (List ℕ) → Type 0
 AreRecords [] = Unit {0}
 AreRecords (r ∷ rs) = IsRecord r × AreRecords rs
 
--- holds if a log holds these records: it has their frames, then a commit byte that is not 1, and
--- then any bytes
+-- holds if a log holds these records: it begins with their frames, then has a commit byte that is
+-- not 1, and then any bytes
 pub record IsLog (records : List (List ℕ)) (log : List ℕ) : Type 0 where
   pub commit_byte : ℕ
   pub rest : List ℕ
@@ -56,9 +56,9 @@ pub record IsLog (records : List (List ℕ)) (log : List ℕ) : Type 0 where
   pub closed : commit_byte ≢ 1
   pub records_ok : AreRecords records
 
--- Holds if a file holds this snapshot and these records. It begins with the name, the selector and
--- seven zeros. The slot that the selector names has the snapshot, after its length, and the log of
--- the records.
+-- Holds if a file holds this snapshot and these records. The file begins with the name, the
+-- selector and seven zeros. The slot that the selector names has the length of the snapshot, the
+-- snapshot, and the log of the records.
 pub record Holds (file : List ℕ) (snap : List ℕ) (records : List (List ℕ)) : Type 0 where
   pub size : length file ≡ FILE_SIZE
   pub name : part 0 8 file ≡ NAME
@@ -68,18 +68,18 @@ pub record Holds (file : List ℕ) (snap : List ℕ) (records : List (List ℕ))
   pub snap_bytes : part (slot_at file + 4) (length snap) file ≡ snap
   pub log : IsLog records (part (slot_at file + AREA_SIZE) LOG_SIZE file)
 
--- holds if each file holds at most one snapshot with one list of records
+-- holds if every file holds at most one snapshot with one list of records
 abbrev pub ContentsAreUnique : Type 0
 ContentsAreUnique =
     (file snap other : List ℕ) (records more : List (List ℕ))
     → Holds file snap records → Holds file other more → (snap ≡ other) × (records ≡ more)
 
--- Holds if a log has room for a record of `size` bytes after `used` bytes of frames. The room
--- includes the commit byte and the length before the record, and one more commit byte after it.
+-- Holds if a log has room for a record of `size` bytes after `used` bytes of frames. The record
+-- also needs a commit byte and its length before it, and another commit byte after it.
 abbrev pub HasRoom : ℕ → ℕ → Type 0
 HasRoom used size = used + 3 + size + 1 ≤ LOG_SIZE
 
--- true if there is room as `HasRoom` states
+-- true if the log has room for the record; `HasRoom` as a boolean
 abbrev pub has_room : ℕ → ℕ → Bool
 has_room used size = nat_le (used + 3 + size + 1) LOG_SIZE
 

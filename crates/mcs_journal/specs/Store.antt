@@ -1,4 +1,4 @@
--- The view of a store that contracts see, and the invariant of its fields. (Our own choice.)
+-- The state of a store as contracts see it, and the invariant of its fields. (Our own choice.)
 use Rattle.std.specs.Prelude.{◌≡◌, ℕ, ◌+◌, ◌≤◌, Bool, List, length, IsTrue}
 use Rattle.mcs_disk.specs.CallList.{unsynced}
 use Rattle.mcs_disk.specs.Disk.{DiskState, bytes_of, size_of}
@@ -11,14 +11,14 @@ pub record StoreView (D : Type 0) : Type 0 where
   pub disk : D
   -- true if no call on the store has returned a device fault
   pub live : Bool
-  -- the slot that holds the snapshot and the log
+  -- the active slot, which holds the snapshot and the log
   pub slot : Slot
   -- the number of bytes that the frames of the records occupy in the log
   pub used : ℕ
 
--- The invariant of an open store on an honest disk. The disk is durable, its selector names this
--- slot, and it holds a snapshot and records. `used` is the number of bytes that the frames of the
--- records occupy.
+-- The invariant of an open store on an honest disk. The disk is durable, its selector names the
+-- slot `slot`, and it holds a snapshot and records. `used` is the number of bytes that the frames
+-- of the records occupy.
 pub record IsIntactStore (disk : DiskState) (slot : Slot) (used : ℕ) : Type 0 where
   pub durable : IsDurable disk
   pub active : slot_of (bytes_of disk) ≡ slot
@@ -27,9 +27,10 @@ pub record IsIntactStore (disk : DiskState) (slot : Slot) (used : ℕ) : Type 0 
   pub holds : Holds (bytes_of disk) snap records
   pub count : used ≡ length (frames_of records)
 
--- The invariant of a store. Its disk has the size of a session file, and the log has room for one
--- more commit byte. The buffer has the size of a snapshot area and a commit byte. If the store is
--- open, all writes on its disk are synced, and the store is intact if the disk is honest.
+-- The invariant of a store on any disk. The disk has the size of a session file, and the log has
+-- room for one more commit byte. The buffer has the size of a snapshot area and a commit byte. If
+-- the store is open, all writes on the disk are synced; if the disk is also honest, the store is
+-- intact.
 pub record IsStore (disk : DiskState) (live : Bool) (slot : Slot) (used : ℕ) (buffer : List ℕ)
     : Type 0 where
   pub disk_size : size_of disk ≡ FILE_SIZE

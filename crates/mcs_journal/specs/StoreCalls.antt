@@ -1,4 +1,5 @@
--- The results of `create` and `open`, by the contents of the disk. (Our own choice.)
+-- The results of `create` and `open`, for each error and for success, in terms of the disk's
+-- contents. (Our own choice.)
 use Rattle.std.specs.Prelude.{◌≡◌, ◌+◌, ℕ, List, []}
 use Rattle.mcs_disk.specs.Disk.{DiskState, bytes_of, time_of, IsLater}
 use Rattle.mcs_disk.specs.Stretches.{AddsNoImage}
@@ -7,11 +8,11 @@ use Rattle.mcs_journal.specs.File.{Holds, IsBlank, IsNoSession}
 use Rattle.mcs_journal.specs.declared.fault.StoreFault.{StoreFault}
 use Rattle.mcs_journal.specs.declared.fault.StoreFault.TheVariants as store_fault
 
--- holds if the disk does not hold a snapshot with its records
+-- holds if the bytes of the disk do not hold any snapshot with its records
 abbrev pub HoldsNone : DiskState → Type 0
 HoldsNone disk = (snap : List ℕ) (records : List (List ℕ)) → Holds (bytes_of disk) snap records → ⊥
 
--- holds if `create` can return the error
+-- holds if `create` can return this error
 abbrev pub IsCreateFault : StoreFault → Type 0
 IsCreateFault store_fault.NotBlank = Unit {0}
 IsCreateFault store_fault.Device = Unit {0}
@@ -19,7 +20,7 @@ IsCreateFault store_fault.NoMemory = Unit {0}
 IsCreateFault store_fault.NotASession = ⊥
 IsCreateFault store_fault.Damaged = ⊥
 
--- holds if `open` can return the error
+-- holds if `open` can return this error
 abbrev pub IsOpenFault : StoreFault → Type 0
 IsOpenFault store_fault.NotASession = Unit {0}
 IsOpenFault store_fault.Damaged = Unit {0}
@@ -27,7 +28,7 @@ IsOpenFault store_fault.Device = Unit {0}
 IsOpenFault store_fault.NoMemory = Unit {0}
 IsOpenFault store_fault.NotBlank = ⊥
 
--- the property of the disk that an error of `open` guarantees
+-- what an error of `open` guarantees about the disk before the call
 abbrev pub RefusesOpen : StoreFault → DiskState → Type 0
 RefusesOpen store_fault.NotASession disk = IsNoSession disk
 RefusesOpen store_fault.Damaged disk = ¬ (IsNoSession disk) × HoldsNone disk
@@ -35,14 +36,14 @@ RefusesOpen store_fault.Device disk = Unit {0}
 RefusesOpen store_fault.NoMemory disk = Unit {0}
 RefusesOpen store_fault.NotBlank disk = ⊥
 
--- holds if the disk held this snapshot and these records, no call wrote to it, and every image of
--- it holds them
+-- holds if a successful `open` found this snapshot and these records on the disk `old`, wrote
+-- nothing, and left the disk durable
 pub record Opens (old new : DiskState) (snap : List ℕ) (records : List (List ℕ)) : Type 0 where
   pub holds : Holds (bytes_of old) snap records
   pub rests : AddsNoImage old new
   pub durable : IsDurable new
 
--- the property of the disk, before and after the call, that an error of `create` guarantees
+-- what an error of `create` guarantees about the disk before and after the call
 abbrev pub RefusesCreate : StoreFault → DiskState → DiskState → Type 0
 RefusesCreate store_fault.NotBlank old new = ¬ (IsBlank old) × AddsNoImage old new
 RefusesCreate store_fault.Device old new = IsLater old new
@@ -50,8 +51,8 @@ RefusesCreate store_fault.NoMemory old new = Unit {0}
 RefusesCreate store_fault.NotASession old new = ⊥
 RefusesCreate store_fault.Damaged old new = ⊥
 
--- holds if the disk was blank, and now, five ticks later, every image of it holds this snapshot and
--- no records
+-- holds if a successful `create` found a blank disk and, five ticks later, left it durable with
+-- this snapshot and no records
 pub record Creates (old new : DiskState) (snap : List ℕ) : Type 0 where
   pub blank : IsBlank old
   pub holds : Holds (bytes_of new) snap []

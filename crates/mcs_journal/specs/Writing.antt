@@ -1,4 +1,4 @@
--- Parts of a session file, for the contracts of reading and writing.
+-- The parts of a session file, for the contracts of reading and writing.
 use Rattle.std.specs.Prelude.{◌≡◌, ℕ, ◌+◌, ◌≤◌, List, ◌⊎◌, length, slice_index, Result, OnOk}
 use Rattle.mcs_disk.specs.Disk.{DiskState, IsLater, part, Torn, bytes_of, time_of, images_of, images_since}
 use Rattle.mcs_disk.specs.PowerCut.{IsDurable}
@@ -11,30 +11,30 @@ abbrev pub other_slot : Slot → Slot
 other_slot A = B
 other_slot B = A
 
--- the selector value that is written to name a slot
+-- the selector value that a write uses to name a slot
 abbrev pub selector_of : Slot → ℕ
 selector_of A = 0
 selector_of B = 1
 
--- holds if `commit_at` is the offset of the commit byte after the last record, and the log has room
--- for one more record of n bytes
+-- holds if `commit_at` is the offset of the commit byte that follows the last record, and the log
+-- has room for one more record of n bytes
 pub record IsCommitOffset (file : List ℕ) (records : List (List ℕ)) (commit_at n : ℕ) : Type 0 where
   pub at : commit_at ≡ slot_at file + AREA_SIZE + length (frames_of records)
   pub room : length (frames_of records) + n + 4 ≤ LOG_SIZE
 
--- holds if the frame of this record, with its commit byte of 1, starts at this offset
+-- holds if the frame of this record starts at this offset, with a commit byte of 1
 pub record IsNext (file : List ℕ) (at : ℕ) (r : List ℕ) : Type 0 where
   pub good : IsRecord r
   pub is : part at (length r + 3) file ≡ frame_of r
 
--- holds if the commit byte at this offset is 1, and no record follows that fits into `room` bytes
--- with one more commit byte after it
+-- holds if the commit byte at this offset is 1, but no record follows it that fits into `room`
+-- bytes together with the next commit byte
 pub record IsNoRecord (file : List ℕ) (at room : ℕ) : Type 0 where
   pub opened : slice_index file at ≡ 1
   pub none : (r : List ℕ) → length r + 4 ≤ room → IsNext file at r → ⊥
 
--- holds if `area` is what a write puts into a slot for this snapshot: a snapshot area, and a commit
--- byte of 0 after it
+-- holds if `area` is a snapshot area of this snapshot, followed by a commit byte of 0; a single
+-- write puts it into a slot
 pub record IsArea (snap area : List ℕ) : Type 0 where
   pub long : length area ≡ BUFFER_SIZE
   pub short : length snap ≤ MOST_SNAPSHOT
@@ -48,14 +48,14 @@ pub record IsHeader (file : List ℕ) (slot : Slot) : Type 0 where
   pub zeros : part 9 7 file ≡ ZEROS
   pub active : slot_of file ≡ slot
 
--- holds if the slot that starts at this offset has this snapshot
+-- holds if the slot that starts at this offset holds this snapshot
 pub record IsSnapshot (file : List ℕ) (start : ℕ) (snap : List ℕ) : Type 0 where
   pub short : length snap ≤ MOST_SNAPSHOT
   pub snap_length : part start 4 file ≡ be32 (length snap)
   pub snap_bytes : part (start + 4) (length snap) file ≡ snap
 
--- A write of these bytes, and then a sync. At each moment since the write began, an image is one
--- from before the write, or such an image with the written range torn.
+-- The effect of a write of these bytes, followed by a sync. Each image since the write began is one
+-- from before the write, or it differs from one only in the written range.
 pub record Commits {T E : Type 0} (at : ℕ) (bytes : List ℕ) (old new : DiskState)
     (result : Result T E) : Type 0 where
   pub written : OnOk result (part at (length bytes) (bytes_of new) ≡ bytes)

@@ -3,7 +3,7 @@ ghost use Rattle.std.specs.Prelude.{◌≡◌, ◌<◌, ◌↔◌, [], length, s
 
 use std::marker::Model;
 
-/// Bytes that were read from a disk. Contracts see them as a list.
+/// A snapshot or a record that was read from a disk. Contracts see it as a list of bytes.
 #[derive(Drop)]
 pub struct Bytes {
     pub(crate) bytes: Vec<u8>,
@@ -18,7 +18,7 @@ impl Model for Bytes {
 }
 
 impl Bytes {
-    /// Returns all the bytes, in order.
+    /// Returns all the bytes of the snapshot or record, in order.
     pub fn bytes(&self) -> &[u8]
         ensures { result.now ≡ self.now }
     {
@@ -26,7 +26,7 @@ impl Bytes {
     }
 }
 
-/// The records of a log, in order. Contracts see them as a list of byte lists.
+/// The records of a log, oldest first. Contracts see them as a list of byte lists.
 #[derive(Drop)]
 pub struct Records {
     pub(crate) records: Vec<Bytes>,
@@ -55,7 +55,8 @@ impl Records {
         self.records.is_empty()
     }
 
-    /// Returns the bytes of record `i`, counted from 0.
+    /// Returns the bytes of record `i`. The oldest record is number 0, and `i` must be less than
+    /// [`len`](Records::len).
     pub fn get(&self, i: usize) -> &[u8]
         requires { i < length self.now }
         ensures { slice_get self.now i ≡ Some result.now }

@@ -1,4 +1,4 @@
-//! The errors of creating and opening a store.
+//! The errors that creating or opening a store can return.
 ghost use Rattle.std.specs.Prelude.{◌≡◌};
 
 use mcs_disk::DiskFault;
@@ -6,24 +6,24 @@ use std::alloc::{AllocError, AllocFailed};
 use thiserror::Error;
 
 /// An error of [`create`](crate::Store::create) or [`open`](crate::Store::open). The contracts
-/// state which errors each of them can return (`IsCreateFault`, `IsOpenFault`).
+/// state which errors each of the two can return (`IsCreateFault`, `IsOpenFault`).
 #[derive(Clone, Copy, Debug, PartialEq, Eq, Error)]
 pub enum StoreFault {
-    /// Returned by `open`: the size or the name is not that of a session file (refusal 50).
+    /// `open` returns it if the disk's size or name is not that of a session file (refusal 50).
     #[error("not a session file")]
     NotASession,
-    /// Returned by `open`: the size and the name are right, but the bytes do not hold a snapshot
+    /// `open` returns it if the size and the name are right, but the bytes do not hold a snapshot
     /// with its records (refusal 51).
     #[error("damaged")]
     Damaged,
-    /// Returned by both: a call on the disk failed (refusal 53).
+    /// `create` and `open` return it if a call on the disk failed (refusal 53).
     #[error("the device failed")]
     Device,
-    /// Returned by `create`: the size is not that of a session file, or one of the first 16 bytes
-    /// is not 0 (refusal 55).
+    /// `create` returns it if the disk's size is not that of a session file, or if one of the first
+    /// 16 bytes is not 0 (refusal 55).
     #[error("not blank")]
     NotBlank,
-    /// Returned by both: there was not enough memory for a buffer, the snapshot or a record
+    /// `create` and `open` return it if memory runs out for a buffer, the snapshot or a record
     /// (refusal 90).
     #[error("out of memory")]
     NoMemory,

@@ -1,61 +1,63 @@
 //! The layout of a session file: a header and two slots. All sizes and offsets are in bytes.
 
-/// The size of a session file.
+/// The size of a session file, in bytes.
 pub const FILE_SIZE: usize = 163_856;
 
-/// The maximum size of a snapshot. The file sets this limit, whatever the bytes mean. The codec's
-/// own limit for a state must not be greater.
+/// The maximum size of a snapshot, in bytes. The file layout sets this limit, whatever the bytes
+/// mean. The codec's own limit for a state must not be greater.
 pub const MOST_SNAPSHOT: usize = 16_380;
 
-/// The maximum size of a record. The file sets this limit, whatever the bytes mean. The codec's own
-/// limit for a command must not be greater.
+/// The maximum size of a record, in bytes. The file layout sets this limit, whatever the bytes
+/// mean. The codec's own limit for a command must not be greater.
 pub const MOST_RECORD: usize = 8_192;
 
-/// The size of the header: the name, the selector, and zeros.
+/// The size of the header, which consists of the name, the selector and zeros.
 pub const HEADER_SIZE: usize = 16;
 
 /// The name that a session file begins with.
 pub const NAME: [u8; 8] = *b"MCS4BEN1";
 
-/// The size of the name.
+/// The size of the name at the start of the file, in bytes.
 pub const NAME_SIZE: usize = 8;
 
-/// The offset of the selector byte. An even selector names the first slot, an odd one the second.
+/// The offset of the selector byte. An even selector names the first slot; an odd selector names
+/// the second.
 pub const SELECTOR_OFFSET: usize = 8;
 
-/// The offset of the zero bytes in the header.
+/// The offset of the zero bytes that end the header.
 pub const ZEROS_OFFSET: usize = 9;
 
 /// The zero bytes that end the header.
 pub const ZEROS: [u8; 7] = [0; 7];
 
-/// The header of a file whose selector names the first slot.
+/// The header of a file whose selector is 0 and so names the first slot.
 pub const FIRST_HEADER: [u8; HEADER_SIZE] = *b"MCS4BEN1\0\0\0\0\0\0\0\0";
 
-/// The offset of the first slot.
+/// The offset of the first slot in the file.
 pub const FIRST_SLOT: usize = 16;
 
-/// The offset of the second slot.
+/// The offset of the second slot in the file.
 pub const SECOND_SLOT: usize = 81_936;
 
-/// The size of a slot's snapshot area: a four-byte length, and space for the longest snapshot.
+/// The size of a slot's snapshot area. The area consists of a four-byte length and space for the
+/// longest snapshot.
 pub const AREA_SIZE: usize = 16_384;
 
-/// The offset of the snapshot within its area, after the length.
+/// The offset of the snapshot within its area; the four-byte length precedes it.
 pub const SNAPSHOT_OFFSET: usize = 4;
 
-/// The size of a slot's log, which follows the snapshot area.
+/// The size of a slot's log. The log follows the snapshot area.
 pub const LOG_SIZE: usize = 65_536;
 
-/// The size of a frame's header, which precedes the record: the commit byte and a two-byte length.
+/// The size of a frame's header, which precedes the record: a commit byte and a two-byte length.
 pub const FRAME_HEAD: usize = 3;
 
-/// The value of the commit byte before a record that counts.
+/// The value of a commit byte that makes the record after it count.
 pub const COMMITTED: u8 = 1;
 
-/// A value of the commit byte that ends the log.
+/// A value of the commit byte that ends the log: no record after it counts.
 pub const NOT_COMMITTED: u8 = 0;
 
-/// The size of a snapshot area plus the first commit byte of the log after it. Both are written as
-/// one range.
+/// The size of a snapshot area and the first commit byte of the log after it. One write covers
+/// both.
 pub const BUFFER_SIZE: usize = AREA_SIZE + 1;

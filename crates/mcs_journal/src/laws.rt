@@ -1,5 +1,5 @@
 //! Laws about the file format, and about its contents after a power cut. The contract of each
-//! function states a law; its body does nothing.
+//! function states a law; the function itself does nothing.
 ghost use Rattle.std.specs.Prelude.{◌⊎◌, ◌≡◌, ◌∷◌, [], ℕ, List, codes};
 ghost use Rattle.mcs_disk.specs.Disk.{bytes_of, time_of};
 ghost use Rattle.mcs_disk.specs.Stretches.{Either, LeavesOnly};
@@ -9,7 +9,8 @@ ghost use Rattle.mcs_journal.specs.File.{Holds, ContentsAreUnique};
 
 use mcs_disk::Disk;
 
-/// Shows the values, in bytes, that define the layout of a session file:
+/// Shows the values that define the layout of a session file. Sizes and offsets are in bytes. The
+/// values are:
 ///
 /// - the sizes of the file, its header, a snapshot area, a log, and an area with the first commit
 ///   byte
@@ -29,15 +30,16 @@ pub fn layout_is()
     ensures zeros { ZEROS ≡ 0 ∷ 0 ∷ 0 ∷ 0 ∷ 0 ∷ 0 ∷ 0 ∷ [] }
 {}
 
-/// Shows that any file holds at most one snapshot with one list of records. So the bytes determine
-/// what [`open`](crate::Store::open) returns.
+/// Shows that any file holds at most one snapshot with one list of records. The bytes of the file
+/// therefore determine what [`open`](crate::Store::open) returns.
 pub fn contents_are_unique()
     ensures { ContentsAreUnique }
 {}
 
-/// Shows that a power cut since the start of a stretch leaves one of two contents, if each image of
-/// the stretch holds one of the two. [`append`](crate::Store::append) and
-/// [`replace`](crate::Store::replace) promise such a stretch.
+/// Shows that a power cut leaves one of two contents. The cut happens after a stretch of calls
+/// began, and each image of the stretch must hold one of the two contents.
+/// [`append`](crate::Store::append) and [`replace`](crate::Store::replace) promise this of their
+/// images.
 pub fn cut_leaves_old_or_new_contents<D: Disk, E: Disk>()
     ensures { (snap other : List ℕ) (records more : List (List ℕ)) (old new : D) (found : E)
         → LeavesOnly (D.state old) (D.state new)
@@ -46,7 +48,7 @@ pub fn cut_leaves_old_or_new_contents<D: Disk, E: Disk>()
         → Holds (bytes_of (E.state found)) snap records ⊎ Holds (bytes_of (E.state found)) other more }
 {}
 
-/// Shows that a power cut from now on leaves the same contents, if the disk is durable.
+/// Shows that a power cut from now on leaves the contents unchanged, if the disk is durable.
 /// [`append`](crate::Store::append) and [`replace`](crate::Store::replace) leave the disk durable
 /// if they return Ok.
 pub fn cut_leaves_durable_contents<D: Disk, E: Disk>()

@@ -1,8 +1,8 @@
-//! The journal of a session: a file with two slots, each of which has a snapshot and a log of the
+//! The journal of a session: a file with two slots. Each slot has a snapshot and a log of the
 //! records after it.
 //!
-//! A [`Store`] keeps a snapshot and its records on a disk. A power cut at any moment leaves the
-//! contents before a call or those after it.
+//! A [`Store`] keeps a snapshot and its records on a disk. If a power cut interrupts a call of the
+//! store, the disk holds the contents from before the call or those from after it.
 #![tactic(auto)]
 
 mod bytes;

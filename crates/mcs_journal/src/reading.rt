@@ -20,7 +20,8 @@ use crate::slot::Slot;
 use mcs_disk::{Disk, DiskFault};
 use std::alloc::Global;
 
-/// Reads the bytes that start at offset `at`, until `into` is full. It adds no image to the disk.
+/// Fills `into` with the bytes of the disk that start at offset `at`. The read adds no image to the
+/// disk. It fails if the device fails.
 pub fn read_at<D: Disk>(disk: &mut D, at: usize, into: &mut [u8]) -> Result<(), DiskFault>
     requires { at + length into.old ≤ size_of (D.state disk.old) }
     ensures reads { ReadsOnly (D.state disk.old) (D.state disk.new) (IsErr result) }
@@ -33,9 +34,9 @@ pub fn read_at<D: Disk>(disk: &mut D, at: usize, into: &mut [u8]) -> Result<(), 
     disk.read(at, into)
 }
 
-/// Reads the record whose commit byte is at offset `at`, with `room` bytes of the log left. It
-/// returns `None` if the commit byte is not 1. It fails if no record that fits follows a commit
-/// byte of 1, if the device fails, or if memory runs out.
+/// Reads the record whose commit byte is at offset `at`; `room` bytes of the log are left from
+/// there. Returns `None` if the commit byte is not 1. Fails if the commit byte is 1 but no record
+/// that fits follows it, if the device fails, or if memory runs out.
 pub fn read_record<D: Disk>(
     alloc: Global,
     disk: &mut D,
@@ -82,14 +83,14 @@ pub fn read_record<D: Disk>(
     Ok(Some(Bytes { bytes }))
 }
 
-/// The records of a log, and the number of bytes that they occupy in it.
+/// The records of a log, and the number of bytes that their frames occupy.
 #[derive(Drop)]
 pub struct Log {
     pub records: Vec<Bytes>,
     pub used: usize,
 }
 
-/// Reads the log that starts at offset `at`, up to the first commit byte that is not 1. It fails if
+/// Reads the log that starts at offset `at`, up to the first commit byte that is not 1. Fails if
 /// the log is damaged, if the device fails, or if memory runs out.
 pub fn read_log<D: Disk>(alloc: Global, disk: &mut D, at: usize) -> Result<Log, StoreFault>
     requires inside { at + LOG_SIZE ≤ size_of (D.state disk.old) }
@@ -119,7 +120,7 @@ pub fn read_log<D: Disk>(alloc: Global, disk: &mut D, at: usize) -> Result<Log, 
     Ok(Log { records, used })
 }
 
-/// Reads the header and returns the slot that its selector names. It fails if the name or the zeros
+/// Reads the header and returns the slot that its selector names. Fails if the name or the zeros
 /// are wrong, or if the device fails.
 pub fn read_header<D: Disk>(disk: &mut D) -> Result<Slot, StoreFault>
     requires size { size_of (D.state disk.old) ≡ FILE_SIZE }
@@ -148,8 +149,8 @@ pub fn read_header<D: Disk>(disk: &mut D) -> Result<Slot, StoreFault>
     Ok(Slot::named(header[SELECTOR_OFFSET]))
 }
 
-/// Reads the snapshot of the slot that starts at offset `start`. It fails if the length is above
-/// the limit of a snapshot, if the device fails, or if memory runs out.
+/// Reads the snapshot of the slot that starts at offset `start`. Fails if the stored length is
+/// above the limit of a snapshot, if the device fails, or if memory runs out.
 pub fn read_snapshot<D: Disk>(
     alloc: Global,
     disk: &mut D,
@@ -180,7 +181,7 @@ pub fn read_snapshot<D: Disk>(
     Ok(Bytes { bytes })
 }
 
-/// The contents that were found on a disk, and their slot.
+/// The contents that were read from a disk, and the slot that holds them.
 #[derive(Drop)]
 pub struct Found {
     pub slot: Slot,
@@ -188,9 +189,10 @@ pub struct Found {
     pub log: Log,
 }
 
-/// Syncs the disk, and reads the contents that it holds.
+/// Syncs the disk, and reads the contents that it holds. Fails if the disk holds no valid contents,
+/// if the device fails, or if memory runs out.
 ///
-/// Without the sync, a power cut after the call could lose what it read.
+/// Without the sync, a power cut after the call could lose contents that the call has read.
 pub fn read_contents<D: Disk>(alloc: Global, disk: &mut D) -> Result<Found, StoreFault>
     requires size { size_of (D.state disk.old) ≡ FILE_SIZE }
     ensures reads { ReadsOnly (D.state disk.old) (D.state disk.new)

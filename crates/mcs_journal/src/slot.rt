@@ -3,7 +3,7 @@ ghost use Rattle.std.specs.Prelude.{◌≡◌};
 
 use crate::format::{FIRST_SLOT, SECOND_SLOT};
 
-/// A slot of a session file: a snapshot area and a log.
+/// One of the two slots of a session file. A slot has a snapshot area and a log.
 #[derive(Clone, Copy)]
 pub enum Slot {
     /// The first slot of the file.
@@ -16,15 +16,15 @@ impl Slot {
     ghost use Rattle.mcs_journal.specs.File.{slot_named, start_of};
     ghost use Rattle.mcs_journal.specs.Writing.{other_slot, selector_of};
 
-    /// Returns the slot that a selector names: the first if the selector is even, the second if it
-    /// is odd.
+    /// Returns the slot that a selector names: the first if the selector is even, or the second if
+    /// it is odd.
     pub fn named(selector: u8) -> Slot
         ensures { result ≡ slot_named selector }
     {
         if selector % 2 == 0 { Slot::A } else { Slot::B }
     }
 
-    /// Returns the offset of the slot in the file.
+    /// Returns the offset of the slot in the file, in bytes.
     pub fn start(self) -> usize
         ensures { result ≡ start_of self }
     {
@@ -34,7 +34,7 @@ impl Slot {
         }
     }
 
-    /// Returns the selector value that is written to name this slot.
+    /// Returns the selector value that names this slot when it is written: 0 or 1.
     pub fn selector(self) -> u8
         ensures { result ≡ selector_of self }
     {
@@ -44,7 +44,7 @@ impl Slot {
         }
     }
 
-    /// Returns the other slot.
+    /// Returns the other slot of the file.
     pub fn other(self) -> Slot
         ensures { result ≡ other_slot self }
     {

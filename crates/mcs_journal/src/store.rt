@@ -1,4 +1,4 @@
-//! A store: a snapshot and records on a disk.
+//! A store: a snapshot and its records on a disk.
 ghost use Rattle.std.specs.Prelude.{◌≡◌, ◌≢◌, ◌⊎◌, ◌≤◌, ◌+◌, ◌↔◌, List, [], ◌∷◌, ◌++◌, ℕ, length, is_ok, IsTrue, IsErr, IsErrAnd, OnOk, OnErr, IfErr, IfOk};
 ghost use Rattle.mcs_disk.specs.Disk.{bytes_of, size_of, CountsFault};
 ghost use Rattle.mcs_disk.specs.Changes.{Changes};
@@ -23,8 +23,8 @@ use std::marker::Model;
 
 /// A snapshot and the records after it, on a disk.
 ///
-/// A call that returns a device fault closes the store. The disk then holds the contents before
-/// that call or those after it. Opening the disk again shows which.
+/// A call that returns a device fault closes the store. The disk then holds the contents from
+/// before that call or those from after it. Opening the disk again shows which of the two it holds.
 #[derive(Drop)]
 pub struct Store<D: Disk + Drop> {
     disk: D,
@@ -44,7 +44,7 @@ impl<D: Disk + Drop> Model for Store<D> {
     ghost invariant = { λ s. IsStore (D.state s.disk) s.live s.slot s.used s.buffer.items };
 }
 
-/// The contents that were read from a disk, and the store that continues from them.
+/// The contents that were read from a disk, and the store that will add to them.
 #[derive(Drop)]
 pub struct Opened<D: Disk + Drop> {
     pub store: Store<D>,
@@ -55,15 +55,15 @@ pub struct Opened<D: Disk + Drop> {
 }
 
 impl<D: Disk + Drop> Store<D> {
-    /// Creates a store with the snapshot `snap` and no records, on a disk of
-    /// [`FILE_SIZE`](crate::FILE_SIZE) bytes whose first 16 bytes are 0.
+    /// Creates a store with the snapshot `snap`, of at most 16,380 bytes, and no records. The disk
+    /// must have [`FILE_SIZE`](crate::FILE_SIZE) bytes, of which the first 16 are 0.
     ///
-    /// An error returns the disk; with `NotBlank`, nothing was written. A power cut during the call
-    /// can leave anything.
+    /// An error returns the disk; if the error is not `Device`, nothing was written. A power cut
+    /// during the call can leave anything.
     pub fn create(alloc: Global, disk: D, snap: &[u8]) -> Result<Store<D>, (StoreFault, D)>
         requires short { length snap.now ≤ MOST_SNAPSHOT }
 
-        // on any disk
+        // the next clauses hold on any disk
         ensures live { IfOk result (λ store. IsTrue store.live × (store.used ≡ 0)) }
         ensures counts { IfOk result (λ store. CountsFault (D.state disk) (D.state store.disk) ⊥) }
         ensures refusal_counts { IfErr result (λ refused.
@@ -87,7 +87,7 @@ impl<D: Disk + Drop> Store<D> {
             → IfErr result (λ refused. OneUnsynced (D.state disk).calls
             (D.state refused.1).calls) }
 
-        // on an honest disk
+        // the next clauses hold on an honest disk
         ensures created { (D.state disk).honest → IfOk result (λ store.
             Creates (D.state disk) (D.state store.disk) snap.now) }
         ensures refused { (D.state disk).honest → IfErr result (λ refused.
@@ -117,10 +117,10 @@ impl<D: Disk + Drop> Store<D> {
         }
     }
 
-    /// Opens the store on a disk, and reads its contents. It writes nothing, and an error returns
-    /// the disk.
+    /// Opens the store on a disk, and reads its contents. Writes nothing. An error returns the
+    /// disk.
     pub fn open(alloc: Global, disk: D) -> Result<Opened<D>, (StoreFault, D)>
-        // on any disk
+        // the next clauses hold on any disk
         ensures live { IfOk result (λ opened. IsTrue opened.store.live) }
         ensures counts { IfOk result (λ opened.
             CountsFault (D.state disk) (D.state opened.store.disk) ⊥) }
@@ -143,7 +143,7 @@ impl<D: Disk + Drop> Store<D> {
         ensures refused_one_unsynced { IfErr result (λ refused.
             OneUnsynced (D.state disk).calls (D.state refused.1).calls) }
 
-        // on an honest disk
+        // the next clauses hold on an honest disk
         ensures opened { (D.state disk).honest → IfOk result (λ opened.
             Opens (D.state disk) (D.state opened.store.disk) opened.snap opened.records) }
         ensures used { (D.state disk).honest → IfOk result (λ opened.
@@ -189,7 +189,8 @@ impl<D: Disk + Drop> Store<D> {
         self.live
     }
 
-    /// Returns true if a record of `len` bytes fits after the records of the log.
+    /// Returns true if the log has room for one more record, of `len` bytes. `len` is at most
+    /// 8,192.
     pub fn has_room(&self, len: usize) -> bool
         requires { len ≤ MOST_RECORD }
         ensures room { IsTrue result ↔ HasRoom self.now.used len }
@@ -201,7 +202,8 @@ impl<D: Disk + Drop> Store<D> {
         self.used + FRAME_HEAD + len + 1 <= LOG_SIZE
     }
 
-    /// Appends a record of 1 to 8,192 bytes to the log. A device fault closes the store.
+    /// Appends a record of 1 to 8,192 bytes to the log, which must have room for it. The store must
+    /// be open. A device fault closes it.
     pub fn append(&mut self, payload: &[u8]) -> Result<(), DiskFault>
         requires live { IsTrue self.old.live }
         requires good { IsRecord payload.now }
@@ -238,7 +240,7 @@ impl<D: Disk + Drop> Store<D> {
     }
 
     /// Replaces the snapshot and all records with a new snapshot of at most 16,380 bytes and no
-    /// records. A device fault closes the store.
+    /// records. The store must be open. A device fault closes it.
     pub fn replace(&mut self, snap: &[u8]) -> Result<(), DiskFault>
         requires live { IsTrue self.old.live }
         requires short { length snap.now ≤ MOST_SNAPSHOT }
@@ -274,14 +276,14 @@ impl<D: Disk + Drop> Store<D> {
         }
     }
 
-    /// Returns the disk, as the last call left it.
+    /// Returns the disk of the store, as the last call left it.
     pub fn disk(&self) -> &D
         ensures { result.now ≡ self.now.disk }
     {
         &self.disk
     }
 
-    /// Ends the store and returns its disk, with the contents unchanged.
+    /// Ends the store and returns its disk unchanged.
     pub fn into_disk(self) -> D
         ensures { result ≡ self.disk }
     {

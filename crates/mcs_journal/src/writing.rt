@@ -1,6 +1,6 @@
-//! The writes of a store. Each change first writes bytes that nothing reads yet, and then the byte
-//! that puts them in force (for a new store, the header). A sync follows each of the two writes. So
-//! the second write never reaches the disk before the bytes that it puts in force.
+//! The writes of a store. Each change first writes bytes that nothing reads yet, and syncs. It then
+//! writes the byte that puts them in force, and syncs again. (For a new store, the header puts them
+//! in force.) So the second write never reaches the disk before the bytes that it puts in force.
 ghost use Rattle.std.specs.Prelude.{◌≡◌, ◌⊎◌, ◌≤◌, ◌+◌, List, [], ◌∷◌, ◌++◌, ℕ, length, take, slice_index, OnOk, IfErr, IsErr, IsErrOf};
 ghost use Rattle.mcs_disk.specs.Disk.{CountsFault, bytes_of, size_of, time_of, IsLater};
 ghost use Rattle.mcs_disk.specs.Changes.{Changes, ReadsOnly};
@@ -21,7 +21,7 @@ use crate::reading::read_at;
 use crate::slot::Slot;
 use mcs_disk::{Disk, DiskFault};
 
-/// Writes `from` at offset `at`, and syncs. It fails if the device fails.
+/// Writes `from` at offset `at`, and then syncs the disk. Fails if the device fails.
 pub fn commit<D: Disk>(disk: &mut D, at: usize, from: &[u8]) -> Result<(), DiskFault>
     requires { at + length from.now ≤ size_of (D.state disk.old) }
     ensures call { CountsFault (D.state disk.old) (D.state disk.new) (IsErr result) }
@@ -34,8 +34,8 @@ pub fn commit<D: Disk>(disk: &mut D, at: usize, from: &[u8]) -> Result<(), DiskF
     disk.sync()
 }
 
-/// Encodes the bytes that follow a record's commit byte: the record's length, the record, and a
-/// commit byte of 0.
+/// Encodes the bytes that follow a record's commit byte into `buffer`: the record's length, the
+/// record, and a commit byte of 0.
 pub fn encode_record(buffer: &mut [u8], payload: &[u8])
     requires room { length payload.now + 3 ≤ length buffer.old }
     requires short { length payload.now ≤ MOST_RECORD }
@@ -50,7 +50,7 @@ pub fn encode_record(buffer: &mut [u8], payload: &[u8])
 }
 
 /// Writes a record after the commit byte at offset `commit_at`, and then sets that commit byte to
-/// 1.
+/// 1. Fails if the device fails.
 pub fn add_record<D: Disk>(
     disk: &mut D,
     buffer: &mut [u8],
@@ -78,7 +78,7 @@ pub fn add_record<D: Disk>(
     commit(disk, commit_at, &[COMMITTED])
 }
 
-/// Encodes a snapshot area and, after it, a commit byte of 0.
+/// Encodes a snapshot area and, after it, a commit byte of 0 into `buffer`.
 pub fn encode_snapshot(buffer: &mut [u8], snap: &[u8])
     requires room { length buffer.old ≡ BUFFER_SIZE }
     requires short { length snap.now ≤ MOST_SNAPSHOT }
@@ -93,8 +93,9 @@ pub fn encode_snapshot(buffer: &mut [u8], snap: &[u8])
     buffer[AREA_SIZE] = NOT_COMMITTED;
 }
 
-/// Writes a snapshot and no records into the slot that the selector does not name, and then sets
-/// the selector to that slot.
+/// Writes a snapshot and no records into the slot `other`, and then sets the selector to that slot.
+/// Fails if the device fails. If `other` is the inactive slot of an honest, durable disk, a power
+/// cut leaves the old contents or the new contents.
 pub fn replace_contents<D: Disk>(
     disk: &mut D,
     buffer: &mut [u8],
@@ -121,8 +122,8 @@ pub fn replace_contents<D: Disk>(
     commit(disk, SELECTOR_OFFSET, &[other.selector()])
 }
 
-/// Checks that the first 16 bytes of a disk are 0. It fails with `NotBlank` if they are not, and
-/// with `Device` if the device fails.
+/// Checks that the first 16 bytes of a disk are 0. Fails with `NotBlank` if they are not, and with
+/// `Device` if the device fails.
 pub fn check_blank<D: Disk>(disk: &mut D) -> Result<(), StoreFault>
     requires size { size_of (D.state disk.old) ≡ FILE_SIZE }
     ensures reads { ReadsOnly (D.state disk.old) (D.state disk.new)
@@ -148,7 +149,7 @@ pub fn check_blank<D: Disk>(disk: &mut D) -> Result<(), StoreFault>
 }
 
 /// Writes the snapshot and no records into the first slot, and then the header that names this
-/// slot.
+/// slot. Fails if the device fails.
 pub fn write_first<D: Disk>(disk: &mut D, buffer: &mut [u8], snap: &[u8]) -> Result<(), DiskFault>
     requires size { size_of (D.state disk.old) ≡ FILE_SIZE }
     requires room { length buffer.old ≡ BUFFER_SIZE }

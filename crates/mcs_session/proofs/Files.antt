@@ -1,4 +1,4 @@
--- What a session's disk stands for when it is made and opened.
+-- The state that a session's disk represents after the session was created or opened.
 use Rattle.std.proofs.Common.{◌≡◌, inl, inr, ⊎_elim, None, ap, List, [], ◌∷◌, ℕ, sym, ◌∙◌, subst, refl, arith}
 use Rattle.mcs_disk.proofs.CallLaws.{lawful, size_of-bytes}
 use Rattle.mcs_disk.specs.Disk.{DiskState, bytes_of, time_of, images_of}
@@ -31,7 +31,7 @@ use Rattle.mcs_session.specs.Log.{LogHolds}
 use Rattle.mcs_session.specs.Invariant.{IsRecorded, IsReplayed, MayReplaceContents, ReplacedContents}
 use Rattle.mcs_session.proofs.Records.{same_pair_state}
 
--- no bytes spell states of both versions
+-- no bytes encode both a state of version 1 and a state of version 2
 not_both : (snap : List ℕ) (s : BenchState) (version_1 : BenchState1) → SpellsState snap s → SpellsState1 snap version_1 → ⊥
 not_both snap s version_1 a b =
     let versions : Two ≡ One = (same_state snap Two One s (lift version_1) a (record { version_1 = version_1; spells = b; lifted = refl })).0 in
@@ -43,7 +43,7 @@ stands_by snap records s p c held = record { snap = snap; records = records; hol
 pub at_of : (disk : DiskState) (s : BenchState) → IsDurable disk → StandsFor (bytes_of disk) s → DiskStandsFor disk s
 at_of disk s durable stands image now = subst (λ (f : List ℕ). StandsFor f s) (sym (durable image now)) stands
 
--- a snapshot with no records after it
+-- a snapshot of a state, with no records after it, represents that state
 stand_new : (snap : List ℕ) (s : BenchState) → SpellsState snap s → RecordsStandFor Two snap [] s
 stand_new snap s spells = record { start = s; snapshot = spells; commands = []; replays = tt; bounded = omega arith; state = refl }
 
@@ -54,7 +54,7 @@ pub recorded_new : (disk : DiskState) (snap : List ℕ) (s : BenchState) → Spe
 unfolding stands_new stand_new
 recorded_new disk snap s spells held durable = record { durable = durable; stands = stands_new (bytes_of disk) snap s spells held; count = refl }
 
--- its log is empty
+-- if a file has a snapshot and no records, its log has no commands
 pub empty_held : (file : List ℕ) (s : BenchState) → HoldsState file s → LogHolds file []
 unfolding stands_new stand_new
 empty_held file s held = record { state = s; stands = stands_new file held.snap s held.spells held.holds; commands = refl }
@@ -69,18 +69,18 @@ recorded_opened old new snap records cycles s opened replayed =
     let held : Holds (bytes_of new) snap records = subst (λ (f : List ℕ). Holds f snap records) (sym (rests_bytes old new opened.rests)) opened.holds in
     record { durable = opened.durable; stands = record { snap = snap; records = records; holds = held; stand = replayed.stand }; count = replayed.count }
 
--- a disk whose bytes are those of before, by a store that was opened on it
+-- after a successful `open` of the store, the disk holds the same contents as before
 pub held_on : (old new : DiskState) (snap : List ℕ) (records : List (List ℕ)) → Opens old new snap records → Holds (bytes_of new) snap records
 held_on old new snap records opened = subst (λ (f : List ℕ). Holds f snap records) (sym (rests_bytes old new opened.rests)) opened.holds
 
--- calls that rest leave what there was
+-- reads and syncs leave only images that the disk had before
 rests_may : (old new : DiskState) (s : BenchState) → AddsNoImage old new → LeavesOldOrState old new s
 rests_may old new s rests = record {
   later = rests.later;
   each = λ c left. inl ((lawful old).only_now c (rests_since old new rests (time_of old) c left));
 }
 
--- a file of the last version
+-- a file of version 2 is opened in the state that it represents
 pub opened_session : (old new : DiskState) (snap : List ℕ) (records : List (List ℕ)) (cycles : ℕ) (s : BenchState) → Opens old new snap records → IsReplayed Two snap records cycles s → OpensSession old new s
 opened_session old new snap records cycles s opened replayed = record {
   stood = inl (stands_by snap records s replayed.stand (bytes_of old) opened.holds);
@@ -96,7 +96,7 @@ rested_session old new snap records cycles s opened replayed = record {
 
 -- ---- version 1
 
--- what version 1 does is what the last version does at the lifted state
+-- the commands have the same effects in version 1 as in version 2 from the converted state
 replays_first : (s : BenchState) (version_1 : BenchState1) (rs : List (List ℕ)) (cs : List Command) → s ≡ lift version_1 → ReplaysCommands One s rs cs → ReplaysCommands1 version_1 rs cs × (fold s cs ≡ lift (fold_1 version_1 cs))
 replays_first s version_1 [] [] e h = (tt, e)
 replays_first s version_1 [] (c ∷ cs) e h = absurd h
@@ -117,7 +117,7 @@ first_replays version_1 (r ∷ rs) (c ∷ cs) h =
       ap (λ (x : BenchState). fold x cs) (sym lifts.after) ∙ rest.1,
     )
 
--- records that stand for a state by version 1 as the last version does it stand for it by version 1
+-- if the records represent a converted state, the file represents it in version 1
 pub by_first : (file snap : List ℕ) (records : List (List ℕ)) (s : BenchState) → Holds file snap records → RecordsStandFor One snap records s → StandsForLifted file s
 by_first file snap records s holds stand =
     let both = replays_first stand.start stand.snapshot.version_1 records stand.commands stand.snapshot.lifted stand.replays in
@@ -130,7 +130,7 @@ by_first file snap records s holds stand =
       lifted = stand.state ∙ both.1;
     }
 
--- and the other way round
+-- if the records represent a state in version 1, they represent its conversion
 pub first_by : (snap : List ℕ) (records : List (List ℕ)) (version_1 : BenchState1) → RecordsStandFor1 snap records version_1 → RecordsStandFor One snap records (lift version_1)
 first_by snap records version_1 stand =
     let both = first_replays stand.start records stand.commands stand.replays in
@@ -146,7 +146,7 @@ first_by snap records version_1 stand =
 holds_state : (file : List ℕ) (s : BenchState) → HoldsState file s → StandsFor file s
 holds_state file s held = stands_new file held.snap s held.spells held.holds
 
--- the store was opened, and what it held was replaced or not
+-- after the store was opened, its contents were kept or replaced by a snapshot of the same state
 migrates : (old mid new : DiskState) (snap : List ℕ) (records : List (List ℕ)) (s : BenchState) → Opens old mid snap records → RecordsStandFor One snap records s
     → LeavesOnly mid new (Either (λ c. Holds c snap records) (λ c. HoldsState c s)) → LeavesOldOrState old new s
 migrates old mid new snap records s opened stand moments =
@@ -154,7 +154,8 @@ migrates old mid new snap records s opened stand moments =
     (leaves_map mid new (Either (λ c. Holds c snap records) (λ c. HoldsState c s)) (Either (images_of old) (λ file. StandsByEither file s))
     (λ c. ⊎_elim (λ there. inr (inr (by_first c snap records s there stand))) (λ here. inr (inl (holds_state c s here)))) moments)
 
--- a file of version 1, whose lifted state is the only thing on the disk
+-- a file of version 1 is opened in its converted state, once a durable snapshot of that state has
+-- replaced its contents
 lifted_session : (old mid new : DiskState) (snap : List ℕ) (records : List (List ℕ)) (cycles : ℕ) (s : BenchState) → Opens old mid snap records → IsReplayed One snap records cycles s
     → HoldsState (bytes_of new) s → IsDurable new → OpensSession old new s
 lifted_session old mid new snap records cycles s opened replayed held durable = record {
@@ -162,7 +163,7 @@ lifted_session old mid new snap records cycles s opened replayed held durable = 
   stands = at_of new s durable (holds_state (bytes_of new) s held);
 }
 
--- and what was done to it
+-- a file of version 1 is migrated once a snapshot of its converted state has replaced its contents
 pub migrated_session : (old mid new : DiskState) (snap : List ℕ) (records : List (List ℕ)) (cycles : ℕ) (s : BenchState) → Opens old mid snap records → IsReplayed One snap records cycles s
     → LeavesOnly mid new (Either (λ c. Holds c snap records) (λ c. HoldsState c s)) → HoldsState (bytes_of new) s → MigratesSession old new s
 migrated_session old mid new snap records cycles s opened replayed moments held = record {
@@ -182,9 +183,9 @@ fails_migrating old mid new snap records cycles s opened replayed moments = reco
   leaves = migrates old mid new snap records s opened replayed.stand moments;
 }
 
--- ---- what `open` refuses
+-- ---- errors of `open`
 
--- a file stands for what its one pair stands for
+-- a file represents the state that its snapshot and records represent
 pub pair_of : (file snap : List ℕ) (records : List (List ℕ)) (s : BenchState) → Holds file snap records → StandsFor file s → RecordsStandFor Two snap records s
 pair_of file snap records s held stands =
     subst (λ (x : List (List ℕ)). RecordsStandFor Two snap x s) (same_records _ _ _ _ _ stands.holds held)
@@ -196,19 +197,20 @@ first_of file snap records s held version_1 =
     (subst (λ (x : List (List ℕ)). RecordsStandFor One snap x (lift version_1.version_1)) (same_records _ _ _ _ _ version_1.holds held)
     (subst (λ (x : List ℕ). RecordsStandFor One x version_1.records (lift version_1.version_1)) (same_snap _ _ _ _ _ version_1.holds held) (first_by version_1.snap version_1.records version_1.version_1 version_1.stand)))
 
--- a file that stands for a state by version 2 stands for no other
+-- a file that represents a state in version 2 represents no other state in either version
 pub one_state : (file : List ℕ) (s t : BenchState) → StandsFor file s → StandsByEither file t → s ≡ t
 one_state file s t a (inl b) = same_pair_state Two a.snap b.snap a.records b.records s t (same_snap _ _ _ _ _ a.holds b.holds) (same_records _ _ _ _ _ a.holds b.holds) a.stand b.stand
 one_state file s t a (inr b) = absurd (not_both a.snap a.stand.start b.stand.start a.stand.snapshot (subst (λ (x : List ℕ). SpellsState1 x b.stand.start) (same_snap _ _ _ _ _ b.holds a.holds) b.stand.snapshot))
 
--- a disk that holds a pair has the size and the name of a session file
+-- a disk that holds a snapshot and records has the size and the name of a session file
 pub is_session : (disk : DiskState) (snap : List ℕ) (records : List (List ℕ)) → Holds (bytes_of disk) snap records → IsNoSession disk → ⊥
 is_session disk snap records holds other = elim other [
   | inl wrong ↦ wrong (sym (size_of-bytes disk) ∙ holds.size)
   | inr unnamed ↦ unnamed holds.name
 ]
 
--- no state after the pair that was opened
+-- if the snapshot and the records represent no state, `open` returns `Damaged` and has only read
+-- and synced
 pub refuses_pair : (old new : DiskState) (snap : List ℕ) (records : List (List ℕ)) → Opens old new snap records → ((v : Version) (s : BenchState) → RecordsStandFor v snap records s → ⊥) → RefusesSession Damaged old × AddsNoImage old new
 refuses_pair old new snap records opened none = (
   (
@@ -232,7 +234,7 @@ left_store Device old new h = inl h
 left_store NoMemory old new h = h
 left_store NotBlank old new h = h
 
--- what `begin` did with a log that was opened
+-- the session that `begin` started has the state that the opened store represents
 pub opened_by : (v : Version) (old mid new : DiskState) (snap : List ℕ) (records : List (List ℕ)) (cycles : ℕ) (s : BenchState) → Opens old mid snap records → IsReplayed v snap records cycles s
     → (v ≡ Two → OpensSession old mid s → OpensSession old new s) → (v ≡ One → ReplacedContents mid new snap records s) → OpensSession old new s
 opened_by Two old mid new snap records cycles s opened replayed same replaced = same refl (opened_session old mid snap records cycles s opened replayed)
@@ -257,17 +259,18 @@ pub recorded_by : (v : Version) (old new : DiskState) (snap : List ℕ) (records
 recorded_by Two old new snap records cycles s e opened replayed = recorded_opened old new snap records cycles s opened replayed
 recorded_by One old new snap records cycles s e opened replayed = absurd (cc)
 
--- by version 1 a file stands for at most one state
+-- a file represents at most one state in version 1
 pub one_first : (file : List ℕ) (s t : BenchState) → StandsForLifted file s → StandsForLifted file t → s ≡ t
 one_first file s t a b = same_pair_state One a.snap b.snap a.records b.records s t (same_snap _ _ _ _ _ a.holds b.holds) (same_records _ _ _ _ _ a.holds b.holds) (first_of file a.snap a.records s a.holds a) (first_of file b.snap b.records t b.holds b)
 
--- by either version a file stands for at most one state
+-- a file represents at most one state in either version
 pub one_either : (file : List ℕ) (s t : BenchState) → StandsByEither file s → StandsByEither file t → s ≡ t
 one_either file s t (inl a) b = one_state file s t a b
 one_either file s t (inr a) (inl b) = sym (one_state file t s b (inr a))
 one_either file s t (inr a) (inr b) = one_first file s t a b
 
--- a disk whose every image stands for a state by version 1
+-- if every image represented a state in version 1, and each later image is an old image or
+-- represents that state, no power cut loses the state
 pub stays_first : (old new : DiskState) (s u : BenchState) → LeavesOldOrState old new u → u ≡ s → DiskStandsForLifted old s → DiskStandsSince (time_of old) new s
 stays_first old new s u moments same each image left = ⊎_elim (λ before. inr (each image before)) (λ now. subst (λ (x : BenchState). StandsByEither image x) same now) (moments.each image left)
 
@@ -283,7 +286,7 @@ fails_first old new s each fails =
     let here : StandsForLifted (bytes_of old) s = each (bytes_of old) (lawful old).current in
     stays_first old new s fails.state fails.leaves (one_first (bytes_of old) fails.state s fails.stands here) each
 
--- what a refusal left, for whatever reason, is what was there or what stands for the same state
+-- reads and syncs of a disk of version 1 leave only images that represent its converted state
 rests_first : (old new : DiskState) (s : BenchState) → DiskStandsForLifted old s → AddsNoImage old new → DiskStandsSince (time_of old) new s
 rests_first old new s each rests image left = inr (each image ((lawful old).only_now image (rests_since old new rests (time_of old) image left)))
 

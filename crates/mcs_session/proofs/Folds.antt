@@ -1,4 +1,4 @@
--- Commands in turn, cut in two.
+-- Commands that are executed one after another, split into two lists.
 use Rattle.std.proofs.Common.{◌≡◌, List, [], ◌∷◌, ◌++◌, refl}
 use Rattle.mcs_model.specs.declared.command.Command.{Command}
 use Rattle.mcs_model.specs.BenchState.{BenchState}

@@ -1,4 +1,4 @@
--- What a power cut leaves of two runs, one after the other.
+-- The commands that a power cut leaves of two runs, one after the other.
 use Rattle.std.proofs.Common.{◌≡◌, inl, inr, ◌≤◌, ⊎_elim, ℕ, List, [], ◌∷◌, ◌++◌, append_assoc, sym, ap, ◌∙◌, refl, subst, arith}
 use Rattle.std.proofs.lemmas.Bool.{cases_lt}
 use Rattle.mcs_disk.proofs.CallLaws.{lawful}
@@ -19,7 +19,7 @@ use Rattle.mcs_session.proofs.Prefixes.{acknowledged-append, acknowledged_all, a
 
 -- ---- two runs
 
--- what both acknowledged
+-- the acknowledgements of both runs together
 abbrev both : (d e f : DiskState) (s : BenchState) (cs ds : List Command) → KeepsAllCommands d e s cs → Acknowledgements e f ds → Acknowledgements d f (cs ++ ds)
 both d e f s cs ds a b =
     let first = a.kept.acknowledged in
@@ -33,7 +33,8 @@ both d e f s cs ds a b =
       within = omega (arith, whole, b.within);
     }
 
--- the images since a time of the first run, and those since a time of the second
+-- each image since a time of either run represents the state after a prefix that has every command
+-- acknowledged by that time
 each_more : (d e f : DiskState) (s t : BenchState) (cs done ds : List Command) (a : KeepsAllCommands d e s cs) → t ≡ fold s cs → (b : KeepsCommands e f t done ds)
     → (u : ℕ) (image : List ℕ) → time_of d ≤ u → images_since u f image → StandsForPrefix s (cs ++ ds) (acknowledged_by u (a.kept.acknowledged.moments ++ b.acknowledged.moments)) image
 each_more d e f s t cs done ds a same b u image le now =
@@ -74,7 +75,7 @@ whole_more d e f s t cs ds a same b =
       holds = subst (LogHolds (bytes_of f)) (ap (λ (log : List Command). log_after_all log ds) later ∙ sym (log_append first.log cs ds)) b.holds;
     }
 
--- after a run in which no call failed
+-- after a run in which no call failed, each image represents the state after all commands
 pub settled_after : (d e : DiskState) (s t : BenchState) (cs : List Command) → t ≡ fold s cs → KeepsAllCommands d e s cs → DiskStandsFor e t
 settled_after d e s t cs same a image now =
     let ms = a.kept.acknowledged.moments in
@@ -85,16 +86,16 @@ settled_after d e s t cs same a image now =
     let count = counted d e cs a.kept.acknowledged in
     rw same (prefix_all s cs (acknowledged_by (time_of e) ms) image (omega (arith, all, count)) (a.kept.each (time_of e) image (omega (arith, behind, last)) ((lawful e).counts_now (time_of e) image now)))
 
--- ---- no command
+-- ---- runs without commands
 
 goes_nowhere : (d e : DiskState) → e.start ≡ d.start → e.calls ≡ d.calls → IsLater d e
 goes_nowhere d e start calls = record { start = start; added = []; all = calls }
 
--- what a read gives is left by a power cut, too
+-- the current bytes of a disk represent the same state as its images
 pub stands_now : (d : DiskState) (s : BenchState) → DiskStandsFor d s → StandsFor (bytes_of d) s
 stands_now d s h = h (bytes_of d) (lawful d).current
 
--- nothing was acknowledged
+-- a run without commands has acknowledged nothing
 none_acknowledged : (d e : DiskState) (s : BenchState) → StandsFor (bytes_of d) s → time_of d ≤ time_of e → Acknowledgements d e []
 none_acknowledged d e s stands le = record {
   log = log_in (bytes_of d) s stands;
@@ -123,7 +124,7 @@ stays_keeps d e s start calls h =
 pub whole_nothing : (d : DiskState) (s : BenchState) → DiskStandsFor d s → KeepsAllCommands d d s []
 whole_nothing d s h = stays_keeps d d s refl refl h
 
--- ---- one command
+-- ---- runs of one command
 
 pub acknowledged_keeps : (d e : DiskState) (s : BenchState) (c : Command) → AcknowledgesCommand d e s c → KeepsAllCommands d e s (c ∷ [])
 acknowledged_keeps d e s c a = record {

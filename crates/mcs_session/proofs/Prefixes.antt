@@ -1,4 +1,4 @@
--- Moments that follow one another, and states after a prefix of the commands.
+-- The order of moments, and states after a prefix of the commands.
 use Rattle.std.proofs.Common.{◌≡◌, ◌+◌, ◌≤◌, ◌<◌, ℕ, Bool, cond, List, [], ◌∷◌, ◌++◌, length, nat_le, take, sym, ap, ◌∙◌, refl, arith, length-append, slice_get, Some, suc, zero}
 use Rattle.std.proofs.lemmas.Bool.{le-leb, lt-leb}
 use Rattle.std.proofs.lemmas.Grind.{common_steps}
@@ -42,7 +42,7 @@ acknowledged-append t ms ns = sum_by-append (one_by t) ms ns
 pub acknowledged_few : (t : ℕ) (ms : List ℕ) → acknowledged_by t ms ≤ length ms
 acknowledged_few t ms = count_by-le-length (λ m. nat_le m t) ms
 
--- by a time before the first moment, none
+-- by a time that is not after the start, no command was acknowledged
 pub acknowledged_none : (t clock : ℕ) (ms : List ℕ) → t ≤ clock → AreRising clock ms → acknowledged_by t ms ≡ 0
 acknowledged_none t clock [] le h = refl
 acknowledged_none t clock (m ∷ ms) le h =
@@ -55,7 +55,7 @@ acknowledged_none t clock (m ∷ ms) le h =
 pub acknowledged_before : (t m : ℕ) → t < m → acknowledged_by t (m ∷ []) ≡ 0
 acknowledged_before t m h = acknowledged-cons t m [] ∙ ap (λ (n : ℕ). n + 0) (one_by-later t m h)
 
--- by the last moment, all
+-- by the last moment, all commands were acknowledged
 pub acknowledged_all : (t clock : ℕ) (ms : List ℕ) → last_moment clock ms ≤ t → AreRising clock ms → acknowledged_by t ms ≡ length ms
 acknowledged_all t clock [] le h = refl
 acknowledged_all t clock (m ∷ ms) le h =
@@ -64,7 +64,7 @@ acknowledged_all t clock (m ∷ ms) le h =
     let rest = acknowledged_all t m ms le h.1 in
     let whole = acknowledged-cons t m ms in omega (arith, first, rest, whole)
 
--- by the j-th moment, j at least
+-- by the moment with index j, at least j + 1 commands were acknowledged
 pub acknowledged_at : (clock : ℕ) (ms : List ℕ) (j m : ℕ) → slice_get ms j ≡ Some m → AreRising clock ms → (clock ≤ m) × (j + 1 ≤ acknowledged_by m ms)
 acknowledged_at clock [] j m e h = absurd (cc e)
 acknowledged_at clock (n ∷ ms) zero m e h =
@@ -88,7 +88,7 @@ take_front cs ds n h = grind (arith, common_steps)
 take_past : (cs ds : List Command) (n : ℕ) → take (length cs + n) (cs ++ ds) ≡ cs ++ take n ds
 take_past cs ds n = take-append-add cs ds n
 
--- a prefix of the first commands
+-- a prefix of the first commands is a prefix of all commands
 after_more : (s : BenchState) (cs ds : List Command) (j : ℕ) (t : BenchState) → IsAfterPrefix s cs j t → IsAfterPrefix s (cs ++ ds) j t
 after_more s cs ds j t h = record {
   count = h.count;
@@ -97,7 +97,7 @@ after_more s cs ds j t h = record {
   state = h.state ∙ ap (fold s) (sym (take_front cs ds h.count h.at_most));
 }
 
--- a prefix of the later ones, after all of the first
+-- all of the first commands and a prefix of the later commands are a prefix of all commands
 after_past : (s t : BenchState) (cs ds : List Command) (i j : ℕ) (u : BenchState) → t ≡ fold s cs → i ≤ length cs + j → IsAfterPrefix t ds j u → IsAfterPrefix s (cs ++ ds) i u
 after_past s t cs ds i j u e few h = record {
   count = length cs + h.count;
@@ -118,13 +118,13 @@ prefix_past s t cs ds i j file e few h = record { state = h.state; stands = h.st
 pub prefix_fewer : (s : BenchState) (cs : List Command) (i j : ℕ) (file : List ℕ) → i ≤ j → StandsForPrefix s cs j file → StandsForPrefix s cs i file
 prefix_fewer s cs i j file le h = record { state = h.state; stands = h.stands; after = after_fewer s cs i j h.state le h.after }
 
--- a prefix that holds all
+-- a prefix with at least as many commands as there are has all commands
 pub prefix_all : (s : BenchState) (cs : List Command) (j : ℕ) (file : List ℕ) → length cs ≤ j → StandsForPrefix s cs j file → StandsFor file (fold s cs)
 prefix_all s cs j file all h =
     let same : h.state ≡ fold s cs = h.after.state ∙ ap (fold s) (take_all h.after.count cs (omega (arith, all, h.after.at_least))) in
     rw (← same) h.stands
 
--- the first command was not done yet, or was
+-- the empty prefix leaves the state unchanged
 pub prefix_none : (s : BenchState) (cs : List Command) (file : List ℕ) → StandsFor file s → StandsForPrefix s cs 0 file
 prefix_none s cs file h = record { state = s; stands = h; after = record { count = 0; at_least = omega arith; at_most = omega arith; state = refl } }
 

@@ -1,4 +1,4 @@
--- Records that spell commands, one after the other, and what they stand for.
+-- Records that encode commands, one after another, and the state that they represent.
 use Rattle.std.proofs.Common.{◌≡◌, ℕ, List, [], ◌∷◌, ◌++◌, None, sym, ◌∙◌, ap, subst, refl, take, drop, slice_get, Some, append_assoc, take-append-drop, ◌+◌, ◌≤◌, ◌<◌, arith}
 use Rattle.std.proofs.lemmas.List.{take_more}
 use Rattle.std.proofs.lemmas.List.Sums.{sum_by-cons, sum_by_push}
@@ -17,18 +17,18 @@ use Rattle.mcs_session.specs.Cycles.{log_cycles, replay_cycles}
 use Rattle.mcs_session.specs.StandsFor.{ReplaysCommands, RecordsStandFor}
 use Rattle.mcs_session.proofs.Folds.{fold-append}
 
--- a snapshot spells one state at most
+-- a snapshot encodes at most one state
 same_start : (v : Version) (snap : List ℕ) (s t : BenchState) → SpellsStateBy v snap s → SpellsStateBy v snap t → s ≡ t
 same_start v snap s t a b = (same_state snap v v s t a b).1
 
--- one more
+-- one more record, which encodes an accepted command, replays as one more command
 pub replays-more : (v : Version) (s : BenchState) (rs : List (List ℕ)) (cs : List Command) (r : List ℕ) (c : Command) → ReplaysCommands v s rs cs → SpellsBy v r c → refusal (fold s cs) c ≡ None → ReplaysCommands v s (rs ++ r ∷ []) (cs ++ c ∷ [])
 replays-more v s [] [] r c h spells accepted = (spells, accepted, tt)
 replays-more v s [] (d ∷ cs) r c h spells accepted = absurd h
 replays-more v s (q ∷ rs) [] r c h spells accepted = absurd h
 replays-more v s (q ∷ rs) (d ∷ cs) r c h spells accepted = (h.0, h.1, replays-more v (after s d) rs cs r c (h.2) spells accepted)
 
--- where the next record spells no accepted command, no commands are spelled
+-- if the next record encodes no accepted command, the records encode no list of commands
 pub no_replay : (v : Version) (s : BenchState) (rs : List (List ℕ)) (cs ds : List Command) (r : List ℕ) (more : List (List ℕ)) → ReplaysCommands v s rs cs
     → ((c : Command) → SpellsBy v r c → refusal (fold s cs) c ≡ None → ⊥) → ReplaysCommands v s (rs ++ r ∷ more) ds → ⊥
 no_replay v s [] [] [] r more h none k = k
@@ -40,7 +40,7 @@ no_replay v s (q ∷ rs) (c ∷ cs) (d ∷ ds) r more h none k =
     let same : d ≡ c = same_command q d c k.0.0 h.0.0 in
     no_replay v (after s c) rs cs ds r more (h.2) none (subst (λ (x : Command). ReplaysCommands v (after s x) (rs ++ r ∷ more) ds) same (k.2))
 
--- records spell one list of commands at most
+-- records encode at most one list of commands
 pub same_commands : (v : Version) (s : BenchState) (rs : List (List ℕ)) (cs ds : List Command) → ReplaysCommands v s rs cs → ReplaysCommands v s rs ds → cs ≡ ds
 same_commands v s [] [] [] h k = refl
 same_commands v s [] [] (d ∷ ds) h k = absurd k
@@ -52,7 +52,7 @@ same_commands v s (q ∷ rs) (c ∷ cs) (d ∷ ds) h k =
     let rest : cs ≡ ds = same_commands v (after s c) rs cs ds (h.2) (subst (λ (x : Command). ReplaysCommands v (after s x) rs ds) same (k.2)) in
     rw (same, rest) refl
 
--- the same snapshot and the same records stand for one list of commands
+-- the same snapshot and records represent the same list of commands
 pub same_list : (v : Version) (snap other : List ℕ) (records more : List (List ℕ)) (s t : BenchState) → snap ≡ other → records ≡ more → (a : RecordsStandFor v snap records s) (b : RecordsStandFor v other more t)
     → (a.start ≡ b.start) × (a.commands ≡ b.commands)
 same_list v snap other records more s t e f a b =
@@ -60,13 +60,13 @@ same_list v snap other records more s t e f a b =
     let replays : ReplaysCommands v a.start records b.commands = subst (λ (x : BenchState). ReplaysCommands v x records b.commands) (sym start) (subst (λ (x : List (List ℕ)). ReplaysCommands v b.start x b.commands) (sym f) b.replays) in
     (start, same_commands v a.start records a.commands b.commands a.replays replays)
 
--- and so for one state
+-- the same snapshot and records represent the same state
 pub same_pair_state : (v : Version) (snap other : List ℕ) (records more : List (List ℕ)) (s t : BenchState) → snap ≡ other → records ≡ more → RecordsStandFor v snap records s → RecordsStandFor v other more t → s ≡ t
 same_pair_state v snap other records more s t e f a b =
     let same = same_list v snap other records more s t e f a b in
     a.state ∙ ap (fold a.start) same.1 ∙ ap (λ (x : BenchState). fold x b.commands) same.0 ∙ sym b.state
 
--- the i-th of these, and what follows it
+-- a list split into the items before index i, the item at index i, and the items after it
 pub one_at : {A : Type 0} (xs : List A) (r : A) (i : ℕ) → slice_get xs i ≡ Some r → (more : List A) × (xs ≡ take i xs ++ r ∷ more)
 one_at xs r i e =
     let inside = slice_get_within xs i r e in
@@ -86,9 +86,9 @@ no_pair v snap records r i s t e a none b =
     no_replay v a.start (take i records) a.commands b.commands r (split.0) a.replays
     (λ c spells accepted. none c spells (subst (λ (x : BenchState). refusal x c ≡ None) (sym a.state) accepted)) whole
 
--- ---- the cycles of a log
+-- ---- the cycle count of a log
 
--- commands that begin with these and this one count no less
+-- a log that begins with these records and the next one has at least their cycle count
 front_cycles : (v : Version) (s : BenchState) (rs : List (List ℕ)) (cs ds : List Command) (r : List ℕ) (c : Command) (more : List (List ℕ)) → ReplaysCommands v s rs cs → SpellsBy v r c → ReplaysCommands v s (rs ++ r ∷ more) ds
     → log_cycles cs + replay_cycles c ≤ log_cycles ds
 front_cycles v s [] [] [] r c more h spells k = absurd k
@@ -105,7 +105,7 @@ front_cycles v s (q ∷ rs) (d ∷ cs) (e ∷ ds) r c more h spells k =
     let left = sum_by-cons replay_cycles d cs in
     let right = sum_by-cons replay_cycles e ds in omega (arith, rest, one, left, right)
 
--- where the cycles of the next command are too many, there is no state after the records
+-- if the cycles of the next command exceed the limit of a log, the records represent no state
 pub too_long : (v : Version) (snap : List ℕ) (records : List (List ℕ)) (r : List ℕ) (i cycles : ℕ) (s t : BenchState) (c : Command) → slice_get records i ≡ Some r → IsReplayed v snap (take i records) cycles s
     → SpellsBy v r c → REPLAY_CYCLES < cycles + replay_cycles c → RecordsStandFor v snap records t → ⊥
 too_long v snap records r i cycles s t c e a spells over b =
@@ -118,7 +118,7 @@ too_long v snap records r i cycles s t c e a spells over b =
     let bounded = b.bounded in
     let none : ⊥ = omega (arith, least, count, bounded, over) in none
 
--- one more record
+-- one more record, which encodes an accepted command, represents the state after the command
 unfoldable pub pair_more : (v : Version) (snap r : List ℕ) (records : List (List ℕ)) (s : BenchState) (c : Command) (p : RecordsStandFor v snap records s) → SpellsBy v r c → refusal s c ≡ None
     → log_cycles p.commands + replay_cycles c ≤ REPLAY_CYCLES → RecordsStandFor v snap (records ++ r ∷ []) (after s c)
 pair_more v snap r records s c p spells accepted room = record {
@@ -140,13 +140,13 @@ replayed_more v snap r records cycles more s c p spells accepted is room =
       count = let whole = sum_by_push replay_cycles p.stand.commands c in omega (arith, whole, count, is);
     }
 
--- none yet
+-- a snapshot without records is replayed in its own state, with a cycle count of 0
 pub replayed_none : (v : Version) (snap : List ℕ) (s : BenchState) → SpellsStateBy v snap s → IsReplayed v snap [] 0 s
 replayed_none v snap s spells = record {
   stand = record { start = s; snapshot = spells; commands = []; replays = tt; bounded = omega arith; state = refl };
   count = refl;
 }
 
--- records of a version are those of the version in which their snapshot is read
+-- records that represent a state have the version of their snapshot
 pub at_version : (v version : Version) (snap : List ℕ) (records : List (List ℕ)) (start s : BenchState) → SpellsStateBy version snap start → RecordsStandFor v snap records s → RecordsStandFor version snap records s
 at_version v version snap records start s spells pair = subst (λ w. RecordsStandFor w snap records s) (same_state snap v version pair.start start pair.snapshot spells).0 pair

@@ -1,4 +1,4 @@
--- What is found after a power cut, and what one at the end leaves.
+-- The state that is found after a power cut during a run or at its end.
 use Rattle.std.proofs.Common.{◌≡◌, ◌⊎◌, inl, inr, ◌+◌, ◌≤◌, ℕ, List, length, subst, refl, arith, slice_get, Some}
 use Rattle.mcs_disk.proofs.CallLaws.{lawful}
 use Rattle.mcs_disk.specs.Disk.{DiskState, bytes_of, time_of, images_of, images_since}

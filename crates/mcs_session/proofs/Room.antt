@@ -1,4 +1,5 @@
--- Room for a record, a snapshot where there is none, and the record after it.
+-- Making room for a record: a snapshot replaces the records if the log has no room. The new record
+-- follows.
 use Rattle.std.proofs.Common.{◌≡◌, ◌+◌, ◌≤◌, inl, inr, ⊎_elim, IsTrue, Result, Ok, Err, OnOk, is_ok, List, [], ◌∷◌, ◌++◌, ℕ, Bool, true, false, if◌then◌else◌, None, sym, ap, ◌∙◌, subst, refl, arith, length}
 use Rattle.std.proofs.lemmas.Grind.{common_steps}
 use Rattle.mcs_disk.specs.Disk.{DiskState, bytes_of, time_of}
@@ -25,9 +26,9 @@ use Rattle.mcs_session.proofs.Files.{at_of, empty_held, recorded_new, stands_by,
 use Rattle.mcs_session.proofs.Records.{pair_more, replayed_more}
 use Rattle.mcs_session.proofs.Using.{has_no_room, has_room, log_in, record_held, recorded_bytes, stands_held}
 
--- ---- cycles
+-- ---- cycle counts
 
--- the cycles of an accepted command are few enough for an empty log
+-- the cycle count of an accepted command is within the limit of an empty log
 pub few_cycles : (s : BenchState) (c : Command) → refusal s c ≡ None → replay_cycles c ≤ REPLAY_CYCLES
 few_cycles s (Wire board) h = omega arith
 few_cycles s (Load image) h = omega arith
@@ -43,9 +44,9 @@ few_cycles s (Unbreak at) h = omega arith
 few_cycles s (Watch bank src) h = omega arith
 few_cycles s (Unwatch bank src) h = omega arith
 
--- ---- where there is room
+-- ---- the log has room
 
--- no call on the disk
+-- without a call, each image of the disk still represents the same state
 pub leaves_same : (disk : DiskState) (cycles : ℕ) (s : BenchState) → IsRecorded disk cycles s → LeavesOnly disk disk (λ file. StandsFor file s)
 leaves_same disk cycles s was = record {
   later = no_later disk;
@@ -69,16 +70,16 @@ room_there disk used bytes more cycles s c was is room few is_long is_more =
       recorded = was;
     }
 
--- ---- where there is none
+-- ---- the log has no room
 
--- what is recorded after a snapshot in the place of the records
+-- after a snapshot replaced the records, the disk has recorded the same state
 pub recorded_there : {T E : Type 0} (result : Result T E) (old new : DiskState) (used' cycles cycles' : ℕ) (s : BenchState) (was : IsRecorded old cycles s) → IsTrue (is_ok result)
     → Changes 4 old new (λ c. Holds c was.stands.snap was.stands.records) (λ c. HoldsState c s) result → OnOk result ((used' ≡ 0) × (cycles' ≡ 0)) → IsRecorded new cycles' s
 recorded_there (Ok x) old new used' cycles cycles' s was ok changes empty =
     subst (λ (n : ℕ). IsRecorded new n s) (sym empty.1) (recorded_new new changes.after.snap s changes.after.spells changes.after.holds changes.durable)
 recorded_there (Err e) old new used' cycles cycles' s was ok changes empty = absurd (cc ok)
 
--- a snapshot took the place of the records, or the disk failed
+-- if the call returned Ok, a snapshot replaced the records and the log has room
 pub room_made : {T E : Type 0} (result : Result T E) (old new : DiskState) (used used' bytes more cycles cycles' : ℕ) (s : BenchState) (c : Command) (was : IsRecorded old cycles s) → used ≡ length (frames_of was.stands.records)
     → (HasRoom used bytes → cycles + more ≤ REPLAY_CYCLES → ⊥) → Changes 4 old new (λ f. Holds f was.stands.snap was.stands.records) (λ f. HoldsState f s) result
     → OnOk result ((used' ≡ 0) × (cycles' ≡ 0)) → bytes ≡ length (command_bytes c) → more ≡ replay_cycles c → OnOk result (HasMadeRoom old new c cycles' s)
@@ -98,14 +99,14 @@ room_made (Ok x) old new used used' bytes more cycles cycles' s c was is none ch
     }
 room_made (Err e) old new used used' bytes more cycles cycles' s c was is none changes empty is_long is_more = tt
 
--- until the snapshot is there, the records are
+-- each image represents the same state, before and after the snapshot replaces the records
 pub leaves_state : (old new : DiskState) (cycles : ℕ) (s : BenchState) (was : IsRecorded old cycles s)
     → LeavesOnly old new (Either (λ c. Holds c was.stands.snap was.stands.records) (λ c. HoldsState c s)) → LeavesOnly old new (λ file. StandsFor file s)
 leaves_state old new cycles s was moments =
     leaves_map old new (Either (λ c. Holds c was.stands.snap was.stands.records) (λ c. HoldsState c s)) (λ file. StandsFor file s)
     (λ c. ⊎_elim (λ there. stands_by was.stands.snap was.stands.records s was.stands.stand c there) (λ here. stands_new c here.snap s here.spells here.holds)) moments
 
--- the snapshot is there, in the place of the records
+-- after the snapshot has replaced the records, the disk holds only a snapshot of the state
 pub settles : (old new : DiskState) (cycles : ℕ) (s : BenchState) (was : IsRecorded old cycles s)
     → LeavesOnly old new (Either (λ c. Holds c was.stands.snap was.stands.records) (λ c. HoldsState c s)) → HoldsState (bytes_of new) s → IsDurable new → time_of new ≡ time_of old + 4 → SettlesSession old new s
 settles old new cycles s was moments held durable ticks = record {
@@ -116,13 +117,13 @@ settles old new cycles s was moments held durable ticks = record {
   stands = at_of new s durable (stands_new (bytes_of new) held.snap s held.spells held.holds);
 }
 
--- ---- the record
+-- ---- the new record
 
--- the record was not begun
+-- if only room was made for the record, each image represents the state before the command
 pub leaves_before : (old new : DiskState) (s t : BenchState) → LeavesOnly old new (λ file. StandsFor file s) → LeavesEitherState old new s t
 leaves_before old new s t moments = leaves_map old new (λ file. StandsFor file s) (Either (λ file. StandsFor file s) (λ file. StandsFor file t)) (λ c there. inl there) moments
 
--- a record is written after those that are there
+-- after the record was appended, each image represents the state before or after the command
 pub appended : (old mid new : DiskState) (cycles : ℕ) (s : BenchState) (c : Command) (r : List ℕ) (was : IsRecorded mid cycles s) → Spells r c → refusal s c ≡ None
     → cycles + replay_cycles c ≤ REPLAY_CYCLES → LeavesOnly old mid (λ file. StandsFor file s)
     → LeavesOnly mid new (Either (λ f. Holds f was.stands.snap was.stands.records) (λ f. Holds f was.stands.snap (was.stands.records ++ r ∷ []))) → LeavesEitherState old new s (after s c)
@@ -133,7 +134,7 @@ appended old mid new cycles s c r was spells accepted few first moments =
     (leaves_map mid new (Either (λ f. Holds f was.stands.snap was.stands.records) (λ f. Holds f was.stands.snap (was.stands.records ++ r ∷ []))) (Either (λ file. StandsFor file s) (λ file. StandsFor file (after s c)))
     (λ f. ⊎_elim (λ there. inl (stands_by was.stands.snap was.stands.records s was.stands.stand f there)) (λ here. inr (stands_by was.stands.snap (was.stands.records ++ r ∷ []) (after s c) more f here))) moments)
 
--- what is recorded then
+-- after the record was appended, the disk has recorded the state after the command
 pub recorded_more : (old new : DiskState) (cycles more : ℕ) (s : BenchState) (c : Command) (r : List ℕ) (was : IsRecorded old cycles s) → Spells r c → refusal s c ≡ None → more ≡ replay_cycles c
     → cycles + more ≤ REPLAY_CYCLES → IsDurable new → Holds (bytes_of new) was.stands.snap (was.stands.records ++ r ∷ []) → IsRecorded new (cycles + more) (after s c)
 recorded_more old new cycles more s c r was spells accepted is few durable held =
@@ -141,7 +142,7 @@ recorded_more old new cycles more s c r was spells accepted is few durable held 
     let replayed = replayed_more Two was.stands.snap r was.stands.records cycles more s c so_far (spells, refl) accepted is few in
     record { durable = durable; stands = record { snap = was.stands.snap; records = was.stands.records ++ r ∷ []; holds = held; stand = replayed.stand }; count = replayed.count }
 
--- the steps of both, and the log then
+-- making room and appending the record acknowledge the command
 pub acknowledged : (old mid new : DiskState) (cycles cycles' : ℕ) (s : BenchState) (c : Command) (r : List ℕ) → LeavesEitherState old new s (after s c) → (made : HasMadeRoom old mid c cycles s) → time_of new ≡ time_of mid + 4 → IsRecorded new cycles' (after s c)
     → Spells r c → refusal s c ≡ None → cycles + replay_cycles c ≤ REPLAY_CYCLES → Holds (bytes_of new) made.recorded.stands.snap (made.recorded.stands.records ++ r ∷ []) → AcknowledgesCommand old new s c
 acknowledged old mid new cycles cycles' s c r moments made tick was spells accepted few held = record {

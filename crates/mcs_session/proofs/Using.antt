@@ -1,4 +1,4 @@
--- What a log holds as records are added, and the moments that follow from it.
+-- The commands in a log as records are added, and the moments that follow from them.
 use Rattle.std.proofs.Common.{◌≡◌, ◌⊎◌, inl, inr, ◌+◌, ◌≤◌, ◌<◌, ◌&&◌, if◌then◌else◌, ℕ, Bool, true, false, None, List, [], ◌∷◌, ◌++◌, length, map, nat_le, sym, ap, ◌∙◌, refl, subst, arith}
 use Rattle.std.proofs.lemmas.Bool.{cases_lt, le-leb, lt-leb}
 use Rattle.std.proofs.lemmas.List.Sums.{sum_by_push}
@@ -20,9 +20,9 @@ use Rattle.mcs_session.specs.Log.{LogHolds, has_room_for, ticks_of, log_after, l
 use Rattle.mcs_session.specs.StandsFor.{ReplaysCommands, StandsFor}
 use Rattle.mcs_session.proofs.Records.{pair_more, same_list}
 
--- ---- what it holds
+-- ---- the commands of a log
 
--- a log holds these commands and no others
+-- a file's log holds exactly one list of commands
 pub same_held : (file : List ℕ) (a b : List Command) → LogHolds file a → LogHolds file b → a ≡ b
 same_held file a b x y =
     let snap = same_snap _ _ _ _ _ x.stands.holds y.stands.holds in
@@ -30,34 +30,34 @@ same_held file a b x y =
     let commands = same_list Two x.stands.snap y.stands.snap x.stands.records y.stands.records x.state y.state snap records x.stands.stand y.stands.stand in
     x.commands ∙ commands.1 ∙ sym y.commands
 
--- the log of a file that stands for a state
+-- the commands in the log of a file that represents this state
 abbrev pub log_in : (file : List ℕ) (s : BenchState) → StandsFor file s → List Command
 log_in file s stands = stands.stand.commands
 
 pub stands_held : (file : List ℕ) (s : BenchState) (stands : StandsFor file s) → LogHolds file (log_in file s stands)
 stands_held file s stands = record { state = s; stands = stands; commands = refl }
 
--- ---- room
+-- ---- room in a log
 
--- the bytes of its records
+-- the number of bytes that the frames of these commands occupy
 abbrev pub log_bytes : List Command → ℕ
 log_bytes log = length (frames_of (map command_bytes log))
 
--- records that spell commands of version 2 are the bytes of these
+-- records that replay as commands of version 2 are the encodings of the commands
 pub spelled_records : (s : BenchState) (rs : List (List ℕ)) (cs : List Command) → ReplaysCommands Two s rs cs → rs ≡ map command_bytes cs
 spelled_records s [] [] h = refl
 spelled_records s [] (c ∷ cs) h = absurd h
 spelled_records s (r ∷ rs) [] h = absurd h
 spelled_records s (r ∷ rs) (c ∷ cs) h = ap (λ (payload : List ℕ). payload ∷ rs) h.0.0.is ∙ ap (λ (more : List (List ℕ)). command_bytes c ∷ more) (spelled_records (after s c) rs cs (h.2))
 
--- those of an open session
+-- the records of an open session's disk occupy the bytes that `log_bytes` gives
 pub recorded_bytes : (disk : DiskState) (cycles : ℕ) (s : BenchState) (was : IsRecorded disk cycles s) → length (frames_of was.stands.records) ≡ log_bytes (log_in (bytes_of disk) s was.stands)
 recorded_bytes disk cycles s was = ap (λ (rs : List (List ℕ)). length (frames_of rs)) (spelled_records was.stands.stand.start was.stands.records was.stands.stand.commands was.stands.stand.replays)
 
 cycles_more : (log : List Command) (c : Command) → log_cycles (log ++ c ∷ []) ≡ log_cycles log + replay_cycles c
 cycles_more log c = sum_by_push replay_cycles log c
 
--- as the journal and the recorder ask for it
+-- holds if the log has room for the record, as the journal requires, and for its cycles
 abbrev Room : List Command → Command → Type 0
 Room log c = HasRoom (log_bytes log) (length (command_bytes c)) × (log_cycles log + replay_cycles c ≤ REPLAY_CYCLES)
 
@@ -96,9 +96,9 @@ record_held mid new cycles s c r was spells accepted few held log holds =
       commands = ap (λ (cs : List Command). cs ++ c ∷ []) same;
     }
 
--- ---- moments
+-- ---- moments of acknowledgement
 
--- each is later than the one before
+-- holds if each moment is later than the one before it, and the first is later than the clock
 abbrev pub AreRising : ℕ → List ℕ → Type 0
 AreRising clock [] = Unit {0}
 AreRising clock (m ∷ ms) = (clock < m) × AreRising m ms
@@ -118,11 +118,11 @@ length-moments : (clock : ℕ) (log : List Command) (cs : List Command) → leng
 length-moments clock log [] = refl
 length-moments clock log (c ∷ cs) = let rest = length-moments (clock + ticks_of log c) (log_after log c) cs in omega (arith, rest)
 
--- one for each command
+-- there is one moment for each command
 pub counted : (old new : DiskState) (cs : List Command) (a : Acknowledgements old new cs) → length a.moments ≡ length cs
 counted old new cs a = ap length a.timed ∙ length-moments (time_of old) a.log cs
 
--- ---- runs
+-- ---- runs of commands
 
 pub log_append : (log : List Command) (cs ds : List Command) → log_after_all log (cs ++ ds) ≡ log_after_all (log_after_all log cs) ds
 log_append log [] ds = refl

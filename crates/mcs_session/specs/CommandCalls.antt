@@ -1,4 +1,4 @@
--- The results of a session's `apply` and `settle`, and their effect on the disk.
+-- The results of a session's `apply` and `settle`, and the effect of both on the disk.
 use Rattle.std.specs.Prelude.{◌≡◌, ◌+◌, min, Bool, true, false, ℕ, List, None, Some, Result, Ok, Err}
 use Rattle.mcs_disk.specs.Disk.{DiskState, most_faults, bytes_of, time_of}
 use Rattle.mcs_disk.specs.Stretches.{Either, LeavesOnly}
@@ -13,8 +13,8 @@ use Rattle.mcs_session.specs.StandsFor.{DiskStandsFor, HoldsState, StandsFor}
 
 -- ---- `apply`
 
--- Holds if the command leads from the state `s` to this result and the state `new`. The first
--- argument is true for an open session, and false for a closed one.
+-- Holds if the command, applied in the state `s`, gives this result and the state `new`. The first
+-- argument is true if the session is open.
 abbrev pub AppliesCommand : Bool → BenchState → Command → Result Reply SessionFault → BenchState
     → Type 0
 AppliesCommand true s c (Ok r) new = (refusal s c ≡ None) × (r ≡ reply s c) × (new ≡ after s c)
@@ -23,8 +23,8 @@ AppliesCommand true s c (Err Device) new = (refusal s c ≡ None) × (new ≡ s)
 AppliesCommand false s c (Err Closed) new = new ≡ s
 AppliesCommand live s c result new = ⊥
 
--- Holds if a device fault closed the session and raised the fault count, and any other result left
--- both unchanged.
+-- Holds if a device fault closed the session and increased the fault count, or if any other result
+-- left both unchanged.
 abbrev pub ClosesAtDeviceFault : {T : Type 0} → Bool → ℕ → Result T SessionFault → Bool → ℕ → Type 0
 ClosesAtDeviceFault live faults (Ok r) new_live new_faults =
     (new_live ≡ live) × (new_faults ≡ faults)
@@ -33,14 +33,15 @@ ClosesAtDeviceFault live faults (Err Device) new_live new_faults =
 ClosesAtDeviceFault live faults (Err fault) new_live new_faults =
     (new_live ≡ live) × (new_faults ≡ faults)
 
--- holds if a power cut at any moment of this stretch leaves a file that represents `s` or `other`
+-- holds if a power cut at any moment between the two disk states leaves a file that represents one
+-- of the two bench states
 abbrev pub LeavesEitherState : DiskState → DiskState → BenchState → BenchState → Type 0
 LeavesEitherState old new s other =
     LeavesOnly old new (Either (λ file. StandsFor file s) (λ file. StandsFor file other))
 
--- Until the command is acknowledged, a power cut leaves the state before it or the state after it.
--- From then on, a power cut leaves the state after it. The command's record was added to the log,
--- in the number of ticks that this takes (`ticks_of`).
+-- Holds if a command was acknowledged. Until then, a power cut leaves the state before the command
+-- or the state after it. From then on, a power cut leaves the state after it. The log now has the
+-- command's record, which took `ticks_of` ticks.
 pub record AcknowledgesCommand (old new : DiskState) (s : BenchState) (c : Command) : Type 0 where
   pub leaves : LeavesEitherState old new s (after s c)
   pub log : List Command
@@ -49,7 +50,7 @@ pub record AcknowledgesCommand (old new : DiskState) (s : BenchState) (c : Comma
   pub holds : LogHolds (bytes_of new) (log_after log c)
   pub stands : DiskStandsFor new (after s c)
 
--- the effect of a command on an honest disk, by its result
+-- the effect of a command on an honest disk, for each result of the command
 abbrev pub RecordsOrFails : Result Reply SessionFault → DiskState → DiskState → BenchState
     → Command → Type 0
 RecordsOrFails (Ok r) old new s c = AcknowledgesCommand old new s c
@@ -58,19 +59,22 @@ RecordsOrFails (Err fault) old new s c = new.calls ≡ old.calls
 
 -- ---- `settle`
 
--- holds if an open session returned Ok or a device fault, or if a closed session returned `Closed`
+-- holds if `settle` can return this result: Ok or a device fault from an open session, or `Closed`
+-- from a closed session
 abbrev pub MayAnswerSettle : {T : Type 0} → Bool → Result T SessionFault → Type 0
 MayAnswerSettle true (Ok x) = Unit {0}
 MayAnswerSettle true (Err Device) = Unit {0}
 MayAnswerSettle false (Err Closed) = Unit {0}
 MayAnswerSettle live result = ⊥
 
--- holds if a power cut at any moment of this stretch leaves a file that represents this state
+-- holds if a power cut at any moment between the two disk states leaves a file that represents this
+-- bench state
 abbrev pub KeepsState : DiskState → DiskState → BenchState → Type 0
 KeepsState old new s = LeavesOnly old new (λ file. StandsFor file s)
 
--- The bytes of the disk represented this state. Now, four ticks later, the disk holds a snapshot of
--- the state and no records. A power cut at any moment in between leaves this state.
+-- Holds if `settle` succeeded. The bytes of the disk `old` represented this state. Four ticks
+-- later, the disk `new` holds a snapshot of the state and no records. A power cut at any moment in
+-- between leaves this state.
 pub record SettlesSession (old new : DiskState) (s : BenchState) : Type 0 where
   pub stood : StandsFor (bytes_of old) s
   pub holds : HoldsState (bytes_of new) s
@@ -78,7 +82,7 @@ pub record SettlesSession (old new : DiskState) (s : BenchState) : Type 0 where
   pub ticks : time_of new ≡ time_of old + 4
   pub stands : DiskStandsFor new s
 
--- the effect of `settle` on an honest disk, by its result
+-- the effect of `settle` on an honest disk, for each result of the call
 abbrev pub SettlesOrFails : {T : Type 0} → Result T SessionFault → DiskState → DiskState
     → BenchState → Type 0
 SettlesOrFails (Ok x) old new s = SettlesSession old new s

@@ -1,4 +1,4 @@
--- The invariant of a session's fields, and the effect of the functions that a session consists of.
+-- The invariant of a session's fields, and the effects of the functions that implement a session.
 use Rattle.std.specs.Prelude.{◌≡◌, ◌+◌, ◌≤◌, ℕ, List, [], Bool, IsTrue, Result, length, if◌then◌else◌}
 use Rattle.mcs_disk.specs.Disk.{DiskState, bytes_of, time_of}
 use Rattle.mcs_disk.specs.Changes.{Changes}
@@ -15,38 +15,38 @@ use Rattle.mcs_session.specs.Log.{LogHolds, has_room_for, ticks_of}
 use Rattle.mcs_session.specs.StandsFor.{HoldsState, RecordsStandFor, StandsFor}
 
 -- The invariant of the honest disk of an open session. The disk is durable, and its bytes represent
--- the state of the bench. The commands of its log count for `cycles` cycles.
+-- the state `s` of the bench. `cycles` is the cycle count of its log.
 pub record IsRecorded (disk : DiskState) (cycles : ℕ) (s : BenchState) : Type 0 where
   pub durable : IsDurable disk
   pub stands : StandsFor (bytes_of disk) s
   pub count : cycles ≡ log_cycles stands.stand.commands
 
--- holds if the buffers have the sizes of a record and of a snapshot, and the cycles of the log are
--- within their limit
+-- holds if the buffers have the sizes of a record and of a snapshot, and the cycle count is within
+-- the limit of a log
 pub record IsReady (cycles : ℕ) (payload snapshot : List ℕ) : Type 0 where
   pub payload_lent : length payload ≡ MOST_RECORD
   pub snapshot_lent : length snapshot ≡ MOST_SNAPSHOT
   pub within : cycles ≤ REPLAY_CYCLES
 
--- The invariant of a session. Its buffers are ready. If the session is open and its disk is honest,
--- the disk has recorded the state of the bench (`IsRecorded`).
+-- The invariant of a session. Its buffers are ready (`IsReady`). If the session is open and its
+-- disk is honest, the disk has recorded the state of the bench (`IsRecorded`).
 pub record IsSession
     (disk : DiskState) (live : Bool) (cycles : ℕ) (s : BenchState)
     (payload snapshot : List ℕ) : Type 0 where
   pub ready : IsReady cycles payload snapshot
   pub recorded : IsTrue live → disk.honest → IsRecorded disk cycles s
 
--- holds if a snapshot and records of this version represent this state, and their commands count
--- for `cycles` cycles
+-- holds if a snapshot and records of this version represent this state, and `cycles` is the cycle
+-- count of the records
 pub record IsReplayed
     (version : Version) (snap : List ℕ) (records : List (List ℕ)) (cycles : ℕ)
     (s : BenchState) : Type 0 where
   pub stand : RecordsStandFor version snap records s
   pub count : cycles ≡ log_cycles stand.commands
 
--- The log has room for the record of a command. This took no ticks if there was room before.
--- Otherwise it took four ticks, in which a snapshot of the state replaced all records. The disk
--- still represents the same state, and the commands of its log count for `cycles` cycles.
+-- Holds if the log has room for the record of the command `c`. If there was room before, no ticks
+-- have passed. Otherwise, a snapshot of the state replaced all records in four ticks. The disk
+-- still represents the same state, and `cycles` is the cycle count of its log.
 pub record HasMadeRoom (old new : DiskState) (c : Command) (cycles : ℕ) (s : BenchState) : Type 0 where
   pub log : List Command
   pub held : LogHolds (bytes_of old) log
@@ -54,40 +54,40 @@ pub record HasMadeRoom (old new : DiskState) (c : Command) (cycles : ℕ) (s : B
   pub holds : LogHolds (bytes_of new) (if has_room_for log c then log else [])
   pub recorded : IsRecorded new cycles s
 
--- holds if the bytes of the disk hold a snapshot and records
+-- holds if the bytes of the disk hold some snapshot and some records
 pub record HasContents (disk : DiskState) : Type 0 where
   pub snap : List ℕ
   pub records : List (List ℕ)
   pub holds : Holds (bytes_of disk) snap records
 
--- Holds if each image that a power cut in this stretch can leave holds the old snapshot and
--- records, or a snapshot of this state and no records.
+-- Holds if each image that a power cut between the two disk states can leave holds the old snapshot
+-- and records, or a snapshot of this bench state and no records.
 abbrev pub MayReplaceContents : DiskState → DiskState → List ℕ → List (List ℕ) → BenchState → Type 0
 MayReplaceContents old new snap records s =
     LeavesOnly old new (Either (λ c. Holds c snap records) (λ c. HoldsState c s))
 
--- holds if `MayReplaceContents` holds, and the disk is durable and now holds a snapshot of this
--- state and no records
+-- holds if the contents were replaced: `MayReplaceContents` holds, and the disk `new` is durable
+-- and holds a snapshot of this state and no records
 pub record ReplacedContents
     (old new : DiskState) (snap : List ℕ) (records : List (List ℕ)) (s : BenchState) : Type 0 where
   pub leaves : MayReplaceContents old new snap records s
   pub held : HoldsState (bytes_of new) s
   pub durable : IsDurable new
 
--- holds if a snapshot of this state replaces the snapshot and the records that the disk holds, in
--- four ticks
+-- holds if a call that returns Ok replaces whatever the disk holds with a snapshot of this state,
+-- in four ticks
 abbrev pub ReplacesWhatIsHeld : {T E : Type 0} → DiskState → DiskState → BenchState → Result T E → Type 0
 ReplacesWhatIsHeld old new s result =
     (snap : List ℕ) (records : List (List ℕ)) → Holds (bytes_of old) snap records
     → Changes 4 old new (λ c. Holds c snap records) (λ c. HoldsState c s) result
 
--- holds if `MayReplaceContents` holds for any snapshot and records that the disk held
+-- holds if `MayReplaceContents` holds for whatever snapshot and records the disk held
 abbrev pub MayReplaceWhatIsHeld : DiskState → DiskState → BenchState → Type 0
 MayReplaceWhatIsHeld old new s =
     (snap : List ℕ) (records : List (List ℕ)) → Holds (bytes_of old) snap records
     → MayReplaceContents old new snap records s
 
--- holds if `ReplacedContents` holds for any snapshot and records that the disk held
+-- holds if `ReplacedContents` holds for whatever snapshot and records the disk held
 abbrev pub ReplacedWhatWasHeld : DiskState → DiskState → BenchState → Type 0
 ReplacedWhatWasHeld old new s =
     (snap : List ℕ) (records : List (List ℕ)) → Holds (bytes_of old) snap records

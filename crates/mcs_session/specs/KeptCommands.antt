@@ -1,4 +1,4 @@
--- The commands of a run that a disk keeps after a power cut at any moment.
+-- The commands of a run that a disk keeps if a power cut happens at any moment.
 use Rattle.std.specs.Prelude.{◌≡◌, ◌≤◌, IsTrue, ℕ, List, [], ◌++◌, length, take}
 use Rattle.mcs_disk.specs.Disk.{CountsFault, DiskState, bytes_of, time_of, images_since, IsLater}
 use Rattle.mcs_model.specs.declared.command.Command.{Command}
@@ -11,8 +11,8 @@ use Rattle.mcs_session.specs.StandsFor.{StandsFor}
 
 -- ---- prefixes
 
--- holds if a prefix of these commands leads from the state `s` to the state `found`, and has at
--- least `least` commands
+-- holds if `found` is the state after a prefix of these commands, executed from the state `s`; the
+-- prefix has at least `least` commands
 pub record IsAfterPrefix
     (s : BenchState) (commands : List Command) (least : ℕ) (found : BenchState) : Type 0 where
   pub count : ℕ
@@ -20,7 +20,8 @@ pub record IsAfterPrefix
   pub at_most : count ≤ length commands
   pub state : found ≡ fold s (take count commands)
 
--- holds if the file represents a state that `IsAfterPrefix` allows
+-- holds if the file represents a state after a prefix of these commands, as `IsAfterPrefix` defines
+-- it
 pub record StandsForPrefix
     (s : BenchState) (commands : List Command) (least : ℕ) (file : List ℕ) : Type 0 where
   pub state : BenchState
@@ -29,42 +30,43 @@ pub record StandsForPrefix
 
 -- ---- a run
 
--- The commands, from the state s on, that a disk keeps. `done` are those that were acknowledged,
--- each at its moment. `failed` are commands after them that can have reached the disk too.
--- `reached` is `done` followed by `failed`. Definitions that cite this record state which commands
--- these are. In `KeepsAllCommands`, `failed` is empty. In `ClosesSession` of mcs_shell, it has the
--- command at which the device failed.
+-- The commands that a disk keeps, executed from the state `s` on. `done` are the acknowledged
+-- commands, each with its moment. `failed` are commands after them that can also have reached the
+-- disk. `reached` is `done` followed by `failed`. (Definitions that use this record state which
+-- commands these are. In `KeepsAllCommands`, `failed` is empty. In `ClosesSession` of mcs_shell, it
+-- is the command at which the device failed.)
 pub record KeepsCommands
     (old new : DiskState) (s : BenchState) (done reached : List Command) : Type 0 where
   pub acknowledged : Acknowledgements old new done
   pub failed : List Command
   pub reached_are : reached ≡ done ++ failed
-  -- each image that a power cut at some moment since `time` can leave represents a prefix that has
-  -- every command acknowledged by `time`
+  -- each image that a power cut since `time` can leave represents the state after a prefix; the
+  -- prefix has every command that was acknowledged by `time`
   pub each : (time : ℕ) (image : List ℕ) → time_of old ≤ time → images_since time new image
       → StandsForPrefix s reached (acknowledged_by time acknowledged.moments) image
   pub later : IsLater old new
 
--- `KeepsCommands` for a run in which no call failed. The disk's clock is at the last of the
--- moments, and its log holds the commands that `log_after_all` gives.
+-- `KeepsCommands` for a run in which no call failed. At the end, the disk's clock is at the last of
+-- the moments, and the log holds the commands that `log_after_all` gives.
 pub record KeepsAllCommands
     (old new : DiskState) (s : BenchState) (commands : List Command) : Type 0 where
   pub kept : KeepsCommands old new s commands commands
   pub clock : time_of new ≡ last_moment (time_of old) kept.acknowledged.moments
   pub holds : LogHolds (bytes_of new) (log_after_all kept.acknowledged.log commands)
 
--- the premise of the promises about kept commands: the session is open, and its disk is honest
+-- the premise of the promises about kept commands: the session is open and its disk is honest
 abbrev pub IsOpenOnHonestDisk : Premise
 IsOpenOnHonestDisk a = IsTrue a.live × a.disk.honest
 
--- Between `a` and `b`, these commands were executed, each accepted in its turn, and no fault was
--- counted. Only under the premise `Given` does it state that the disk recorded and keeps them.
+-- Holds if these commands were executed between the session states `a` and `b`, each was accepted,
+-- and no fault was counted. If the premise `Given` holds for `a`, the disk also recorded the
+-- commands and keeps them.
 pub record RecordsCommands
     (Given : Premise) (a b : SessionState) (commands : List Command) : Type 0 where
   pub live : b.live ≡ a.live
   pub accepted : AreAccepted a.state commands
   pub state : b.state ≡ fold a.state commands
   pub counts : CountsFault a.disk b.disk ⊥
-  -- if there were no commands, no call was made on the disk, whatever disk it is
+  -- if there were no commands, no call was made on the disk, even if the disk is not honest
   pub untouched : commands ≡ [] → b.disk.calls ≡ a.disk.calls
   pub kept : Given a → KeepsAllCommands a.disk b.disk a.state commands

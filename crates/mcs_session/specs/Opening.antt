@@ -1,4 +1,4 @@
--- The state in which a session is opened, and the property of the disk if `open` fails.
+-- The state in which a session is opened, and what an error of `open` guarantees about the disk.
 use Rattle.mcs_disk.specs.Disk.{DiskState, bytes_of}
 use Rattle.mcs_journal.specs.File.{IsNoSession}
 use Rattle.mcs_journal.specs.declared.fault.StoreFault.{StoreFault}
@@ -6,14 +6,15 @@ use Rattle.mcs_journal.specs.declared.fault.StoreFault.TheVariants as store_faul
 use Rattle.mcs_model.specs.BenchState.{BenchState}
 use Rattle.mcs_session.specs.StandsFor.{DiskStandsFor, StandsByEither}
 
--- The bytes of the disk represented this state, in either version. Now each image that a power cut
--- can leave represents it in version 2.
+-- Holds if `open` succeeded with the state `s`. The bytes of the disk `old` represented this state,
+-- in either version. Each image that a power cut can leave on the disk `new` represents it in
+-- version 2.
 pub record OpensSession (old new : DiskState) (s : BenchState) : Type 0 where
   pub stood : StandsByEither (bytes_of old) s
   pub stands : DiskStandsFor new s
 
--- The property of the disk that an error of `open` guarantees: its bytes are not a session file, or
--- they represent no state. Lack of memory and a device fault guarantee nothing.
+-- What an error of `open` guarantees about the disk: its bytes are not a session file, or they
+-- represent no state. After a lack of memory or a device fault, nothing is guaranteed.
 abbrev pub RefusesSession : StoreFault → DiskState → Type 0
 RefusesSession store_fault.NotASession disk = IsNoSession disk
 RefusesSession store_fault.Damaged disk =

@@ -1,7 +1,7 @@
 -- The state that a session file represents. For a file of version 1, the definitions of version 1
--- determine the state, and it is converted to version 2 (`StandsForLifted` in Version1). Some
--- definitions here have a version as an argument. In version 1, the state of the snapshot is
--- converted first, and the records are commands that version 1 has. From there on, the commands are
+-- determine the state, which is then converted to version 2 (`StandsForLifted` in Version1). Some
+-- definitions here have a version as an argument. If it is version 1, the state of the snapshot is
+-- converted first, and the records can only have commands of version 1. The commands are then
 -- rejected and executed as in version 2.
 use Rattle.std.specs.Prelude.{◌≡◌, ◌⊎◌, ◌≤◌, ℕ, List, [], ◌∷◌, None}
 use Rattle.mcs_codec.specs.Codec.{SpellsBy, SpellsState, SpellsStateBy}
@@ -17,7 +17,8 @@ use Rattle.mcs_model.specs.BenchState.{BenchState}
 use Rattle.mcs_model.specs.Command.{refusal, after}
 use Rattle.mcs_model.specs.Fold.{fold}
 
--- holds if these records encode these commands, and each is accepted in turn from this state on
+-- holds if each record encodes the command at the same index, and each command is accepted in the
+-- state after the commands before it
 abbrev pub ReplaysCommands : Version → BenchState → List (List ℕ) → List Command → Type 0
 ReplaysCommands version s [] [] = Unit {0}
 ReplaysCommands version s [] (c ∷ cs) = ⊥
@@ -25,7 +26,7 @@ ReplaysCommands version s (r ∷ rs) [] = ⊥
 ReplaysCommands version s (r ∷ rs) (c ∷ cs) =
     SpellsBy version r c × (refusal s c ≡ None) × ReplaysCommands version (after s c) rs cs
 
--- holds if a snapshot and the records after it represent this state
+-- holds if a snapshot and the records after it represent the state `s`
 pub record RecordsStandFor
     (version : Version) (snap : List ℕ) (records : List (List ℕ)) (s : BenchState) : Type 0 where
   pub start : BenchState
@@ -35,34 +36,34 @@ pub record RecordsStandFor
   pub bounded : log_cycles commands ≤ REPLAY_CYCLES
   pub state : s ≡ fold start commands
 
--- holds if a file of version 2 represents this state: its snapshot and its records do
+-- holds if the snapshot and the records of a file of version 2 represent the state `s`
 pub record StandsFor (file : List ℕ) (s : BenchState) : Type 0 where
   pub snap : List ℕ
   pub records : List (List ℕ)
   pub holds : Holds file snap records
   pub stand : RecordsStandFor Two snap records s
 
--- holds if a file of either version represents this state
+-- holds if a file, of version 1 or version 2, represents this state
 abbrev pub StandsByEither : List ℕ → BenchState → Type 0
 StandsByEither file s = StandsFor file s ⊎ StandsForLifted file s
 
--- holds if a file holds a snapshot of this state in version 2, and no records
+-- holds if a file holds a snapshot of the state `s` in version 2, and no records
 pub record HoldsState (file : List ℕ) (s : BenchState) : Type 0 where
   pub snap : List ℕ
   pub spells : SpellsState snap s
   pub holds : Holds file snap []
 
--- holds if each image that a power cut now can leave represents this state
+-- holds if each image that a power cut now can leave represents this state in version 2
 abbrev pub DiskStandsFor : DiskState → BenchState → Type 0
 DiskStandsFor disk s = (image : List ℕ) → images_of disk image → StandsFor image s
 
--- holds if each image that a power cut now can leave represents, in version 1, a state that is
--- converted to this one
+-- holds if each image that a power cut now can leave represents, in version 1, a state whose
+-- conversion to version 2 is this state
 abbrev pub DiskStandsForLifted : DiskState → BenchState → Type 0
 DiskStandsForLifted disk s = (image : List ℕ) → images_of disk image → StandsForLifted image s
 
--- Holds if each image that a power cut at some moment since `time` can leave represents this state,
--- in either version.
+-- Holds if each image that a power cut since `time` can leave represents this state, in either
+-- version.
 abbrev pub DiskStandsSince : ℕ → DiskState → BenchState → Type 0
 DiskStandsSince time disk s =
     (image : List ℕ) → images_since time disk image → StandsByEither image s

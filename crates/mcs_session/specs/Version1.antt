@@ -1,4 +1,4 @@
--- The state that a file of version 1 represents, by the definitions of version 1.
+-- The state that a file of version 1 represents, according to the definitions of version 1.
 use Rattle.std.specs.Prelude.{◌≡◌, ◌≤◌, ℕ, true, List, [], ◌∷◌, None}
 use Rattle.mcs_codec.specs.Codec.{Spells, SpellsState1}
 use Rattle.mcs_journal.specs.File.{Holds}
@@ -11,8 +11,8 @@ use Rattle.mcs_version1.specs.Fold.{fold_1}
 use Rattle.mcs_version1.specs.Lift.{lift}
 use Rattle.mcs_session.specs.Cycles.{log_cycles}
 
--- holds if these records encode these commands of version 1, and each is accepted in turn from this
--- state on
+-- holds if each record encodes the version 1 command at the same index, and each command is
+-- accepted in the state after the commands before it
 abbrev pub ReplaysCommands1 : BenchState1 → List (List ℕ) → List Command → Type 0
 ReplaysCommands1 s [] [] = Unit {0}
 ReplaysCommands1 s [] (c ∷ cs) = ⊥
@@ -21,7 +21,7 @@ ReplaysCommands1 s (r ∷ rs) (c ∷ cs) =
     (Spells r c × (in_version_1 c ≡ true)) × (refusal_1 s c ≡ None)
     × ReplaysCommands1 (after_1 s c) rs cs
 
--- holds if a snapshot and the records after it represent this state of version 1
+-- holds if a snapshot and the records after it represent the version 1 state `s`
 pub record RecordsStandFor1
     (snap : List ℕ) (records : List (List ℕ)) (s : BenchState1) : Type 0 where
   pub start : BenchState1
@@ -31,7 +31,7 @@ pub record RecordsStandFor1
   pub bounded : log_cycles commands ≤ REPLAY_CYCLES
   pub state : s ≡ fold_1 start commands
 
--- holds if a file of version 1 represents a state that is converted (`lift`) to this one
+-- holds if a file of version 1 represents a state that `lift` converts to the state `s`
 pub record StandsForLifted (file : List ℕ) (s : BenchState) : Type 0 where
   pub snap : List ℕ
   pub records : List (List ℕ)

@@ -1,5 +1,5 @@
-//! Laws about session files, and about what a disk keeps. The contract of each function states a
-//! law; its body does nothing.
+//! Laws about session files, and about the commands that a disk keeps. The contract of each
+//! function states a law; the function itself does nothing.
 ghost use Rattle.std.specs.Prelude.{◌≡◌, ◌⊎◌, ◌+◌, ◌≤◌, ℕ, List, length, slice_get};
 ghost use Rattle.mcs_disk.specs.Disk.{bytes_of, time_of, images_of, images_since};
 ghost use Rattle.mcs_disk.specs.PowerCut.{IsLeftByCut};
@@ -16,15 +16,15 @@ ghost use Rattle.mcs_session.specs.StandsFor.{HoldsState, DiskStandsForLifted, S
 use mcs_disk::Disk;
 use mcs_journal::StoreFault;
 
-/// Shows that a file represents at most one state, whatever its version.
+/// Shows that a file represents at most one state, in whichever version.
 pub fn file_stands_for_one_state()
     ensures { (file : List ℕ) (s other : BenchState)
         → StandsByEither file s → StandsByEither file other → s ≡ other }
 {}
 
-/// Shows the state of a session that is opened after a power cut at some moment since `time`, a
-/// time of a run. It is the state after a prefix of the commands that can have reached the disk.
-/// The prefix includes each command that was acknowledged by `time`.
+/// Shows the state of a session that is opened after a power cut during a run, at time `time` or
+/// later. It is the state after a prefix of the commands that can have reached the disk. The prefix
+/// includes each command that was acknowledged by `time`.
 pub fn reopened_bench_holds_what_was_acknowledged<D: Disk, E: Disk>()
     ensures { (time : ℕ) (old new : D) (found opened : E) (s state : BenchState)
         (done reached : List Command)
@@ -35,8 +35,8 @@ pub fn reopened_bench_holds_what_was_acknowledged<D: Disk, E: Disk>()
         → IsAfterPrefix s reached (acknowledged_by time kept.acknowledged.moments) state }
 {}
 
-/// Shows that a disk that a power cut during a run left can be opened. Only lack of memory or a
-/// device fault can prevent it.
+/// Shows that the disk that a power cut during a run left can be opened. Only a lack of memory or a
+/// device fault can prevent this.
 pub fn what_a_power_cut_left_is_opened<D: Disk, E: Disk>()
     ensures { (time : ℕ) (old new : D) (found : E) (s : BenchState) (done reached : List Command)
         (fault : StoreFault)
@@ -45,8 +45,8 @@ pub fn what_a_power_cut_left_is_opened<D: Disk, E: Disk>()
         → (fault ≡ StoreFault.Device) ⊎ (fault ≡ StoreFault.NoMemory) }
 {}
 
-/// Shows that each image that a power cut can leave since a command was acknowledged keeps that
-/// command and all commands before it.
+/// Shows that a power cut at any moment after a command was acknowledged leaves a disk that keeps
+/// the command and all commands before it.
 pub fn since_an_acknowledgement_its_commands_are_kept<D: Disk>()
     ensures { (old new : D) (s : BenchState) (done reached : List Command)
         (kept : KeepsCommands (D.state old) (D.state new) s done reached)
@@ -55,8 +55,8 @@ pub fn since_an_acknowledgement_its_commands_are_kept<D: Disk>()
         → StandsForPrefix s reached (j + 1) image }
 {}
 
-/// Shows that each image that a power cut can leave at the end of a run keeps all acknowledged
-/// commands. If no call failed, the image represents the state after all commands.
+/// Shows that a power cut at the end of a run leaves a disk that keeps all acknowledged commands.
+/// If no call failed, that disk represents the state after all commands.
 pub fn at_the_end_all_is_kept<D: Disk>()
     ensures acknowledged { (old new : D) (s : BenchState) (done reached : List Command)
         (image : List ℕ) → KeepsCommands (D.state old) (D.state new) s done reached
@@ -66,11 +66,12 @@ pub fn at_the_end_all_is_kept<D: Disk>()
         → StandsFor image (fold s commands) }
 {}
 
-/// Shows that a session of version 1 is opened in the state that its file represents, converted to
-/// version 2. Each image that a power cut can leave since the start of the call represents that
-/// state. This holds if the call returns Ok, if it fails with a device fault before, during or
-/// after its writes, and if memory runs out. Once the session is open, the disk holds a snapshot of
-/// version 2 and no records.
+/// Shows that opening a session of version 1 keeps its state. The disk must be honest.
+///
+/// The opened session has the state that the file represents, converted to version 2. Each image
+/// that a power cut can leave since the start of the call represents that state, in either version.
+/// This also holds if the call fails, be it before, during or after its writes. Once the session is
+/// open, the disk holds a snapshot of version 2 and no records.
 pub fn a_file_of_version_1_keeps_its_state<D: Disk>()
     ensures opened { (old new : D) (s state : BenchState) → (D.state old).honest
         → DiskStandsForLifted (D.state old) s → OpensSession (D.state old) (D.state new) state

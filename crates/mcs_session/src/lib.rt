@@ -1,4 +1,4 @@
-//! A bench that records each accepted command on a disk before the command is answered.
+//! A bench that records each accepted command on a disk before it answers the command.
 #![tactic(auto)]
 
 pub mod fault;

@@ -1,5 +1,5 @@
-//! The log of a session: the records of its commands. If it has no room for one more record, a
-//! snapshot replaces all of them.
+//! The log of a session: the records of its commands. If the log has no room for one more record, a
+//! snapshot replaces all records.
 ghost use Rattle.std.specs.Prelude.{◌≡◌, ◌+◌, ◌≤◌, None, IfOk, IsErr, IsTrue, OnOk, is_ok, length, take};
 ghost use Rattle.mcs_codec.specs.Codec.{Spells, SpellsState};
 ghost use Rattle.mcs_codec.specs.CommandBytes.{command_bytes};
@@ -23,20 +23,19 @@ use mcs_model::command::Command;
 use mcs_model::limits::REPLAY_CYCLES;
 use std::alloc::{AllocError, Global};
 
-/// A store whose records are commands, and the buffers for adding one.
+/// A store whose records are commands, with the buffers that are needed to add a command.
 #[derive(Drop)]
 pub struct CommandLog<D: Disk + Drop> {
     pub store: Store<D>,
-    /// The number of instruction cycles that the commands of the log count for.
+    /// The cycle count of the log: the number of instruction cycles that its replay can need.
     pub cycles: u32,
-    /// A buffer for an encoded command.
+    /// The buffer for an encoded command.
     pub payload: Vec<u8>,
-    /// A buffer for a snapshot.
+    /// The buffer for an encoded snapshot.
     pub snapshot: Vec<u8>,
 }
 
-/// Returns a buffer for an encoded command, and a buffer for a snapshot. It fails if memory runs
-/// out.
+/// Returns a buffer for an encoded command and a buffer for a snapshot. Fails if memory runs out.
 pub(crate) fn log_buffers(alloc: Global) -> Result<(Vec<u8>, Vec<u8>), AllocError>
     ensures { IfOk result (λ buffers. (length buffers.0.items ≡ MOST_RECORD)
         × (length buffers.1.items ≡ MOST_SNAPSHOT)) }
@@ -46,7 +45,7 @@ pub(crate) fn log_buffers(alloc: Global) -> Result<(Vec<u8>, Vec<u8>), AllocErro
     Ok((payload, snapshot))
 }
 
-/// Encodes a command at the start of a buffer, and returns the length.
+/// Encodes a command at the start of a buffer, and returns the number of bytes that it wrote.
 fn encode_command(payload: &mut Vec<u8>, command: &Command) -> usize
     requires { length payload.old.items ≡ MOST_RECORD }
     ensures lent { length payload.new.items ≡ MOST_RECORD }
@@ -57,7 +56,8 @@ fn encode_command(payload: &mut Vec<u8>, command: &Command) -> usize
     command_bytes(command, payload.as_mut_slice())
 }
 
-/// Encodes the state of a bench at the start of a buffer, and returns the length.
+/// Encodes the state of a bench at the start of a buffer, and returns the number of bytes of the
+/// snapshot.
 pub(crate) fn encode_state(snapshot: &mut Vec<u8>, bench: &Bench) -> usize
     requires { length snapshot.old.items ≡ MOST_SNAPSHOT }
     ensures lent { length snapshot.new.items ≡ MOST_SNAPSHOT }
@@ -68,8 +68,8 @@ pub(crate) fn encode_state(snapshot: &mut Vec<u8>, bench: &Bench) -> usize
 }
 
 impl<D: Disk + Drop> CommandLog<D> {
-    /// Replaces the store's snapshot and records with a snapshot of the bench. It fails if the
-    /// device fails.
+    /// Replaces the store's snapshot and records with a snapshot of the bench. Fails if the device
+    /// fails.
     pub(crate) fn checkpoint(&mut self, bench: &Bench) -> Result<(), DiskFault>
         requires live { IsTrue self.old.store.live }
         requires ready { IsReady self.old.cycles self.old.payload.items self.old.snapshot.items }
@@ -95,9 +95,9 @@ impl<D: Disk + Drop> CommandLog<D> {
         }
     }
 
-    /// Ensures that the log has room for a record of `count` bytes and for `more` cycles. If it has
-    /// none, a snapshot of the bench replaces the store's snapshot and records. It fails if the
-    /// device fails.
+    /// Ensures that the log has room for a record of `count` bytes, and for `more` instruction
+    /// cycles. If it has no room, a snapshot of the bench replaces the store's snapshot and
+    /// records. Fails if the device fails.
     fn make_room(&mut self, bench: &Bench, count: usize, more: u32) -> Result<(), DiskFault>
         requires live { IsTrue self.old.store.live }
         requires count { count ≤ MOST_RECORD }
@@ -129,7 +129,7 @@ impl<D: Disk + Drop> CommandLog<D> {
     }
 
     /// Records a command that the bench accepts. Once the call returns Ok, the command is on the
-    /// disk. It fails if the device fails.
+    /// disk. Fails if the device fails.
     pub(crate) fn record(&mut self, bench: &Bench, command: &Command) -> Result<(), DiskFault>
         requires live { IsTrue self.old.store.live }
         requires accepted { refusal bench.now command.now ≡ None }

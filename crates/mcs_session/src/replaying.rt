@@ -12,7 +12,7 @@ use mcs_model::command::Command;
 use mcs_model::limits::REPLAY_CYCLES;
 use std::alloc::{AllocError, Global};
 
-/// A bench after the commands of a log, and the number of instruction cycles that they count for.
+/// A bench after the commands of a log, the cycle count of the log, and its version.
 #[derive(Drop)]
 pub struct Replayed {
     pub bench: Bench,
@@ -21,7 +21,7 @@ pub struct Replayed {
     pub version: Version,
 }
 
-/// Returns the number of instruction cycles that a command counts for in the log.
+/// Returns the cycle count of a command: the instruction cycles that its replay can need.
 pub(crate) fn replay_cycles(command: &Command) -> u32
     ensures { result ≡ replay_cycles command.now }
 {
@@ -33,8 +33,8 @@ pub(crate) fn replay_cycles(command: &Command) -> u32
 }
 
 /// Returns the bench that a snapshot and the records after it represent, or `None` if they
-/// represent no state. All of them have the version that the snapshot names. It fails if memory
-/// runs out.
+/// represent no state. The snapshot determines the version of the records. Fails if memory runs
+/// out.
 pub(crate) fn replay(
     alloc: Global,
     snap: &[u8],

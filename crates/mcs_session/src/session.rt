@@ -1,4 +1,4 @@
-//! A bench that records its commands on a disk.
+//! A session: a bench that records its commands on a disk.
 ghost use Rattle.std.specs.Prelude.{◌≡◌, ◌≢◌, ◌⊎◌, ◌↔◌, IsTrue, true, false, IsErrAnd, IfOk, IfErr};
 ghost use Rattle.mcs_disk.specs.Disk.{bytes_of, size_of, CountsFault};
 ghost use Rattle.mcs_disk.specs.CallList.{OneUnsynced, unsynced};
@@ -22,10 +22,10 @@ use mcs_model::command::{Command, Reply};
 use std::alloc::Global;
 use std::marker::Model;
 
-/// A bench on a disk. Each accepted command is recorded there before it is answered.
+/// A bench and the disk on which it records each accepted command before it answers.
 ///
 /// A command that is answered with a device fault closes the session. The disk then represents the
-/// state before that command or the state after it. Opening the disk again shows which.
+/// state before that command or the state after it. Opening the disk again shows which of the two.
 #[derive(Drop)]
 pub struct Session<D: Disk + Drop> {
     log: CommandLog<D>,
@@ -46,13 +46,13 @@ impl<D: Disk + Drop> Model for Session<D> {
 }
 
 impl<D: Disk + Drop> Session<D> {
-    /// Creates a session with a new bench on a blank disk.
+    /// Creates a session with a new bench on a blank disk. An error returns the disk.
     ///
-    /// It fails if memory runs out (90). It fails if the disk is not blank (55); nothing is written
-    /// then. It fails if a call on the disk fails (53); nothing is promised about the disk's
-    /// contents then. An error returns the disk.
+    /// It fails if memory runs out (90), or if the disk is not blank (55). In both cases nothing is
+    /// written. It also fails if a call on the disk fails (53). In this case nothing is promised
+    /// about the contents of the disk.
     pub fn create(alloc: Global, disk: D) -> Result<Session<D>, (StoreFault, D)>
-        // on any disk
+        // the next clauses hold on any disk
         ensures open { IfOk result (λ s. IsTrue s.live) }
         ensures new { IfOk result (λ s. s.state ≡ new_bench_state) }
         ensures counts { IfOk result (λ s. CountsFault (D.state disk) (D.state s.disk) ⊥) }
@@ -72,7 +72,7 @@ impl<D: Disk + Drop> Session<D> {
             → IfErr result (λ refused. OneUnsynced (D.state disk).calls
             (D.state refused.1).calls) }
 
-        // on an honest disk
+        // the next clauses hold on an honest disk
         ensures created { (D.state disk).honest → IfOk result (λ s.
             CreatesSession (D.state disk) (D.state s.disk)) }
         ensures refused { (D.state disk).honest → IfErr result (λ refused.
@@ -100,14 +100,14 @@ impl<D: Disk + Drop> Session<D> {
     }
 
     /// Opens the session that a disk holds. It writes nothing to a file of version 2. In a file of
-    /// version 1, a snapshot of version 2 replaces the contents, but only after all memory was
-    /// allocated. The file represents the same state at every moment.
+    /// version 1, a snapshot of version 2 replaces the contents, after all memory was allocated.
+    /// The file represents the same state at every moment.
     ///
     /// It fails if memory runs out (90), or if the size or the name is not that of a session file
-    /// (50). It fails if the bytes represent no state for another reason (51), or if a call on the
-    /// disk fails (53). An error returns the disk.
+    /// (50). It also fails if the bytes represent no state for another reason (51), or if a call on
+    /// the disk fails (53). An error returns the disk.
     pub fn open(alloc: Global, disk: D) -> Result<Session<D>, (StoreFault, D)>
-        // on any disk
+        // the next clauses hold on any disk
         ensures open { IfOk result (λ s. IsTrue s.live) }
         ensures counts { IfOk result (λ s. CountsFault (D.state disk) (D.state s.disk) ⊥) }
         ensures refusal_counts { IfErr result (λ refused.
@@ -123,7 +123,7 @@ impl<D: Disk + Drop> Session<D> {
         ensures refused_one_unsynced { IfErr result (λ refused.
             OneUnsynced (D.state disk).calls (D.state refused.1).calls) }
 
-        // on an honest disk
+        // the next clauses hold on an honest disk
         ensures opened { (D.state disk).honest → IfOk result (λ s.
             OpensSession (D.state disk) (D.state s.disk) s.state) }
         ensures migrated { (D.state disk).honest → IfOk result (λ s.
@@ -161,7 +161,7 @@ impl<D: Disk + Drop> Session<D> {
         self.log.store.is_open()
     }
 
-    /// Returns the bench, in the state after all the commands that were answered `Ok`.
+    /// Returns the bench. Its state is the state after all commands that were answered `Ok`.
     pub fn bench(&self) -> &Bench
         ensures is { result.now ≡ self.now.state }
         ensures stands { IsTrue self.now.live → (D.state self.now.disk).honest
@@ -170,23 +170,23 @@ impl<D: Disk + Drop> Session<D> {
         &self.bench
     }
 
-    /// Returns the disk, as the last call left it.
+    /// Returns the disk of the session, as the last call left it.
     pub fn disk(&self) -> &D
         ensures { result.now ≡ self.now.disk }
     {
         self.log.store.disk()
     }
 
-    /// Records a command and executes it. `Ok` acknowledges the command: from then on, no power cut
-    /// loses it.
+    /// Records a command on the disk and then executes it. `Ok` acknowledges the command: from then
+    /// on, no power cut loses it.
     ///
-    /// The log may have no room for the command, for its record or for its cycles. In this case a
-    /// snapshot of the state before the command first replaces the old snapshot and all records.
+    /// If the log has no room for the record or for the cycles of the command, a snapshot of the
+    /// state before the command first replaces the old snapshot and all records.
     ///
     /// It fails on a closed session (54), if the bench rejects the command (41 to 47), or if a call
-    /// on the disk fails (53). Each of these errors except the last leaves the disk untouched.
+    /// on the disk fails (53). The first two errors leave the disk untouched.
     pub fn apply(&mut self, command: &Command) -> Result<Reply, SessionFault>
-        // on any disk
+        // the next clauses hold on any disk
         ensures applied { AppliesCommand self.old.live self.old.state command.now result
             self.new.state }
         ensures closes { ClosesAtDeviceFault self.old.live (D.state self.old.disk).faults result
@@ -198,7 +198,7 @@ impl<D: Disk + Drop> Session<D> {
         ensures one_unsynced { OneUnsynced (D.state self.old.disk).calls
             (D.state self.new.disk).calls }
 
-        // on an honest disk
+        // the next clauses hold on an honest disk
         ensures records { (D.state self.old.disk).honest
             → RecordsOrFails result (D.state self.old.disk) (D.state self.new.disk)
             self.old.state command.now }
@@ -214,12 +214,12 @@ impl<D: Disk + Drop> Session<D> {
     }
 
     /// Replaces the contents of the disk with a snapshot of the bench, so that a later `open` has
-    /// no commands to replay. The state does not change, and the disk represents it at every
-    /// moment.
+    /// no commands to replay. The state of the bench does not change, and the disk represents it at
+    /// every moment.
     ///
     /// It fails on a closed session (54), or if a call on the disk fails (53).
     pub fn settle(&mut self) -> Result<(), SessionFault>
-        // on any disk
+        // the next clauses hold on any disk
         ensures state { self.new.state ≡ self.old.state }
         ensures answers { MayAnswerSettle self.old.live result }
         ensures closes { ClosesAtDeviceFault self.old.live (D.state self.old.disk).faults result
@@ -231,7 +231,7 @@ impl<D: Disk + Drop> Session<D> {
         ensures one_unsynced { OneUnsynced (D.state self.old.disk).calls
             (D.state self.new.disk).calls }
 
-        // on an honest disk
+        // the next clauses hold on an honest disk
         ensures settles { (D.state self.old.disk).honest
             → SettlesOrFails result (D.state self.old.disk) (D.state self.new.disk) self.old.state }
     {
@@ -263,7 +263,7 @@ impl<D: Disk + Drop> Session<D> {
 }
 
 /// Starts a session on a store whose log was replayed. If the log has version 1, a snapshot of the
-/// bench replaces the contents of the disk. It fails if the device fails.
+/// bench replaces the contents of the disk. Fails if the device fails.
 fn begin<D: Disk + Drop>(
     store: Store<D>,
     buffers: (Vec<u8>, Vec<u8>),

@@ -2,7 +2,8 @@ use Rattle.std.proofs.Common.{refl, List, ℕ}
 use Rattle.mcs_host.specs.declared.file_disk.FileDisk.{FileDisk}
 use Rattle.mcs_host.proofs.laws.each_image_may_be_found.Goals as goal
 
--- what was told of a file, left after all of its calls, with these bytes found
+-- a file with the same answers as this one, but left after all of its calls and found with these
+-- bytes
 abbrev left_with : FileDisk → List ℕ → FileDisk
 left_with file c = record file { on = record file.on { end = record file.on.end { notes = file.on.history.notes; start = c } } }
 

@@ -12,7 +12,7 @@ use Rattle.mcs_journal.specs.declared.slot.Slot.{Slot}
 use Rattle.mcs_journal.specs.declared.fault.StoreFault.TheVariants.{Damaged}
 use Rattle.mcs_journal.proofs.reading.read_contents.Goals as goal
 
--- a header, the snapshot and the log of its slot make the contents
+-- a valid header, and the snapshot and the log of its slot, make up the contents
 contents : (f snap : List ℕ) (slot : Slot) (records : List (List ℕ)) → length f ≡ 163856 → IsHeader f slot → IsSnapshot f (start_of slot) snap → IsLog records (part (start_of slot + 16384) 65536 f) → Holds f snap records
 contents f snap slot records long header is_snap log = record {
   size = long;

@@ -14,7 +14,7 @@ selector_names : (slot : Slot) → slot_named (selector_of slot) ≡ slot
 selector_names A = refl
 selector_names B = refl
 
--- as long as the area is
+-- a write of a whole area changes at most 16,385 bytes
 sized : (at : ℕ) (snap area f c : List ℕ) → IsArea snap area → Torn at (length area) f c → Torn at 16385 f c
 sized at snap area f c is_area torn = subst (λ (n : ℕ). Torn at n f c) is_area.long torn
 

@@ -14,7 +14,7 @@ use Rattle.mcs_journal.proofs.writing.write_first.Goals as goal
 named : (c : List ℕ) → part 0 16 c ≡ FIRST_HEADER → slot_of c ≡ A
 named c header = ap slot_named (sym (part_at 0 16 c 8 (omega arith)) ∙ ap (λ (l : List ℕ). get_or l 8 0) header)
 
--- a header that names the first slot, written where the area stands
+-- a header that names the first slot, written after the area of that slot
 made : (g c snap area : List ℕ) → length c ≡ 163856 → IsArea snap area → part 16 16385 g ≡ area → Torn 0 16 g c → part 0 16 c ≡ FIRST_HEADER → Holds c snap []
 made g c snap area long is_area there torn header =
     area_holds c snap area long

@@ -54,7 +54,7 @@ accepted_by : {T : Type 0} (why : Option BenchFault) (checked : Result T BenchFa
 accepted_by None checked h fine = refl
 accepted_by (Some fault) checked h fine = let wrong : true ≡ false = ap is_err (sym h) ∙ fine in absurd (cc wrong)
 
--- one more record replayed, at both ends of the loop's body
+-- one more record was replayed, and the cycle count stays within its limit
 preserved : (c : After-apply-reply) → (c.loop-at.cycles + c.replay_cycles-more.result ≤ REPLAY_CYCLES)
     × IsReplayed c.in-Ok-Some.read.0 c.args.snap.now (take (c.loop-at.at + 1) c.args.records.now) (c.loop-at.cycles + c.replay_cycles-more.result) c.apply-reply.new.self
 preserved c =

@@ -1,4 +1,4 @@
--- A record is made: it has no bytes, so its ghost fields are what is said here.
+-- A new record occupies no memory. Its ghost fields hold the values that are given here.
 use Rattle.std.proofs.Common.{List, [], ◌∷◌, refl, length, ◌≡◌}
 use mir.Syntax.{a_type, named}
 use mir.MapTy.{inst_fn}

@@ -1,4 +1,4 @@
--- An empty body: the borrow is opened and closed at a record that has one note more.
+-- The body is empty. The proof opens the borrow and closes it at a record with one more note.
 use Rattle.std.proofs.Common.{ℕ, List, [], ◌∷◌, refl, length}
 use mir.Syntax.{a_type, named}
 use mir.MapTy.{inst_fn}

@@ -11,7 +11,7 @@ use Rattle.mcs_journal.proofs.Contents.{start_bounds}
 use Rattle.mcs_journal.proofs.Logs.{spelled-push, length-framed}
 use Rattle.mcs_journal.proofs.store.Store.append.Goals as goal
 
--- where the commit byte stands
+-- the offset of the commit byte that ends the log
 commit_of : (disk : DiskState) (slot : Slot) (start used n : ℕ) (snap : List ℕ) (records : List (List ℕ)) → start ≡ start_of slot → IsIntactStore disk slot used → HasRoom used n → Holds (bytes_of disk) snap records → IsCommitOffset (bytes_of disk) records (start + 16384 + used) n
 commit_of disk slot start used n snap records at intact room held =
     let same : length (frames_of intact.records) ≡ length (frames_of records) = ap (λ (l : List (List ℕ)). length (frames_of l)) (same_records _ _ _ _ _ intact.holds held) in
