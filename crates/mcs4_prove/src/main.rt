@@ -1,5 +1,5 @@
-//! Proves, for all inputs, that a program on a board never meets given conditions. Reads a question from standard input
-//! and writes the answer to standard output.
+//! A program that proves that, for all inputs, a program on a board never reaches a given condition. It reads a
+//! question from standard input and writes the answer to standard output.
 #![tactic(auto)]
 
 use mcs_prove::{Answer, answer_to};
@@ -10,7 +10,8 @@ use std::process::ExitCode;
 /// The exit status if memory runs out or the answer cannot be written.
 const FAILED: u8 = 3;
 
-/// Reads the question. Returns an empty text if standard input cannot be read or is not valid text.
+/// Reads the question from standard input. Returns an empty text if standard input cannot be read or is not valid
+/// text.
 fn question(rt: &HostRuntime) -> String {
     let mut text = String::new(rt.alloc());
     match rt.reader().read_to_string(&mut text) {
@@ -19,7 +20,8 @@ fn question(rt: &HostRuntime) -> String {
     }
 }
 
-/// Prints the answer to a question. Returns the exit status.
+/// Reads the question and prints its answer. Returns the exit status of the answer, or `FAILED` if memory runs out.
+/// Fails if the answer cannot be written.
 fn answer_question(rt: &HostRuntime) -> io::Result<u8> {
     let Ok(Answer { text, status }) = answer_to(rt.alloc(), question(rt).as_str()) else {
         println!(rt; "no 90")?;

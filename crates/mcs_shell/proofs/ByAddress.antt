@@ -8,7 +8,7 @@ use Rattle.mcs_source.specs.declared.fault.SourceFault.{SourceFault}
 use Rattle.mcs_shell.specs.declared.texts.TextRefusal.{TextRefusal}
 use Rattle.mcs_shell.specs.Spelling.{load_command}
 
--- the command to load an image
+-- the command that loads an image, as the result of parsing a program
 abbrev pub loading : List (ℕ × ℕ) → Result Command TextRefusal
 loading image = Ok (command.Load image)
 

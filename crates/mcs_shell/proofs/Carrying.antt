@@ -1,4 +1,4 @@
--- The premise that each input of a run hands on to the next.
+-- The premise that holds before each input of a run, and again after the input.
 use Rattle.std.proofs.Common.{◌≡◌, Bool, IsTrue, List, [], ◌∷◌, ◌++◌, sym, ap, ◌∙◌, refl, subst}
 use Rattle.mcs_disk.specs.Disk.{CountsFault, DiskState}
 use Rattle.mcs_disk.proofs.Composing.{counts_then}
@@ -18,7 +18,7 @@ settled_on a b cs x given = record {
   stands = settled_after a.disk b.disk a.state b.state cs x.state (x.kept given);
 }
 
--- commands that are accepted after others
+-- If commands are accepted, and others after them, then both lists together are accepted.
 pub accepted_more : (s t : BenchState) (cs ds : List Command) → AreAccepted s cs → t ≡ fold s cs → AreAccepted t ds → AreAccepted s (cs ++ ds)
 accepted_more s t [] ds first same more = subst (λ (u : BenchState). AreAccepted u ds) same more
 accepted_more s t (c ∷ cs) ds first same more = (first.0, accepted_more (after s c) t cs ds first.1 same more)

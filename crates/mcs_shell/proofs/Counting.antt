@@ -1,4 +1,4 @@
--- How often a reader and a writer have failed.
+-- The number of failures of a reader and of a writer.
 use Rattle.std.proofs.Common.{◌≡◌, ◌≢◌, ℕ, ◌+◌, min, Bool, true, false, List, [], ◌∷◌, ◌++◌, ◌||◌, Option, None, Some, ◌⊎◌, inl, inr, refl, sym, ap, subst, ◌∙◌, append-nil, arith}
 use Rattle.std.specs.Io.KnownBytes.{Appends}
 use Rattle.mcs_disk.specs.Disk.{DiskState, most_faults}
@@ -19,7 +19,7 @@ use Rattle.mcs_shell.proofs.InTurn.{answers_of_run}
 use Rattle.mcs_shell.proofs.Looping.{either_end}
 use Rattle.mcs_shell.proofs.ExchangeLists.{has_failed}
 
--- ---- what a step ends is no read
+-- ---- an exchange that ends the shell is not a failed read
 
 unread_one : (whole : Bool) (o : Outcome) (end : ShellEnd) (faults : KnownFaults) → halt_of whole o ≡ Some end → faults_read end faults ≡ faults
 unread_one false o end faults e = let is : WriteFault ≡ end = cc e in subst (λ (v : ShellEnd). faults_read v faults ≡ faults) is refl
@@ -63,7 +63,7 @@ device_counted : (failed : Bool) (a b : SessionState) (cs rs : List Command) →
 device_counted true a b cs rs e left = ap (λ (n : ℕ). Some n) (left.counts.fault tt)
 device_counted false a b cs rs e left = absurd (cc e)
 
--- an end that is a fault was counted
+-- If no call failed, and there was memory to begin, the run reached the end of its input or the input limit.
 comes_to_end : (end : ShellEnd) (r r' : Option (List ℕ)) (a b : ShellState) (ran : RanShell end r r' a b) (read read' written written' : KnownFaults) → EndsByItsFault end read read' written written'
     → HasNotFailed read read' → HasNotFailed written written' → HasNotFailed (Some a.session.disk.faults) (Some b.session.disk.faults) → end ≢ NoMemory → (end ≡ End) ⊎ (end ≡ InputLimit)
 comes_to_end End r r' a b ran read read' written written' by no_read no_write no_call memory = inl refl
@@ -77,7 +77,7 @@ comes_to_end DeviceFault r r' a b ran read read' written written' by no_read no_
     (device_counted (has_failed ran.served.met) a.session b.session (in_turn acknowledged_commands s ran.served.met) (in_turn reached_commands s ran.served.met) failed ran.served.serves.leaves))
 comes_to_end NoMemory r r' a b ran read read' written written' by no_read no_write no_call memory = absurd (memory refl)
 
--- neither a write nor the device ended it, nor a lack of memory
+-- A run that reached the end of its input or the input limit was not ended by a write, the device or lack of memory.
 no_fault : (end : ShellEnd) → (end ≡ End) ⊎ (end ≡ InputLimit) → (end ≢ WriteFault) × (end ≢ DeviceFault) × (end ≢ NoMemory)
 no_fault end (inl is) = let P : ShellEnd → Type 0 = λ v. (v ≢ WriteFault) × (v ≢ DeviceFault) × (v ≢ NoMemory) in subst P (sym is) (λ e. absurd (cc e), λ e. absurd (cc e), λ e. absurd (cc e))
 no_fault end (inr is) = let P : ShellEnd → Type 0 = λ v. (v ≢ WriteFault) × (v ≢ DeviceFault) × (v ≢ NoMemory) in subst P (sym is) (λ e. absurd (cc e), λ e. absurd (cc e), λ e. absurd (cc e))

@@ -1,4 +1,4 @@
--- What an input leaves, by its answer.
+-- The session after an input, for each kind of answer.
 use Rattle.std.proofs.Common.{◌≡◌, ◌≢◌, ◌↔◌, ◌||◌, ◌++◌, ℕ, Bool, true, false, List, [], ◌∷◌, Option, Some, None, Result, Ok, Err, IfErr, OnErr, OnOk, inl, inr, sym, ap, append-nil, ◌∙◌, refl, subst}
 use Rattle.mcs_disk.specs.Disk.{CountsFault, DiskState}
 use Rattle.mcs_model.specs.declared.command.Command.{Command}
@@ -34,7 +34,7 @@ use Rattle.mcs_shell.proofs.ExchangeLists.{or_no, or_none}
 abbrev pub at : Bool → BenchState → DiskState → SessionState
 at live s d = record { disk = d; live = live; state = s }
 
--- what `apply` says of the session and its disk
+-- the contract of `apply` about the session and its disk
 pub record Tried (live : Bool) (s : BenchState) (d : DiskState) (c : Command) (result : Result Reply SessionFault) (b : SessionState) : Type 0 where
   pub applied : AppliesCommand live s c result b.state
   pub closes : ClosesAtDeviceFault live d.faults result b.live b.disk.faults
@@ -46,12 +46,12 @@ pub record Tried (live : Bool) (s : BenchState) (d : DiskState) (c : Command) (r
 none_counted : (old new : DiskState) → new.start ≡ old.start → new.honest ↔ old.honest → new.faults ≡ old.faults → CountsFault old new ⊥
 none_counted old new start honest same = record { start = start; honest = honest; fault = λ none. absurd none; no_fault = λ none. same }
 
--- the very disk is untouched
+-- If an error other than `Device` left the disk itself unchanged, the disk received no calls.
 pub untouched_state : {D : Type 0} (state_of : D → DiskState) (new old : D) (r : Result Reply SessionFault) → IfErr r (λ f. f ≢ fault.Device → new ≡ old) → IfErr r (λ f. f ≢ fault.Device → (state_of new).calls ≡ (state_of old).calls)
 untouched_state state_of new old (Ok x) h = tt
 untouched_state state_of new old (Err f) h = λ other. ap (λ disk. (state_of disk).calls) (h other)
 
--- what it says of a known result
+-- The contract of `apply` holds for a result equal to the one that `apply` returned.
 pub known : (q r : Result Reply SessionFault) (live : Bool) (s : BenchState) (d : DiskState) (b : SessionState) (c : Command) → q ≡ r → Tried live s d c q b → Tried live s d c r b
 known q r live s d b c same h = subst (λ x. Tried live s d c x b) same h
 
@@ -136,7 +136,7 @@ closed_changed false s d b c response h k = record {
   leaves = record { live = h.closes.0; accepted = tt; state = h.applied; counts = none_counted d b.disk h.start h.honest h.closes.1; untouched = λ none. h.untouched (λ e. absurd (cc e)); kept = λ given. absurd (cc given.honest.0) };
 }
 
--- it was not recorded
+-- the answer to a command that was not recorded
 pub fault_changed : (f : SessionFault) (live : Bool) (s : BenchState) (d : DiskState) (b : SessionState) (c : Command) (response : List ℕ) → Tried live s d c (Err f) b → response ≡ no_text (session_fault_number f) → AnsweredInput (at live s d) (Line (Change c)) (outcome_of f) response b
 fault_changed (fault.Refused f) = refused_changed f
 fault_changed fault.Device = device_changed
@@ -144,12 +144,12 @@ fault_changed fault.Closed = closed_changed
 
 -- ---- inputs that change nothing
 
--- an input that asks for no command
+-- the answer to an input that requests no command
 pub answered_plain : (a : SessionState) (i : Input) (response : List ℕ) → asked_command i ≡ None → response ≡ plain_answer a.state i → AnsweredInput a i Plain response a
 unfolding answer acknowledged_commands reached_commands IsPossibleOutcome
 answered_plain a i response none k = record { may = inl none; answer_is = k; leaves = rw none (carries_nothing a) }
 
--- memory for it was refused
+-- the answer to an input for which an allocation failed
 pub answered_no_memory : (a : SessionState) (i : Input) (response : List ℕ) → takes_memory i ≡ true → response ≡ no_text NO_MEMORY → AnsweredInput a i NoMemory response a
 unfolding answer acknowledged_commands reached_commands IsPossibleOutcome
 answered_no_memory a i response takes k = record { may = takes; answer_is = k; leaves = carries_nothing a }
@@ -157,7 +157,7 @@ answered_no_memory a i response takes k = record { may = takes; answer_is = k; l
 pub answered_as : (a b : SessionState) (i j : Input) (o : Outcome) (response : List ℕ) → i ≡ j → AnsweredInput a j o response b → AnsweredInput a i o response b
 answered_as a b i j o response same h = let P : Input → Type 0 = λ x. AnsweredInput a x o response b in subst P (sym same) h
 
--- a request whose answer takes memory
+-- the answer to a request that needs memory for its answer
 pub answered_long : {T E : Type 0} (r : Result T E) (a : SessionState) (i : Input) (o : Outcome) (text response : List ℕ) → asked_command i ≡ None → takes_memory i ≡ true
     → OnOk r (text ≡ plain_answer a.state i) → OnOk r ((o ≡ Plain) × (response ≡ text)) → OnErr r ((o ≡ NoMemory) × (response ≡ no_text NO_MEMORY)) → AnsweredInput a i o response a
 answered_long (Ok x) a i o text response none takes is k refused = rw k.0 (answered_plain a i response none (k.1 ∙ is))
@@ -168,7 +168,7 @@ answered_long (Err x) a i o text response none takes is k refused = rw refused.0
 pub is_judged : (kind : TextKind) (text : List ℕ) (f : Option TextFault) → text_fault_of text ≡ f → judged_text kind text ≡ text_or_fault kind text f
 is_judged kind text f e = ap (text_or_fault kind text) e
 
--- a text that spells a command is answered as that command is
+-- A text that means a command has the same answer as the command itself.
 pub answered_text : (a b : SessionState) (kind : TextKind) (text : List ℕ) (c : Command) (o : Outcome) (response : List ℕ)
     → meaning_of_text kind text ≡ Ok (Does c) → AnsweredInput a (Line (Change c)) o response b → AnsweredInput a (Text kind text) o response b
 unfolding answer acknowledged_commands reached_commands IsPossibleOutcome
@@ -177,17 +177,17 @@ answered_text a b kind text c Device response is h = record { may = rw is h.may;
 answered_text a b kind text c Closed response is h = record { may = rw is h.may; answer_is = h.answer_is; leaves = h.leaves }
 answered_text a b kind text c NoMemory response is h = record { may = refl; answer_is = h.answer_is; leaves = h.leaves }
 
--- one that spells none
+-- the answer to an invalid text
 pub answered_refused_text : (a : SessionState) (kind : TextKind) (text : List ℕ) (why : TextRefusal) (response : List ℕ)
     → meaning_of_text kind text ≡ Err why → response ≡ text_refusal why → AnsweredInput a (Text kind text) Plain response a
 answered_refused_text a kind text why response is k = answered_plain a (Text kind text) response (rw is refl) (rw is k)
 
--- one that comes to lines
+-- the answer to a text whose meaning is lines to return
 pub answered_report : (a : SessionState) (kind : TextKind) (text lines response : List ℕ)
     → meaning_of_text kind text ≡ Ok (Reports lines) → response ≡ lines → AnsweredInput a (Text kind text) Plain response a
 answered_report a kind text lines response is k = answered_plain a (Text kind text) response (rw is refl) (rw is k)
 
--- ---- an input that was answered, and its answer
+-- ---- an input that was executed, and the writing of its answer
 
 pub no_halt : (o : Outcome) → o ≢ Device → halt_of true o ≡ None
 no_halt Device h = absurd (h refl)

@@ -1,4 +1,4 @@
--- Laws of inputs that were met in turn.
+-- Laws about lists of exchanges: the inputs that a shell served, in order, with their outcomes.
 use Rattle.std.proofs.Common.{◌≡◌, ◌||◌, Bool, true, false, cond, List, [], ◌∷◌, ◌++◌, Option, None, Some, ap, sym, append_assoc, append-nil, ◌∙◌, refl, subst}
 use Rattle.std.specs.List.{list_any}
 use Rattle.std.specs.Option.{option_or}
@@ -13,15 +13,15 @@ use Rattle.mcs_shell.specs.declared.ends.ShellEnd.{ShellEnd}
 use Rattle.mcs_shell.specs.declared.ends.Outcome.{Outcome}
 use Rattle.mcs_shell.specs.declared.ends.Outcome.TheVariants.{Device}
 
--- the state after what was met
+-- the state after these exchanges, which begin in state s
 abbrev pub state_after : BenchState → List Exchange → BenchState
 state_after s met = fold s (in_turn acknowledged_commands s met)
 
--- whether the device failed at one of them
+-- true if the device failed in one of these exchanges
 abbrev pub has_failed : List Exchange → Bool
 has_failed met = list_any (λ (x : Exchange). is_device_fault x.outcome) met
 
--- ---- what each gives
+-- ---- results of exchanges, in order
 
 pub in_turn-further : {A : Type 0} (f : BenchState → Input → Outcome → List A) (s t : BenchState) (xs ys : List Exchange) → t ≡ state_after s xs → in_turn f s (xs ++ ys) ≡ in_turn f s xs ++ in_turn f t ys
 in_turn-further f s t [] ys e = ap (λ (u : BenchState). in_turn f u ys) (sym e)
@@ -30,7 +30,7 @@ in_turn-further f s t (x ∷ xs) ys e =
     ap (λ v. f s x.input x.outcome ++ v) (in_turn-further f u t xs ys (e ∙ fold-append s (acknowledged_commands s x.input x.outcome) (in_turn acknowledged_commands u xs)))
     ∙ sym (append_assoc (f s x.input x.outcome) (in_turn f u xs) (in_turn f t ys))
 
--- ---- what halts the shell
+-- ---- exchanges that halt the shell
 
 neither : (x y : Option ShellEnd) → option_or x y ≡ None → (x ≡ None) × (y ≡ None)
 neither None y e = (refl, e)
@@ -81,7 +81,7 @@ pub or_no : (b : Bool) → (b || false) ≡ b
 or_no true = refl
 or_no false = refl
 
--- ---- what may have reached the disk, where the device did not fail
+-- ---- commands that may have reached the disk, if the device did not fail
 
 reached_same : (s : BenchState) (i : Input) (o : Outcome) → is_device_fault o ≡ false → reached_commands s i o ≡ acknowledged_commands s i o
 unfolding reached_commands acknowledged_commands
@@ -99,7 +99,7 @@ reached_all s (x ∷ met) h =
     let t = fold s (acknowledged_commands s x.input x.outcome) in
     ap (λ cs. cs ++ in_turn reached_commands t met) (reached_same s x.input x.outcome both.0) ∙ ap (λ cs. acknowledged_commands s x.input x.outcome ++ cs) (reached_all t met both.1)
 
--- ---- two stretches
+-- ---- two lists of exchanges, one after the other
 
 pub may-append : (live : Bool) (s : BenchState) (xs ys : List Exchange) → halt_after xs ≡ None → ArePossibleExchanges live s xs → ArePossibleExchanges live (state_after s xs) ys → ArePossibleExchanges live s (xs ++ ys)
 may-append live s [] ys none h k = k

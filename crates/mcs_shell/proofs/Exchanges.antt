@@ -1,4 +1,4 @@
--- Stretches of bytes, one after the other.
+-- Consecutive pieces of input, and the exchanges that serve them.
 use Rattle.std.proofs.Common.{◌≡◌, ◌+◌, ℕ, take, List, [], ◌∷◌, ◌++◌, Bool, true, false, Option, None, Some, ap, sym, append_assoc, ◌∙◌, refl, subst}
 use Rattle.std.proofs.lemmas.List.{map-append}
 use Rattle.std.specs.Str.Lines.{strip_carriage_return}
@@ -29,7 +29,7 @@ use Rattle.mcs_shell.proofs.Doing.{leaves_as}
 use Rattle.mcs_shell.proofs.LineFeeds.{after-kept, after-line, group-begun, group-command, group-dot, group-kept, group-line}
 use Rattle.mcs_shell.proofs.ExchangeLists.{failed-append, halt-append, has_failed, in_turn-further, may-append, not_failed, reached_all, state_after, wrote-append}
 
--- ---- inputs in turn
+-- ---- lists of exchanges, one after the other
 
 leaves_more : (failed : Bool) (a b c : SessionState) (cs ds rs : List Command) → RecordsCommands IsIntact a b cs → LeavesSession IsIntact failed b c ds rs → LeavesSession IsIntact failed a c (cs ++ ds) (cs ++ rs)
 leaves_more false a b c cs ds rs x y = carries_more a b c cs ds x y
@@ -43,11 +43,11 @@ leaves_more true a b c cs ds rs x y = record {
   kept = λ given. kept_more a.disk b.disk c.disk a.state b.state cs ds rs (x.kept given) x.state (y.kept (settled_on a b cs x given));
 }
 
--- where nothing halted the shell
+-- If nothing halted the shell, the session recorded all commands that were acknowledged.
 pub carries_unhalted : (Given : Premise) (a b : SessionState) (s : BenchState) (met : List Exchange) → halt_after met ≡ None → LeavesSession Given (has_failed met) a b (in_turn acknowledged_commands s met) (in_turn reached_commands s met) → RecordsCommands Given a b (in_turn acknowledged_commands s met)
 carries_unhalted Given a b s met none h = subst (λ (v : Bool). LeavesSession Given v a b (in_turn acknowledged_commands s met) (in_turn reached_commands s met)) (not_failed met none) h
 
--- the shell went on, and so one list follows the other
+-- If nothing in the first list of exchanges halted the shell, both lists together form one run.
 pub serves_more : (a b c : ShellState) (xs ys : List Exchange) → halt_after xs ≡ None → ServesExchanges IsIntact a xs b → ServesExchanges IsIntact b ys c → ServesExchanges IsIntact a (xs ++ ys) c
 serves_more a b c xs ys none x y =
     let s = a.session.state in
@@ -65,12 +65,12 @@ serves_more a b c xs ys none x y =
           (leaves_more (has_failed ys) a.session b.session c.session (in_turn acknowledged_commands s xs) (in_turn acknowledged_commands t ys) (in_turn reached_commands t ys) carries y.leaves);
     }
 
--- ---- bytes
+-- ---- the bytes that form the inputs
 
 abbrev pub meets_nothing : (a : ShellState) → ServesInputs IsIntact [] a a None
 meets_nothing a = record { met = []; serves = record { may = tt; wrote = refl; leaves = carries_nothing a.session }; halts = refl; not_met = []; spelled = refl; all_met = λ none. refl }
 
--- these bytes spell the inputs that were given
+-- If these bytes form the given inputs, serving these inputs serves the bytes.
 pub feeds : (a b : ShellState) (p q k : Pending) (bytes : List ℕ) (given : List Input) (halted : Option ShellEnd) → HasNoFeed k.line → (halted ≡ None → q ≡ k)
     → ((more : List ℕ) (whole : Bool) → inputs_after p (bytes ++ more) whole ≡ given ++ inputs_after k more whole)
     → ServesInputs IsIntact given a b halted → ServesBytes a b p q bytes halted
@@ -91,7 +91,7 @@ feeds_none a p q bytes f e = feeds a a p q q bytes [] None f (λ none. refl) e (
 pub feeds_nothing : (a : ShellState) (p : Pending) → HasNoFeed p.line → ServesBytes a a p p [] None
 feeds_nothing a p f = feeds_none a p p [] f (λ more whole. refl)
 
--- two stretches
+-- Serving two consecutive pieces of input serves their concatenation.
 abbrev pub feeds_more : (a b c : ShellState) (l k e : Pending) (bytes rest : List ℕ) (halted : Option ShellEnd) → ServesBytes a b l k bytes None → ServesBytes b c k e rest halted → ServesBytes a c l e (bytes ++ rest) halted
 feeds_more a b c l k e bytes rest halted x y = record {
   met = x.met ++ y.met;
@@ -108,7 +108,7 @@ feeds_more a b c l k e bytes rest halted x y = record {
   no_feed = y.no_feed;
 }
 
--- whatever comes after what halted the shell
+-- If the shell halted within these bytes, any bytes may follow them.
 feeds_halted : (a b : ShellState) (p q r : Pending) (bytes more_bytes : List ℕ) (end : ShellEnd) → ServesBytes a b p q bytes (Some end) → ServesBytes a b p r (bytes ++ more_bytes) (Some end)
 feeds_halted a b p q r bytes more_bytes end x = record {
   met = x.met;
@@ -120,7 +120,7 @@ feeds_halted a b p q r bytes more_bytes end x = record {
   no_feed = λ none. absurd (cc none);
 }
 
--- ---- a stretch without a line feed, and a line feed
+-- ---- bytes without a line feed, and a single line feed
 
 pub feeds_kept : (a : ShellState) (p q : Pending) (bytes : List ℕ) → HasNoFeed p.line → HasNoFeed bytes → q ≡ record { mode = p.mode; line = take 16386 (p.line ++ bytes) } → ServesBytes a a p q bytes None
 feeds_kept a p q bytes f g e = let P : Pending → Type 0 = λ x. ServesBytes a a p x bytes None in subst P (sym e)
@@ -154,7 +154,7 @@ feeds_line a p q line kind text f is e dot h =
 
 -- ---- a chunk, line by line
 
--- some of the chunk was served, and this is left
+-- Holds if the chunk was served up to `rest`, the bytes that are left.
 pub record ServedTo (a b : ShellState) (p q : Pending) (rest chunk : List ℕ) : Type 0 where
   pub done : List ℕ
   pub split : chunk ≡ done ++ rest
@@ -163,14 +163,14 @@ pub record ServedTo (a b : ShellState) (p q : Pending) (rest chunk : List ℕ) :
 pub served_to_nothing : (a : ShellState) (p : Pending) (chunk : List ℕ) → HasNoFeed p.line → ServedTo a a p p chunk chunk
 served_to_nothing a p chunk f = record { done = []; split = refl; fed = feeds_nothing a p f }
 
--- what is kept of a line after those
+-- Bytes without a line feed are appended to the unfinished line.
 pub served_to_kept : (a b : ShellState) (p q r : Pending) (front rest chunk : List ℕ) (x : ServedTo a b p q rest chunk) → HasNoFeed front → r ≡ record { mode = q.mode; line = take 16386 (q.line ++ front) } → ServesBytes a b p r (x.done ++ front) None
 served_to_kept a b p q r front rest chunk x free kept = feeds_more a b b p q r x.done front None x.fed (feeds_kept b q r front (x.fed.no_feed refl) free kept)
 
 served_to_split : (a b : ShellState) (p q : Pending) (front back rest chunk : List ℕ) (x : ServedTo a b p q rest chunk) → rest ≡ front ++ 10 ∷ back → chunk ≡ ((x.done ++ front) ++ 10 ∷ []) ++ back
 served_to_split a b p q front back rest chunk x e = x.split ∙ ap (λ v. x.done ++ v) e ∙ sym (append_assoc x.done front (10 ∷ back)) ∙ sym (append_assoc (x.done ++ front) (10 ∷ []) back)
 
--- a line was kept and ended
+-- A line feed ends the line, and the line is served.
 pub served_to_line : (a b c : ShellState) (p q r s : Pending) (front back rest chunk : List ℕ) → ServedTo a b p q rest chunk → HasNoFeed front × (rest ≡ front ++ 10 ∷ back)
     → r ≡ record { mode = q.mode; line = take 16386 (q.line ++ front) } → ServesBytes b c r s (10 ∷ []) None → ServedTo a c p s back chunk
 served_to_line a b c p q r s front back rest chunk x e kept h = record {
@@ -189,7 +189,7 @@ halted_line end a b c p q r s front back rest chunk x e kept h =
     subst P (sym (served_to_split a b p q front back rest chunk x e.1))
     (feeds_halted a c p s s ((x.done ++ front) ++ 10 ∷ []) back end (feeds_more a b c p r s (x.done ++ front) (10 ∷ []) (Some end) (served_to_kept a b p q r front rest chunk x e.0 kept) h))
 
--- the rest has no line feed
+-- If the rest of the chunk has no line feed, keeping it as an unfinished line serves the whole chunk.
 pub served_rest : (a b : ShellState) (p q r : Pending) (rest chunk : List ℕ) → ServedTo a b p q rest chunk → HasNoFeed rest
     → r ≡ record { mode = q.mode; line = take 16386 (q.line ++ rest) } → ServesBytes a b p r chunk None
 served_rest a b p q r rest chunk x free kept = let P : List ℕ → Type 0 = λ v. ServesBytes a b p r v None in

@@ -1,4 +1,4 @@
--- What is found in a file of the host after a stop, as a disk.
+-- The contents found in a file of the host after a stop, as those of a disk.
 use Rattle.std.proofs.Common.{ℕ, List, sym, subst}
 use Rattle.mcs_disk.specs.Calls.{since_after}
 use Rattle.mcs_disk.specs.NotedCalls.{calls_in}
@@ -9,7 +9,7 @@ use Rattle.mcs_host.specs.declared.file_disk.FileDisk.{FileDisk}
 use Rattle.mcs_host.proofs.Leaving.{found_since}
 use Rattle.mcs_shell.specs.InFile.{IsFoundAgain}
 
--- what is found in the file after a stop
+-- The contents found in a file after a stop are possible contents after a power cut.
 pub left_by_cut : (t : ℕ) (file again : FileDisk) → (as_disk file).honest → IsFoundAgain t file again → IsLeftByCut t (as_disk file) (as_disk again)
 left_by_cut t file again honest h =
     let start = file.on.history.start in

@@ -1,4 +1,4 @@
--- What is kept of any number of runs.
+-- The commands that are kept after any number of runs.
 use Rattle.std.proofs.Common.{◌≡◌, ◌⊎◌, inl, inr, ◌≤◌, ⊎_elim, ℕ, List, [], ◌∷◌, ◌++◌, length, take, drop, take-append-drop, sym, ap, ◌∙◌, refl, subst, arith}
 use Rattle.std.proofs.lemmas.Bool.{cases_lt}
 use Rattle.std.proofs.lemmas.Grind.{common_steps}
@@ -29,13 +29,14 @@ use Rattle.mcs_shell.specs.RefusalNumbers.{store_fault_number}
 use Rattle.mcs_shell.specs.Shell.{ShellRun}
 use Rattle.mcs_shell.proofs.Surviving.{answered_by, honest_of_run, kept_of_run}
 
--- a disk that a stop left: what a read gives is all that it has, and stands for this state
+-- Holds if the disk that a stop left represents the state s. The disk is honest, and a power cut leaves the bytes
+-- that a read returns.
 record Stands (disk : DiskState) (s : BenchState) : Type 0 where
   pub honest : disk.honest
   pub durable : IsDurable disk
   pub stands : StandsByEither (bytes_of disk) s
 
--- a stop leaves what a power cut may leave
+-- Holds if every disk that `IsFound` allows after a stop is a possible disk after a power cut.
 abbrev AreCuts : {D : Type 0} → (D → DiskState) → (ℕ → D → D → Type 0) → Type 0
 AreCuts {D = D} state_of IsFound = (t : ℕ) (left found : D) → (state_of left).honest → IsFound t left found → IsLeftByCut t (state_of left) (state_of found)
 
@@ -44,7 +45,7 @@ AreCuts {D = D} state_of IsFound = (t : ℕ) (left found : D) → (state_of left
 length_first : (cs : List Command) (n : ℕ) → n ≤ length cs → length (take n cs) ≡ n
 length_first cs n few = grind (arith, common_steps)
 
--- a prefix of the commands is what is kept
+-- If the disk found represents the state after a prefix of the commands, that prefix consists of the kept commands.
 kept_prefix : {D : Type 0} (state_of : D → DiskState) (run : ShellRun state_of) (t u : ℕ) (s : BenchState) → run.before.state ≡ s → IsOpenOnHonestDisk (session_state state_of run.before)
     → (a : AnswersAndAcknowledges run) → acknowledged_by t a.acknowledged.moments ≤ acknowledged_by u a.acknowledged.moments → (found : DiskState) → found.honest → IsDurable found
     → StandsForPrefix run.before.state (reached_in run) (acknowledged_by u a.acknowledged.moments) (bytes_of found)
@@ -66,7 +67,7 @@ kept_prefix state_of run t u s same given a fewer found honest durable h =
       record { honest = honest; durable = durable; stands = inl (subst (StandsFor (bytes_of found)) is h.stands) },
     )
 
--- stopped since its start
+-- The commands that are kept if the run was stopped after its session had opened.
 kept_late : {D : Type 0} (state_of : D → DiskState) → (run : ShellRun state_of) (t : ℕ) (s : BenchState) (found : D) → run.before.state ≡ s → IsOpenOnHonestDisk (session_state state_of run.before)
     → time_of (state_of run.before.disk) ≤ t → IsLeftByCut t (state_of run.after.disk) (state_of found)
     → (kept : List Command) × KeepsOfRun state_of run t s kept × Stands (state_of found) (fold s kept)
@@ -74,7 +75,7 @@ kept_late state_of run t s found same given late cut =
     let kept = kept_of_run state_of run given in
     kept_prefix state_of run t t s same given (answered_by state_of run kept) (omega arith) (state_of found) cut.honest cut.durable (kept.each t (bytes_of (state_of found)) late cut.found)
 
--- stopped before that: in the opening, or at its end
+-- The commands that are kept if the run was stopped while its session was being opened, or when that ended.
 kept_early : {D : Type 0} (state_of : D → DiskState) → (disk : D) (run : ShellRun state_of) (t : ℕ) (s : BenchState) (found : D) → Stands (state_of disk) s → run.before.state ≡ s → IsOpenOnHonestDisk (session_state state_of run.before)
     → MigratesSession (state_of disk) (state_of run.before.disk) run.before.state → time_of (state_of disk) ≤ t → t ≤ time_of (state_of run.before.disk) → IsLeftByCut t (state_of run.after.disk) (state_of found)
     → (kept : List Command) × KeepsOfRun state_of run t s kept × Stands (state_of found) (fold s kept)
@@ -177,7 +178,7 @@ kept_each state_of IsFound cuts disk (x ∷ xs) last s here came =
       subst (Stands (state_of last)) (sym (fold-append s one.0 others.0)) others.2,
     )
 
--- ---- what is opened at the end
+-- ---- the session opened at the end
 
 pub survives_history : {D : Type 0} (state_of : D → DiskState) (IsFound : ℕ → D → D → Type 0) → AreCuts state_of IsFound → (history : History state_of IsFound)
     → IsOpenOnHonestDisk (session_state state_of history.first.before) → SurvivesHistory history

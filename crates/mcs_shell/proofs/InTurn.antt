@@ -1,4 +1,4 @@
--- What a run answered to the inputs that it met.
+-- The answers of a run to the inputs that it served, in order.
 use Rattle.std.proofs.Common.{◌≡◌, ◌≢◌, ℕ, List, [], ◌∷◌, ◌++◌, Bool, true, false, Option, None, Some, take, drop, ap, append_assoc, append-nil, sym, ◌∙◌, refl, subst, inl, inr}
 use Rattle.std.specs.Io.KnownBytes.{Appends}
 use Rattle.std.specs.Option.{option_or}
@@ -16,7 +16,7 @@ use Rattle.mcs_shell.specs.Shell.{RanShell}
 use Rattle.mcs_shell.specs.ShellState.{KnownBytes, ShellState}
 use Rattle.mcs_shell.specs.Transcript.{ArePossibleExchanges, Exchange, answer, acknowledged_commands, halt_after, halt_of, in_turn}
 
--- of these bytes some were written, and the others were not, which are none unless a write failed
+-- Holds if a prefix of these bytes was written. It is all of them unless a failed write halted the shell.
 record AnswersWritten (old new : KnownBytes) (bytes : List ℕ) (halted : Option ShellEnd) : Type 0 where
   pub response : List ℕ
   pub left_out : List ℕ
@@ -28,7 +28,7 @@ cut_later : (whole : Bool) (o : Outcome) (rest : List Exchange) → (rest ≢ []
 cut_later whole o [] goes cut = absurd (cc cut)
 cut_later whole o (x ∷ rest) goes cut = ap (λ (h : Option ShellEnd). option_or h (halt_after (x ∷ rest))) (goes (λ e. absurd (cc e))) ∙ cut
 
--- one answer, and then the others
+-- The bytes written are those of the first answer, followed by those of the other answers.
 written_first : (s : BenchState) (whole : Bool) (o : Outcome) (rest : List Exchange) (old middle new : KnownBytes) (bytes : List ℕ) → WroteBytes whole old middle bytes → (rest ≢ [] → halt_of whole o ≡ None) → WroteAnswers s rest middle new
     → AnswersWritten middle new (in_turn answer s rest) (halt_after rest) → AnswersWritten old new (bytes ++ in_turn answer s rest) (option_or (halt_of whole o) (halt_after rest))
 written_first s true o rest old middle new bytes wrote goes others t = record {
@@ -53,7 +53,7 @@ written_all live s (x ∷ rest) old new may wrote =
     let t = fold s (acknowledged_commands s x.input x.outcome) in
     written_first t x.whole x.outcome rest old wrote.0 new (answer s x.input x.outcome) wrote.1 may.1 wrote.2 (written_all live t rest wrote.0 new may.2 wrote.2)
 
--- ---- a run that wrote its first line, or not
+-- ---- a run that wrote its first line completely, and a run that did not
 
 begun : (end : ShellEnd) (r r' : KnownBytes) (a b : ShellState) (ran : RanShell end r r' a b) → ran.began.whole ≡ true → (end ≢ WriteFault → ran.halted ≢ Some WriteFault) → (end ≢ WriteFault → end ≢ DeviceFault → ran.halted ≡ None)
     → AnswersInTurn end ran.read a b ran.served.met

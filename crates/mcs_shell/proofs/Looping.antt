@@ -1,4 +1,4 @@
--- The loop over chunks, and the run.
+-- The loop that reads chunks, and the whole run of a shell.
 use Rattle.std.proofs.Common.{◌≡◌, ℕ, ◌+◌, ◌<◌, ◌≤◌, List, [], ◌∷◌, ◌++◌, Bool, true, false, length, Option, None, Some, ◌⊎◌, inl, inr, ap, sym, append_assoc, append-nil, length-append, ◌∙◌, refl, subst, arith, codes}
 use Rattle.std.specs.Io.KnownBytes.{Appends, Consumes, Keeps}
 use Rattle.std.proofs.lemmas.List.{map-append, nil_from_length}
@@ -32,12 +32,12 @@ use Rattle.mcs_shell.proofs.LineFeeds.{after-cut, after-empty, after-whole, at_d
 use Rattle.mcs_shell.proofs.ExchangeLists.{answered_all, halt-append, has_failed, some_apart}
 use Rattle.mcs_shell.proofs.Exchanges.{feeds_more, feeds_nothing, meets_nothing, serves_more}
 
--- ---- inputs of the bytes that were read
+-- ---- the inputs that the bytes read form
 
 abbrev pub meets_as : (Given : Premise) (xs ys : List Input) (a b : ShellState) (halted : Option ShellEnd) → xs ≡ ys → ServesInputs Given ys a b halted → ServesInputs Given xs a b halted
 meets_as Given xs ys a b halted e m = record { met = m.met; serves = m.serves; halts = m.halts; not_met = m.not_met; spelled = e ∙ m.spelled; all_met = m.all_met }
 
--- these bytes, and then what is unfinished
+-- Serving these bytes, and then the unfinished input, serves the inputs of both.
 abbrev pub meets_then : (whole : Bool) (a b c : ShellState) (l k : Pending) (bytes : List ℕ) (halted : Option ShellEnd) → ServesBytes a b l k bytes None → ServesInputs IsIntact (inputs_after k [] whole) b c halted
     → ServesInputs IsIntact (inputs_after l (bytes ++ []) whole) a c halted
 meets_then whole a b c l k bytes halted x y = record {
@@ -55,7 +55,7 @@ meets_then whole a b c l k bytes halted x y = record {
 abbrev pub meets_halted : (whole : Bool) (a b : ShellState) (p q : Pending) (bytes : List ℕ) (cause : ShellEnd) → ServesBytes a b p q bytes (Some cause) → ServesInputs IsIntact (inputs_after p (bytes ++ []) whole) a b (Some cause)
 meets_halted whole a b p q bytes cause x = record { met = x.met; serves = x.serves; halts = x.halts; not_met = x.not_met [] whole; spelled = x.spelled [] whole; all_met = λ none. absurd (some_apart cause none) }
 
--- ---- where input ended
+-- ---- the end of input
 
 pub finished_empty : (a : ShellState) (p : Pending) → length p.line ≡ 0 → p.mode ≡ Commands → ServesInputs IsIntact (inputs_after p [] true) a a None
 unfolding inputs_from
@@ -65,7 +65,7 @@ pub finished_text : (a b : ShellState) (p : Pending) (kind : TextKind) (text : L
 unfolding inputs_from
 finished_text a b p kind text halted none is m = meets_as IsIntact (inputs_after p [] true) (BadText NoEnd ∷ []) a b halted (after-empty p (InText kind text) none is) m
 
--- as if a line feed had come
+-- The last line is served at the end of input as if a line feed ended it.
 pub finished_line : (a b c : ShellState) (p q : Pending) (halted : Option ShellEnd) → HasNoFeed p.line → 0 < length p.line → ServesBytes a b p q (10 ∷ []) None → ServesInputs IsIntact (inputs_after q [] true) b c halted → ServesInputs IsIntact (inputs_after p [] true) a c halted
 finished_line a b c p q halted f some x y = meets_as IsIntact (inputs_after p [] true) (inputs_after p (10 ∷ []) true) a c halted (after-whole p f some) (meets_then true a b c p q (10 ∷ []) halted x y)
 
@@ -74,7 +74,7 @@ finished_halt a b p q cause f some x = meets_as IsIntact (inputs_after p [] true
 
 -- ---- the loop
 
--- how far the loop has come
+-- The invariant of the loop: `total` bytes have been read and served, and `line` is the unfinished input.
 pub record SoFar (r r' : KnownBytes) (a b : ShellState) (line : Pending) (total : ℕ) : Type 0 where
   pub bytes : List ℕ
   pub count : length bytes ≡ total
@@ -100,7 +100,7 @@ from_fresh bytes whole = sym (at_dots whole Commands (lines bytes whole)) ∙ ap
 cut_is_met : (a b : ShellState) (line : Pending) (bytes : List ℕ) (x : ServesBytes a b nothing_pending line bytes None) → inputs bytes false ≡ inputs_in x.met
 cut_is_met a b line bytes x = from_fresh bytes false ∙ x.spelled [] false ∙ ap (λ v. inputs_in x.met ++ v) (x.all_met refl [] false ∙ after-cut line (x.no_feed refl)) ∙ append-nil (inputs_in x.met)
 
--- what was answered begins with what the bytes before those read ahead spell
+-- The answered inputs begin with those formed by the bytes before the ones that were read ahead.
 near_behind : (a b : ShellState) (line : Pending) (bytes ahead : List ℕ) (x : ServesBytes a b nothing_pending line bytes None) (ys : List Exchange) → length ahead ≤ CHUNK_BYTES → ReadsLittleAhead (bytes ++ ahead) (inputs_in (answered_exchanges (x.met ++ ys)))
 near_behind a b line bytes ahead x ys few = record {
   before = bytes;
@@ -117,11 +117,11 @@ near_behind a b line bytes ahead x ys few = record {
 near_whole : (a b : ShellState) (line : Pending) (bytes : List ℕ) (x : ServesBytes a b nothing_pending line bytes None) (ys : List Exchange) → ReadsLittleAhead bytes (inputs_in (answered_exchanges (x.met ++ ys)))
 near_whole a b line bytes x ys = let P : List ℕ → Type 0 = λ v. ReadsLittleAhead v (inputs_in (answered_exchanges (x.met ++ ys))) in subst P (append-nil bytes) (near_behind a b line bytes [] x ys (omega arith))
 
--- a shell that had no memory did not begin
+-- A run that wrote its first line did not end for lack of memory.
 begun_has_memory : (end : ShellEnd) (bytes : List ℕ) (whole : Bool) (met : List Exchange) (halted : Option ShellEnd) → EndsBy end true bytes whole met halted → end ≡ NoMemory → ⊥
 begun_has_memory end bytes whole met halted ends is = let P : ShellEnd → Type 0 = λ e. EndsBy e true bytes whole met halted in let h : EndsBy NoMemory true bytes whole met halted = subst P is ends in absurd (cc h.0)
 
--- the loop has nothing to write first
+-- The loop is a run of the shell without a first line.
 ran_loop : (end : ShellEnd) (r r' : KnownBytes) (a c : ShellState) (halted : Option ShellEnd) (read : ReadInput r r') (m : ServesInputs IsIntact (inputs_read read) a c halted)
     → ReadsLittleAhead read.bytes (inputs_in (answered_exchanges m.met)) → EndsBy end true read.bytes read.ended m.met halted → RanShellGiven IsIntact [] end r r' a c
 ran_loop end r r' a c halted read m near ends = record {
@@ -137,11 +137,11 @@ ran_loop end r r' a c halted read m near ends = record {
 cut_has_no_end : false ≡ true → ⊥
 cut_has_no_end e = absurd (cc e)
 
--- the bytes were cut off there
+-- the bytes that were read, if input did not end after them
 abbrev read_cut : (r r' : KnownBytes) (bytes : List ℕ) → Consumes r r' bytes → length bytes ≤ INPUT_BYTES → ReadInput r r'
 read_cut r r' bytes consumed within = record { bytes = bytes; consumed = consumed; within = within; ended = false; input_ended = λ e. absurd (cut_has_no_end e) }
 
--- these bytes, and what was unfinished then
+-- Serving these bytes from the start, and then the unfinished input, serves all inputs that the bytes form.
 abbrev met_all : (whole : Bool) (a b c : ShellState) (line : Pending) (bytes : List ℕ) (halted : Option ShellEnd) → ServesBytes a b nothing_pending line bytes None → ServesInputs IsIntact (inputs_after line [] whole) b c halted → ServesInputs IsIntact (inputs bytes whole) a c halted
 met_all whole a b c line bytes halted x y = meets_as IsIntact (inputs bytes whole) (inputs_after nothing_pending (bytes ++ []) whole) a c halted (from_fresh bytes whole) (meets_then whole a b c nothing_pending line bytes halted x y)
 
@@ -158,7 +158,7 @@ ran_limit r r' a b line total x e =
     let all : length x.bytes ≡ INPUT_BYTES = x.count ∙ e in
     ran_loop InputLimit r r' a b None (read_cut r r' x.bytes x.consumed (omega (arith, all))) (met_cut a b line x.bytes x.fed) (near_whole a b line x.bytes x.fed []) (refl, refl, refl, all)
 
--- ---- where input ended, or the shell was halted
+-- ---- the end of input, or a halt of the shell
 
 last_read : (r r' r'' : KnownBytes) (most : ℕ) (bytes chunk : List ℕ) → Consumes r r' bytes → ReadBytes 0 most r' r'' chunk → Consumes r r'' bytes
 last_read r r' r'' most bytes chunk a b = let P : List ℕ → Type 0 = λ y. Consumes r r'' y in
@@ -180,7 +180,7 @@ pub either_end : (h k : Option ShellEnd) (end : ShellEnd) → option_or h k ≡ 
 either_end None k end e = inr e
 either_end (Some x) k end e = inl e
 
--- what a step ends is a write or the device
+-- Exchanges halt the shell only because of a failed write or a device fault.
 ends_halted : (xs : List Exchange) (end : ShellEnd) (bytes : List ℕ) (whole : Bool) (met : List Exchange) → halt_after xs ≡ Some end → EndsBy end true bytes whole met (Some end)
 ends_halted [] end bytes whole met e = absurd (cc e)
 ends_halted (x ∷ xs) end bytes whole met e = elim (either_end (halt_of x.whole x.outcome) (halt_after xs) end e) [
@@ -192,7 +192,7 @@ pub ran_finish : (end : ShellEnd) (r r' r'' : KnownBytes) (a b c : ShellState) (
     → ServesInputs IsIntact (inputs_after line [] true) b c (Some end) → RanShellGiven IsIntact [] end r r'' a c
 ran_finish end r r' r'' a b c line chunk total most x small y m = ran_whole end r r' r'' a b c line chunk total most (Some end) x small y m (ends_halted m.met end x.bytes true (x.fed.met ++ m.met) m.halts)
 
--- the bytes before the chunk were served, and the shell was halted within it
+-- The run if the bytes before the chunk were served, and the shell halted within the chunk.
 pub ran_halt : (end : ShellEnd) (r r' r'' : KnownBytes) (a b c : ShellState) (line new_line : Pending) (chunk : List ℕ) (total n most : ℕ)
     → SoFar r r' a b line total → total + most ≤ INPUT_BYTES → most ≤ CHUNK_BYTES → ReadBytes n most r' r'' chunk → ServesBytes b c line new_line chunk (Some end) → RanShellGiven IsIntact [] end r r'' a c
 ran_halt end r r' r'' a b c line new_line chunk total n most x small little y z =
@@ -227,7 +227,7 @@ whole_first : (begun : Bool) (old new : KnownBytes) → WroteBytes begun old new
 whole_first true old new h = refl
 whole_first false old new h = absurd (omega (arith, h.fewer))
 
--- its first line was written, and then the loop ran
+-- the run that wrote its first line, and then ran the loop
 pub ran_after : (end : ShellEnd) (r r' : KnownBytes) (a b : ShellState) (started : KnownBytes) (first_line : List ℕ) → (IsOpenOnHonestDisk a.session → IsIntact a.session) → Appends a.out started first_line
     → RanShellGiven IsIntact [] end r r' (with_written a started) b → RanShellGiven IsOpenOnHonestDisk first_line end r r' a b
 ran_after end r r' a b started first_line settle wrote x =
@@ -248,7 +248,7 @@ ran_after end r r' a b started first_line settle wrote x =
 nothing_cut : inputs [] false ≡ []
 nothing_cut = from_fresh [] false ∙ after-cut nothing_pending tt
 
--- nothing was read or done
+-- the run that did not write its first line completely, and read and executed nothing
 pub not_begun : (end : ShellEnd) (r : KnownBytes) (a : ShellState) (out : KnownBytes) (first_line : List ℕ) → (IsOpenOnHonestDisk a.session → IsIntact a.session) → GotFirstBytes a.out out first_line
     → (end ≡ NoMemory → out ≡ a.out) → EndsBy end false [] false [] None → RanShellGiven IsOpenOnHonestDisk first_line end r r a (with_written a out)
 not_begun end r a out first_line settle some unwritten ends = record {

@@ -11,7 +11,7 @@ use Rattle.mcs_shell.specs.Transcript.{acknowledged_commands, is_device_fault, r
 use Rattle.mcs_shell.specs.declared.ends.Outcome.{Outcome}
 use Rattle.mcs_shell.proofs.Looping.{leaves_under}
 
--- what a session says of its disk as long as it is open
+-- Holds if the disk represents the state, provided that the session is open and the disk is honest.
 abbrev Says : {D : Type 0} → (D → DiskState) → SessionView D → Type 0
 Says state_of s = IsTrue s.live → (state_of s.disk).honest → DiskStandsFor (state_of s.disk) s.state
 

@@ -1,4 +1,4 @@
--- What a run keeps of the inputs that it met.
+-- The commands of a run that survive on its disk.
 use Rattle.std.proofs.Common.{◌≡◌, List, Bool, true, false, refl, sym, subst}
 use Rattle.mcs_disk.specs.Disk.{DiskState}
 use Rattle.mcs_model.specs.declared.command.Command.{Command}
@@ -16,14 +16,14 @@ kept_by : (failed : Bool) (a b : SessionState) (cs rs : List Command) → (faile
 kept_by false a b cs rs same given x = subst (λ (v : List Command). KeepsCommands a.disk b.disk a.state cs v) (sym (same refl)) (x.kept given).kept
 kept_by true a b cs rs same given x = x.kept given
 
--- what the disk keeps
+-- The disk keeps the commands of a run.
 pub kept_of_run : {D : Type 0} (state_of : D → DiskState) (run : ShellRun state_of) → IsOpenOnHonestDisk (session_state state_of run.before)
     → KeepsCommands (state_of run.before.disk) (state_of run.after.disk) run.before.state (done_in run) (reached_in run)
 kept_of_run state_of run given =
     let met = run.ran.served.met in
     kept_by (has_failed met) (session_state state_of run.before) (session_state state_of run.after) (done_in run) (reached_in run) (reached_all run.before.state met) given run.ran.served.serves.leaves
 
--- what was answered and acknowledged
+-- the answers and the acknowledgements of a run
 abbrev pub answered_by : {D : Type 0} (state_of : D → DiskState) (run : ShellRun state_of) → KeepsCommands (state_of run.before.disk) (state_of run.after.disk) run.before.state (done_in run) (reached_in run)
     → AnswersAndAcknowledges run
 answered_by state_of run kept = record {
@@ -47,7 +47,7 @@ survives state_of found_of run given =
       };
     }
 
--- ---- what it leaves as it was
+-- ---- the honesty of the disk, which a run preserves
 
 honest_by : (failed : Bool) (a b : SessionState) (cs rs : List Command) → LeavesSession IsOpenOnHonestDisk failed a b cs rs → a.disk.honest → b.disk.honest
 honest_by false a b cs rs x = x.counts.honest.1

@@ -1,4 +1,4 @@
--- An answer in two pieces.
+-- The bytes of an answer that is stored in two pieces.
 use Rattle.std.specs.Prelude.{ℕ, List, ◌++◌, Option, Some, None}
 
 -- the bytes of an answer: a short text, followed by a long one if there is one

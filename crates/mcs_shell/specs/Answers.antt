@@ -1,4 +1,4 @@
--- The answers that a shell may give, and when. (Our own choice.)
+-- The bytes that a shell may write as an answer, and the condition for writing them. (Our own choice.)
 use Rattle.std.specs.Prelude.{◌≡◌, ◌⊎◌, ℕ, List, IsTrue}
 use Rattle.mcs_answers.specs.AnswerTexts.{session_text}
 use Rattle.mcs_disk.specs.Disk.{DiskState}
@@ -10,10 +10,10 @@ use Rattle.mcs_shell.specs.Serving.{LeavesSession}
 use Rattle.mcs_shell.specs.Transcript.{IsPossibleOutcome, acknowledged_commands, answer, is_device_fault, reached_commands}
 use Rattle.mcs_shell.specs.declared.ends.Outcome.{Outcome}
 
--- Holds if these bytes answer some input, with a possible outcome in a session `before`, and that
--- input left the session as it is now. If the session was open on an honest disk, an `ok` answers a
--- command that is recorded, and the disk was not called since (`clock` of `KeepsAllCommands`).
--- `RanShell` states that the input was read and met.
+-- Holds if these bytes are the answer to an input that has just been served. The outcome was possible in
+-- the session `before`, and the input led from `before` to the session `now`. If the session was open on an
+-- honest disk, a command that is answered `ok` is recorded, and no later call has reached the disk (`clock`
+-- of `KeepsAllCommands`). `RanShell` states that the input was read and served.
 pub record AnswersJustNow {D : Type 0} (state_of : D → DiskState) (now : SessionView D)
     (bytes : List ℕ) : Type 0 where
   pub before : SessionView D
@@ -27,8 +27,8 @@ pub record AnswersJustNow {D : Type 0} (state_of : D → DiskState) (now : Sessi
       (reached_commands before.state input outcome)
 
 -- Holds if the shell may write these bytes now. They are the session's first line, or the answer to
--- the input that the session has just met. If the session is open and its disk is honest, whatever a
--- power cut leaves represents the session's state, including the command that is answered.
+-- the input that the shell has just served. If the session is open and its disk is honest, the disk
+-- represents the session's state, even after a power cut. The state includes the answered command.
 pub record MayAnswer {D : Type 0} (state_of : D → DiskState) (session : SessionView D)
     (bytes : List ℕ) : Type 0 where
   pub says : (bytes ≡ session_text session.state) ⊎ AnswersJustNow state_of session bytes

@@ -1,5 +1,5 @@
--- The number of failures of a reader and of a writer for each end of a shell, and runs without any
--- failure.
+-- The number of failures of a reader and of a writer for each way in which a shell can end, and runs
+-- without a failure.
 use Rattle.std.specs.Prelude.{◌≡◌, ◌≢◌, ◌⊎◌, ◌+◌, ◌<◌, ◌++◌, ℕ, min, Option, Some, None, MatchResult, Result}
 use Rattle.std.specs.Io.KnownBytes.{Appends}
 use Rattle.std.specs.Option.{option_map}
@@ -11,7 +11,7 @@ use Rattle.mcs_shell.specs.Shell.{ShellRun, inputs_read}
 use Rattle.mcs_shell.specs.ShellState.{KnownBytes}
 use Rattle.mcs_shell.specs.Transcript.{answer, in_turn, inputs_in}
 
--- the number of calls that have failed, if it is known; it saturates at its maximum
+-- the number of calls that have failed, if it is known; the number never rises above `most_faults`
 abbrev pub KnownFaults : Type 0
 KnownFaults = Option ℕ
 
@@ -19,8 +19,8 @@ KnownFaults = Option ℕ
 abbrev pub one_more : KnownFaults → KnownFaults
 one_more faults = option_map (λ n. min (n + 1) most_faults) faults
 
--- Holds if the count rises by one when a call failed (unless it is at its maximum), and otherwise is
--- unchanged.
+-- Holds if a call that failed increased the count by one, up to its maximum, and a call that succeeded
+-- left the count unchanged.
 abbrev pub CountsKnownFault : {T E : Type 0} → KnownFaults → KnownFaults → Result T E → Type 0
 CountsKnownFault old new result = MatchResult result (λ x. new ≡ old) (λ e. new ≡ one_more old)
 
@@ -34,21 +34,22 @@ abbrev pub faults_written : Option ShellEnd → KnownFaults → KnownFaults
 faults_written (Some WriteFault) faults = one_more faults
 faults_written halted faults = faults
 
--- Holds if the failures match the end of a shell. The reader failed once if a failed read ended the
--- shell. The writer failed once if a failed write ended it. Otherwise neither failed.
+-- Holds if the counts of failures match the end of a shell. The reader's count rose by one if and only
+-- if a failed read ended the shell. The writer's count rose by one if and only if a failed write did.
+-- (A count at its maximum, or one that is not known, does not change.)
 pub record EndsByItsFault (end : ShellEnd) (read read' written written' : KnownFaults) : Type 0 where
   pub reader : read' ≡ faults_read end read
   pub writer : written' ≡ faults_written (Some end) written
 
--- the view of a reader and a writer in contracts: the bytes that the reader has left, the bytes that the
--- writer has received, and the number of failures of each
+-- A reader and a writer, as contracts see them: the bytes that the reader has left, the bytes that the
+-- writer has received, and the number of failures of each.
 pub record StreamsView : Type 0 where
   pub left : KnownBytes
   pub read_faults : KnownFaults
   pub got : KnownBytes
   pub write_faults : KnownFaults
 
--- the view of a reader and a writer, from the ghost members of their traits
+-- the `StreamsView` of a reader and a writer, from the ghost members of their traits
 abbrev pub streams_view : {R W : Type 0} → (R → KnownBytes) → (R → KnownFaults) → (W → KnownBytes)
     → (W → KnownFaults) → R → W → StreamsView
 streams_view remaining read_faults contents write_faults reader writer = record {
@@ -58,15 +59,16 @@ streams_view remaining read_faults contents write_faults reader writer = record 
   write_faults = write_faults writer;
 }
 
--- ---- a run without a fault
+-- ---- a run without a failed call
 
--- Holds if it is known that no call failed between the first count and the second.
+-- Holds if both counts are known, and no call failed between the first count and the second.
 abbrev pub HasNotFailed : KnownFaults → KnownFaults → Type 0
 HasNotFailed None new = ⊥
 HasNotFailed (Some n) new = (new ≡ Some n) × (n < most_faults)
 
--- Holds if no call of the reader, the writer or the disk failed in a run, and its shell had memory
--- to begin. (The four counts belong to the streams of the run, which are not part of a `ShellRun`.)
+-- Holds if no call of the reader, the writer or the disk failed in a run, and the shell had memory to
+-- begin. The four counts are those of the reader and the writer before and after the run, because a
+-- `ShellRun` does not include them.
 pub record RanWithoutFault {D : Type 0} {state_of : D → DiskState} (run : ShellRun state_of) : Type 0 where
   pub read : KnownFaults
   pub read' : KnownFaults
@@ -79,8 +81,8 @@ pub record RanWithoutFault {D : Type 0} {state_of : D → DiskState} (run : Shel
       (Some (state_of run.after.disk).faults)
   pub memory : run.end ≢ NoMemory
 
--- Holds if a run serves all its input. It reached the end of its input or the input limit. It met
--- all inputs that it had read, and wrote each answer completely.
+-- Holds if a run served all its input. The run reached the end of its input or the input limit. It
+-- served all inputs that it had read, and wrote each answer completely.
 pub record ServesAll {D : Type 0} {state_of : D → DiskState} (run : ShellRun state_of) : Type 0 where
   pub end : (run.end ≡ End) ⊎ (run.end ≡ InputLimit)
   pub all_met : inputs_read run.ran.read ≡ inputs_in run.ran.served.met

@@ -1,5 +1,5 @@
--- The headline: the answers of a run, and the state found after a power cut at any moment of the
--- run.
+-- The headline: the answers of a run, and the state that a session opens with after a power cut at any
+-- moment of the run.
 use Rattle.std.specs.Prelude.{◌≡◌, ◌≢◌, ◌⊎◌, ◌≤◌, ℕ, List, [], ◌++◌}
 use Rattle.std.specs.Io.KnownBytes.{Appends}
 use Rattle.mcs_answers.specs.AnswerTexts.{session_text}
@@ -21,11 +21,11 @@ use Rattle.mcs_shell.specs.Transcript.{ArePossibleExchanges, Exchange, answer, a
 
 -- ---- the answers of a run
 
--- The answers of a run, in order. The bytes that the run read form inputs, and the run met a prefix
--- of these inputs. It met all of them unless a write or the device failed, or the shell had no
--- memory to begin. The run wrote the session's first line, followed by the answers to the inputs
--- that it met. Each answer follows from the state after the commands that were answered `ok` before
--- it. Only a failed write, or lack of memory to begin, can truncate these bytes.
+-- Holds if a run answered its inputs in order. The bytes that the run read form inputs, and the run
+-- served a prefix of these inputs. It served all of them unless a write or the device failed, or the
+-- shell had no memory to begin. The run wrote the session's first line, followed by the answers to the
+-- inputs that it served. Each answer follows from the state after the commands that were answered `ok`
+-- before that answer. Only a failed write, or lack of memory to begin, can truncate the bytes written.
 pub record AnswersInTurn
     (end : ShellEnd) {reader reader' : KnownBytes} (read : ReadInput reader reader')
     (a b : ShellState) (met : List Exchange) : Type 0 where
@@ -48,10 +48,10 @@ done_in run = in_turn acknowledged_commands run.before.state run.ran.served.met
 abbrev pub reached_in : {D : Type 0} {state_of : D → DiskState} → ShellRun state_of → List Command
 reached_in run = in_turn reached_commands run.before.state run.ran.served.met
 
--- The answers and the acknowledgements of a run. The run wrote the answers to the inputs that it
--- met, in order. Each command that it answered `ok` has a moment of acknowledgement. `reached_in`
--- has these commands, followed by the one that was answered `no 53`, if there is one. (`state_of`
--- gives the view of its disk in contracts.)
+-- Holds if a run answered its inputs in order and acknowledged its commands. Each command that it
+-- answered `ok` has a moment of acknowledgement. `reached_in` consists of these commands, followed by
+-- the one that was answered `no 53`, if there is one. (`state_of` maps the run's disk to the `DiskState`
+-- that contracts use.)
 pub record AnswersAndAcknowledges
     {D : Type 0} {state_of : D → DiskState} (run : ShellRun state_of) : Type 0 where
   pub answers : AnswersInTurn run.end run.ran.read
@@ -62,13 +62,13 @@ pub record AnswersAndAcknowledges
   pub failed : List Command
   pub reached_are : reached_in run ≡ done_in run ++ failed
 
--- ---- the state found again
+-- ---- the state after a power cut
 
--- The state after power cuts. A power cut at some moment since `time`, in a run or at its end, left
--- a disk (`found_of` gives its view in contracts). A session opened on this disk has the bench after
--- a prefix of `reached_in`: the commands answered `ok`, followed by the one answered `no 53`. The
--- prefix includes each command that had its moment by that time. Only lack of memory or a device
--- fault can prevent the opening.
+-- Holds if the commands of a run survive every power cut. A power cut at clock `time` or later, during
+-- the run or after it, leaves a disk (`found_of` maps this disk to its `DiskState`). A session opened on
+-- this disk has executed a prefix of `reached_in`: the commands answered `ok`, followed by the one
+-- answered `no 53`. The prefix includes each command that was acknowledged by that time. Only lack of
+-- memory or a device fault can prevent the opening.
 pub record SurvivesPowerCuts
     {D E : Type 0} {state_of : D → DiskState} (found_of : E → DiskState) (run : ShellRun state_of)
     (moments : List ℕ) : Type 0 where
@@ -83,8 +83,8 @@ pub record SurvivesPowerCuts
       → RefusesSession fault (found_of found)
       → (fault ≡ store_fault.Device) ⊎ (fault ≡ store_fault.NoMemory)
 
--- The answers and acknowledgements of a run, and the commands that survive power cuts. The law that
--- proves it has the premise that the session is open and its disk is honest (`IsOpenOnHonestDisk`).
+-- Holds if a run answered its inputs in order, and its commands survive every power cut. The law that
+-- proves this claim has a premise: the session is open and its disk is honest (`IsOpenOnHonestDisk`).
 pub record AnswersAndSurvives
     {D E : Type 0} (state_of : D → DiskState) (found_of : E → DiskState)
     (run : ShellRun state_of) : Type 0 where

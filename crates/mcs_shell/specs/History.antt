@@ -1,5 +1,5 @@
--- The headline for any number of runs. Sessions are opened on a disk, served by shells, stopped
--- at any moment, and opened again.
+-- The headline for any number of runs on one disk. In each run a session is opened, a shell serves it,
+-- and the run is stopped at any moment. The next run opens the session again.
 use Rattle.std.specs.Prelude.{◌≡◌, ◌⊎◌, ◌≤◌, ℕ, List, [], ◌∷◌, ◌++◌, length}
 use Rattle.mcs_disk.specs.Disk.{DiskState, time_of}
 use Rattle.mcs_disk.specs.PowerCut.{IsLeftByCut}
@@ -12,36 +12,36 @@ use Rattle.mcs_shell.specs.Headline.{AnswersAndAcknowledges, reached_in}
 use Rattle.mcs_shell.specs.Program.{IsOpenedOn, IsOpenRefused, OpenRefusal}
 use Rattle.mcs_shell.specs.Shell.{ShellRun}
 
--- ---- the sittings
+-- ---- the sittings of a history
 
--- A sitting: the use of a disk from one stop to the next. Either a session was opened on the disk and
--- a shell ran, or the opening was refused. A refusal has its number and the disk that it left.
+-- A sitting: the use of a disk from one stop to the next. `Served`: a session was opened on the disk and
+-- a shell ran. `Refused`: the opening was refused, with this refusal number and the disk afterwards.
 pub data Sitting {D : Type 0} (state_of : D → DiskState) : Type 0 where
   Served : ShellRun state_of → Sitting state_of
   Refused : ℕ → D → Sitting state_of
 
--- Holds if a sitting began on this disk: the session of its run was opened on the disk, or the
--- opening was refused there.
+-- Holds if a sitting began on this disk. The session of its run was opened on this disk, or the opening
+-- of a session on this disk was refused.
 abbrev pub CameOf : {D : Type 0} {state_of : D → DiskState} → D → Sitting state_of → Type 0
 CameOf {state_of = state_of} disk (Served run) = IsOpenedOn state_of disk run.before
 CameOf {state_of = state_of} disk (Refused number left) =
     OpenRefusal (state_of disk) (state_of left) number
 
--- the disk after all the calls of a sitting, whether or not a stop cut off the last of them
+-- the disk after all calls of a sitting, including those that a stop may have cut off
 abbrev pub disk_left : {D : Type 0} {state_of : D → DiskState} → Sitting state_of → D
 disk_left (Served run) = run.after.disk
 disk_left (Refused number left) = left
 
--- a sitting, a clock value at or after which it was stopped, and the disk that was found after the stop
+-- A sitting that was stopped at clock `time` or later, and the disk that was found after the stop.
 pub record StoppedSitting {D : Type 0} (state_of : D → DiskState) : Type 0 where
   pub sitting : Sitting state_of
   pub time : ℕ
   pub found : D
 
--- Holds if these sittings followed one another, the first on this disk, and `last` is the disk found
--- at the end. Each later sitting is on the disk that was found after the previous stop. Each sitting
--- was stopped at any moment since its opening began. (`IsFound time left found`: `left` is the disk
--- after all calls of a sitting, and a stop at clock `time` or later left the disk `found`.)
+-- Holds if these sittings followed one another, the first of them on this disk, and `last` is the disk
+-- found at the end. Each later sitting is on the disk that was found after the previous stop. Each
+-- sitting was stopped at some moment since its opening began. (`IsFound time left found`: `left` is the
+-- disk after all calls of a sitting, and a stop at clock `time` or later left the disk `found`.)
 abbrev pub IsHistory : {D : Type 0} {state_of : D → DiskState} → (ℕ → D → D → Type 0) → D
     → List (StoppedSitting state_of) → D → Type 0
 IsHistory IsFound disk [] last = last ≡ disk
@@ -49,13 +49,14 @@ IsHistory {state_of = state_of} IsFound disk (x ∷ xs) last =
     CameOf disk x.sitting × (time_of (state_of disk) ≤ x.time)
     × IsFound x.time (disk_left x.sitting) x.found × IsHistory IsFound x.found xs last
 
--- Holds if a power cut at some moment since `time` may leave the disk `found`, where `left` is the
--- disk after all calls.
+-- Holds if `found` is a possible disk after a power cut at clock `time` or later. `left` is the disk after
+-- all calls.
 abbrev pub IsFoundByCut : {D : Type 0} → (D → DiskState) → ℕ → D → D → Type 0
 IsFoundByCut state_of time left found = IsLeftByCut time (state_of left) (state_of found)
 
--- A history. A shell ran on a session, regardless of how that session began. The run was stopped at
--- any moment, and more sittings followed on the disk that was found.
+-- A history: a first run of a shell, and the sittings that followed. It does not matter how the session
+-- of the first run began. The run was stopped at some moment, and the other sittings followed on the disk
+-- that was found then.
 pub record History
     {D : Type 0} (state_of : D → DiskState) (IsFound : ℕ → D → D → Type 0) : Type 0 where
   pub first : ShellRun state_of
@@ -67,7 +68,7 @@ pub record History
   pub last : D
   pub came : IsHistory IsFound found others last
 
--- all sittings of a history
+-- all sittings of a history, the first run included
 abbrev pub sittings_of : {D : Type 0} {state_of : D → DiskState} {IsFound : ℕ → D → D → Type 0}
     → History state_of IsFound → List (StoppedSitting state_of)
 sittings_of history =
@@ -76,10 +77,10 @@ sittings_of history =
 
 -- ---- the kept commands
 
--- Holds if `kept` are the commands kept from a run that began in state s and was stopped at `time` or
--- later. The run answered the inputs that it met. The kept commands are a prefix of `reached_in`: the
--- commands answered `ok`, followed by the one answered `no 53`. The prefix includes each command that
--- had its moment by that time.
+-- Holds if `kept` are the commands kept from a run that began in state s and was stopped at clock `time`
+-- or later. The run answered its inputs in order. The kept commands are a prefix of `reached_in`: the
+-- commands answered `ok`, followed by the one answered `no 53`. The prefix includes each command that was
+-- acknowledged by that time.
 pub record KeepsOfRun
     {D : Type 0} (state_of : D → DiskState) (run : ShellRun state_of) (time : ℕ) (s : BenchState)
     (kept : List Command) : Type 0 where
@@ -89,8 +90,8 @@ pub record KeepsOfRun
   pub parts : reached_in run ≡ kept ++ lost
   pub holds : acknowledged_by time answered.acknowledged.moments ≤ length kept
 
--- Holds if `kept` are the commands kept from a sitting that began in state s. There are none if the
--- opening was refused. The reason is then a device fault (53) or lack of memory (90).
+-- Holds if `kept` are the commands kept from a sitting that began in state s. If the opening was refused,
+-- no commands are kept, and the reason was a device fault (53) or lack of memory (90).
 abbrev pub KeepsOf : {D : Type 0} (state_of : D → DiskState) → Sitting state_of → ℕ → BenchState
     → List Command → Type 0
 KeepsOf state_of (Served run) time s kept = KeepsOfRun state_of run time s kept
@@ -106,8 +107,8 @@ KeepsOfEach state_of (x ∷ xs) s kept =
     (first : List Command) × (rest : List Command) × (kept ≡ first ++ rest)
     × KeepsOf state_of x.sitting x.time s first × KeepsOfEach state_of xs (fold s first) rest
 
--- Holds if the kept commands survive a history. A session opened at the end has the state after the
--- commands kept from all runs, in order. Only a device fault or lack of memory can prevent the opening.
+-- Holds if the commands kept from each sitting survive a history. A session opened at the end has the
+-- state after these commands, in order. Only a device fault or lack of memory can prevent the opening.
 pub record SurvivesHistory
     {D : Type 0} {state_of : D → DiskState} {IsFound : ℕ → D → D → Type 0}
     (history : History state_of IsFound) : Type 0 where

@@ -11,19 +11,20 @@ use Rattle.mcs_shell.specs.Headline.{AnswersAndAcknowledges, reached_in}
 use Rattle.mcs_shell.specs.Program.{IsOpenedOn, IsOpenRefused}
 use Rattle.mcs_shell.specs.Shell.{ShellRun}
 
--- Holds if a file was found again. A close, a kill or a power cut left it at clock `time` or later. It
--- was then opened with the bytes found in it, and its disk is honest from then on.
+-- Holds if a file was opened again after a stop. The stop (a close, a kill or a power cut) happened at
+-- clock `time` or later. The disk `again` has the bytes found in the file, no call has reached it, and it
+-- is honest.
 pub record IsFoundAgain (time : ℕ) (file again : FileDisk) : Type 0 where
   pub left : IsLeftSince time file
   pub opened : IsUncalled (as_disk again)
   pub bytes : bytes_of (as_disk again) ≡ found_in file
   pub honest : (as_disk again).honest
 
--- The answers and acknowledgements of a run on a file of the host, and the commands that survive. The
--- file may be left in any way, at any moment since the run began. The program's `open` then begins a
--- session on the file as it is found. Its bench is the one after a prefix of `reached_in`: the
--- commands answered `ok`, followed by the one answered `no 53`. The prefix includes each command that
--- had its moment by that time. The program refuses the file only for a device fault or lack of memory.
+-- Holds if a run on a file of the host answered its inputs in order, and its commands survive every stop.
+-- The file may be left by a close, a kill or a power cut, at any moment since the run began. The program's
+-- `open` then begins a session on the contents found. This session has executed a prefix of `reached_in`:
+-- the commands answered `ok`, followed by the one answered `no 53`. The prefix includes each command that
+-- was acknowledged by that time. `open` fails only because of a device fault or lack of memory.
 pub record SurvivesInFile (run : ShellRun as_disk) : Type 0 where
   pub answered : AnswersAndAcknowledges run
   pub reopened : (time : ℕ) (again : FileDisk) (session : SessionView FileDisk)

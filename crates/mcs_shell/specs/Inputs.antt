@@ -1,4 +1,4 @@
--- The inputs that bytes form: bytes form lines, and lines form inputs. (Our own choice.)
+-- The inputs that the bytes read form. Bytes form lines, and lines form inputs. (Our own choice.)
 use Rattle.std.specs.Prelude.{◌||◌, Bool, true, false, not, ℕ, List, [], ◌∷◌, ◌++◌, length, codes, nat_lt, nat_le, if◌then◌else◌, Option, Some, None}
 use Rattle.std.specs.List.{before_first, list_all, list_any, slice_split}
 use Rattle.std.specs.Str.{bytes_eq}
@@ -12,8 +12,9 @@ use Rattle.mcs_lines.specs.LineRequests.{request_of}
 use Rattle.mcs_lines.specs.Words.{is_plain_byte}
 use Rattle.mcs_model.specs.TextLines.{is_line_feed, lines, text_of}
 
--- an input: the request of a line outside a text, a text, or a text with an error. A line that begins a
--- text is not an input of its own. The error does not depend on the meaning of the text's lines.
+-- An input: the request of a line outside a text (`Line`), a text (`Text`), or a text with an error that
+-- does not depend on the meaning of its lines (`BadText`). A line that begins a text is part of the text's
+-- input.
 pub data Input : Type 0 where
   Line : Request → Input
   Text : TextKind → List ℕ → Input
@@ -21,11 +22,11 @@ pub data Input : Type 0 where
 
 -- ---- a text
 
--- the line that ends a text
+-- true if a line is a single dot, which ends a text
 abbrev pub is_dot_line : List ℕ → Bool
 is_dot_line line = bytes_eq line (codes ".")
 
--- true if a line is short enough for a text
+-- true if a line is short enough for a text: at most `LINE_BYTES` bytes
 abbrev pub is_short : List ℕ → Bool
 is_short line = nat_le (length line) LINE_BYTES
 
@@ -33,8 +34,8 @@ is_short line = nat_le (length line) LINE_BYTES
 abbrev pub is_text_byte : ℕ → Bool
 is_text_byte b = is_line_feed b || is_plain_byte b
 
--- The error in a complete text that does not depend on the meaning of its lines, if there is one. The
--- checks are, in order: the text is too long, a line is too long, a byte is not allowed.
+-- The first error in a complete text that does not depend on the meaning of its lines, if there is one.
+-- The checks, in order: the text is too long, a line is too long, a byte is not allowed.
 unfoldable pub text_fault_of : List ℕ → Option TextFault
 text_fault_of text =
     if nat_lt TEXT_BYTES (length text) then Some TextTooLong
@@ -49,9 +50,9 @@ text_or_fault kind text (Some fault) = BadText fault
 abbrev pub judged_text : TextKind → List ℕ → Input
 judged_text kind text = text_or_fault kind text (text_fault_of text)
 
--- ---- lines in groups
+-- ---- inputs formed by several lines
 
--- the kind of the text that begins after a line, if one begins
+-- the kind of the text that begins after a line with this request, if the request begins a text
 abbrev pub text_begun : Request → Option TextKind
 text_begun (Begin kind) = Some kind
 text_begun request = None
@@ -65,8 +66,8 @@ text_input whole kind ls =
     then judged_text kind (text_of (before_first is_dot_line ls)) ∷ []
     else if whole then BadText NoEnd ∷ [] else []
 
--- The inputs that lines form. `in_text`: the lines up to the first dot line belong to a text, and
--- `text_input` has already given its input. `whole`: input ended after the lines.
+-- The inputs that lines form. If `in_text` is true, the lines up to the first dot line belong to a text
+-- whose input `text_input` has already given. `whole` is true if input ended after the lines.
 unfoldable pub inputs_of_lines : Bool → Bool → List (List ℕ) → List Input
 inputs_of_lines whole in_text [] = []
 inputs_of_lines whole true (l ∷ ls) = inputs_of_lines whole (not (is_dot_line l)) ls
@@ -76,6 +77,7 @@ inputs_of_lines whole false (l ∷ ls) =
       | Some kind ↦ text_input whole kind ls ++ inputs_of_lines whole true ls
     ]
 
--- the inputs that the bytes form; `ended`: true if input ended there, false if it was cut off there
+-- The inputs that the bytes form. `ended` is true if input ended after the bytes, and false if it was cut
+-- off there.
 unfoldable pub inputs : List ℕ → Bool → List Input
 inputs bytes ended = inputs_of_lines ended false (lines bytes ended)

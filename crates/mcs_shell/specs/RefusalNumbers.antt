@@ -1,4 +1,4 @@
--- The numbers of refusals of commands and of sessions.
+-- The refusal numbers for commands that were not recorded, and for sessions that did not begin.
 use Rattle.std.specs.Prelude.{ℕ}
 use Rattle.mcs_host.specs.declared.file_fault.FileFault.{FileFault}
 use Rattle.mcs_host.specs.declared.file_fault.FileFault.TheVariants as file_fault
@@ -27,8 +27,8 @@ store_fault_number store_fault.Device = DEVICE
 store_fault_number store_fault.NotBlank = NOT_BLANK
 store_fault_number store_fault.NoMemory = NO_MEMORY
 
--- the refusal number for a file that was not opened: DEVICE for every reason of the host, because there
--- is no device to work on
+-- the refusal number for a file that was not opened: NO_MEMORY for lack of memory, and DEVICE for every
+-- other reason
 abbrev pub file_fault_number : FileFault → ℕ
 file_fault_number file_fault.InUse = DEVICE
 file_fault_number file_fault.NoLock = DEVICE
@@ -51,7 +51,7 @@ begin_fault_number (begin_fault.File f) = file_fault_number f
 begin_fault_number (begin_fault.Create f) = store_fault_number f
 begin_fault_number (begin_fault.Open f) = store_fault_number f
 
--- the standard streams that are the file of a session that did not begin
+-- the standard streams that refer to the session's file, if the session did not begin because of them
 abbrev pub streams_of : BeginFault → Streams
 streams_of (begin_fault.File (file_fault.Stream streams)) = streams
 streams_of fault = none_of_them

@@ -1,5 +1,5 @@
--- A single input, and inputs that arrive in chunks. Only contracts of private functions use these
--- definitions.
+-- The serving of a single input, and of inputs that arrive in chunks. Only contracts of private functions
+-- use these definitions.
 use Rattle.std.specs.Prelude.{◌≡◌, Bool, ℕ, List, ◌++◌, Option, None}
 use Rattle.mcs_session.specs.declared.fault.SessionFault.{SessionFault}
 use Rattle.mcs_session.specs.declared.fault.SessionFault.TheVariants as session_fault
@@ -16,8 +16,8 @@ use Rattle.mcs_shell.specs.Serving.{LeavesSession, ServesExchanges}
 use Rattle.mcs_shell.specs.ShellState.{ShellState}
 use Rattle.mcs_shell.specs.Transcript.{IsPossibleOutcome, Exchange, acknowledged_commands, answer, halt_after, inputs_in, is_device_fault, reached_commands}
 
--- the invariant that each input of a run preserves: the premise of the run holds, and the disk
--- represents the state
+-- The invariant that each input of a run preserves: the session is open on an honest disk, and the disk
+-- represents the session's state.
 pub record IsIntact (a : SessionState) : Type 0 where
   pub honest : IsOpenOnHonestDisk a
   pub stands : DiskStandsFor a.disk a.state
@@ -28,7 +28,7 @@ outcome_of (session_fault.Refused fault) = Plain
 outcome_of session_fault.Device = Device
 outcome_of session_fault.Closed = Closed
 
--- holds if an input in session a had this outcome and this answer, and left session b
+-- Holds if an input on session a had the outcome o and the answer `response`, and left session b.
 pub record AnsweredInput
     (a : SessionState) (i : Input) (o : Outcome) (response : List ℕ)
     (b : SessionState) : Type 0 where
@@ -38,15 +38,15 @@ pub record AnsweredInput
       (acknowledged_commands a.state i o)
       (reached_commands a.state i o)
 
--- Holds if these bytes, read after the unfinished input `p`, were served. A prefix of the inputs that
--- they form was met. If nothing halted the shell, all of them were met, and `q` is the unfinished
--- input afterwards.
+-- Holds if these bytes, read after the unfinished input `p`, were served. The shell served a prefix of the
+-- inputs that they form. If nothing halted the shell, it served all of these inputs, and `q` is the
+-- unfinished input afterwards.
 pub record ServesBytes
     (a b : ShellState) (p q : Pending) (bytes : List ℕ) (halted : Option ShellEnd) : Type 0 where
   pub met : List Exchange
   pub serves : ServesExchanges IsIntact a met b
   pub halts : halt_after met ≡ halted
-  -- the inputs that were not met, for any bytes that follow
+  -- the inputs that were not served, depending on the bytes that follow
   pub not_met : List ℕ → Bool → List Input
   pub spelled : (more : List ℕ) (whole : Bool)
       → inputs_after p (bytes ++ more) whole ≡ inputs_in met ++ not_met more whole

@@ -1,4 +1,4 @@
--- Serving inputs, in order, and the state afterwards.
+-- The serving of inputs, in order: the bytes written, and the session afterwards.
 use Rattle.std.specs.Prelude.{◌≡◌, ◌<◌, Bool, true, false, ℕ, List, [], ◌∷◌, ◌++◌, length, take, Option, None}
 use Rattle.std.specs.Io.KnownBytes.{Appends}
 use Rattle.std.specs.List.{list_any}
@@ -15,20 +15,20 @@ use Rattle.mcs_session.specs.KeptCommands.{RecordsCommands, KeepsCommands}
 
 -- ---- an answer
 
--- Holds if the writer received only a proper prefix of these bytes, possibly none.
+-- Holds if the writer received only a proper prefix of these bytes, possibly the empty one.
 pub record GotFirstBytes (old new : KnownBytes) (bytes : List ℕ) : Type 0 where
   pub count : ℕ
   pub fewer : count < length bytes
   pub got : Appends old new (take count bytes)
 
--- Holds if the writer received all of these bytes (for `true`), or only a proper prefix of them (for
--- `false`).
+-- Holds if the writer received all of these bytes (if the Bool is true), or only a proper prefix of them
+-- (if it is false).
 abbrev pub WroteBytes : Bool → KnownBytes → KnownBytes → List ℕ → Type 0
 WroteBytes true old new bytes = Appends old new bytes
 WroteBytes false old new bytes = GotFirstBytes old new bytes
 
--- Holds if the writer received the answers of these exchanges, in order, each of them completely or
--- only a proper prefix of it.
+-- Holds if the writer received the answers of these exchanges, in order. It received an answer completely
+-- if `whole` of the exchange is true, and otherwise only a proper prefix of that answer.
 abbrev pub WroteAnswers : BenchState → List Exchange → KnownBytes → KnownBytes → Type 0
 WroteAnswers s [] old new = new ≡ old
 WroteAnswers s (x ∷ rest) old new =
@@ -37,9 +37,9 @@ WroteAnswers s (x ∷ rest) old new =
 
 -- ---- the session
 
--- Holds if the device failed and that closed the session. The commands `done` were answered `ok`.
--- `reached` has these, followed by the command at which the device failed. All commands in `reached`
--- may have reached the disk.
+-- Holds if a device fault closed the session. The commands `done` were answered `ok`. `reached` consists of
+-- these commands, followed by the one at which the device failed. All commands in `reached` may have
+-- reached the disk.
 pub record ClosesSession
     (Given : Premise) (a b : SessionState) (done reached : List Command) : Type 0 where
   pub closed : b.live ≡ false
@@ -50,17 +50,17 @@ pub record ClosesSession
   pub counts : CountsFault a.disk b.disk (Unit {0})
   pub kept : Given a → KeepsCommands a.disk b.disk a.state done reached
 
--- Holds for the session and the disk after inputs. The Bool is true if the device failed at the last
--- of them.
+-- Holds if serving inputs in session a left session b. `done` are the commands that were answered `ok`. If
+-- the Bool is true, the device failed at the last input, and the session is closed.
 abbrev pub LeavesSession : Premise → Bool → SessionState → SessionState → List Command
     → List Command → Type 0
 LeavesSession Given false a b done reached = RecordsCommands Given a b done
 LeavesSession Given true a b done reached = ClosesSession Given a b done reached
 
--- ---- inputs in turn
+-- ---- inputs in order
 
--- Holds if these exchanges, made in order from state a, left state b. `Given` is the premise under
--- which the disk keeps the commands.
+-- Holds if these exchanges, in this order, led from shell state a to shell state b. `Given` is the premise
+-- under which the disk keeps the commands.
 pub record ServesExchanges
     (Given : Premise) (a : ShellState) (met : List Exchange) (b : ShellState) : Type 0 where
   pub may : ArePossibleExchanges a.session.live a.session.state met
@@ -70,7 +70,7 @@ pub record ServesExchanges
       (in_turn acknowledged_commands a.session.state met)
       (in_turn reached_commands a.session.state met)
 
--- Holds if a prefix of these inputs was met, and all of them if nothing halted the shell.
+-- Holds if the shell served a prefix of these inputs, and all of them unless something halted the shell.
 pub record ServesInputs
     (Given : Premise) (asked : List Input) (a b : ShellState)
     (halted : Option ShellEnd) : Type 0 where

@@ -1,4 +1,4 @@
--- The reads, writes and effects of a shell, for each way in which it can end.
+-- The reads, the writes and the effects of a shell, for each way in which the shell can end.
 use Rattle.std.specs.Prelude.{◌≡◌, ◌⊎◌, ◌<◌, ◌≤◌, Bool, true, false, ℕ, List, [], ◌++◌, length, Option, Some, None}
 use Rattle.std.specs.Io.KnownBytes.{Consumes, IsAtEnd}
 use Rattle.mcs_shell.specs.declared.ends.ShellEnd.{ShellEnd}
@@ -13,8 +13,8 @@ use Rattle.mcs_answers.specs.AnswerTexts.{session_text}
 use Rattle.mcs_session.specs.KeptCommands.{IsOpenOnHonestDisk}
 use Rattle.mcs_shell.specs.Serving.{ServesInputs, WroteBytes}
 
--- Holds if the shell answered at least all inputs formed by the bytes read, except for at most the
--- last 4,096 bytes. (The number is a literal, so a shell with a larger chunk does not pass the proof.)
+-- Holds if the shell answered all inputs formed by the bytes read, leaving out at most the last 4,096 of
+-- these bytes. (The number is a literal, so the proof fails for a shell with larger chunks.)
 pub record ReadsLittleAhead (bytes : List ℕ) (answered : List Input) : Type 0 where
   pub before : List ℕ
   pub ahead : List ℕ
@@ -23,34 +23,35 @@ pub record ReadsLittleAhead (bytes : List ℕ) (answered : List Input) : Type 0 
   pub more : List Input
   pub answered_are : answered ≡ inputs before false ++ more
 
--- The bytes that were read, up to the limit.
+-- The bytes that a run read from its reader, at most `INPUT_BYTES` of them.
 pub record ReadInput (reader reader' : KnownBytes) : Type 0 where
   pub bytes : List ℕ
   pub consumed : Consumes reader reader' bytes
   pub within : length bytes ≤ INPUT_BYTES
-  -- true if input ended after these bytes; the limit was then not reached, and the reader has nothing
-  -- left
+  -- true if input ended after these bytes; then fewer than `INPUT_BYTES` bytes were read, and the reader
+  -- has nothing left
   pub ended : Bool
   pub input_ended : ended ≡ true → (length bytes < INPUT_BYTES) × IsAtEnd reader'
 
--- the inputs that the bytes read form
+-- the inputs that are formed by the bytes that were read
 abbrev pub inputs_read : {reader reader' : KnownBytes} → ReadInput reader reader' → List Input
 inputs_read read = inputs read.bytes read.ended
 
--- The start of a run: the first line was written, or only a proper prefix of it, possibly nothing.
+-- The start of a run: the first line was written completely, or only a proper prefix of it, possibly nothing.
 pub record Began (first_line : List ℕ) (out : KnownBytes) : Type 0 where
-  -- true if the first line was written completely; and the bytes that the writer had received then
+  -- `whole` is true if the first line was written completely. `started` has the bytes that the writer had
+  -- received by then.
   pub whole : Bool
   pub started : KnownBytes
   pub wrote : WroteBytes whole out started first_line
 
--- Holds if the first line was not written completely, and nothing was read or done.
+-- Holds if the first line was not written completely, no bytes were read, and no inputs were served.
 abbrev pub IsNotBegun : Bool → List ℕ → List Exchange → Type 0
 IsNotBegun begun bytes met = (begun ≡ false) × (bytes ≡ []) × (met ≡ [])
 
--- Holds if a run matches its end. `begun`: the first line was written completely. `bytes`: the bytes
--- that were read. `ended`: input ended after these bytes. `met`: the exchanges of the run. `halted`:
--- the end that halted the run, if any.
+-- Holds if a run ended in this way. `begun` is true if the first line was written completely. `bytes` are
+-- the bytes that were read, and `ended` is true if input ended after them. `met` are the exchanges of the
+-- run. `halted` is the end of the shell that an exchange caused, if one did.
 abbrev pub EndsBy : ShellEnd → Bool → List ℕ → Bool → List Exchange → Option ShellEnd → Type 0
 EndsBy End begun bytes ended met halted = (begun ≡ true) × (ended ≡ true) × (halted ≡ None)
 EndsBy ReadFault begun bytes ended met halted =
@@ -63,8 +64,9 @@ EndsBy DeviceFault begun bytes ended met halted =
     (begun ≡ true) × (halted ≡ Some DeviceFault)
 EndsBy NoMemory begun bytes ended met halted = IsNotBegun begun bytes met
 
--- A run of the shell from state a to state b: the bytes read, the first line written, and the inputs
--- served among those that were read.
+-- Holds if the shell ran from state a to state b with this end: it wrote the first line, read bytes, and
+-- served the inputs that these bytes form, or a prefix of them. `Given` is the premise under which the disk
+-- keeps the commands.
 pub record RanShellGiven
     (Given : Premise) (first_line : List ℕ) (end : ShellEnd) (reader reader' : KnownBytes)
     (a b : ShellState) : Type 0 where
@@ -76,14 +78,14 @@ pub record RanShellGiven
   pub ends : EndsBy end began.whole read.bytes read.ended served.met halted
   pub unwritten : end ≡ NoMemory → b.out ≡ a.out
 
--- A run whose first line is that of the session. The claims of `kept` about its disk have the
--- premise that the session is open and its disk is honest.
+-- Holds if the shell ran from state a to state b and its first line was that of the session. The claims
+-- about the disk (`kept`) have a premise: the session is open and its disk is honest.
 abbrev pub RanShell : ShellEnd → KnownBytes → KnownBytes → ShellState → ShellState → Type 0
 RanShell end reader reader' a b =
     RanShellGiven IsOpenOnHonestDisk (session_text a.session.state) end reader reader' a b
 
--- A run of the shell: its end, and the remaining input, the output and the session, each before and
--- after the run. (`state_of` gives the view of the session's disk in contracts.)
+-- A run of the shell: its end, and the remaining input, the output and the session, each before and after
+-- the run. (`state_of` maps the session's disk to the `DiskState` that contracts use.)
 pub record ShellRun {D : Type 0} (state_of : D → DiskState) : Type 0 where
   pub end : ShellEnd
   pub reader : KnownBytes
@@ -95,7 +97,7 @@ pub record ShellRun {D : Type 0} (state_of : D → DiskState) : Type 0 where
   pub ran : RanShell end reader reader'
       (shell_state state_of before out) (shell_state state_of after out')
 
--- holds if a read returned these n bytes; it returns no bytes only at the end of input
+-- Holds if a read of at most `most` bytes returned these n bytes. It returns no bytes only at the end of input.
 pub record ReadBytes (n most : ℕ) (old new : KnownBytes) (bytes : List ℕ) : Type 0 where
   pub within : n ≤ most
   pub count : length bytes ≡ n

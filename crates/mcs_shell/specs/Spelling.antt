@@ -1,4 +1,4 @@
--- The meaning of a text, and the answer to a text without a meaning.
+-- The meaning of a valid text, and the answer to an invalid text.
 use Rattle.std.specs.Prelude.{ℕ, List, Result, Ok, Err}
 use Rattle.std.specs.Result.{result_map_both}
 use Rattle.mcs_model.specs.declared.board.BoardParts.{BoardParts}
@@ -23,7 +23,7 @@ use Rattle.mcs_lines.specs.declared.requests.TextKind.TheVariants.{Wire, Asm, Ma
 use Rattle.mcs_asm.specs.Errors.{errors_of_text, errors_text}
 use Rattle.mcs_answers.specs.AnswerTexts.{no_line_text, no_text}
 
--- the command that replaces the board with the one that a text describes, or the error in the text
+-- the command that replaces the board with the board parsed from a text, or the error in the text
 abbrev pub wire_command : Result BoardParts WiringFault → Result Command TextRefusal
 wire_command (Ok board) = Ok (command.Wire board)
 wire_command (Err fault) = Err (Wiring fault)
@@ -33,18 +33,18 @@ abbrev pub load_command : Result (List (ℕ × ℕ)) (ℕ × SourceFault) → Re
 load_command (Ok pairs) = Ok (command.Load (by_address pairs))
 load_command (Err at) = Err (Program (at.0) (at.1))
 
--- the meaning of a text: a command to execute, or lines (bytes, with line feeds) to return as the
--- answer, with no other effect
+-- The meaning of a text: a command to execute (`Does`), or the bytes of lines to return as the answer, with
+-- no other effect (`Reports`).
 pub data TextMeaning : Type 0 where
   Does : Command → TextMeaning
   Reports : List ℕ → TextMeaning
 
--- the map of a program, or the error in the program's text
+-- the meaning of a `map` text: the map of its program, or the error in the program's text
 abbrev pub program_map : Result Survey (ℕ × SourceFault) → Result TextMeaning TextRefusal
 program_map (Ok survey) = Ok (Reports (survey_text survey))
 program_map (Err at) = Err (Program (at.0) (at.1))
 
--- the meaning of a text, or the error that leaves it without a meaning
+-- the meaning of a text of the given kind, or the error that makes the text invalid
 unfoldable pub meaning_of_text : TextKind → List ℕ → Result TextMeaning TextRefusal
 meaning_of_text Wire text = result_map_both Does (λ why. why) (wire_command (board_of_text text))
 meaning_of_text Asm text = result_map_both Does (λ why. why) (load_command (assembly_of_text text))
@@ -52,12 +52,12 @@ meaning_of_text Map text = program_map (survey_of_text text)
 meaning_of_text Wiring text = Ok (Reports (wiring_text text))
 meaning_of_text Errors text = Ok (Reports (errors_text (errors_of_text text)))
 
--- the meaning that a value of the Rust type represents
+-- the meaning that a value of the Rust type `TextMeaning` represents
 abbrev pub meaning_view : code.TextMeaning → TextMeaning
 meaning_view (spelled.Does c) = Does c
 meaning_view (spelled.Reports lines) = Reports lines.items
 
--- the answer to a text without a meaning
+-- the answer to a text that is invalid because of this error
 abbrev pub text_refusal : TextRefusal → List ℕ
 text_refusal (Wiring fault) = no_text (wiring_fault_number fault)
 text_refusal (Program line fault) = no_line_text (source_fault_number fault) line

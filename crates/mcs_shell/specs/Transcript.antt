@@ -23,7 +23,7 @@ use Rattle.mcs_shell.specs.Spelling.{TextMeaning, Does, Reports, meaning_of_text
 
 -- ---- one input
 
--- the command that a text requests, if any
+-- the command that a text with this meaning requests, if any
 abbrev pub text_command : Result TextMeaning TextRefusal → Option Command
 text_command (Ok (Does c)) = Some c
 text_command r = None
@@ -34,12 +34,12 @@ asked_command (Line (Change c)) = Some c
 asked_command (Text kind text) = text_command (meaning_of_text kind text)
 asked_command i = None
 
--- a requested command as a list; the list is empty if there is no command or the state refuses it
+-- A list of the requested command. The list is empty if there is no command or the state rejects it.
 abbrev pub accepted_commands : BenchState → Option Command → List Command
 accepted_commands s (Some c) = elim (refusal s c) [ None ↦ c ∷ [] | Some fault ↦ [] ]
 accepted_commands s None = []
 
--- holds if no text of this kind requests a command
+-- Holds if no text of this kind requests a command.
 abbrev pub AsksForNoCommand : TextKind → Type 0
 AsksForNoCommand kind = (text : List ℕ) → asked_command (Text kind text) ≡ None
 
@@ -52,30 +52,30 @@ takes_memory (Line (Count n)) = true
 takes_memory (Line (Trace n probes)) = true
 takes_memory i = false
 
--- Holds if the outcome is possible for the input. `Plain`: the answer comes from the state; for a
--- command, only if the session is open. `Device`: the command was accepted, and the device failed
--- while it was recorded. `Closed`: the input is a command, and the session is closed. `NoMemory`: an
--- allocation for the input failed.
+-- Holds if the outcome is possible for the input. `Plain` is possible for an input without a command, and
+-- for a command if the session is open. `Device` is possible for a command that the state accepts, if the
+-- session is open. `Closed` is possible for a command if the session is closed. `NoMemory` is possible for
+-- an input that needs an allocation.
 unfoldable pub IsPossibleOutcome : Bool → BenchState → Input → Outcome → Type 0
 IsPossibleOutcome live s i Plain = (asked_command i ≡ None) ⊎ (live ≡ true)
 IsPossibleOutcome live s i Device = (accepted_commands s (asked_command i) ≢ []) × (live ≡ true)
 IsPossibleOutcome live s i Closed = (asked_command i ≢ None) × (live ≡ false)
 IsPossibleOutcome live s i NoMemory = takes_memory i ≡ true
 
--- the command that was answered `ok`, even if that answer was not written completely, as a list that is
--- empty if there is none
+-- A list of the command that was answered `ok`, even if that answer was not written completely. The list is
+-- empty if there is no such command.
 unfoldable pub acknowledged_commands : BenchState → Input → Outcome → List Command
 acknowledged_commands s i Plain = accepted_commands s (asked_command i)
 acknowledged_commands s i o = []
 
--- the command that may have reached the disk and was answered `ok` or `no 53`, as a list that is empty
--- if there is none
+-- A list of the command that may have reached the disk. It was answered `ok` or, after a device fault,
+-- `no 53`. The list is empty if no command may have reached the disk.
 unfoldable pub reached_commands : BenchState → Input → Outcome → List Command
 reached_commands s i Plain = accepted_commands s (asked_command i)
 reached_commands s i Device = accepted_commands s (asked_command i)
 reached_commands s i o = []
 
--- the answer to a command, from the state before it
+-- the answer to a command that the session records or rejects, from the state before the command
 abbrev pub change_answer : BenchState → Command → List ℕ
 change_answer s c =
     elim (refusal s c) [
@@ -83,14 +83,14 @@ change_answer s c =
       | Some fault ↦ no_text (bench_fault_number fault)
     ]
 
--- the answer to a text, from the state before it: the answer to its command, the lines that it produces,
--- or the error that leaves it without a meaning
+-- The answer to a text with this meaning, from the state before the text: the answer to the text's command,
+-- the lines of its report, or the refusal for its error.
 abbrev pub meaning_answer : BenchState → Result TextMeaning TextRefusal → List ℕ
 meaning_answer s (Ok (Does c)) = change_answer s c
 meaning_answer s (Ok (Reports lines)) = lines
 meaning_answer s (Err why) = text_refusal why
 
--- the answer to an input, from the state before it
+-- the answer to an input whose outcome is `Plain`, from the state before the input
 abbrev pub plain_answer : BenchState → Input → List ℕ
 plain_answer s (Line Nothing) = []
 plain_answer s (Line (Begin kind)) = []
@@ -104,7 +104,7 @@ plain_answer s (Line (Change c)) = change_answer s c
 plain_answer s (Text kind text) = meaning_answer s (meaning_of_text kind text)
 plain_answer s (BadText fault) = no_text (text_fault_number fault)
 
--- the answer to an input with the given outcome
+-- the answer to an input with the given outcome, from the state before the input
 unfoldable pub answer : BenchState → Input → Outcome → List ℕ
 answer s i Plain = plain_answer s i
 answer s i Device = no_text DEVICE
@@ -113,7 +113,8 @@ answer s i NoMemory = no_text NO_MEMORY
 
 -- ---- inputs in order
 
--- an input that was met, its outcome, and true if its answer was written completely
+-- An exchange: an input that was served, its outcome, and `whole`, which is true if the answer was written
+-- completely.
 pub record Exchange : Type 0 where
   pub input : Input
   pub outcome : Outcome
@@ -123,37 +124,37 @@ pub record Exchange : Type 0 where
 abbrev pub answered_exchanges : List Exchange → List Exchange
 answered_exchanges met = filter (λ (x : Exchange). x.whole) met
 
--- the inputs of exchanges
+-- the inputs of these exchanges, in order
 abbrev pub inputs_in : List Exchange → List Input
 inputs_in met = map (λ (x : Exchange). x.input) met
 
--- The results of the inputs, in order, each from the state that its input meets. `in_turn answer`
--- gives the answers. `in_turn acknowledged_commands` gives the commands answered `ok`. `in_turn
--- reached_commands` gives the commands that may have reached the disk.
+-- The concatenated results of f for the exchanges, in order. For each exchange, f gets the state before its
+-- input. `in_turn answer` gives the answers. `in_turn acknowledged_commands` gives the commands answered
+-- `ok`. `in_turn reached_commands` gives the commands that may have reached the disk.
 abbrev pub in_turn : {A : Type 0} → (BenchState → Input → Outcome → List A) → BenchState
     → List Exchange → List A
 in_turn f s [] = []
 in_turn f s (x ∷ rest) =
     f s x.input x.outcome ++ in_turn f (fold s (acknowledged_commands s x.input x.outcome)) rest
 
--- the end of the shell that an answer causes, if any; `false`: the answer was not written completely
+-- The end of the shell that an exchange causes, if any. The Bool is true if the answer was written completely.
 abbrev pub halt_of : Bool → Outcome → Option ShellEnd
 halt_of false o = Some WriteFault
 halt_of true Device = Some DeviceFault
 halt_of true o = None
 
--- the end of the shell that one of these exchanges caused, if any
+-- the end of the shell that the first halting exchange among these causes, if any
 abbrev pub halt_after : List Exchange → Option ShellEnd
 halt_after [] = None
 halt_after (x ∷ rest) = option_or (halt_of x.whole x.outcome) (halt_after rest)
 
--- true if the device failed
+-- true if the outcome is a device fault
 abbrev pub is_device_fault : Outcome → Bool
 is_device_fault Device = true
 is_device_fault o = false
 
--- Holds if each outcome is possible for its input, in the state that the input meets, and only the
--- last exchange may halt the shell.
+-- Holds if each outcome is possible for its input, in the state before that input, and no exchange but the
+-- last halts the shell.
 abbrev pub ArePossibleExchanges : Bool → BenchState → List Exchange → Type 0
 ArePossibleExchanges live s [] = Unit {0}
 ArePossibleExchanges live s (x ∷ rest) =

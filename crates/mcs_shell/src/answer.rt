@@ -55,7 +55,7 @@ impl Answer {
         }
     }
 
-    /// Sets the answer to a word, a number and a line feed.
+    /// Sets the answer to a line that consists of `word` (at most 20 bytes) and the decimal number `n`.
     pub(crate) fn set_number(&mut self, word: &[u8], n: u32)
         requires { length word.now ≤ 20 }
         ensures { self.new ≡ word.now ++ as_line (decimal n) }
@@ -65,14 +65,14 @@ impl Answer {
         put_number(&mut self.short, word, u64::from(n));
     }
 
-    /// Sets the answer to `no` and the number of a refusal.
+    /// Sets the answer to the line `no NN`, where NN is the refusal number.
     pub(crate) fn set_refusal(&mut self, number: u8)
         ensures { self.new ≡ no_text number }
     {
         self.set_number(b"no ", u32::from(number));
     }
 
-    /// Sets the answer to the refusal of a text: the number of its error and, for a program, the line of the error.
+    /// Sets the answer to the refusal of a text: the refusal number and, for a program, the line number of the error.
     pub(crate) fn set_text_refusal(&mut self, refusal: TextRefusal)
         ensures { self.new ≡ text_refusal refusal }
     {
@@ -86,7 +86,8 @@ impl Answer {
         }
     }
 
-    /// Sets the answer to an accepted command, from its reply and the bench after it.
+    /// Makes this the answer to an accepted command. `reply` is the command's reply, and `bench` is the bench after
+    /// the command.
     pub(crate) fn set_reply(&mut self, reply: &Reply, bench: &Bench)
         ensures { self.new ≡ ok_text reply.now bench.now }
     {
@@ -95,7 +96,7 @@ impl Answer {
         put_reply(&mut self.short, reply, bench);
     }
 
-    /// Sets the answer to a query of the state.
+    /// Makes this the answer to a query about the state of the bench.
     pub(crate) fn set_query(&mut self, query: Query, bench: &Bench)
         ensures { self.new ≡ query_answer query bench.now }
     {
@@ -104,7 +105,8 @@ impl Answer {
         put_query(&mut self.short, query, bench);
     }
 
-    /// Sets the answer to a listing of the ROM. Fails if memory runs out; the answer is then unspecified.
+    /// Makes this the answer to `list`, with the given number of lines from address `from` of the ROM. Fails if
+    /// memory runs out; the answer is then unspecified.
     pub(crate) fn set_listing(
         &mut self,
         alloc: Global,
@@ -119,7 +121,8 @@ impl Answer {
         Ok(())
     }
 
-    /// Sets the answer to the wiring of the board. Fails if memory runs out; the answer is then unspecified.
+    /// Makes this the answer to `board`, which gives the board's text. Fails if memory runs out; the answer is then
+    /// unspecified.
     pub(crate) fn set_board(&mut self, alloc: Global, bench: &Bench) -> Result<(), AllocError>
         ensures { OnOk result (self.new ≡ board_answer bench.now) }
     {
@@ -128,7 +131,7 @@ impl Answer {
         Ok(())
     }
 
-    /// Sets the answer to the number of times that a run of at most `n` cycles would begin an instruction at each
+    /// Makes this the answer to `count`: how often a run of at most `n` cycles would begin an instruction at each
     /// address. Fails if memory runs out; the answer is then unspecified.
     pub(crate) fn set_count(
         &mut self,
@@ -143,8 +146,8 @@ impl Answer {
         Ok(())
     }
 
-    /// Sets the answer to the changes that a run of at most `n` cycles would make at the probed locations. Fails if
-    /// memory runs out; the answer is then unspecified.
+    /// Makes this the answer to `trace`: the changes that a run of at most `n` cycles would make at the probed
+    /// locations. There may be at most `PROBES` probes. Fails if memory runs out; the answer is then unspecified.
     pub(crate) fn set_trace(
         &mut self,
         alloc: Global,
@@ -168,8 +171,9 @@ impl Answer {
         self.long = Some(lines);
     }
 
-    /// Writes the whole answer. The session must already have done what the answer acknowledges. On an `Err` the writer
-    /// received only a proper prefix of the answer, possibly nothing.
+    /// Writes the whole answer. The answer must be one that the shell may write now: the session has recorded what
+    /// the answer acknowledges. On an `Err`, the writer received only a proper prefix of the answer, possibly
+    /// nothing.
     pub(crate) fn send<W: AnswerSink, D: Disk + Drop>(
         &self,
         session: &Session<D>,

@@ -1,4 +1,4 @@
-//! The effect of an input, and the answer to it.
+//! Functions that execute an input on a session and set the answer to the input.
 ghost use Rattle.std.specs.Prelude.{◌≡◌, [], OnErr, OnOk};
 ghost use Rattle.mcs_answers.specs.AnswerTexts.{no_text};
 ghost use Rattle.mcs_lines.specs.declared.requests.Request.TheVariants.{Change};
@@ -19,7 +19,7 @@ use mcs_session::fault::SessionFault;
 use mcs_session::session::Session;
 use std::alloc::{AllocError, Global};
 
-/// Returns the outcome of an input whose command was not recorded.
+/// Returns the outcome of an input whose command was not recorded, for the given reason.
 fn outcome_of(fault: SessionFault) -> Outcome
     ensures { result ≡ outcome_of fault }
 {
@@ -30,7 +30,7 @@ fn outcome_of(fault: SessionFault) -> Outcome
     }
 }
 
-/// Executes a command and sets its answer.
+/// Executes a command on a session and sets the answer to the command. Returns the outcome.
 fn answer_change<D: Disk + Drop>(
     command: &Command,
     session: &mut Session<D>,
@@ -51,8 +51,8 @@ fn answer_change<D: Disk + Drop>(
     }
 }
 
-/// Returns the outcome of a request whose answer needs memory. If an allocation failed, sets the answer to that
-/// refusal.
+/// Returns the outcome of a request whose answer needs memory. `put` is the result of the allocation. If it failed,
+/// sets the answer to the refusal `NO_MEMORY`.
 fn unless_refused(put: Result<(), AllocError>, answer: &mut Answer) -> Outcome
     ensures put { OnOk put ((result ≡ Outcome.Plain) × (answer.new ≡ answer.old)) }
     ensures refused { OnErr put ((result ≡ Outcome.NoMemory) × (answer.new ≡ no_text NO_MEMORY)) }
@@ -66,8 +66,8 @@ fn unless_refused(put: Result<(), AllocError>, answer: &mut Answer) -> Outcome
     }
 }
 
-/// Executes the request of a line outside a text and sets its answer, which must be empty before. A line that begins a
-/// text has no answer of its own.
+/// Executes the request of a line outside a text, sets the answer, and returns the outcome. The answer must be empty
+/// before the call. It stays empty for a line without a request and for a line that begins a text.
 pub(crate) fn answer_request<D: Disk + Drop>(
     alloc: Global,
     request: &Request,
@@ -109,7 +109,7 @@ pub(crate) fn answer_request<D: Disk + Drop>(
     }
 }
 
-/// Parses a complete text, executes its command, if it has one, and sets the answer.
+/// Parses a complete text, executes its command, if it has one, and sets the answer. Returns the outcome.
 pub(crate) fn answer_text<D: Disk + Drop>(
     alloc: Global,
     kind: TextKind,

@@ -13,8 +13,8 @@ ghost use Rattle.mcs_shell.specs.Spelling.{meaning_of_text};
 ghost use Rattle.mcs_shell.specs.Transcript.{AsksForNoCommand};
 
 /// Proves that a text ends at a line with a single dot. The line that begins the text, the lines up to the first dot,
-/// and the dot form one input. The text consists of the lines in between, each followed by a line feed. The lines after
-/// the dot are parsed as if nothing preceded them. If input ends without a dot, the text is refused.
+/// and the dot form one input. The text consists of the lines in between, each followed by a line feed. The lines
+/// after the dot are parsed as if nothing preceded them. If input ends without a dot, the text is refused.
 pub fn a_text_ends_at_a_dot()
     ensures ended { (whole : Bool) (kind : TextKind) (line : List ℕ) (text rest : List (List ℕ))
         → request_of line ≡ Begin kind → list_any is_dot_line text ≡ false
@@ -26,20 +26,20 @@ pub fn a_text_ends_at_a_dot()
         → inputs_of_lines true false (line ∷ text) ≡ BadText NoEnd ∷ [] }
 {}
 
-/// Proves that a map requests no command, and that it is refused for a reason if and only if the program would be
-/// refused for the same reason.
+/// Proves that `map` requests no command. It rejects a program if and only if `asm` rejects the program for the same
+/// reason.
 pub fn a_map_only_reports()
     ensures asks { AsksForNoCommand Map }
     ensures refused { (text : List ℕ) (why : TextRefusal)
         → (meaning_of_text Map text ≡ Err why) ↔ (meaning_of_text Asm text ≡ Err why) }
 {}
 
-/// Proves that the report of a program's errors requests no command.
+/// Proves that `errors`, which reports the errors of a program, requests no command.
 pub fn errors_are_only_reported()
     ensures { AsksForNoCommand Errors }
 {}
 
-/// Proves that the report of a board's first error requests no command.
+/// Proves that `wiring`, which reports the first error of a board, requests no command.
 pub fn a_board_report_only_reports()
     ensures { AsksForNoCommand Wiring }
 {}

@@ -1,5 +1,5 @@
-//! The shell of the bench, and the program that runs it. The shell reads lines and writes answers. It records each
-//! command before it answers it.
+//! The shell of the bench, and the program that runs the shell. The shell reads lines and writes answers. It records
+//! each accepted command before it writes the command's answer.
 #![tactic(auto)]
 
 mod answer;

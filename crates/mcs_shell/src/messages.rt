@@ -1,4 +1,4 @@
-//! Messages for people, on standard error: the usage, and a line if a session is refused or ends because of an error. A
+//! Messages for the user on standard error: the usage, and the reason why a session is refused or ends early. A
 //! message that cannot be written is lost. Standard output and the exit status do not depend on these messages.
 use crate::ends::ShellEnd;
 use crate::faults::BeginFault;
@@ -13,7 +13,7 @@ pub struct Refusal {
     pub fault: BeginFault,
     /// True if the device has no space left.
     pub is_full: bool,
-    /// True if the file has the size of a session file and starts with the name of its format.
+    /// True if the file has the size of a session file and starts with the name of the session format.
     pub is_named_session: bool,
 }
 
@@ -45,7 +45,7 @@ pub fn print_streams(rt: &HostRuntime, refused: RefusedStreams) {
     let _ = eprintln!(rt; "mcs4: {words}");
 }
 
-/// Prints a warning if a file was opened but a power cut may undo its name. Otherwise prints nothing.
+/// Prints a warning if a file was opened but a power cut may undo the file's name. Otherwise prints nothing.
 pub fn print_opening(rt: &HostRuntime, file: &str, opened: &Result<FileDisk, FileFault>) {
     if let Ok(disk) = opened {
         if !disk.is_name_stable() {
@@ -56,8 +56,8 @@ pub fn print_opening(rt: &HostRuntime, file: &str, opened: &Result<FileDisk, Fil
     }
 }
 
-/// Prints what is wrong with the file of a refused session, and what to do. Prints nothing if no session was refused or
-/// if standard error is that file.
+/// Prints what is wrong with the file of a refused session, and what to do. Prints nothing if no session was refused
+/// or if standard error is that file.
 pub fn print_no_session(rt: &HostRuntime, choice: &Choice, refused: Option<Refusal>) {
     let Some(refusal) = refused else {
         return;
@@ -147,7 +147,7 @@ fn device_words(is_full: bool) -> &'static str {
     }
 }
 
-// Returns true if the folder of a file exists, as far as the host can tell.
+// Returns true if the host finds the folder that would contain a file, or if the path names no folder.
 fn has_folder(rt: &HostRuntime, file: &str) -> bool {
     match Path::new(file).parent() {
         Some(folder) => folder.as_str().is_empty() || folder.is_dir(rt),
@@ -155,8 +155,8 @@ fn has_folder(rt: &HostRuntime, file: &str) -> bool {
     }
 }
 
-/// Prints why a session ended, unless it reached the end of its input. `ended` has the end of its shell, and true if
-/// its device is full.
+/// Prints why a session ended, unless it reached the end of its input. `ended` has the end of the shell, and true if
+/// the session's device is full. Prints nothing if `ended` is `None`.
 pub fn print_end(rt: &HostRuntime, file: &str, ended: Option<(ShellEnd, bool)>) {
     let Some((end, is_full)) = ended else {
         return;
@@ -172,7 +172,7 @@ pub fn print_end(rt: &HostRuntime, file: &str, ended: Option<(ShellEnd, bool)>) 
     let _ = eprintln!(rt; "mcs4: {file}: {reason}");
 }
 
-/// Prints that there was no memory for the arguments.
+/// Prints that there was no memory to read the arguments.
 pub fn print_no_memory(rt: &HostRuntime) {
     let _ = eprintln!(rt; "mcs4: out of memory");
 }

@@ -1,4 +1,5 @@
-//! The program: its arguments, file, session, shell and exit status.
+//! The program: it reads the arguments, opens the file, begins the session, runs the shell, and returns the exit
+//! status.
 ghost use Rattle.std.specs.Prelude.{◌≡◌, ◌⊎◌, IfOk, IfErr, IfSome, IfNone, IsErrAnd, IsSomeAnd, OnErr, None, true, map};
 ghost use Rattle.std.specs.Process.{exit_status};
 ghost use Rattle.mcs_host.specs.CommandLine.{choice_in, takes_arguments};
@@ -47,7 +48,8 @@ fn given_arguments(rt: &HostRuntime) -> Result<Vec<String>, WordsFault> {
     }
 }
 
-/// Prints `no` and the number of the refusal. The exit status is the same if standard output cannot be written.
+/// Prints the line `no NN` with the refusal number, and returns exit status 3. The exit status is the same if
+/// standard output cannot be written.
 pub fn refuse(rt: &HostRuntime, number: u8) -> ExitCode
     ensures { exit_status result ≡ 3 }
 {
@@ -55,7 +57,7 @@ pub fn refuse(rt: &HostRuntime, number: u8) -> ExitCode
     ExitCode::from(REFUSED)
 }
 
-/// Prints `no` and the number of the refusal, unless standard output is unusable. The exit status is the same in both
+/// Prints the line `no NN` with the refusal number, unless standard output is unusable. Returns exit status 3 in both
 /// cases.
 fn refuse_beside(rt: &HostRuntime, number: u8, unusable: Streams) -> ExitCode
     ensures { exit_status result ≡ 3 }
@@ -67,7 +69,8 @@ fn refuse_beside(rt: &HostRuntime, number: u8, unusable: Streams) -> ExitCode
     }
 }
 
-/// Refuses to run because standard streams may be session files. Nothing is written to those streams.
+/// Reports that the program cannot run with these standard streams, and returns exit status 3. Writes nothing to a
+/// stream that may be a session file.
 pub fn refuse_streams(rt: &HostRuntime, refused: RefusedStreams) -> ExitCode
     ensures { exit_status result ≡ 3 }
 {
@@ -76,8 +79,8 @@ pub fn refuse_streams(rt: &HostRuntime, refused: RefusedStreams) -> ExitCode
     status
 }
 
-/// Reports that the arguments are invalid, or that there was no memory to read them. The exit status is the same if the
-/// message cannot be written.
+/// Reports that the arguments are invalid and returns exit status 2, or that there was no memory to read them and
+/// returns exit status 3. The exit status is the same if the message cannot be written.
 pub fn refuse_arguments(rt: &HostRuntime, fault: WordsFault) -> ExitCode
     ensures usage { fault ≡ WordsFault.Usage → exit_status result ≡ 2 }
     ensures no_memory { fault ≡ WordsFault.NoMemory → exit_status result ≡ 3 }
@@ -95,7 +98,7 @@ pub fn refuse_arguments(rt: &HostRuntime, fault: WordsFault) -> ExitCode
     }
 }
 
-/// The failure to begin a session.
+/// The error for a session that did not begin.
 #[derive(Drop)]
 pub struct NotBegun<D: Disk + Drop> {
     /// The reason why no session began.
@@ -104,8 +107,8 @@ pub struct NotBegun<D: Disk + Drop> {
     pub disk: Option<D>,
 }
 
-/// Begins the session that a choice requests, on the disk that was opened for its file. Otherwise returns the reason
-/// why no session began.
+/// Creates or opens a session, as the choice requests, on the disk that was opened for its file. Fails with the
+/// reason if the disk was not opened or no session began on it.
 pub fn session_on<D: Disk + Drop>(
     alloc: Global,
     choice: &Choice,
@@ -146,7 +149,7 @@ pub fn session_on<D: Disk + Drop>(
     }
 }
 
-/// Creates or opens the session in the chosen file. Otherwise returns the reason why no session began.
+/// Creates or opens the session in the chosen file. Fails with the reason if no session began.
 pub fn session_in(
     rt: &HostRuntime,
     choice: &Choice,
@@ -186,18 +189,19 @@ pub fn serve<R: InputSource, W: AnswerSink, D: Disk + Drop>(
     }
 }
 
-/// The result of the program.
+/// The result of a run of the program.
 #[derive(Drop)]
 pub struct Ended<D: Disk + Drop> {
     /// The exit status.
     pub status: ExitCode,
-    /// The session that was served, as its shell left it, or `None` if there was no session.
+    /// The session that was served, as its shell left it, or `None` if no session began.
     pub session: Option<Session<D>>,
     /// The end of the session's shell, or `None` if no shell ran.
     pub end: Option<ShellEnd>,
 }
 
-/// Serves a session with a reader and a writer. If no session began, prints the number of the refusal.
+/// Serves a session with a reader and a writer. If no session began, prints the refusal number and returns exit
+/// status 3.
 pub fn serve_begun<R: InputSource, W: AnswerSink, D: Disk + Drop>(
     rt: &HostRuntime,
     reader: &mut R,
@@ -234,7 +238,8 @@ pub fn serve_begun<R: InputSource, W: AnswerSink, D: Disk + Drop>(
     }
 }
 
-/// Returns the facts about a refused session that its message needs, or `None` if the session began.
+/// Returns the reason why a session was refused, with the facts that the message needs, or `None` if the session
+/// began.
 fn refusal_of(begun: &Result<Session<FileDisk>, NotBegun<FileDisk>>) -> Option<Refusal> {
     match begun {
         Ok(_) => None,
@@ -252,7 +257,8 @@ fn refusal_of(begun: &Result<Session<FileDisk>, NotBegun<FileDisk>>) -> Option<R
     }
 }
 
-/// Returns the end of the shell, and true if the session's device is full, or `None` if no shell ran.
+/// Returns the end of the shell, and a Bool that is true if the session's device is full. Returns `None` if no shell
+/// ran.
 fn end_of(ended: &Ended<FileDisk>) -> Option<(ShellEnd, bool)> {
     match (ended.end, &ended.session) {
         (Some(end), Some(session)) => Some((end, session.disk().is_full())),
@@ -260,8 +266,8 @@ fn end_of(ended: &Ended<FileDisk>) -> Option<(ShellEnd, bool)> {
     }
 }
 
-/// Runs the bench with the given arguments, the program's name first, and with a reader and a writer. Without a session
-/// the exit status is 2 or 3, and nothing is read from the reader or written to the writer.
+/// Runs the program with the given arguments, a reader and a writer. The first argument is the program's name. If no
+/// session begins, the exit status is 2 or 3, nothing is read from the reader, and nothing is written to the writer.
 pub fn run_arguments<S: AsStr, R: InputSource, W: AnswerSink>(
     rt: &HostRuntime,
     arguments: &[S],
@@ -301,7 +307,7 @@ pub fn run_arguments<S: AsStr, R: InputSource, W: AnswerSink>(
     ended
 }
 
-/// Runs the bench with the command-line arguments, standard input and standard output.
+/// Runs the program with the command-line arguments, standard input and standard output.
 fn run_given_arguments(rt: &HostRuntime) -> Ended<FileDisk>
     ensures served { IfSome result.session (λ after.
         ServedBySomeArguments as_disk (exit_status result.status) after) }
@@ -321,15 +327,16 @@ fn run_given_arguments(rt: &HostRuntime) -> Ended<FileDisk>
     }
 }
 
-/// Runs the bench with the command-line arguments, standard input and standard output. It runs only if each standard
-/// stream is available and none goes into a session file. Returns the session as its shell left it.
+/// Runs the program with the command-line arguments, standard input and standard output. Returns the exit status, and
+/// the session as its shell left it. The exit status is 3 if a standard stream may go into a session file, or if a
+/// closed stream gets no stand-in.
 pub fn run_program(rt: &HostRuntime) -> Ended<FileDisk>
     ensures served { IfSome result.session (λ after.
         ServedBySomeArguments as_disk (exit_status result.status) after) }
     ensures unserved { IfNone result.session
         ((exit_status result.status ≡ 2) ⊎ (exit_status result.status ≡ 3)) }
 {
-    // The stand-ins stay open until everything below has been read, written and opened.
+    // The stand-ins for closed standard streams stay open until this function returns.
     let _stand_ins = match StandIns::open(rt) {
         Ok(stand_ins) => stand_ins,
         Err(refused) => {

@@ -1,4 +1,4 @@
-//! Serves lines, in the chunks in which they arrive.
+//! Functions that serve lines that arrive in chunks.
 ghost use Rattle.std.specs.Prelude.{◌≡◌, ◌∷◌, ◌++◌, Bool, [], MatchOption, OnOk, length};
 ghost use Rattle.std.specs.Result.{result_err};
 ghost use Rattle.mcs_shell.specs.declared.texts.TextFault.TheVariants.{NoEnd};
@@ -24,8 +24,8 @@ use mcs_model::text_lines::without_return;
 use mcs_session::session::Session;
 use std::alloc::Global;
 
-/// Writes the answer to an input that had this outcome. `session` is the session after the input. Returns the end of
-/// the shell if the write or the device failed.
+/// Writes the answer to an input that had this outcome. `session` is the session after the input. Fails with the end
+/// of the shell if the write failed or the outcome is a device fault.
 fn deliver<W: AnswerSink, D: Disk + Drop>(
     outcome: Outcome,
     answer: &Answer,
@@ -47,7 +47,8 @@ fn deliver<W: AnswerSink, D: Disk + Drop>(
     }
 }
 
-/// Serves a line outside a text: executes its request, and then writes the answer.
+/// Serves a line outside a text: executes its request, then writes the answer. Fails with the end of the shell if
+/// that ends the shell.
 fn serve_request<W: AnswerSink, D: Disk + Drop>(
     alloc: Global,
     request: Request,
@@ -66,7 +67,8 @@ fn serve_request<W: AnswerSink, D: Disk + Drop>(
     deliver(outcome, &answer, writer, session)
 }
 
-/// Serves a complete text: executes its command, if it has one, and then writes the answer.
+/// Serves a complete text: executes its command, if it has one, then writes the answer. Fails with the end of the
+/// shell if that ends the shell.
 fn serve_text<W: AnswerSink, D: Disk + Drop>(
     alloc: Global,
     kind: TextKind,
@@ -86,7 +88,7 @@ fn serve_text<W: AnswerSink, D: Disk + Drop>(
     deliver(outcome, &answer, writer, session)
 }
 
-/// Refuses the open text because input ended inside it.
+/// Answers an open text with a refusal, because input ended inside the text.
 pub(crate) fn serve_no_end<W: AnswerSink, D: Disk + Drop>(
     writer: &mut W,
     session: &mut Session<D>,
@@ -102,7 +104,7 @@ pub(crate) fn serve_no_end<W: AnswerSink, D: Disk + Drop>(
     deliver(Outcome::Plain, &answer, writer, session)
 }
 
-/// Ends the unfinished line, as a line feed would, and serves the input that it completes, if any.
+/// Ends the unfinished line, as a line feed would. If the line completes an input, serves that input.
 pub(crate) fn end_line<W: AnswerSink, D: Disk + Drop>(
     alloc: Global,
     unfinished: &mut Unfinished,
@@ -161,7 +163,7 @@ fn split_line(bytes: &[u8]) -> Option<(&[u8], &[u8])>
     None
 }
 
-/// Serves the bytes of a chunk, which continue the unfinished line and text.
+/// Serves the bytes of a chunk, which continue the unfinished line and the open text.
 pub(crate) fn serve_chunk<W: AnswerSink, D: Disk + Drop>(
     alloc: Global,
     chunk: &[u8],

@@ -1,4 +1,4 @@
-//! The shell, which reads lines, executes their requests, and writes the answers.
+//! The shell. It reads lines, executes their requests, and writes the answers.
 ghost use Rattle.std.specs.Prelude.{◌≡◌, ◌<◌, ◌≤◌, [], true, take, length, IfOk, OnErr};
 ghost use Rattle.std.specs.Result.{result_err};
 ghost use Rattle.std.specs.Io.KnownBytes.{Keeps};
@@ -24,7 +24,8 @@ use std::alloc::Global;
 /// The maximum number of bytes that one read requests.
 const CHUNK_BYTES: usize = 4_096;
 
-/// Reads at most `most` bytes into the front of the buffer. Returns 0 only if input has ended.
+/// Reads at most `most` bytes into the front of the buffer and returns their number. Returns 0 only if input has
+/// ended. Fails if the read fails.
 fn read_some<R: InputSource>(
     reader: &mut R,
     buffer: &mut [u8],
@@ -40,7 +41,8 @@ fn read_some<R: InputSource>(
     reader.read_some(&mut buffer[..most])
 }
 
-/// Refuses the open text, if there is one, because input ended. The last line must be complete.
+/// Answers the open text, if there is one, with a refusal, because input has ended. The line must be empty. Fails
+/// with the end of the shell if the answer cannot be written.
 fn finish_text<W: AnswerSink, D: Disk + Drop>(
     unfinished: &Unfinished,
     writer: &mut W,
@@ -58,7 +60,8 @@ fn finish_text<W: AnswerSink, D: Disk + Drop>(
     }
 }
 
-/// Serves the unfinished line and text after input has ended.
+/// Serves the unfinished line and the open text after input has ended. Fails with the end of the shell if serving
+/// them ends the shell.
 fn finish<W: AnswerSink, D: Disk + Drop>(
     alloc: Global,
     unfinished: &mut Unfinished,
@@ -80,7 +83,7 @@ fn finish<W: AnswerSink, D: Disk + Drop>(
     }
 }
 
-/// Reads and serves chunks of input until the shell ends, and returns the reason.
+/// Reads chunks of input and serves them until the shell ends. Returns the reason for the end.
 fn run_loop<R: InputSource, W: AnswerSink, D: Disk + Drop>(
     alloc: Global,
     buffer: &mut [u8],
@@ -123,11 +126,12 @@ fn run_loop<R: InputSource, W: AnswerSink, D: Disk + Drop>(
     ShellEnd::InputLimit
 }
 
-/// Serves the lines of a reader on a session, until input ends, a call fails, or the input limit is reached.
+/// Serves the lines of a reader on a session until input ends, a call fails, or the input limit is reached. Returns
+/// the reason for the end.
 ///
-/// The shell records each command before it answers it. The machine may stop at any moment. A session opened on the
-/// disk's contents then has the state after a prefix of the accepted commands. The prefix includes each acknowledged
-/// command.
+/// The shell records each accepted command before it writes the command's answer. The machine may stop at any moment.
+/// A session that is then opened on the disk has executed a prefix of the accepted commands. The prefix includes each
+/// acknowledged command.
 pub fn run_shell<R: InputSource, W: AnswerSink, D: Disk + Drop>(
     alloc: Global,
     reader: &mut R,

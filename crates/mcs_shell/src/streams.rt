@@ -15,16 +15,17 @@ use std::io::{Read, Write};
 #[derive(Clone, Copy)]
 pub struct ReadFailed;
 
-/// The input of a shell. Every `Read` implements it, with an unknown number of failures.
+/// The input of a shell. Every type that implements `Read` also implements this trait, with an unknown number of
+/// failures.
 pub trait InputSource {
-    /// The bytes that the source has left to return, if they are known.
+    /// The bytes that later reads return, if they are known.
     ghost remaining: { Self → Option (List ℕ) };
 
     /// The number of reads that have failed, if it is known.
     ghost faults: { Self → Option ℕ };
 
-    /// Reads bytes into the front of the buffer. Returns 0 only if input has ended. On an `Err` the remaining bytes of
-    /// the source are unchanged.
+    /// Reads bytes into the front of the buffer, which must not be empty, and returns their number. Returns 0 only if
+    /// input has ended. On an `Err`, no bytes were taken from the source.
     fn read_some(&mut self, buffer: &mut [u8]) -> Result<usize, ReadFailed>
         requires { 0 < length buffer.old }
         ensures ok { IfOk result (λ n. ReadBytes n (length buffer.old)
@@ -46,7 +47,8 @@ impl<R: Read> InputSource for R {
     }
 }
 
-/// The sink of a shell's answers. Every `Write` implements it, with an unknown number of failures.
+/// The sink of a shell's answers. Every type that implements `Write` also implements this trait, with an unknown
+/// number of failures.
 pub trait AnswerSink {
     /// The bytes that the sink has received, if they are known.
     ghost contents: { Self → Option (List ℕ) };
@@ -54,8 +56,9 @@ pub trait AnswerSink {
     /// The number of answers that the sink did not accept completely, if it is known.
     ghost faults: { Self → Option ℕ };
 
-    /// Accepts an answer in two byte slices. The session must have done what the answer acknowledges, and its disk must
-    /// represent the result. On an `Err` the sink received only a proper prefix of the answer, possibly nothing.
+    /// Writes an answer that is given in two byte slices. The session must have recorded what the answer
+    /// acknowledges. If the session is open and its disk is honest, the disk must represent the session's state. On
+    /// an `Err`, the sink received only a proper prefix of the answer, possibly nothing.
     fn write_answer<D: Disk + Drop>(
         &mut self,
         session: &Session<D>,

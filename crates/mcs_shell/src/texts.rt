@@ -1,4 +1,5 @@
-//! Texts: their ends, their errors that do not depend on the meaning of a line, and the meanings of all other texts.
+//! Texts: the line that ends a text, the errors that do not depend on the meaning of its lines, and the meaning of a
+//! text without these errors.
 ghost use Rattle.std.specs.Prelude.{◌≡◌, None, IfOk};
 ghost use Rattle.std.specs.List.{list_all, slice_split};
 ghost use Rattle.std.specs.Result.{result_map_both};
@@ -41,7 +42,7 @@ pub enum TextFault {
 }
 
 impl TextFault {
-    /// Returns the number of the refusal.
+    /// Returns the refusal number for the error.
     pub fn number(self) -> u8
         ensures { result ≡ text_fault_number self }
     {
@@ -54,7 +55,7 @@ impl TextFault {
     }
 }
 
-/// Returns true if a line ends a text.
+/// Returns true if the line is a single dot, which ends a text.
 pub fn ends_text(line: &[u8]) -> bool
     ensures { result ≡ is_dot_line line.now }
 {
@@ -83,7 +84,7 @@ fn has_text_bytes(text: &[u8]) -> bool
     text.iter().all(|b| *b == b'\n' || is_plain_byte(*b))
 }
 
-/// Returns the error in a complete text that does not depend on the meaning of its lines, if there is one.
+/// Returns the first error in a complete text that does not depend on the meaning of its lines, or `None`.
 #[tactic(auto, unfolding(crate::specs::Inputs::text_fault_of))]
 pub fn text_fault(text: &[u8]) -> Option<TextFault>
     ensures { result ≡ text_fault_of text.now }
@@ -110,7 +111,7 @@ pub fn as_text(text: &[u8]) -> &str
     }
 }
 
-/// The error that leaves a text without a meaning.
+/// The error that makes the text of a board or a program invalid.
 #[derive(Clone, Copy, Debug, Error)]
 pub enum TextRefusal {
     /// The text does not describe a board.
@@ -121,17 +122,17 @@ pub enum TextRefusal {
     Program(usize, SourceFault),
 }
 
-/// The meaning of a text.
+/// The meaning of a valid text: a command, or a report.
 #[derive(Drop)]
 pub enum TextMeaning {
     /// A command to execute.
     Does(Command),
-    /// Lines, each with its line feed, to return as the answer. Nothing else is done.
+    /// Lines to return as the answer, each with its line feed. The text has no other effect.
     Reports(Vec<u8>),
 }
 
-/// Returns the command that replaces the board with the one that a text describes, or the error in the text. Fails if
-/// memory runs out.
+/// Parses the text of a board. Returns the command that replaces the board with the parsed one, or the error in the
+/// text. Fails if memory runs out.
 fn read_board(alloc: Global, text: &str) -> Result<Result<Command, TextRefusal>, AllocError>
     ensures { IfOk result (λ spelled. spelled ≡ wire_command (board_of_text text.now)) }
 {
@@ -142,7 +143,8 @@ fn read_board(alloc: Global, text: &str) -> Result<Result<Command, TextRefusal>,
     }
 }
 
-/// Returns the command that loads the bytes of a program, or the error in the program's text. Fails if memory runs out.
+/// Assembles the text of a program. Returns the command that loads its bytes, or the error in the text. Fails if
+/// memory runs out.
 fn read_program(alloc: Global, text: &str) -> Result<Result<Command, TextRefusal>, AllocError>
     ensures { IfOk result (λ spelled. spelled ≡ load_command (assembly_of_text text.now)) }
 {
@@ -155,7 +157,7 @@ fn read_program(alloc: Global, text: &str) -> Result<Result<Command, TextRefusal
     }
 }
 
-/// Returns the map of a program, or the error in the program's text. Fails if memory runs out.
+/// Returns the answer to `map`: the map of a program, or the error in the program's text. Fails if memory runs out.
 fn read_map(alloc: Global, text: &str) -> Result<Result<Vec<u8>, TextRefusal>, AllocError>
     ensures { IfOk result (λ meant.
         result_map_both (λ lines. Reports lines.items) (λ why. why) meant
@@ -170,14 +172,14 @@ fn read_map(alloc: Global, text: &str) -> Result<Result<Vec<u8>, TextRefusal>, A
     }
 }
 
-/// Returns the answer that reports the first error in a board's text. Fails if memory runs out.
+/// Returns the answer to `wiring`: a report of the first error in a board's text, if any. Fails if memory runs out.
 fn read_wiring(alloc: Global, text: &str) -> Result<Vec<u8>, AllocError>
     ensures { IfOk result (λ lines. lines.items ≡ wiring_text text.now) }
 {
     Ok(wiring_text(alloc, text)?.into_bytes())
 }
 
-/// Returns the answer that reports the errors in a program's text. Fails if memory runs out.
+/// Returns the answer to `errors`: a report of the errors in a program's text. Fails if memory runs out.
 fn read_errors(alloc: Global, text: &str) -> Result<Vec<u8>, AllocError>
     ensures { IfOk result (λ lines. lines.items ≡ errors_text (errors_of_text text.now)) }
 {
@@ -185,7 +187,8 @@ fn read_errors(alloc: Global, text: &str) -> Result<Vec<u8>, AllocError>
     errors_text(alloc, &errors)
 }
 
-/// Returns the meaning of a text, or the error that leaves it without a meaning. Fails if memory runs out.
+/// Parses a text of the given kind. Returns the meaning of the text, or the error that makes the text invalid. Fails
+/// if memory runs out.
 #[tactic(auto, unfolding(crate::specs::Spelling::meaning_of_text))]
 pub fn read_text(
     alloc: Global,

@@ -1,4 +1,4 @@
-//! A reader and a writer that count their failures.
+//! A test with a reader and a writer that count their failures.
 ghost use Rattle.std.specs.Prelude.{Some};
 
 use crate::checks::equal;
@@ -64,9 +64,8 @@ impl<W: Write + Drop> AnswerSink for CountedWriter<W> {
     }
 }
 
-/// Checks that a failure of the reader or the writer ends the shell, and that the one that failed
-/// counts the failure. The reader reads the whole script or fails once after some bytes. The writer
-/// accepts all answers or fails once after some bytes.
+/// Checks that a failed read or write ends the shell and is counted once. The reader returns the whole script, or
+/// fails once after 12 bytes. The writer accepts all answers, or fails once before the last three bytes.
 #[test]
 fn a_fault_is_counted_where_it_was(rt: HostRuntime) {
     let rows = [

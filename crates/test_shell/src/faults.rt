@@ -11,12 +11,11 @@ pub(crate) const SCRIPT: &[u8] = b"poke r5 9\nseq\nregs\n";
 pub(crate) const ANSWERS: &[u8] =
     b"session 0\nok 1\nseq 1\nacc 0 cy 0 pc 000 owed 0 dcl 0 test 1 r 0000090000000000 ret 000 000 000\n";
 
-/// The numbers of times that a reader or a writer fails. After a single failure, a second attempt
-/// would succeed.
+/// How many times a reader or a writer fails: once, so that a second attempt would succeed, or at every attempt.
 const FAILURES: [usize; 2] = [1, usize::MAX];
 
-/// Checks that a reader that fails `failures` times, after `left` bytes of the script, ends the
-/// shell. By then, the shell has written the first `size` bytes of the answers.
+/// Checks that the shell ends if the reader fails after `left` bytes of the script. The reader fails `failures`
+/// times. By then, the shell has written the first `size` bytes of the answers.
 fn expect_cut_reading(rt: &impl Abort, alloc: Global, left: usize, failures: usize, size: usize) {
     let mut session = new_in_memory(alloc, rt);
     let mut reader = CutReader::new(SCRIPT, left, failures);
@@ -29,8 +28,8 @@ fn expect_cut_reading(rt: &impl Abort, alloc: Global, left: usize, failures: usi
 #[test]
 fn the_reader_fails_after_each_count_of_bytes(rt: HostRuntime) {
     for left in 0..SCRIPT.len() + 1 {
-        // the lines end after 10, 14 and 19 bytes; their answers end after 15 bytes, after 21 bytes
-        // and at the end
+        // The three lines of the script end after 10, 14 and 19 bytes. Their answers end after 15 bytes, after 21
+        // bytes and at the end of the output.
         let size = match left {
             0..10 => 10,
             10..14 => 15,
@@ -43,8 +42,8 @@ fn the_reader_fails_after_each_count_of_bytes(rt: HostRuntime) {
     }
 }
 
-/// Checks that a writer that fails `failures` times, after `left` bytes of the answers, ends the
-/// shell. The command is recorded once the first answer is written.
+/// Checks that the shell ends if the writer fails after `left` bytes of the answers. The writer fails `failures`
+/// times. The command is recorded if the session's first line was written completely.
 fn expect_cut_writing(rt: &impl Abort, alloc: Global, left: usize, failures: usize) {
     let mut session = new_in_memory(alloc, rt);
     let mut writer = CutWriter::new(alloc, left, failures);

@@ -1,4 +1,4 @@
-//! Tests of files of version 1, and of a stop while opening migrates them.
+//! Tests of session files of version 1: they are converted when they are opened, and the conversion may be stopped.
 use crate::scripts::INPUTS;
 use crate::sessions::{expect, expect_state, failing_disk_of, file_of, found, left_on, open, put};
 use mcs_fixtures::files::NEW_BENCH;
@@ -6,10 +6,10 @@ use mcs_journal::{FILE_SIZE, StoreFault};
 use std::alloc::Global;
 use std::process::Abort;
 
-/// The offset of the first log in a session file.
+/// The offset of the log of the first slot in a session file.
 const LOG: usize = 16_400;
 
-/// Returns the version 1 file of a new bench.
+/// Returns a session file of version 1 with a new bench.
 pub(crate) fn new_file(alloc: Global, rt: &impl Abort) -> Vec<u8> {
     let mut file = vec![in alloc; 0u8; FILE_SIZE].expect(rt, "memory");
     for (at, bytes) in NEW_BENCH {
@@ -18,8 +18,8 @@ pub(crate) fn new_file(alloc: Global, rt: &impl Abort) -> Vec<u8> {
     file
 }
 
-/// Returns a version 1 file with the commands of the script. Its records are encoded as in version
-/// 2.
+/// Returns a session file of version 1 with the commands of the script. Version 2 encodes these records in the same
+/// way.
 fn file_of_inputs(alloc: Global, rt: &impl Abort) -> Vec<u8> {
     let mut file = new_file(alloc, rt);
     let later = file_of(alloc, rt, &INPUTS, 0, b"");
@@ -30,8 +30,8 @@ fn file_of_inputs(alloc: Global, rt: &impl Abort) -> Vec<u8> {
     file
 }
 
-/// Returns the file after a stop that prevents it from opening, or none if it opens. The disk fails
-/// each call after the first `calls`.
+/// Opens a file on a disk that fails each call after the first `calls`. Returns the bytes left on the disk if the
+/// file does not open, or `None` if it opens.
 fn left_by_a_stop(alloc: Global, rt: &impl Abort, file: &[u8], calls: usize) -> Option<Vec<u8>> {
     match open(alloc, failing_disk_of(alloc, rt, file, calls)) {
         Ok(_) => None,

@@ -22,8 +22,8 @@ fn a_closed_session(rt: HostRuntime) {
     );
 }
 
-/// Checks that a writer that fails within an answer ends the shell, and that the shell carries out
-/// no later command.
+/// Checks that the shell ends if the writer fails within an answer, and that the shell executes no command after that
+/// answer.
 #[test]
 fn the_writer_fails_in_an_answer(rt: HostRuntime) {
     let answers =

@@ -1,5 +1,5 @@
-//! Tests of whole sessions on disks in memory, with disks, readers, writers and allocations that
-//! fail. Other tests cover the page's calls.
+//! Tests of whole sessions on disks in memory. Disks, readers, writers or allocations fail in these tests. Other
+//! tests cover the calls that the page makes.
 #![tactic(auto)]
 
 #[cfg(test)]

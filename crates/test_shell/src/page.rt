@@ -1,4 +1,4 @@
-//! Tests of the page's calls.
+//! Tests of the calls that the page makes to the bench.
 mod calls;
 mod files;
 mod no_memory;

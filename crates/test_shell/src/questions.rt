@@ -1,6 +1,6 @@
-//! Tests with one failing allocation while the shell answers questions that need memory: maps,
-//! counts and traces. `checks/allocations` makes each allocation fail in turn; in the gate, none
-//! fails.
+//! Tests of the requests whose answers need memory (maps, counts and traces) with one failing allocation.
+//! `checks/allocations` runs each test once per allocation, and makes that allocation fail. In an ordinary run, no
+//! allocation fails.
 use crate::sessions::{create, seq_of, serve};
 use mcs_disk::MemDisk;
 use mcs_journal::{FILE_SIZE, StoreFault};
@@ -12,8 +12,8 @@ use std::process::Abort;
 const SCRIPT: &[u8] =
     b"map\na: JUN a\nb = 0x2F\n.\nmap\nJUN c\n.\ncount 2\ntrace 2 pc lamps\nseq\n";
 
-/// The answers if no allocation fails, and if one fails for the first program, the second program,
-/// the count or the trace.
+/// The answers to the script, each with the part of the script that failed. In the first row, no allocation fails. In
+/// the others, one fails for the first program, the second program, the count or the trace, in this order.
 const ANSWERS: [(&[u8], &str); 5] = [
     (
         b"session 0\nmap lines 2 names 2\nline 1 000 2\nline 2 002 0\nname a 000\nname b 02F\nno 32 line 1\ncount ran 2 end lines 2\n000 1\n001 1\ntrace ran 2 end lines 2 000 -\n0 000 001 -\n1 001 002 -\nseq 0\n",
@@ -37,7 +37,7 @@ const ANSWERS: [(&[u8], &str); 5] = [
     ),
 ];
 
-/// Returns the part that a failed allocation left out of the output.
+/// Returns the part of the script that failed for lack of memory, given the output.
 fn left_out(rt: &impl Abort, output: &[u8]) -> &'static str {
     for (answers, what) in ANSWERS {
         if output == answers {
@@ -52,8 +52,8 @@ fn ready_writer(alloc: Global) -> Result<Vec<u8>, AllocError> {
     Vec::with_capacity(alloc, 1_024)
 }
 
-/// Runs the script, which does not change the session. Returns the part that ran out of memory, or
-/// `nothing`.
+/// Runs the script on a session, and checks that the session is unchanged. Returns the part that ran out of memory,
+/// or `nothing`.
 fn run(alloc: Global, rt: &impl Abort, mut session: Session<MemDisk>) -> &'static str {
     let Ok(mut writer) = ready_writer(alloc) else {
         return "the writer";
@@ -71,8 +71,7 @@ fn run(alloc: Global, rt: &impl Abort, mut session: Session<MemDisk>) -> &'stati
     refused
 }
 
-/// Creates a session and runs the script on it. Returns the part that ran out of memory, or
-/// `nothing`.
+/// Creates a session, and runs the script on the session. Returns the part that ran out of memory, or `nothing`.
 fn make_and_run(alloc: Global, rt: &impl Abort) -> &'static str {
     let Ok(disk) = MemDisk::new(alloc, FILE_SIZE) else {
         return "the disk";

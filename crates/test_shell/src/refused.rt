@@ -1,5 +1,5 @@
-//! Tests with one failing allocation. `checks/allocations` makes each allocation fail in turn; in
-//! the gate, none fails.
+//! Tests of the shell with one failing allocation. `checks/allocations` runs each test once per allocation, and makes
+//! that allocation fail. In an ordinary run, no allocation fails.
 use crate::first_version::new_file;
 use crate::sessions::{bytes_of, create, disk_behind, open, opened, put, seq_of, serve};
 use arrayvec::ArrayVec;
@@ -34,11 +34,12 @@ impl Write for FixedWriter {
 
 const QUESTIONS: &[u8] = b"asm\nLDM 1\n.\nlist 0 1\nboard\nseq\n";
 
-/// The line before the text of the board in an answer.
+/// The first line of the answer to `board`. The text of the board follows.
 const BOARD: &[u8] = b"board\n";
 
-/// The answers if every allocation succeeds, and if one fails for the board, the program, the
-/// listing or the question for the board. The text of the board follows the line `BOARD`.
+/// The answers to the script, one row for each part that can fail. In the first row, every allocation succeeds. In
+/// the others, one fails for the board, the program, the listing or the query `board`, in this order. The text of the
+/// board follows the line `BOARD` in the output.
 const ANSWERS: [[&[u8]; 6]; 5] = [
     [
         b"session 0\n",
@@ -82,8 +83,8 @@ const ANSWERS: [[&[u8]; 6]; 5] = [
     ],
 ];
 
-/// Returns true if the output consists of the given answers. With a device fault, it consists of
-/// the first few of them and then the fault.
+/// Returns true if the output consists of the given answers. If `is_device` is true, the output must instead consist
+/// of the first few answers, followed by the answer for a device fault.
 fn is_answered(output: &[u8], answers: &[&[u8]], is_device: bool) -> bool {
     let mut rest = output;
     for answer in answers {
@@ -104,7 +105,7 @@ fn is_answered(output: &[u8], answers: &[&[u8]], is_device: bool) -> bool {
     rest.is_empty() && !is_device
 }
 
-/// The part that a failed allocation leaves out, for each row of `ANSWERS`.
+/// The part of the script that fails for lack of memory, for each row of `ANSWERS`.
 const LEFT_OUT: [&str; 5] = [
     "nothing",
     "the board",
@@ -113,8 +114,8 @@ const LEFT_OUT: [&str; 5] = [
     "the question for the board",
 ];
 
-/// Returns the part that the output leaves out, or none if one failed allocation cannot cause this
-/// output.
+/// Returns the part of the script that failed, given the output. Returns `None` if one failed allocation cannot cause
+/// this output.
 fn left_out(output: &[u8], is_device: bool) -> Option<&'static str> {
     for (answers, what) in ANSWERS.iter().zip(LEFT_OUT.iter()) {
         if is_answered(output, answers, is_device) {
@@ -124,7 +125,7 @@ fn left_out(output: &[u8], is_device: bool) -> Option<&'static str> {
     None
 }
 
-/// Returns the script: the command that wires the board, then the questions.
+/// Returns the script: the command that wires the board, then `QUESTIONS`.
 fn script() -> ArrayVec<u8, 1_024> {
     let mut script = ArrayVec::new();
     for part in [WIRE_WORKED, QUESTIONS] {
@@ -135,7 +136,7 @@ fn script() -> ArrayVec<u8, 1_024> {
     script
 }
 
-/// Runs the script. Returns the part that ran out of memory, or `nothing`.
+/// Runs the script on a session. Returns the part that ran out of memory, or `nothing`.
 fn do_script(alloc: Global, rt: &impl Abort, session: &mut Session<MemDisk>) -> &'static str {
     let script = script();
     let mut reader = script.as_slice();
@@ -158,8 +159,7 @@ fn do_script(alloc: Global, rt: &impl Abort, session: &mut Session<MemDisk>) -> 
     }
 }
 
-/// Runs the script, then opens the file again. Returns the part that ran out of memory, or
-/// `nothing`.
+/// Runs the script on a session, then opens the session again. Returns the part that ran out of memory, or `nothing`.
 fn run(alloc: Global, rt: &impl Abort, mut session: Session<MemDisk>) -> &'static str {
     let served = do_script(alloc, rt, &mut session);
     let seq = seq_of(&session);
@@ -170,8 +170,8 @@ fn run(alloc: Global, rt: &impl Abort, mut session: Session<MemDisk>) -> &'stati
     refused.unwrap_or(served)
 }
 
-/// Opens the session on a disk, and opens it again if that fails. Returns the session, and the part
-/// that ran out of memory, if any.
+/// Opens the session on a disk, and tries a second time if that fails. Returns the session, and the part that ran out
+/// of memory, if any.
 fn open_again(
     alloc: Global,
     rt: &impl Abort,
@@ -186,8 +186,8 @@ fn open_again(
     (opened(alloc, rt, disk), Some(refused))
 }
 
-/// Creates a session and runs the script on it. Creates the session again if that ran out of
-/// memory. Returns the part that ran out of memory, or `nothing`.
+/// Creates a session, and tries a second time if memory runs out. Then runs the script on the session. Returns the
+/// part that ran out of memory, or `nothing`.
 fn make_and_run(alloc: Global, rt: &impl Abort) -> &'static str {
     let Ok(disk) = MemDisk::new(alloc, FILE_SIZE) else {
         return "the disk";
@@ -214,7 +214,7 @@ fn one_allocation(rt: HostRuntime) {
     let _ = println!(rt; "refused: {refused}");
 }
 
-/// Writes a file of version 1 to a disk, with a new bench and the record of `poke r5 9`.
+/// Writes a session of version 1 to a disk: a new bench and the record of `poke r5 9`.
 fn put_first(disk: &mut MemDisk) -> Result<(), DiskFault> {
     for (at, bytes) in [NEW_BENCH[0], NEW_BENCH[1], NEW_BENCH[2], NEW_BENCH[3], POKE] {
         if at <= disk.size() && bytes.len() <= disk.size() - at {
@@ -230,8 +230,8 @@ fn expect_register(rt: &impl Abort, session: &Session<MemDisk>) {
     assert!(rt; bench.seq() == 1 && bench.regs().r[5].get() == 9);
 }
 
-/// Opens a file of version 1, and opens it again if that fails. Returns the part that ran out of
-/// memory, or `nothing`.
+/// Opens a session of version 1, and tries a second time if that fails. Returns the part that ran out of memory, or
+/// `nothing`.
 fn carry_over(alloc: Global, rt: &impl Abort) -> &'static str {
     let Ok(mut disk) = MemDisk::new(alloc, FILE_SIZE) else {
         return "the disk";

@@ -1,9 +1,9 @@
 //! A script of commands with its answers, and the questions that show a session's state.
 use mcs_fixtures::texts::WIRE_WORKED;
 
-/// The commands, in order. The first wires a board with three ROMs, two banks, a chain, keys and
-/// lamps. The second loads a program that drives two rows and reads four columns. The others press
-/// a key, run all cycles before the program's last instruction, and set a register.
+/// The commands of the script, in order. The first wires a board with three ROMs, two RAM banks, a shift-register
+/// chain, keys and lamps. The second loads a program that drives two rows of keys and reads four columns. The others
+/// press a key, run all cycles before the program's last instruction, and set a register.
 pub(crate) const INPUTS: [&[u8]; 5] = [
     WIRE_WORKED,
     b"asm
@@ -48,6 +48,6 @@ regs
 /// A command whose record has seven bytes.
 pub(crate) const POKE: &[u8] = b"poke r0 1\n";
 
-/// The number of pokes after the commands of `INPUTS` that leave no room in the log for another
-/// one. The records of the commands take 136, 527, 6, 8 and 7 of the log's 65,535 bytes.
+/// The number of pokes that fill the log after the commands of `INPUTS`, so that no other poke fits. The records of
+/// the commands of `INPUTS` take 136, 527, 6, 8 and 7 of the log's 65,535 bytes.
 pub(crate) const POKES: usize = 9_264;

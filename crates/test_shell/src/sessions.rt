@@ -14,17 +14,17 @@ use std::alloc::Global;
 use std::io::{Read, Write};
 use std::process::Abort;
 
-/// Checks a condition. A failure reports `at`, the number of the row or the position.
+/// Checks a condition. If it is false, the test fails and reports `at`, the number of a row or a position.
 pub(crate) fn expect(rt: &impl Abort, holds: bool, at: usize) {
     assert!(rt; holds, "at {at}");
 }
 
-/// Returns a disk of a session file's size with all bytes 0.
+/// Returns a disk in memory with the size of a session file. All bytes are 0.
 pub(crate) fn blank(alloc: Global, rt: &impl Abort) -> MemDisk {
     MemDisk::new(alloc, FILE_SIZE).expect(rt, "memory")
 }
 
-/// Returns a disk with the given bytes.
+/// Returns a disk in memory with the given bytes.
 pub(crate) fn disk_of(alloc: Global, rt: &impl Abort, bytes: &[u8]) -> MemDisk {
     let mut disk = MemDisk::new(alloc, bytes.len()).expect(rt, "memory");
     disk.write(0, bytes).expect(rt, "a write");
@@ -38,15 +38,14 @@ pub(crate) fn bytes_of<D: Disk>(alloc: Global, rt: &impl Abort, disk: &mut D) ->
     bytes
 }
 
-/// Overwrites the bytes of a file from `at` on.
+/// Overwrites the bytes of a file, beginning at the offset `at`.
 pub(crate) fn put(rt: &impl Abort, file: &mut [u8], at: usize, bytes: &[u8]) {
     assert!(rt; at <= file.len() && bytes.len() <= file.len() - at);
     file[at..at + bytes.len()].copy_from_slice(bytes);
 }
 
-// Functions with long contracts are called only here, once each. A test needs none of their
-// promises, because it must only be safe. These wrappers promise nothing, so a call to one of them
-// is proved at once.
+// The functions below wrap functions with long contracts, and have no contracts of their own. A test needs no
+// contracts, because it must only be proved safe. The proof of a call to a wrapper takes no time.
 
 /// Creates a session with a new bench on a disk.
 pub(crate) fn create<D: Disk + Drop>(
@@ -61,7 +60,7 @@ pub(crate) fn open<D: Disk + Drop>(alloc: Global, disk: D) -> Result<Session<D>,
     Session::open(alloc, disk)
 }
 
-/// Runs the shell on a session with the input of a reader, and returns how the shell ended.
+/// Runs the shell on a session with the input of a reader. Returns the reason for the end of the shell.
 pub(crate) fn serve<R: Read, W: Write, D: Disk + Drop>(
     alloc: Global,
     reader: &mut R,
@@ -71,7 +70,7 @@ pub(crate) fn serve<R: Read, W: Write, D: Disk + Drop>(
     run_shell(alloc, reader, writer, session)
 }
 
-/// Sets register R0 to 1.
+/// Executes the command that sets register R0 to 1.
 pub(crate) fn poke<D: Disk + Drop>(session: &mut Session<D>) -> Result<(), SessionFault> {
     let command = Command::Poke(Place::Register(RegNo::ZERO, Nibble::ONE));
     match session.apply(&command) {
@@ -100,7 +99,7 @@ pub(crate) fn failing_disk_of(
     FuseDisk::after(disk_of(alloc, rt, bytes), calls)
 }
 
-/// Mends a disk that failed, and returns all its bytes.
+/// Mends a failing disk so that its calls succeed again, and returns all its bytes.
 pub(crate) fn left_on(alloc: Global, rt: &impl Abort, mut disk: FuseDisk) -> Vec<u8> {
     disk.mend();
     bytes_of(alloc, rt, &mut disk)
@@ -119,7 +118,7 @@ pub(crate) fn new_in_memory(alloc: Global, rt: &impl Abort) -> Session<MemDisk> 
     new_session(alloc, rt, blank(alloc, rt))
 }
 
-/// Runs the shell on a session with the input of a reader. Returns how the shell ended, and the
+/// Runs the shell on a session with the input of a reader. Returns the reason for the end of the shell, and the
 /// answers.
 pub(crate) fn answered<R: Read, D: Disk + Drop>(
     alloc: Global,
@@ -131,8 +130,7 @@ pub(crate) fn answered<R: Read, D: Disk + Drop>(
     (end, writer)
 }
 
-/// Returns a session's answers to a script, and checks that the shell reaches the end of the
-/// script.
+/// Runs a script on a session and returns the answers. Checks that the shell reaches the end of the script.
 pub(crate) fn answers_to<D: Disk + Drop>(
     alloc: Global,
     rt: &impl Abort,
@@ -144,8 +142,8 @@ pub(crate) fn answers_to<D: Disk + Drop>(
     answers
 }
 
-/// Returns the state of a file's session as its answers to `QUESTIONS`, or the error if the file
-/// holds no session.
+/// Opens the session in a file and returns its state, in the form of its answers to `QUESTIONS`. Returns the error if
+/// the session does not open.
 pub(crate) fn found(alloc: Global, rt: &impl Abort, file: &[u8]) -> Result<Vec<u8>, StoreFault> {
     match open(alloc, disk_of(alloc, rt, file)) {
         Ok(mut session) => Ok(answers_to(alloc, rt, &mut session, QUESTIONS)),
@@ -153,7 +151,7 @@ pub(crate) fn found(alloc: Global, rt: &impl Abort, file: &[u8]) -> Result<Vec<u
     }
 }
 
-/// Checks that the session in a file has the given state.
+/// Checks that the session in a file has the given state. Fails if `state` is `None`.
 pub(crate) fn expect_state(
     alloc: Global,
     rt: &impl Abort,
@@ -169,8 +167,8 @@ pub(crate) fn expect_state(
     }
 }
 
-/// Returns the state of a session before the commands and after each of them. A state is the
-/// session's answers to `QUESTIONS`.
+/// Executes commands on a session. Returns the state before the commands and the state after each command. A state
+/// has the form of the session's answers to `QUESTIONS`.
 pub(crate) fn states_behind<D: Disk + Drop>(
     alloc: Global,
     rt: &impl Abort,
@@ -190,14 +188,14 @@ fn keep(rt: &impl Abort, states: &mut Vec<Vec<u8>>, state: Vec<u8>) {
     states.push(state).expect(rt, "memory");
 }
 
-/// Sets register R0 to 1 `times` times.
+/// Executes the command that sets register R0 to 1, `times` times.
 fn poke_often<D: Disk + Drop>(rt: &impl Abort, session: &mut Session<D>, times: usize) {
     for i in 0..times {
         expect(rt, poke(session).is_ok(), i);
     }
 }
 
-/// Returns the file of a new session after the given commands, `pokes` pokes and a last command.
+/// Returns the session file of a new bench after the given commands, then `pokes` pokes, then the command `last`.
 pub(crate) fn file_of(
     alloc: Global,
     rt: &impl Abort,

@@ -1,4 +1,4 @@
-//! Tests of a stop at each call of a disk, and after each byte that is read or written.
+//! Tests in which the shell is stopped at each call of the disk, or after each byte that is read or written.
 use crate::scripts::{ANSWERS, INPUTS, POKE, POKES};
 use crate::sessions::{
     answered, blank, bytes_of, create, disk_behind, expect, expect_state, failing_disk_of, file_of,
@@ -17,7 +17,8 @@ use std::process::Abort;
 /// The first line of a new session's answers.
 const FIRST: &[u8] = b"session 0\n";
 
-/// Returns a new session's answers to the first `done` commands, followed by `then`.
+/// Returns the expected output of a new session: its first line, the answers to the first `done` commands, and
+/// `then`.
 fn answers_to(alloc: Global, rt: &impl Abort, done: usize, then: &[u8]) -> Vec<u8> {
     let mut answers = joined(alloc, &[FIRST]).expect(rt, "memory");
     for answer in ANSWERS.iter().take(done) {
@@ -27,12 +28,12 @@ fn answers_to(alloc: Global, rt: &impl Abort, done: usize, then: &[u8]) -> Vec<u
     answers
 }
 
-/// Returns a script with all commands.
+/// Returns a script with all commands of `INPUTS`.
 fn script_of_inputs(alloc: Global, rt: &impl Abort) -> Vec<u8> {
     joined(alloc, &INPUTS).expect(rt, "memory")
 }
 
-/// Returns the number of consecutive pieces that end at an offset or before it.
+/// Returns the number of pieces that end at or before the offset `place`, if the pieces follow one another.
 fn whole_pieces(pieces: &[&[u8]], place: usize) -> usize {
     let mut count = 0usize;
     let mut end = 0usize;
@@ -45,7 +46,8 @@ fn whole_pieces(pieces: &[&[u8]], place: usize) -> usize {
     count
 }
 
-/// Returns a blank disk that fails each call after the first `calls`, or only the next call.
+/// Returns a blank disk that fails each call after the first `calls`, or only the first of these if `is_once` is
+/// true.
 fn failing(alloc: Global, rt: &impl Abort, calls: usize, is_once: bool) -> FuseDisk {
     let disk = blank(alloc, rt);
     if is_once {
@@ -55,8 +57,8 @@ fn failing(alloc: Global, rt: &impl Abort, calls: usize, is_once: bool) -> FuseD
     }
 }
 
-/// Checks that the shell carries out the first `done` commands. If there is another command, checks
-/// that the device fails during it and that the session is then closed.
+/// Checks that the shell executes the first `done` commands. If more commands follow, checks that the device fails
+/// during the next command, and that the session is then closed.
 fn expect_stopped(
     alloc: Global,
     rt: &impl Abort,
@@ -80,9 +82,8 @@ fn expect_stopped(
     }
 }
 
-/// Checks a stop during the commands of a session. Creating the session takes five device calls,
-/// and each command takes four. The last of the four acknowledges the command. A disk that fails
-/// only one call needs no mending.
+/// Checks a stop during the commands of a session. Creating the session takes five device calls, and each command
+/// takes four. The last of the four acknowledges the command. A disk that fails only one call needs no mending.
 fn stop_in_commands(
     alloc: Global,
     rt: &impl Abort,
@@ -123,8 +124,8 @@ fn at_each_call_of_the_disk(rt: HostRuntime) {
     }
 }
 
-/// Returns true if a file does not open because the disk stops after `calls` calls. In this case,
-/// checks that the disk's bytes are unchanged.
+/// Returns true if a session file does not open because the disk fails each call after the first `calls`. In this
+/// case, checks that the disk's bytes are unchanged.
 fn is_stopped_opening(alloc: Global, rt: &impl Abort, file: &[u8], calls: usize) -> bool {
     match open(alloc, failing_disk_of(alloc, rt, file, calls)) {
         Ok(_) => false,
@@ -137,7 +138,7 @@ fn is_stopped_opening(alloc: Global, rt: &impl Abort, file: &[u8], calls: usize)
     }
 }
 
-/// Returns the number of device calls that opening a file needs. It must be below 65,536.
+/// Returns the number of device calls that opening a session file takes. The number must be below 65,536.
 fn calls_of_open(alloc: Global, rt: &impl Abort, file: &[u8]) -> usize {
     let mut calls = 0usize;
     for bit in 0..16u32 {
@@ -149,8 +150,8 @@ fn calls_of_open(alloc: Global, rt: &impl Abort, file: &[u8]) -> usize {
     calls
 }
 
-/// Checks a poke that needs a checkpoint because the file's log is full, with a stop at each of its
-/// eight device calls. `accepted` is the end of the answers if there is no stop.
+/// Checks a stop at each device call of a poke. The poke takes eight calls, because the file's log is full and the
+/// poke needs a checkpoint. `accepted` is the end of the answers if there is no stop.
 fn stop_in_a_checkpoint(alloc: Global, rt: &impl Abort, file: &[u8], accepted: &[u8]) {
     let mut session = opened_in_memory(alloc, rt, file);
     let states = states_behind(alloc, rt, &mut session, &[POKE]);
@@ -168,8 +169,8 @@ fn stop_in_a_checkpoint(alloc: Global, rt: &impl Abort, file: &[u8], accepted: &
     }
 }
 
-/// Serves a poke on the session of a disk, and returns the bytes on the disk afterwards. Checks how
-/// the shell ends, and the end of its answers.
+/// Serves a poke on the session stored on a disk, and returns the bytes on the disk afterwards. Checks the reason for
+/// the end of the shell, and the last bytes of its answers.
 fn left_by_a_poke(
     alloc: Global,
     rt: &impl Abort,
@@ -209,8 +210,8 @@ fn at_each_call_of_opening(rt: HostRuntime) {
     }
 }
 
-/// Checks that a reader that fails after `left` bytes ends the shell. Inputs that were read
-/// completely are answered.
+/// Checks that the shell ends if the reader fails after `left` bytes, and that it has answered the inputs that it
+/// read completely.
 fn expect_cut_reading(alloc: Global, rt: &impl Abort, script: &[u8], left: usize) {
     let mut session = new_in_memory(alloc, rt);
     let mut reader = CutReader::new(script, left, usize::MAX);
@@ -229,7 +230,8 @@ fn at_each_byte_that_is_read(rt: HostRuntime) {
     }
 }
 
-/// Checks that the shell reads an endless input only up to its limit. Empty lines have no answers.
+/// Checks that the shell reads an endless input only up to the input limit. The input consists of empty lines, which
+/// have no answers.
 #[test]
 fn at_the_limit_of_an_endless_input(rt: HostRuntime) {
     let alloc = rt.alloc();
@@ -241,8 +243,7 @@ fn at_the_limit_of_an_endless_input(rt: HostRuntime) {
     expect(&rt, answers.as_slice() == FIRST, 2);
 }
 
-/// Checks that a writer that fails after `left` bytes of the answers ends the shell, and returns
-/// the disk.
+/// Checks that the shell ends if the writer fails after `left` bytes of the answers. Returns the disk of the session.
 fn cut_writing(
     alloc: Global,
     rt: &impl Abort,
@@ -270,7 +271,7 @@ fn at_each_byte_that_is_written(rt: HostRuntime) {
     let alloc = rt.alloc();
     let script = script_of_inputs(alloc, &rt);
     let answers = answers_to(alloc, &rt, ANSWERS.len(), b"");
-    // a command is recorded as soon as all earlier answers are written
+    // A command is recorded if all earlier answers were written.
     let [one, two, three, four, _] = ANSWERS;
     let before = [FIRST, one, two, three, four];
     for left in 0..=answers.len() {

@@ -1,5 +1,5 @@
-//! Tests of the page's calls: sessions over several calls, rejected files, and buffers that are too
-//! short.
+//! Tests of the calls that the page makes: one session over several calls, rejected files, and buffers that are too
+//! short for the answers.
 use crate::checks::equal;
 use crate::page::files::{
     CALLS, CARRIED_OVER, Call, answers, copy, expect_answers, expect_answers_by, file_of_version_1,
@@ -35,7 +35,7 @@ const FIRST_ANSWERS: &[u8] = b"session 0\nok 1\nok 2\nok 3 bytes 4\nok 4 ran 100
 const SECOND_ANSWERS: &[u8] =
     b"session 4\nseq 4\nacc 0 cy 0 pc 002 owed 0 dcl 0 test 1 r 0000390000000000 ret 000 000 000\n";
 
-/// Serves an input on a session that can serve another input afterwards.
+/// Runs the shell on a session with an input. The session stays open for further inputs.
 fn serve_on(alloc: Global, session: &mut Session<MemDisk>, input: &[u8]) {
     let mut reader = input;
     let mut writer = Vec::new(alloc);
@@ -49,7 +49,7 @@ fn bytes_of(alloc: Global, rt: &impl Abort, mut disk: MemDisk) -> Vec<u8> {
     bytes
 }
 
-/// Returns the bytes of the file after one session has served both inputs.
+/// Returns the bytes of a new file on which a single session has served the inputs `FIRST` and `SECOND`.
 fn file_of_one_session(alloc: Global, rt: &impl Abort) -> Vec<u8> {
     let disk = MemDisk::new(alloc, FILE_SIZE).expect(rt, "memory");
     let Ok(mut session) = Session::create(alloc, disk) else {
@@ -73,7 +73,7 @@ fn one_session_over_two_calls(rt: HostRuntime) {
     expect_answers(alloc, &rt, file.as_mut_slice(), (b"", b"session 4\n"));
 }
 
-/// Returns the commit byte of the first record in the slot that the selector selects.
+/// Returns the commit byte of the first record in the active slot of a file, which the selector (byte 8) selects.
 fn commit_byte(file: &[u8]) -> Option<u8> {
     let log = if file.get(8) == Some(&0) {
         16_400
@@ -83,7 +83,8 @@ fn commit_byte(file: &[u8]) -> Option<u8> {
     file.get(log).copied()
 }
 
-/// Settles a file, and checks the answers to an input that it then serves.
+/// Settles a file, and checks that it has no records. Then serves the input in `row` on the file, and checks the
+/// answers.
 fn expect_settled(alloc: Global, rt: &impl Abort, file: &mut [u8], row: (&[u8], &[u8])) {
     equal(rt, settled(alloc, file), Ok(()));
     equal(rt, commit_byte(file), Some(0));
@@ -96,15 +97,15 @@ fn a_settled_file_has_no_records(rt: HostRuntime) {
     let mut file = new_file(alloc, &rt);
     expect_answers(alloc, &rt, file.as_mut_slice(), (FIRST, FIRST_ANSWERS));
     equal(&rt, commit_byte(file.as_slice()), Some(1));
-    // once more, with the other slot
+    // settle the file again, now into the other slot
     let third: (&[u8], &[u8]) = (b"step\nseq\n", b"session 4\nok 5 ran 2 end\nseq 5\n");
     for row in [(SECOND, SECOND_ANSWERS), third] {
         expect_settled(alloc, &rt, file.as_mut_slice(), row);
     }
 }
 
-/// Checks that the selected slot has a snapshot of version 2, and that the file gives the right
-/// answers to `regs`.
+/// Checks that a file was converted from version 1: the active slot has a snapshot of version 2, and the answers to
+/// `regs` are unchanged.
 fn expect_carried_over(alloc: Global, rt: &impl Abort, file: &mut [u8]) {
     let at = if file.get(8) == Some(&0) { 24 } else { 81_944 };
     equal(rt, file.get(at), Some(&2));
@@ -127,8 +128,8 @@ fn a_settled_file_of_version_1_is_carried_over(rt: HostRuntime) {
     expect_carried_over(alloc, &rt, file.as_mut_slice());
 }
 
-/// Checks that one call that serves and settles gives the same answers as two calls, and leaves the
-/// same bytes.
+/// Checks that a single call that serves an input and settles the file gives the same answers, and leaves the same
+/// bytes in the file, as two separate calls.
 fn expect_both_at_once(alloc: Global, rt: &impl Abort, file: &mut [u8], row: (&[u8], &[u8])) {
     let mut other = copy(alloc, rt, file);
     expect_answers(alloc, rt, other.as_mut_slice(), row);
@@ -156,7 +157,7 @@ fn questions_leave_the_file(rt: HostRuntime) {
     let alloc = rt.alloc();
     let mut file = new_file(alloc, &rt);
     let before = copy(alloc, &rt, file.as_slice());
-    // commands are answered too, as if they were carried out, and a repeated call gives the same
+    // `Ask` answers commands as if it executed them, but does not change the file; a second call gives the same
     // answers
     for _ in 0..2 {
         let row = (FIRST, FIRST_ANSWERS);
@@ -189,7 +190,7 @@ fn files_of_another_size(rt: HostRuntime) {
     let alloc = rt.alloc();
     let mut made = new_file(alloc, &rt);
     made.push(0).expect(&rt, "memory");
-    // one byte more, one byte less, eight bytes, no bytes
+    // one byte too many, one byte too few, eight bytes, no bytes
     for size in [FILE_SIZE + 1, FILE_SIZE - 1, 8, 0] {
         made.truncate(size);
         expect_refused(alloc, &rt, made.as_slice(), StoreFault::NotASession);
@@ -199,7 +200,7 @@ fn files_of_another_size(rt: HostRuntime) {
 #[test]
 fn files_of_one_byte_over_and_over(rt: HostRuntime) {
     let alloc = rt.alloc();
-    // garbage, and all bytes 0
+    // all bytes 0xA5, and all bytes 0
     for byte in [0xA5, 0] {
         let file = vec![in alloc; byte; FILE_SIZE].expect(&rt, "memory");
         expect_refused(alloc, &rt, file.as_slice(), StoreFault::NotASession);
@@ -210,8 +211,8 @@ fn files_of_one_byte_over_and_over(rt: HostRuntime) {
 fn files_that_hold_no_session(rt: HostRuntime) {
     let alloc = rt.alloc();
     let made = new_file(alloc, &rt);
-    // another format name, a wrong snapshot length, a state of a future version, a record that
-    // encodes no command
+    // another format name, a wrong length of the snapshot, a state of an unknown version, and a record that encodes
+    // no command
     let changes: [(usize, &[u8], StoreFault); 4] = [
         (7, b"2", StoreFault::NotASession),
         (19, &[0], StoreFault::Damaged),
@@ -225,8 +226,8 @@ fn files_that_hold_no_session(rt: HostRuntime) {
     }
 }
 
-/// Checks that the answers to the first input do not fit into `room` bytes of a buffer, and that
-/// the buffer stays unchanged.
+/// Checks that the call fails if the buffer has only `room` bytes for the answers to the input `FIRST`, and that it
+/// leaves the buffer unchanged.
 fn expect_no_room(alloc: Global, rt: &impl Abort, file: &mut [u8], room: usize) {
     let mut buffer = [b'#'; 128];
     let Some(short) = buffer.get_mut(..room) else {
@@ -239,7 +240,7 @@ fn expect_no_room(alloc: Global, rt: &impl Abort, file: &mut [u8], room: usize) 
     equal(rt, buffer, [b'#'; 128]);
 }
 
-/// Checks that the answers to the first input are written to the start of a buffer.
+/// Checks that the answers to the input `FIRST` are written to the start of a buffer that is longer.
 fn expect_room(alloc: Global, rt: &impl Abort, file: &mut [u8]) {
     let count = FIRST_ANSWERS.len();
     let mut buffer = [b'#'; 128];

@@ -9,7 +9,7 @@ use mcs_wasm::page::{ServedInput, ask, begin, serve, serve_and_settle, settle};
 use std::alloc::Global;
 use std::process::Abort;
 
-/// Returns the file of a new session.
+/// Returns a session file with a new bench.
 pub(crate) fn new_file(alloc: Global, rt: &impl Abort) -> Vec<u8> {
     let mut file = vec![in alloc; 0u8; FILE_SIZE].expect(rt, "memory");
     begin(alloc, file.as_mut_slice()).expect(rt, "memory");
@@ -21,7 +21,7 @@ pub(crate) fn copy(alloc: Global, rt: &impl Abort, bytes: &[u8]) -> Vec<u8> {
     bytes.to_vec(alloc).expect(rt, "memory")
 }
 
-/// Turns a file into one of version 1, with a new bench and the record of `poke r5 9`.
+/// Overwrites a file with a session of version 1: a new bench and the record of `poke r5 9`.
 pub(crate) fn put_version_1(rt: &impl Abort, file: &mut [u8]) {
     file.fill(0);
     for (at, bytes) in NEW_BENCH {
@@ -30,18 +30,18 @@ pub(crate) fn put_version_1(rt: &impl Abort, file: &mut [u8]) {
     put(rt, file, POKE.0, POKE.1);
 }
 
-/// Returns a file of version 1, with a new bench and the record of `poke r5 9`.
+/// Returns a session file of version 1 with a new bench and the record of `poke r5 9`.
 pub(crate) fn file_of_version_1(alloc: Global, rt: &impl Abort) -> Vec<u8> {
     let mut file = vec![in alloc; 0u8; FILE_SIZE].expect(rt, "memory");
     put_version_1(rt, file.as_mut_slice());
     file
 }
 
-/// The answers to `regs` on the file of version 1.
+/// The answers to `regs` on the file that `file_of_version_1` returns.
 pub(crate) const CARRIED_OVER: &[u8] =
     b"session 1\nacc 0 cy 0 pc 000 owed 0 dcl 0 test 1 r 0000090000000000 ret 000 000 000\n";
 
-/// The calls that answer an input.
+/// The kinds of calls that answer an input.
 #[derive(Clone, Copy)]
 pub(crate) enum Call {
     Serve,
@@ -49,10 +49,10 @@ pub(crate) enum Call {
     Ask,
 }
 
-/// All calls that answer an input.
+/// All kinds of calls that answer an input.
 pub(crate) const CALLS: [Call; 3] = [Call::Serve, Call::ServeAndSettle, Call::Ask];
 
-/// Makes a call that answers an input on a file, and writes the answers into a buffer.
+/// Makes a call of the given kind that answers an input on a file, and writes the answers into a buffer.
 pub(crate) fn served(
     alloc: Global,
     call: Call,
@@ -67,13 +67,13 @@ pub(crate) fn served(
     }
 }
 
-/// Replaces the records of a file with a snapshot.
+/// Settles a file: replaces its records with a snapshot of the state.
 pub(crate) fn settled(alloc: Global, file: &mut [u8]) -> Result<(), StoreFault> {
     settle(alloc, file)
 }
 
-/// Makes a call that answers an input on a file. Returns the answers, or the error if there are
-/// none.
+/// Makes a call of the given kind that answers an input on a file. Returns the answers, or the error if the call
+/// fails.
 pub(crate) fn answers(
     alloc: Global,
     rt: &impl Abort,
@@ -88,12 +88,12 @@ pub(crate) fn answers(
     Ok(buffer)
 }
 
-/// Checks the answers to an input that is served on a file.
+/// Serves an input on a file, and checks the answers. `row` has the input and the expected answers.
 pub(crate) fn expect_answers(alloc: Global, rt: &impl Abort, file: &mut [u8], row: (&[u8], &[u8])) {
     expect_answers_by(alloc, rt, Call::Serve, file, row);
 }
 
-/// Checks the answers of a call to an input.
+/// Makes a call of the given kind on a file, and checks the answers. `row` has the input and the expected answers.
 pub(crate) fn expect_answers_by(
     alloc: Global,
     rt: &impl Abort,

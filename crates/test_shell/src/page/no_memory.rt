@@ -1,6 +1,6 @@
-//! Tests with one failing allocation. `checks/allocations` makes each allocation fail in turn; in
-//! the gate, none fails. A call that runs out of memory leaves file and buffer unchanged, and
-//! succeeds when it is repeated.
+//! Tests of the page's calls with one failing allocation. `checks/allocations` runs each test once per allocation,
+//! and makes that allocation fail. In an ordinary run, no allocation fails. A call that runs out of memory leaves the
+//! file and the buffer unchanged, and succeeds if it is repeated.
 use crate::checks::equal;
 use crate::page::files::{CARRIED_OVER, Call, put_version_1, served, settled};
 use crate::sessions::put;
@@ -11,7 +11,8 @@ use mcs_wasm::page::{ServedInput, begin};
 use std::alloc::{AllocError, Global};
 use std::process::Abort;
 
-/// A file, a copy of its bytes before the current call, and the buffer for the answers.
+/// The arguments of a call: the file and the buffer for the answers. `before` has the bytes of the file before the
+/// call.
 #[derive(Drop)]
 struct Desk {
     file: Vec<u8>,
@@ -19,16 +20,16 @@ struct Desk {
     buffer: [u8; 128],
 }
 
-/// The result of a call. `is_second` is true if the first attempt ran out of memory.
+/// The result of a call. `is_second` is true if the call was repeated because the first attempt ran out of memory.
 #[derive(Drop)]
 struct CallReport {
-    /// The number of bytes in the answers; as an error, the number of bytes that did not fit.
+    /// The length of the answers in bytes. It is an `Err` if the answers did not fit into the buffer.
     count: Result<usize, usize>,
     is_second: bool,
 }
 
-/// Returns the number of answer bytes of a call, or as an error the number that did not fit. Checks
-/// that there was no other error.
+/// Returns the length of the answers to a call in bytes. The length is an `Err` if the answers did not fit into the
+/// buffer. Checks that the call did not fail for another reason.
 fn count_of(rt: &impl Abort, report: Result<ServedInput, ServeFault>) -> Result<usize, usize> {
     match report {
         Ok(served) => {
@@ -41,7 +42,7 @@ fn count_of(rt: &impl Abort, report: Result<ServedInput, ServeFault>) -> Result<
 }
 
 impl Desk {
-    /// Creates a file whose bytes are not a session.
+    /// Creates a desk with a file of the right size that holds no session.
     fn new(alloc: Global) -> Result<Desk, AllocError> {
         Ok(Desk {
             file: vec![in alloc; 0xA5u8; FILE_SIZE]?,
@@ -50,7 +51,7 @@ impl Desk {
         })
     }
 
-    /// Saves a copy of the file's bytes, and resets the buffer.
+    /// Prepares for a call: saves a copy of the file's bytes, and resets the buffer.
     fn prepare(&mut self, rt: &impl Abort) {
         assert!(rt; self.before.len() == self.file.len());
         self.before
@@ -59,7 +60,7 @@ impl Desk {
         self.buffer = [b'#'; 128];
     }
 
-    /// Checks that the last call has left file and buffer unchanged.
+    /// Checks that the last call has left the file and the buffer unchanged.
     fn expect_untouched(&self, rt: &impl Abort) {
         assert!(rt; self.file.as_slice() == self.before.as_slice() && self.buffer == [b'#'; 128]);
     }
@@ -89,7 +90,7 @@ impl Desk {
         false
     }
 
-    /// Makes one call that answers an input, with room for `room` bytes of answers.
+    /// Makes one call that answers an input. The buffer has room for `room` bytes of answers.
     fn call_once(
         &mut self,
         alloc: Global,
@@ -103,7 +104,7 @@ impl Desk {
         }
     }
 
-    /// Serves an input, and repeats the call if it runs out of memory.
+    /// Serves an input with room for `room` bytes of answers, and repeats the call if it runs out of memory.
     fn serve(&mut self, alloc: Global, rt: &impl Abort, input: &[u8], room: usize) -> CallReport {
         self.call(alloc, rt, Call::Serve, (input, room))
     }
@@ -133,8 +134,8 @@ impl Desk {
         }
     }
 
-    /// Returns true if the last call returned the given answers and left the rest of the buffer
-    /// unchanged.
+    /// Returns true if the last call wrote the given answers to the start of the buffer and left the rest of the
+    /// buffer unchanged.
     fn has(&self, rt: &impl Abort, report: &CallReport, answers: &[u8]) -> bool {
         let mut wanted = [b'#'; 128];
         put(rt, &mut wanted, 0, answers);
@@ -147,8 +148,8 @@ const FIRST: &[u8] =
 
 const SECOND: &[u8] = b"poke r5 9\nlist 0 1\nseq\n";
 
-/// The answers to the first input if a part was left out for lack of memory, and the answers to the
-/// second input after that.
+/// The answers to the input `FIRST` if one of its parts failed for lack of memory, and the answers that `SECOND` then
+/// gets. `left_out` names the part that failed, or is `nothing`.
 struct Row {
     left_out: &'static str,
     first: &'static [u8],
@@ -242,10 +243,10 @@ seq 3
     },
 ];
 
-/// The answers to the second input if its listing is left out.
+/// The answers to the input `SECOND` if its listing fails for lack of memory.
 const SECOND_WITHOUT: &[u8] = b"session 2\nok 3\nno 90\nseq 3\n";
 
-/// The part that ran out of memory. At most one part can.
+/// The record of the part of a test that ran out of memory. At most one part can, because one allocation fails.
 #[derive(Drop)]
 struct Refusals {
     report: &'static str,
@@ -260,8 +261,8 @@ impl Refusals {
     }
 }
 
-/// Checks that the answers to the first input do not fit into eight bytes. The reported length
-/// shows whether one of them was left out.
+/// Checks that the answers to the input `FIRST` do not fit into eight bytes. The length that the call reports shows
+/// which part, if any, failed for lack of memory.
 fn look_for_room(alloc: Global, rt: &impl Abort, desk: &mut Desk, refusals: &mut Refusals) {
     let report = desk.serve(alloc, rt, FIRST, 8);
     desk.expect_untouched(rt);
@@ -275,7 +276,7 @@ fn look_for_room(alloc: Global, rt: &impl Abort, desk: &mut Desk, refusals: &mut
     panic!(rt; "another count");
 }
 
-/// Serves the first input, and returns the answers that the second input must have after it.
+/// Serves the input `FIRST`, and returns the answers that `SECOND` must get afterwards.
 fn serve_first(
     alloc: Global,
     rt: &impl Abort,
@@ -293,7 +294,7 @@ fn serve_first(
     panic!(rt; "other answers");
 }
 
-/// Serves the second input, and checks its answers.
+/// Serves the input `SECOND`, and checks the answers.
 fn serve_second(
     alloc: Global,
     rt: &impl Abort,
@@ -309,22 +310,22 @@ fn serve_second(
     }
 }
 
-/// Asks for the number of commands with two calls, of which the second also settles the file.
-/// Checks that both give the same answer.
+/// Queries the number of commands with two calls, the second of which also settles the file. Checks that both calls
+/// give answers of the same length.
 fn ask_and_settle(alloc: Global, rt: &impl Abort, desk: &mut Desk, refusals: &mut Refusals) {
     let asked = desk.call(alloc, rt, Call::Ask, (b"seq\n", 128));
     refusals.note(rt, asked.is_second, "the question");
     let answers = desk.buffer;
     let settled = desk.call(alloc, rt, Call::ServeAndSettle, (b"seq\n", 128));
     refusals.note(rt, settled.is_second, "the input settled");
-    // the length of `session N` and `seq N` with their line feeds
+    // the length of the lines `session N` and `seq N` with their line feeds
     equal(rt, asked.count, Ok(16));
     equal(rt, settled.count, Ok(16));
     equal(rt, desk.buffer, answers);
 }
 
-/// Starts a session, serves both inputs, and settles the file between them. Then asks a question
-/// with the other calls. Returns the part that ran out of memory.
+/// Starts a session, serves the inputs `FIRST` and `SECOND`, and settles the file between them. Then queries the
+/// session with the other calls. Returns the part that ran out of memory, or `nothing`.
 fn begin_and_serve(alloc: Global, rt: &impl Abort) -> &'static str {
     let Ok(mut desk) = Desk::new(alloc) else {
         return "a file";
@@ -345,8 +346,8 @@ fn one_allocation(rt: HostRuntime) {
     let _ = println!(rt; "refused: {refused}");
 }
 
-/// Settles a file of version 1, and serves an input on another one. Returns the part that ran out
-/// of memory.
+/// Settles a file of version 1, and serves an input on another file of version 1. Returns the part that ran out of
+/// memory, or `nothing`.
 fn carry_over(alloc: Global, rt: &impl Abort) -> &'static str {
     let Ok(mut desk) = Desk::new(alloc) else {
         return "a file";

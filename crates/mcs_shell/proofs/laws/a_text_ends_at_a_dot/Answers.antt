@@ -8,11 +8,11 @@ use Rattle.mcs_shell.proofs.LineFeeds.{at_dots, group-dot, group-line, group-beg
 use Rattle.mcs_shell.proofs.ExchangeLists.{or_false}
 use Rattle.mcs_shell.proofs.laws.a_text_ends_at_a_dot.Goals as goal
 
--- these lines, each followed by a line feed
+-- the bytes of these lines, each followed by a line feed
 abbrev with_feeds : List (List ℕ) → List ℕ
 with_feeds text = flat_map as_line text
 
--- lines that are no dot
+-- Lines that are not the dot line are appended to the open text.
 group-gathered : (whole : Bool) (kind : TextKind) (text : List ℕ) (ts rest : List (List ℕ)) → list_any is_dot_line ts ≡ false
     → inputs_from whole (InText kind text) (ts ++ rest) ≡ inputs_from whole (InText kind (text ++ with_feeds ts)) rest
 group-gathered whole kind text [] rest h = ap (λ t. inputs_from whole (InText kind t) rest) (sym (append-nil text))

@@ -13,7 +13,7 @@ use Rattle.mcs_shell.specs.declared.ends.ShellEnd.{ShellEnd}
 use Rattle.mcs_shell.specs.declared.ends.ShellEnd.TheVariants.{End}
 use Rattle.mcs_shell.proofs.program.run_arguments.Goals as goal
 
--- what a choice began was served to what is handed back
+-- Holds if the session that began, if one did, was served, and the session returned is the one after its shell.
 abbrev pub Serves : {F : Type 0} → Result (SessionView FileDisk) F → Option (SessionView FileDisk) → ℕ
     → StreamsView → StreamsView → Type 0
 Serves begun session status streams streams' = IfOk begun (λ before. IsSomeAnd session (λ after.
