@@ -1,4 +1,5 @@
--- What a board with which nothing is wrong has: its lines are in range, its clocks and data lines are output lines.
+-- Properties of a valid board: its lines exist, and the clock and data lines of its chains are
+-- output lines.
 use Rattle.std.proofs.Common.{◌≡◌, ℕ, ◌+◌, ◌<◌, ◌≤◌, inl, inr, Option, Some, None, Bool, true, false, length, sym, ap, ◌∙◌, arith, nat_lt, nat_le, not, ◌||◌, slice_get}
 use Rattle.std.proofs.lemmas.Option.{get_or_from_slice_get, slice_get_past}
 use Rattle.std.proofs.lemmas.Bool.{cases_lt, or_parts, and_parts, not-false}
@@ -12,13 +13,13 @@ use Rattle.mcs_model.specs.Boards.{board_fault_of, any_chain_line, any_column, a
 use Rattle.mcs_model.proofs.ListLemmas.{none_at}
 use Rattle.mcs_model.proofs.SoundBoards.{sound}
 
--- some line of a chain, of the keys, or of the lamps
+-- If no line of the board has a property, then no line of its chains and none of its lamps has it.
 no_line : (p : Line → Bool) (b : BoardParts) → any_line p b ≡ false → (any_chain_line p b ≡ false) × (any_lamp p b ≡ false)
 no_line p b h =
     let first = or_parts (any_chain_line p b || any_column p b) (any_lamp p b) h in
     ((or_parts (any_chain_line p b) (any_column p b) first.0).0, first.1)
 
--- the chain that drives the keys
+-- On a valid board, the chain that drives the key rows exists.
 pub keys-chain : (b : BoardParts) (m : KeyMatrix) → board_fault_of b ≡ None → b.keys ≡ Some m → m.chain < chain_count b
 keys-chain b m v is =
     let lacks = (sound b v).rows in
@@ -26,7 +27,7 @@ keys-chain b m v is =
     let first = (or_parts (nat_le (chain_count b) m.chain) (nat_lt (chain_bits b m.chain) (m.first + m.rows)) here).0 in
     grind (arith, nat_tests, first)
 
--- and it has a bit for each row
+-- On a valid board, the chain that drives the key rows has a bit for each row.
 pub keys-rows : (b : BoardParts) (m : KeyMatrix) → board_fault_of b ≡ None → b.keys ≡ Some m → m.first + m.rows ≤ chain_bits b m.chain
 keys-rows b m v is =
     let lacks = (sound b v).rows in
@@ -34,7 +35,7 @@ keys-rows b m v is =
     let second = (or_parts (nat_le (chain_count b) m.chain) (nat_lt (chain_bits b m.chain) (m.first + m.rows)) here).1 in
     grind (arith, nat_tests, second)
 
--- the lines of the clocks, the data and the lamps
+-- On a valid board, the clock line and the data line of each chain are output lines.
 driven : (b : BoardParts) (i : ℕ) → board_fault_of b ≡ None → i < chain_count b → (not (is_output_line b (chain_part b i).clock) || not (is_output_line b (chain_part b i).data_in)) ≡ false
 driven b i v l =
     let p = λ (line : Line). not (is_output_line b line) in

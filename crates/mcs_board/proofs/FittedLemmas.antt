@@ -1,4 +1,5 @@
--- The chips of a rig stay those of its board where one of them is replaced by one that is wired as it was.
+-- A rig's chips still match its board after one chip is replaced by another that is wired in the
+-- same way.
 use Rattle.std.proofs.Common.{◌≡◌, ℕ, ◌<◌, List, [], Some, None, length, get_or, slice_set, sym, ap, ◌∙◌}
 use Rattle.std.proofs.lemmas.List.{length-set, get_or_default}
 use Rattle.mcs_nibble.proofs.FlatRowsLemmas.{kept-at}

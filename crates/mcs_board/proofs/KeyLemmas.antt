@@ -1,4 +1,4 @@
--- What a rig's keys are to its flat state.
+-- Relations between a rig's keys and its flat state.
 use Rattle.std.proofs.Common.{◌≡◌, ℕ, ◌+◌, ◌<◌, ◌≤◌, zero, suc, Bool, true, false, List, [], Option, Some, None, length, get_or, refl, sym, ap, ◌∙◌, arith, eqb}
 use Rattle.mcs_nibble.specs.declared.lines.LineMask.{LineMask}
 use Rattle.mcs_nibble.specs.declared.lines.LineMask.TheVariants.{Input, Zero, One}
@@ -17,7 +17,7 @@ use Rattle.mcs_board.proofs.ClockLemmas.{chain-read}
 pub matrix-some : (b : BoardParts) (m : KeyMatrix) → b.keys ≡ Some m → matrix_on b ≡ m
 matrix-some b m e = ap (λ (o : Option KeyMatrix). elim o [ Some k ↦ k | None ↦ no_matrix ]) e
 
--- the chain of the rows has a bit for each of them
+-- The chain that drives the key rows has a bit for each row.
 pub rows-fit : (b : BoardParts) (chains : List (List ℕ)) (m : KeyMatrix) → board_fault_of b ≡ None → b.keys ≡ Some m → ((i : ℕ) → i < chain_count b → length (get_or chains i []) ≡ chain_bits b i) → m.first + m.rows ≤ length (get_or chains m.chain [])
 rows-fit b chains m v is bits =
     let fit = keys-rows b m v is in
@@ -32,7 +32,7 @@ pub keyed-none : (s : BusState) (chip k : ℕ) → s.board.keys ≡ None → fal
 unfolding is_pulled
 keyed-none s chip k is = rw (is, is_pulled) refl
 
--- what the keys pull is what the flat state says
+-- The lines that a rig's keys pull to 1 are those that are pulled in its flat state.
 pub keyed-by : (p : RigParts) (m : KeyMatrix) (chip k : ℕ) → board_fault_of p.board ≡ None → p.board.keys ≡ Some m → is_pulled_by (get_or p.chains m.chain []) p.keys m chip k ≡ is_pulled (rig_of p) chip k
 keyed-by p m chip k v is =
     ap (λ row. is_pulled_by row p.keys m chip k) (sym (chain-read p.board p.chains m.chain (keys-chain p.board m v is)))
@@ -61,7 +61,7 @@ picked Input a b e = e
 picked Zero a b e = refl
 picked One a b e = refl
 
--- a port whose input lines are at the bits of a nibble
+-- A port reads the same value if the levels of its input lines are first packed into a nibble.
 pub read-inputs : (f : ℕ → ℕ) (mask : List LineMask) → ((j : ℕ) → f j < 2) → read_lines (bit_of (nibble_of f)) mask ≡ read_lines f mask
 unfolding read_lines
 read-inputs f mask h =

@@ -1,4 +1,4 @@
--- The flat state of chips that were made, put on a board or cleared, place by place.
+-- The flat state of a rig that was created, wired to a board or reset, value by value.
 use Rattle.std.proofs.Common.{◌≡◌, ℕ, ◌*◌, ◌/◌, ◌<◌, ◌≤◌, inl, inr, List, [], Option, Some, None, is_some, length, get_or, slice_index, replicate, refl, sym, ap, ◌∙◌, arith, if◌then◌else◌}
 use Rattle.std.proofs.lemmas.Bool.{cases_lt}
 use Rattle.std.proofs.lemmas.List.{get_or-replicate, get_or_past, length-replicate, length-map, get_or-map}
@@ -17,11 +17,11 @@ use Rattle.mcs_board.specs.RigState.{RigParts, no_bank, port_of_rom, masks_of_ro
 use Rattle.mcs_board.specs.Fitting.{FitsCounts, port_on, port_after_reset}
 use Rattle.mcs_ram4002.proofs.BankLemmas.{slice_index-zeros}
 
--- each bank is as it was made
+-- holds if every bank k of the list is blank: it has `wired k` chips, and all its values are 0
 pub record AllBlank (banks : List BankState) (wired : ℕ → ℕ) : Type 0 where
   pub at : (k : ℕ) → k < length banks → get_or banks k no_bank ≡ blank_bank (wired k)
 
--- what a list of such banks shows
+-- holds if all values of a list of banks are 0 in the flat state
 record Zeros (banks : List BankState) : Type 0 where
   ram : flat_rows 8 256 (λ b. b.main) no_bank banks ≡ replicate 2048 0
   status : flat_rows 8 64 (λ b. b.status) no_bank banks ≡ replicate 512 0
@@ -52,13 +52,13 @@ blank-zeros banks wired blank = record {
       ]);
 }
 
--- the chains of a board with all bits 0
+-- If all bits of a rig's chains are 0, the flat state has the blank chains of the board.
 chains-blank : (b : BoardParts) (chains : List (List ℕ)) → chain_count b ≤ length chains → ((k : ℕ) → k < chain_count b → get_or chains k [] ≡ replicate (chain_bits b k) 0) → wired_chains b chains ≡ blank_chains b
 chains-blank b chains fit rows =
     sym (tabled_from (chain_count b) (λ i. get_or chains i []) (blank_chains b) [] (length-map b.chains.items _)
     (λ k h. get_or-map (λ (c : ChainPart). replicate (10 * c.chips) 0) b.chains.items k no_chain [] h ∙ sym (rows k h)))
 
--- the latches of ROMs that all are 0
+-- If the port latches of all ROMs are 0, all 16 ROM latches of the flat state are 0.
 ports-blank : (roms : List (Option PortState)) → ((k : ℕ) → port_of_rom (get_or roms k None) ≡ 0) → column 16 port_of_rom None roms ≡ replicate 16 0
 ports-blank roms h = blank-column 16 port_of_rom None roms h
 
@@ -78,7 +78,8 @@ rewired-port : (mask : Option (List LineMask)) → port_of_rom (port_on mask) �
 rewired-port (Some m) = refl
 rewired-port None = refl
 
--- every place for a ROM, on a new board; beyond the places the board has none
+-- After wiring, each ROM socket has the port that the board requires. The board has no ROM beyond
+-- the sockets.
 pub rewired-every : (b : BoardParts) (roms roms' : List (Option PortState)) → length roms' ≡ length roms → ((k : ℕ) → k < length roms → get_or roms' k None ≡ port_on (masks_on b k)) → ((k : ℕ) → length roms ≤ k → masks_on b k ≡ None) → (k : ℕ) → get_or roms' k None ≡ port_on (masks_on b k)
 rewired-every b roms roms' l h absent k =
     elim (cases_lt k (length roms)) [
@@ -100,7 +101,7 @@ length-kept b bytes = length-tabled 4096 _
 get_or-past-kept : (b : BoardParts) (bytes : List ℕ) (at : ℕ) → 4096 ≤ at → slice_index (kept_rom b bytes) at ≡ 0
 get_or-past-kept b bytes at h = let l = length-kept b bytes in get_or_past (kept_rom b bytes) at 0 (omega arith)
 
--- what a ROM that a board lacks has left
+-- `kept_rom` sets the bytes of each absent ROM to 0.
 absent-kept : (b : BoardParts) (bytes : List ℕ) (at : ℕ) → masks_on b (at / 256) ≡ None → slice_index (kept_rom b bytes) at ≡ 0
 unfolding kept_rom
 absent-kept b bytes at none =
@@ -109,7 +110,7 @@ absent-kept b bytes at none =
       | inr h ↦ get_or-past-kept b bytes at h
     ]
 
--- a rig put on a new board: what each place is then
+-- holds if `new` has the contents of rig `old` after that rig is wired to the board of `new`
 pub record IsRewired (old new : RigParts) : Type 0 where
   pub roms : (k : ℕ) → get_or new.roms k None ≡ port_on (masks_on new.board k)
   pub program : new.program ≡ kept_rom new.board old.program
@@ -120,7 +121,7 @@ pub record IsRewired (old new : RigParts) : Type 0 where
   pub src : new.rom_src ≡ 0
   pub test : new.test ≡ old.test
 
--- the state of a rig on a new board
+-- The flat state of a rewired rig is that of `after_wire`.
 pub wire-state : (old new : RigParts) → IsRewired old new → rig_of new ≡ after_wire (rig_of old) new.board
 unfolding zero_bus
 wire-state old new w =
@@ -129,7 +130,7 @@ wire-state old new w =
     let cs = chains-blank new.board new.chains w.fit w.chains in
     rw (w.program, z.ram, z.status, z.ports, ports, z.src, cs, w.up, w.src, w.test) refl
 
--- the state of a rig after a reset
+-- The flat state of a rig after a reset is that of `after_reset`.
 pub reset-state : (p : RigParts) (roms : List (Option PortState)) (banks : List BankState) (chains : List (List ℕ)) (wired : ℕ → ℕ) → ((k : ℕ) → get_or roms k None ≡ port_after_reset (get_or p.roms k None)) → AllBlank banks wired → chain_count p.board ≤ length chains → ((k : ℕ) → k < chain_count p.board → get_or chains k [] ≡ replicate (chain_bits p.board k) 0) → rig_of (record p { roms = roms; banks = banks; chains = chains; rom_src = 0 }) ≡ after_reset (rig_of p)
 unfolding zero_bus
 reset-state p roms banks chains wired every blank fit rows =
@@ -138,7 +139,7 @@ reset-state p roms banks chains wired every blank fit rows =
     let cs = chains-blank p.board chains fit rows in
     rw (z.ram, z.status, z.ports, ports, z.src, cs) refl
 
--- the chips of a rig fit its board after a reset
+-- The chips of a rig still match its board after a reset.
 pub reset-fitted : (p : RigParts) (roms : List (Option PortState)) (banks : List BankState) (chains : List (List ℕ)) (rom_sockets bank_sockets chain_sockets : ℕ) → Fitted p rom_sockets bank_sockets chain_sockets → length roms ≡ length p.roms → length banks ≡ length p.banks → length chains ≡ length p.chains → ((k : ℕ) → get_or roms k None ≡ port_after_reset (get_or p.roms k None)) → AllBlank banks (λ k. (get_or p.banks k no_bank).wired) → ((k : ℕ) → k < chain_count p.board → get_or chains k [] ≡ replicate (chain_bits p.board k) 0) → Fitted (record p { roms = roms; banks = banks; chains = chains; rom_src = 0 }) rom_sockets bank_sockets chain_sockets
 reset-fitted p roms banks chains rom_sockets bank_sockets chain_sockets v rl bl cl every blank rows = record {
   roms_len = rl ∙ v.roms_len;
@@ -158,7 +159,7 @@ reset-fitted p roms banks chains rom_sockets bank_sockets chain_sockets v rl bl 
   src = omega arith;
 }
 
--- the chips of a rig fit the board that it was put on
+-- The chips of a rewired rig match its new board.
 pub wire-fitted : (old new : RigParts) (rom_sockets bank_sockets chain_sockets chain_size : ℕ) → FitsCounts new.board rom_sockets bank_sockets chain_sockets chain_size → length new.roms ≡ rom_sockets → length new.banks ≡ bank_sockets → length new.chains ≡ chain_sockets → IsRewired old new → Fitted new rom_sockets bank_sockets chain_sockets
 wire-fitted old new rom_sockets bank_sockets chain_sockets chain_size fits rl bl cl w = record {
   roms_len = rl;
@@ -192,7 +193,7 @@ no-wired n k =
       | inr h ↦ let l = length-replicate n (blank_bank 0) in ap (λ (x : BankState). x.wired) (get_or_past (replicate n (blank_bank 0)) k no_bank (omega arith))
     ]
 
--- what a new rig keeps
+-- the contents of a new rig
 abbrev pub new_parts : ℕ → ℕ → ℕ → RigParts
 new_parts rom_sockets bank_sockets chain_sockets = record {
   board = empty_parts;
@@ -205,7 +206,7 @@ new_parts rom_sockets bank_sockets chain_sockets = record {
   test = 1;
 }
 
--- the places of a new rig fit the empty board
+-- The sockets of a new rig match the empty board.
 pub new-fitted : (rom_sockets bank_sockets chain_sockets : ℕ) → Fitted (new_parts rom_sockets bank_sockets chain_sockets) rom_sockets bank_sockets chain_sockets
 new-fitted rom_sockets bank_sockets chain_sockets = record {
   roms_len = length-replicate rom_sockets None;
@@ -221,7 +222,7 @@ new-fitted rom_sockets bank_sockets chain_sockets = record {
   src = omega arith;
 }
 
--- the state of a new rig
+-- The flat state of a new rig is all 0, except for TEST, which is 1.
 pub new-state : (rom_sockets bank_sockets chain_sockets : ℕ) → rig_of (new_parts rom_sockets bank_sockets chain_sockets) ≡ record zero_bus { test = 1 }
 unfolding zero_bus table_of
 new-state rom_sockets bank_sockets chain_sockets =

@@ -18,7 +18,8 @@ use Rattle.mcs_board.specs.RigState.{RigParts, no_bank, port_of_rom, masks_of_ro
 use Rattle.mcs_board.proofs.ClockLemmas.{chain-read}
 use Rattle.mcs_board.proofs.RigLemmas.{src-of, main-of, status-of, port-of, rom_port-of}
 
--- each chip that is there is valid
+-- holds if each chip on a rig is valid: the ROM bytes are below 256, and each ROM port and each
+-- bank is valid
 pub record AreValidChips (p : RigParts) : Type 0 where
   pub program : All (λ byte. byte < 256) p.program
   pub roms : (k : ℕ) → k < length p.roms → IfSome (get_or p.roms k None) IsValidPort
@@ -37,7 +38,7 @@ latch-below : (rom : Option PortState) → IfSome rom IsValidPort → port_of_ro
 latch-below (Some r) valid = valid.latch
 latch-below None valid = omega arith
 
--- the bits of a latch that are always 0
+-- holds if the latch n has a 0 bit for each input line of the ROM, or is 0 if the ROM is absent
 abbrev kept_0 : ℕ → Option (List LineMask) → Type 0
 kept_0 n masks = MatchOption masks (n ≡ 0) (λ mask. latch_value mask n ≡ n)
 
@@ -52,7 +53,7 @@ zero-kept None n is = is
 -- ---- banks
 
 module _ (banks : List BankState) (valid : (k : ℕ) → k < length banks → IsValidBank (get_or banks k no_bank)) where
-  -- what holds of every valid bank and of an absent one
+  -- A property of the absent bank and of every valid bank holds for each bank of the list.
   at_bank : (P : BankState → Type 0) → P no_bank → ((b : BankState) → IsValidBank b → P b) → (k : ℕ) → P (get_or banks k no_bank)
   at_bank P none each k =
       elim (cases_lt k (length banks)) [
@@ -60,7 +61,7 @@ module _ (banks : List BankState) (valid : (k : ℕ) → k < length banks → Is
         | inr beyond ↦ subst P (sym (get_or_past banks k no_bank beyond)) none
       ]
 
--- ---- the whole
+-- ---- the flat state of the rig
 
 pub valid-state : (p : RigParts) (rom_sockets bank_sockets chain_sockets : ℕ) → IsValidBoard p.board → Fitted p rom_sockets bank_sockets chain_sockets → AreValidChips p → ((i : ℕ) → i < chain_count p.board → All (λ bit. bit < 2) (get_or (wired_chains p.board p.chains) i [])) → All (λ key. key < 2) p.keys → p.test < 2 → IsValidBus (rig_of p)
 valid-state p rom_sockets bank_sockets chain_sockets board v chips bits keys test =

@@ -1,6 +1,5 @@
--- The bus part of the flat state, from a rig's chips.
--- Source: our own choice. A ROM's number is its page, and a bank's number is the value of the
--- command register that selects it.
+-- The flat state of a rig (`BusState`), from its chips. Source: our own choice. A ROM's number is
+-- its page. A bank's number is the value of the command register that selects it.
 use Rattle.std.specs.Prelude.{◌≡◌, ℕ, ◌/◌, ◌<◌, ◌≤◌, List, [], Option, Some, None, slice_index, slice_index_or, length}
 use Rattle.mcs_nibble.specs.Tables.{table_of, column, flat_rows}
 use Rattle.mcs_nibble.specs.declared.lines.LineMask.{LineMask}
@@ -13,7 +12,7 @@ use Rattle.mcs_model.specs.Boards.{masks_on, chain_count, chain_bits, key_count}
 use Rattle.mcs_model.specs.Bus.{BusState, with_ram, with_status}
 use Rattle.mcs_model.specs.ChipWrites.{with_ram_latch, with_ram_src}
 
--- an absent bank: every value in it reads as 0
+-- an absent bank, in which every value reads as 0
 abbrev pub no_bank : BankState
 no_bank = record { wired = 0; src = 0; main = []; status = []; ports = [] }
 
@@ -22,16 +21,16 @@ abbrev pub port_of_rom : Option PortState → ℕ
 port_of_rom (Some r) = r.port
 port_of_rom None = 0
 
--- the line masks of a ROM, if it is present
+-- the line masks of a ROM; none if the ROM is absent
 abbrev pub masks_of_rom : Option PortState → Option (List LineMask)
 masks_of_rom (Some r) = Some r.mask
 masks_of_rom None = None
 
--- the bits of the board's chains, from the rig's chain sockets
+-- the bits of each chain on the board, from the rig's chain sockets
 abbrev pub wired_chains : BoardParts → List (List ℕ) → List (List ℕ)
 wired_chains b chains = table_of (chain_count b) (λ i. slice_index_or chains i [])
 
--- the contents of a rig: a board, and the sockets for its chips
+-- the contents of a rig: a board, the chips in its sockets, and its keys
 pub record RigParts : Type 0 where
   pub board : BoardParts
   pub roms : List (Option PortState)
@@ -61,7 +60,7 @@ rig_of p = record {
 
 -- Holds if a rig's chips match its board. Each list of sockets has the given length. Each ROM has
 -- the board's line masks, each bank the board's number of chips, and each chain the board's number
--- of bits. There is one bit for each key. The bytes of absent ROMs are 0.
+-- of bits. Each key has one bit. The bytes of absent ROMs are 0.
 pub record Fitted (p : RigParts) (rom_sockets bank_sockets chain_sockets : ℕ) : Type 0 where
   pub roms_len : length p.roms ≡ rom_sockets
   pub banks_len : length p.banks ≡ bank_sockets

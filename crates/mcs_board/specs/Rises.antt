@@ -1,5 +1,5 @@
--- The effect of a port write on shift-register chains, from the port latch before and after the
--- write.
+-- The effect of a port write on shift-register chains, defined by the port latch before and after
+-- the write.
 use Rattle.std.specs.Prelude.{ℕ, Bool, false, ◌&&◌, ◌==◌, List, [], slice_index_or, if◌then◌else◌}
 use Rattle.mcs_nibble.specs.Bits.{bit_of}
 use Rattle.mcs_nibble.specs.Shifting.{bits_after_shift}
@@ -10,22 +10,23 @@ use Rattle.mcs_model.specs.Boards.{chain_part, chain_count}
 use Rattle.mcs_model.specs.Bus.{BusState}
 use Rattle.mcs_model.specs.Levels.{level}
 
--- true if the second line is on the same port as the first, and its latch bit is 0 before and 1
--- after
+-- true if both lines are on the same port, and the second line's latch bit is 0 in `before` and 1
+-- in `after`
 abbrev pub is_raised : Line → ℕ → ℕ → Line → Bool
 is_raised (Rom c j) before after (Rom d k) = c == d && (bit_of before k == 0 && bit_of after k == 1)
 is_raised (Ram b c j) before after (Ram e d k) = b == e && c == d && (bit_of before k == 0 && bit_of after k == 1)
 is_raised port before after line = false
 
--- the bits of chain i after a port latch changes from `before` to `after`
+-- the bits of chain i after a port latch changes from `before` to `after`: shifted if its clock
+-- line rises
 unfoldable pub chain_raised : BusState → Line → ℕ → ℕ → ℕ → List ℕ → List ℕ
 chain_raised s port before after i bits =
     if is_raised port before after (chain_part s.board i).clock
     then bits_after_shift (level s (chain_part s.board i).data_in) bits
     else bits
 
--- the state in which each chain is shifted if its clock line rises when a port latch changes from
--- `before` to `after`
+-- the state after a port latch changes from `before` to `after`: each chain is shifted if its clock
+-- line rises
 unfoldable pub chains_raised : Line → ℕ → ℕ → BusState → BusState
 chains_raised port before after s = record s {
   chains = table_of (chain_count s.board) (λ i. chain_raised s port before after i (slice_index_or s.chains i []));

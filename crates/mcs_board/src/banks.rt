@@ -1,5 +1,5 @@
-//! A rig's RAM banks: wiring them to a board, clearing them, and a getter and a setter for each value. A setter changes
-//! only its own location and clocks no shift register.
+//! A rig's RAM banks: functions that wire them to a board, clear them, and get or set each value. A setter changes
+//! only its own value and clocks no shift register.
 ghost use Rattle.std.specs.Prelude.{◌≡◌, ℕ, ◌+◌, ◌*◌, ◌<◌, ◌≤◌, ◌↔◌, IsTrue, length, replicate, IfOk, slice_index, slice_index_or};
 ghost use Rattle.mcs_ram4002.specs.RamBank.{IsInBank, IsValidBank, blank_bank};
 ghost use Rattle.mcs_model.specs.Bus.{ram_index, ram_port_index, status_index, with_ram, with_status};
@@ -50,7 +50,7 @@ pub(crate) fn banks_fit(board: &Board, sockets: usize) -> bool
     true
 }
 
-/// Replaces the banks with those of a new board. All their values are 0.
+/// Replaces the banks with those of a new board, and sets all their values to 0.
 pub(crate) fn rewire_banks(banks: &mut Vec<Bank<4>>, board: &Board)
     ensures count { length banks.new.items ≡ length banks.old.items }
     ensures banks { (k : ℕ) → k < length banks.old.items → slice_index_or banks.new.items k no_bank
@@ -99,7 +99,7 @@ impl<const ROMS: usize, const BANKS: usize, const CHAINS: usize, const MAX: usiz
     CHAINS,
     MAX,
 > {
-    /// Writes to a bank, 0 to 7. The write is lost if the chip is absent.
+    /// Writes to bank `bank` (0 to 7). Has no effect if the chip is absent.
     #[inline(always)]
     fn store(&mut self, bank: u8, write: BankWrite)
         requires bank { bank < 8 }
@@ -112,7 +112,7 @@ impl<const ROMS: usize, const BANKS: usize, const CHAINS: usize, const MAX: usiz
         }
     }
 
-    /// Returns the RAM character that an SRC byte selects in a bank, 0 to 7, or 0 if the chip is absent.
+    /// Returns the RAM character that an SRC byte selects in bank `bank` (0 to 7), or 0 if the chip is absent.
     pub fn ram(&self, bank: u8, src: u8) -> Nibble
         requires { bank < 8 }
         ensures { result ≡ slice_index self.now.ram (ram_index bank src) }
@@ -125,7 +125,7 @@ impl<const ROMS: usize, const BANKS: usize, const CHAINS: usize, const MAX: usiz
         }
     }
 
-    /// Sets the RAM character that an SRC byte selects in a bank, 0 to 7. The write is lost if the chip is absent.
+    /// Sets the RAM character that an SRC byte selects in bank `bank` (0 to 7). Has no effect if the chip is absent.
     pub fn set_ram(&mut self, bank: u8, src: u8, n: Nibble)
         requires { bank < 8 }
         ensures { self.new ≡ with_ram self.old bank src n }
@@ -133,8 +133,8 @@ impl<const ROMS: usize, const BANKS: usize, const CHAINS: usize, const MAX: usiz
         self.store(bank, BankWrite::Character(src, n));
     }
 
-    /// Returns status character `k`, 0 to 3, of a bank, 0 to 7, or 0 if the chip is absent. `high`, the upper nibble of
-    /// an SRC byte, selects the chip and its register.
+    /// Returns status character `k` (0 to 3) in bank `bank` (0 to 7), or 0 if the chip is absent. `high`, the upper
+    /// nibble of an SRC byte, selects the chip and its register.
     pub fn status(&self, bank: u8, high: Nibble, k: u8) -> Nibble
         requires bank { bank < 8 }
         requires k { k < 4 }
@@ -148,8 +148,8 @@ impl<const ROMS: usize, const BANKS: usize, const CHAINS: usize, const MAX: usiz
         }
     }
 
-    /// Sets status character `k`, 0 to 3, of a bank, 0 to 7. `high`, the upper nibble of an SRC byte, selects the chip
-    /// and its register. The write is lost if the chip is absent.
+    /// Sets status character `k` (0 to 3) in bank `bank` (0 to 7). `high`, the upper nibble of an SRC byte, selects
+    /// the chip and its register. Has no effect if the chip is absent.
     pub fn set_status(&mut self, bank: u8, high: Nibble, k: u8, n: Nibble)
         requires bank { bank < 8 }
         requires k { k < 4 }
@@ -158,7 +158,7 @@ impl<const ROMS: usize, const BANKS: usize, const CHAINS: usize, const MAX: usiz
         self.store(bank, BankWrite::Status(high, k, n));
     }
 
-    /// Returns the port latch of a RAM chip, 0 to 3, in a bank, 0 to 7. It is 0 if the chip is absent.
+    /// Returns the port latch of RAM chip `chip` (0 to 3) in bank `bank` (0 to 7), or 0 if the chip is absent.
     pub fn ram_latch(&self, bank: u8, chip: u8) -> Nibble
         requires bank { bank < 8 }
         requires chip { chip < 4 }
@@ -172,8 +172,8 @@ impl<const ROMS: usize, const BANKS: usize, const CHAINS: usize, const MAX: usiz
         }
     }
 
-    /// Sets the port latch of a RAM chip, 0 to 3, in a bank, 0 to 7. The write is lost if the chip is absent. No
-    /// shift-register chain is clocked.
+    /// Sets the port latch of RAM chip `chip` (0 to 3) in bank `bank` (0 to 7). Clocks no shift-register chain. Has
+    /// no effect if the chip is absent.
     pub fn set_ram_latch(&mut self, bank: u8, chip: u8, n: Nibble)
         requires bank { bank < 8 }
         requires chip { chip < 4 }
@@ -182,7 +182,7 @@ impl<const ROMS: usize, const BANKS: usize, const CHAINS: usize, const MAX: usiz
         self.store(bank, BankWrite::Port(chip, n));
     }
 
-    /// Returns the SRC byte latched in a bank, 0 to 7, or 0 if the bank has no chips.
+    /// Returns the SRC byte latched in bank `bank` (0 to 7), or 0 if the bank has no chips.
     pub fn ram_src(&self, bank: u8) -> u8
         requires { bank < 8 }
         ensures { result ≡ slice_index self.now.ram_src bank }
@@ -195,7 +195,7 @@ impl<const ROMS: usize, const BANKS: usize, const CHAINS: usize, const MAX: usiz
         }
     }
 
-    /// Sets the SRC byte latched in a bank, 0 to 7. It stays 0 in a bank without chips.
+    /// Sets the SRC byte latched in bank `bank` (0 to 7). It stays 0 if the bank has no chips.
     pub fn set_ram_src(&mut self, bank: u8, byte: u8)
         requires { bank < 8 }
         ensures { self.new ≡ with_ram_src self.old bank byte }

@@ -1,4 +1,4 @@
-//! The bench's rig, which is large enough for every board, and the execution of instructions on it.
+//! The bench's rig, which is large enough for every board, and functions that execute instructions on it.
 ghost use Rattle.std.specs.Prelude.{◌≡◌, ◌≢◌, ◌<◌, ◌↔◌, IsNone, Some, unwrap_or};
 ghost use Rattle.mcs_model.specs.Effect.{cycle_of, instruction_at};
 ghost use Rattle.mcs_cpu4004.specs.InstructionRan.{InstructionRan};
@@ -21,7 +21,9 @@ pub fn every_board_fits_the_bench(board: &Board)
     let _parts = board.parts();
 }
 
-/// Executes one instruction cycle of a processor on a rig. The effect is that of `cycle_of` on their flat states.
+/// Executes one instruction cycle of a processor on a rig, as `cycle_of` defines for their flat states. If `cycle_of`
+/// defines no cycle, returns `Cycle::Outside` and changes neither the processor nor the rig. Returns `Cycle::Idle` if
+/// and only if a second cycle was pending before.
 #[inline(always)]
 pub fn cycle(cpu: &mut Cpu, rig: &mut BenchRig) -> Cycle
     ensures outside { (result ≡ Cycle.Outside) ↔ IsNone (cycle_of cpu.old rig.old) }
@@ -39,9 +41,9 @@ pub fn instruction(cpu: &Cpu, rig: &BenchRig, at: Addr) -> Option<Op>
     cpu.instruction(rig, at)
 }
 
-/// Executes the instruction `op` at an address for at most `left` cycles. Requires that no second cycle is pending.
-/// Returns the address at which execution continues and the number of cycles done. The program counter itself does not
-/// change.
+/// Executes `op`, the instruction at address `at`, for at most `left` cycles. Returns the address at which execution
+/// continues and the number of cycles done, at least 1. Requires that `left` is not 0 and that no second cycle is
+/// pending. The program counter itself does not change.
 #[inline(always)]
 pub fn run_instruction(
     cpu: &mut Cpu,

@@ -1,5 +1,5 @@
-//! A rig's shift-register chains: wiring them to a board, clearing them, and a getter and a setter for their bits. The
-//! setter shifts nothing.
+//! A rig's shift-register chains: functions that wire them to a board, clear them, and get or set one bit. Setting a
+//! bit shifts nothing.
 ghost use Rattle.std.specs.Prelude.{◌≡◌, ℕ, ◌<◌, ◌≤◌, ◌↔◌, All, IsTrue, length, replicate, [], IfOk, slice_index_or};
 ghost use Rattle.mcs_model.specs.Boards.{chain_bits, chain_count};
 ghost use Rattle.mcs_model.specs.Levels.{chain_bit};
@@ -11,7 +11,7 @@ use mcs_nibble::Bit;
 use mcs_shift4003::Chain;
 use std::alloc::{AllocError, Global};
 
-/// Returns `count` chains without bits. Fails if memory cannot be allocated.
+/// Returns `count` chains of 0 bits. Fails if memory cannot be allocated.
 pub(crate) fn no_chains<const MAX: usize>(
     alloc: Global,
     count: usize,
@@ -25,7 +25,7 @@ pub(crate) fn no_chains<const MAX: usize>(
     Ok(chains)
 }
 
-/// Returns the number of bits in chain `i`, or 0 if the board has no such chain.
+/// Returns the number of bits in chain `i`, or 0 if the board has no chain `i`.
 fn bits_of(board: &Board, i: usize) -> usize
     ensures { result ≡ chain_bits board.now i }
 {
@@ -48,7 +48,8 @@ pub(crate) fn chains_fit(board: &Board, size: usize) -> bool
     true
 }
 
-/// Replaces the chains with those of a new board. All bits are 0.
+/// Replaces the chains with those of a new board, and sets all their bits to 0. Requires that no chain of the board
+/// has more than `MAX` bits.
 pub(crate) fn rewire_chains<const MAX: usize>(chains: &mut Vec<Chain<MAX>>, board: &Board)
     requires { (k : ℕ) → chain_bits board.now k ≤ MAX }
     ensures count { length chains.new.items ≡ length chains.old.items }
@@ -113,7 +114,7 @@ impl<const ROMS: usize, const BANKS: usize, const CHAINS: usize, const MAX: usiz
         }
     }
 
-    /// Returns bit `i` of chain `chain`, or 0 if the board has no such bit. Both numbers start at 0.
+    /// Returns bit `i` of chain `chain`, or 0 if the board lacks that bit. Chains and bits are numbered from 0.
     pub fn chain_bit(&self, chain: u8, i: u8) -> Bit
         ensures { result ≡ chain_bit self.now chain i }
     {
@@ -124,8 +125,8 @@ impl<const ROMS: usize, const BANKS: usize, const CHAINS: usize, const MAX: usiz
         self.bit_of_chain(n, usize::from(i))
     }
 
-    /// Sets bit `i` of chain `chain`. Both numbers start at 0. The write is lost if the board has no such bit. Nothing
-    /// is shifted.
+    /// Sets bit `i` of chain `chain`, and shifts nothing. Chains and bits are numbered from 0. Has no effect if the
+    /// board lacks that bit.
     pub fn set_chain_bit(&mut self, chain: u8, i: u8, bit: Bit)
         ensures { self.new ≡ with_chain_bit self.old chain i bit }
     {
@@ -133,7 +134,8 @@ impl<const ROMS: usize, const BANKS: usize, const CHAINS: usize, const MAX: usiz
         if n >= self.chain_count() {
             return;
         }
-        // The chain sockets fit in memory, which bounds the size of one. The proof of the call to `set_bit` needs it.
+        // The chain sockets fit in memory, so the size of one socket is bounded. The proof of the call to `set_bit`
+        // needs this bound.
         let chains = self.chains.as_slice();
         let _sockets = chains.len();
         let index = usize::from(i);

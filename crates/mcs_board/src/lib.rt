@@ -1,8 +1,8 @@
-//! The rig: a board with its chips, as the processor's bus.
+//! The rig: a board with its chips, which the processor accesses as its bus.
 //!
-//! A `Rig` holds the ROMs, RAM banks, shift-register chains and keys of a board. Contracts see it as one flat state.
-//! Its parameters are the numbers of its sockets. It can be wired to every board that fits them. Source: Intel MCS-4
-//! Users Manual, the chips. The definitions in `mcs_model` say what the manual leaves open.
+//! A `Rig` holds the ROMs, RAM banks, shift-register chains and keys of a board. In contracts its value is one flat
+//! state. Its const parameters give the number of sockets for each kind of chip. A rig can be wired to any board that
+//! fits its sockets. Source: Intel MCS-4 Users Manual, the chips. `mcs_model` defines what the manual leaves open.
 #![tactic(auto)]
 
 mod banks;

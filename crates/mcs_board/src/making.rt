@@ -1,4 +1,4 @@
-//! Creation, rewiring and reset of a rig.
+//! Functions that create, copy, rewire and reset a rig.
 
 ghost use Rattle.std.specs.Prelude.{◌≡◌, ◌↔◌, IfOk, IsTrue};
 ghost use Rattle.mcs_model.specs.Bus.{zero_bus};
@@ -31,7 +31,7 @@ impl<const ROMS: usize, const BANKS: usize, const CHAINS: usize, const MAX: usiz
     CHAINS,
     MAX,
 > {
-    /// Returns a rig with the empty board. All state is 0, except the TEST level, which is 1.
+    /// Returns a rig that is wired to the empty board. All state is 0, except the TEST level, which is 1.
     ///
     /// # Errors
     ///
@@ -58,8 +58,8 @@ impl<const ROMS: usize, const BANKS: usize, const CHAINS: usize, const MAX: usiz
     ///
     /// # Errors
     ///
-    /// Fails if memory for the chip sockets and the ROM bytes cannot be allocated. Also fails if a chain of `MAX` bits
-    /// would not fit in any memory, but no rig with such a `MAX` exists.
+    /// Fails if memory for the chip sockets and the ROM bytes cannot be allocated. Also fails if a chain of `MAX`
+    /// bits would not fit in any memory, but then no rig exists that could be copied.
     pub fn copy(&self, alloc: Global) -> Result<Self, AllocError>
         ensures { IfOk result (λ rig. rig ≡ self.now) }
     {
@@ -77,8 +77,9 @@ impl<const ROMS: usize, const BANKS: usize, const CHAINS: usize, const MAX: usiz
         })
     }
 
-    /// Wires the rig to another board, which must fit its sockets. All keys are up, and everything that a reset clears
-    /// is cleared. The bytes of ROMs that the board lacks become 0. The other ROM bytes and the TEST level stay.
+    /// Wires the rig to another board, which must fit its sockets. Releases all keys, clears everything that `reset`
+    /// clears, and sets the bytes of ROMs that the board lacks to 0. The other ROM bytes and the TEST level do not
+    /// change.
     pub fn wire(&mut self, board: &Board)
         requires { FitsCounts board.now ROMS BANKS CHAINS MAX }
         ensures { self.new ≡ after_wire self.old board.now }
@@ -95,8 +96,8 @@ impl<const ROMS: usize, const BANKS: usize, const CHAINS: usize, const MAX: usiz
         rewire_chains(&mut self.chains, board);
     }
 
-    /// Performs a power cycle. RAM, port latches, latched SRC bytes and chains become 0, and nothing is shifted. ROM,
-    /// keys, the TEST level and the board stay.
+    /// Performs a power cycle: sets RAM, port latches, latched SRC bytes and all chain bits to 0, and shifts nothing.
+    /// ROM, keys, the TEST level and the board do not change.
     pub fn reset(&mut self)
         ensures { self.new ≡ after_reset self.old }
     {
@@ -110,7 +111,7 @@ impl<const ROMS: usize, const BANKS: usize, const CHAINS: usize, const MAX: usiz
         clear_chains(&mut self.chains);
     }
 
-    /// Returns whether a board fits the rig's sockets, as `wire` requires.
+    /// Returns whether a board fits the rig's sockets. `wire` requires this.
     pub fn fits(board: &Board) -> bool
         ensures { IsTrue result ↔ FitsCounts board.now ROMS BANKS CHAINS MAX }
     {
@@ -123,7 +124,7 @@ impl<const ROMS: usize, const BANKS: usize, const CHAINS: usize, const MAX: usiz
         board.chain_count() <= CHAINS && chains_fit(board, MAX)
     }
 
-    /// Proves that the rig's state is valid. The board is valid and each value is in its range. Each list has the
+    /// Proves that the rig's state is valid: the board is valid, and each value is in its range. Each list has the
     /// length that the board requires. Values of absent chips are 0.
     pub fn show_state_is_valid(&self)
         ensures { IsValidBus self.now }

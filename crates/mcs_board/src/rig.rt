@@ -10,12 +10,12 @@ use mcs_rom4001::RomPort;
 use mcs_shift4003::Chain;
 use std::marker::Model;
 
-/// A board and the chips on it: at most `ROMS` ROMs, `BANKS` banks of RAM chips, and `CHAINS` shift-register chains of
-/// at most `MAX` bits. Contracts see it as the flat state of its chips.
+/// A board and the chips on it: at most `ROMS` ROMs, `BANKS` banks of RAM chips, and `CHAINS` shift-register chains
+/// of at most `MAX` bits. In contracts its value is a flat `BusState`.
 #[derive(Drop)]
 pub struct Rig<const ROMS: usize, const BANKS: usize, const CHAINS: usize, const MAX: usize> {
     pub(crate) roms: Vec<Option<RomPort>>,
-    // The ROM bytes, indexed by address: a fetch reads one element.
+    // The ROM bytes, indexed by address, so that a fetch reads one element.
     pub(crate) program: Vec<u8>,
     pub(crate) banks: Vec<Bank<4>>,
     pub(crate) chains: Vec<Chain<MAX>>,
@@ -45,7 +45,7 @@ impl<const ROMS: usize, const BANKS: usize, const CHAINS: usize, const MAX: usiz
     CHAINS,
     MAX,
 > {
-    /// Returns the board's parts. They form a valid board.
+    /// Returns the parts of the rig's board, which is valid.
     pub(crate) fn parts(&self) -> &BoardParts
         ensures same { result.now ≡ self.now.board }
         ensures valid { board_fault_of self.now.board ≡ None }
@@ -55,7 +55,7 @@ impl<const ROMS: usize, const BANKS: usize, const CHAINS: usize, const MAX: usiz
         self.keys.board().parts()
     }
 
-    /// Returns the board.
+    /// Returns the board that the rig is wired to.
     pub fn board(&self) -> &Board
         ensures { result.now ≡ self.now.board }
     {

@@ -1,5 +1,5 @@
-//! A rig's ROMs: wiring them to a board, clearing them, and a getter and a setter for each value. A setter changes only
-//! its own location and clocks no shift register.
+//! A rig's ROMs: functions that wire them to a board, clear them, and get or set each value. A setter changes only
+//! its own value and clocks no shift register.
 ghost use Rattle.std.specs.Prelude.{◌≡◌, ℕ, ◌<◌, ◌≤◌, ◌↔◌, IsTrue, All, length, replicate, None, IfOk, IfSome, slice_index, slice_index_or};
 ghost use Rattle.mcs_rom4001.specs.Roms.{IsValidPort};
 ghost use Rattle.mcs_model.specs.Boards.{masks_on};
@@ -25,7 +25,7 @@ pub(crate) fn no_roms(alloc: Global, count: usize) -> Result<Vec<Option<RomPort>
     Ok(roms)
 }
 
-/// Returns `count` zero bytes. Fails if memory cannot be allocated.
+/// Returns `count` bytes of value 0. Fails if memory cannot be allocated.
 pub(crate) fn no_program(alloc: Global, count: usize) -> Result<Vec<u8>, AllocError>
     ensures { IfOk result (λ program. program.items ≡ replicate count 0) }
 {
@@ -36,7 +36,7 @@ pub(crate) fn no_program(alloc: Global, count: usize) -> Result<Vec<u8>, AllocEr
     Ok(program)
 }
 
-/// Returns the line masks of ROM `i`, or `None` if the board has no such ROM.
+/// Returns the line masks of ROM `i`, or `None` if the board has no ROM `i`.
 fn mask_of(board: &Board, i: usize) -> Option<[LineMask; 4]>
     ensures { result ≡ masks_on board.now i }
 {
@@ -48,7 +48,7 @@ fn mask_of(board: &Board, i: usize) -> Option<[LineMask; 4]>
     }
 }
 
-/// Returns whether all of the board's ROMs are among its first `sockets`.
+/// Returns whether the numbers of all ROMs on the board are below `sockets`.
 pub(crate) fn roms_fit(board: &Board, sockets: usize) -> bool
     ensures { IsTrue result ↔ ((k : ℕ) → sockets ≤ k → masks_on board.now k ≡ None) }
 {
@@ -71,7 +71,7 @@ fn port_with(mask: Option<[LineMask; 4]>) -> Option<RomPort>
     }
 }
 
-/// Replaces the ROM ports with those of a new board. All latches are 0.
+/// Replaces the ROM ports with those of a new board, and sets all port latches to 0.
 pub(crate) fn rewire_roms(roms: &mut Vec<Option<RomPort>>, board: &Board)
     ensures count { length roms.new.items ≡ length roms.old.items }
     ensures roms { (k : ℕ) → k < length roms.old.items → slice_index_or roms.new.items k None
@@ -82,7 +82,7 @@ pub(crate) fn rewire_roms(roms: &mut Vec<Option<RomPort>>, board: &Board)
     }
 }
 
-/// Sets the bytes of ROMs that a board lacks to 0.
+/// Sets all bytes of each ROM that the board lacks to 0. `program` must have 4096 bytes.
 pub(crate) fn clear_absent(program: &mut Vec<u8>, board: &Board)
     requires { length program.old.items ≡ 4096 }
     ensures { program.new.items ≡ kept_rom board.now program.old.items }
@@ -158,7 +158,7 @@ pub(crate) fn roms_are_valid(roms: &Vec<Option<RomPort>>)
     }
 }
 
-/// Proves that each byte is below 256.
+/// Proves that each byte of the program is below 256.
 pub(crate) fn are_bytes(program: &Vec<u8>)
     ensures { All (λ byte. byte < 256) program.now.items }
 {
@@ -181,14 +181,14 @@ impl<const ROMS: usize, const BANKS: usize, const CHAINS: usize, const MAX: usiz
     CHAINS,
     MAX,
 > {
-    /// Returns the ROM byte at an address, or 0 if the ROM is absent.
+    /// Returns the byte at a ROM address, or 0 if the ROM is absent.
     pub fn rom_byte(&self, at: Addr) -> u8
         ensures { result ≡ slice_index self.now.rom at }
     {
         self.program[usize::from(at.get())]
     }
 
-    /// Sets the ROM byte at an address. The write is lost if the ROM is absent.
+    /// Sets the byte at a ROM address. Has no effect if the ROM is absent.
     pub fn set_rom_byte(&mut self, at: Addr, byte: u8)
         ensures { self.new ≡ with_rom_byte self.old at byte }
     {
@@ -197,7 +197,8 @@ impl<const ROMS: usize, const BANKS: usize, const CHAINS: usize, const MAX: usiz
         }
     }
 
-    /// Returns the port latch of a ROM, 0 to 15. Its bits for input lines are 0. It is 0 if the ROM is absent.
+    /// Returns the port latch of ROM `chip` (0 to 15), or 0 if the ROM is absent. The latch bits of input lines are
+    /// 0.
     pub fn rom_latch(&self, chip: u8) -> Nibble
         requires { chip < 16 }
         ensures { result ≡ slice_index self.now.rom_ports chip }
@@ -210,8 +211,8 @@ impl<const ROMS: usize, const BANKS: usize, const CHAINS: usize, const MAX: usiz
         }
     }
 
-    /// Sets the port latch of a ROM, 0 to 15. Its bits for input lines stay 0. The write is lost if the ROM is absent.
-    /// No shift-register chain is clocked.
+    /// Sets the port latch of ROM `chip` (0 to 15). The latch bits of input lines stay 0. Clocks no shift-register
+    /// chain. Has no effect if the ROM is absent.
     pub fn set_rom_latch(&mut self, chip: u8, n: Nibble)
         requires { chip < 16 }
         ensures { self.new ≡ with_rom_latch self.old chip n }

@@ -1,4 +1,4 @@
-//! The keys of a board: which keys are down, and which ROM lines they pull.
+//! The keys of a board: the state of each key, and the ROM input lines that the keys pull to 1.
 #![tactic(auto)]
 
 ghost use Rattle.std.specs.Prelude.{◌≡◌, ◌+◌, ◌<◌, ◌≤◌, All, length, replicate, slice_index, slice_set};
@@ -15,8 +15,8 @@ use mcs_nibble::{Bit, Nibble};
 use mcs_shift4003::Chain;
 use std::marker::Model;
 
-/// A board and the states of its keys. Only the board stores the key matrix. Contracts see the board and a list of
-/// keys, row by row: 1 for a key that is down, 0 for a key that is up.
+/// A board and the states of its keys. Only the board stores the key matrix. In contracts the value is the board and
+/// a list of key states, row by row: 1 if the key is down, 0 if it is up.
 #[derive(Drop)]
 pub struct KeyPad {
     board: Board,
@@ -34,7 +34,7 @@ impl Model for KeyPad {
 }
 
 impl KeyPad {
-    /// Returns the board with all its keys up.
+    /// Returns a key pad for a board. All its keys are up.
     pub fn of(board: Board) -> KeyPad
         ensures { result ≡ record { board = board; down = replicate (key_count board) 0 } }
     {
@@ -45,7 +45,7 @@ impl KeyPad {
         KeyPad { board, keys }
     }
 
-    /// Returns a copy of the board and its keys.
+    /// Returns a copy of the key pad.
     pub fn copy(&self) -> KeyPad
         ensures { result ≡ self.now }
     {
@@ -55,7 +55,7 @@ impl KeyPad {
         }
     }
 
-    /// Returns the board.
+    /// Returns the board to which the keys belong.
     #[inline]
     pub fn board(&self) -> &Board
         ensures { result.now ≡ self.now.board }
@@ -63,7 +63,7 @@ impl KeyPad {
         &self.board
     }
 
-    /// Returns the state of a key: 1 if it is down, 0 if it is up. Keys are indexed row by row.
+    /// Returns the state of the key at index `at`: 1 if it is down, 0 if it is up. Keys are indexed row by row.
     pub fn key(&self, at: usize) -> Bit
         requires { at < length self.now.down }
         ensures { result ≡ slice_index self.now.down at }
@@ -71,7 +71,7 @@ impl KeyPad {
         self.keys.key(at)
     }
 
-    /// Sets the state of a key: 1 for down, 0 for up. Keys are indexed row by row.
+    /// Sets the state of the key at index `at`: 1 for down, 0 for up. Keys are indexed row by row.
     pub fn set_key(&mut self, at: usize, bit: Bit)
         requires { at < length self.old.down }
         ensures { self.new ≡ record self.old { down = slice_set self.old.down at bit } }
@@ -82,8 +82,8 @@ impl KeyPad {
         }
     }
 
-    /// Returns a nibble whose bit k is 1 if a key pulls line k of ROM `chip` to 1. The chain `bits` drives the rows of
-    /// the key matrix.
+    /// Returns a nibble in which bit k is 1 if a key pulls line k of ROM `chip` to 1. `bits` is the chain that drives
+    /// the rows of the key matrix. It must have a bit for each row.
     #[inline]
     pub fn pulls<const MAX: usize>(&self, bits: &Chain<MAX>, chip: Nibble) -> Nibble
         requires { (matrix_on self.now.board).first + (matrix_on self.now.board).rows

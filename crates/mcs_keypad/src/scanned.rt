@@ -1,8 +1,8 @@
-//! Key states, and column masks from which a port is read.
+//! Key states, and the column masks from which a read of a port is computed.
 //!
-//! A column mask is a byte whose bit j represents column j. Each row has a mask of its keys that are down. Each line of
-//! each ROM has a mask of the columns that pull it. Reading a port takes about ten ORs of row masks and four ANDs with
-//! line masks, however many keys there are.
+//! A column mask is a byte in which bit j represents column j. Each row has a mask of the columns in which its key is
+//! down. Each line of each ROM has a mask of the columns that pull it. A read of a port takes about ten ORs of row
+//! masks and four ANDs with line masks. This does not depend on the number of keys.
 
 ghost use Rattle.std.specs.Prelude.{◌≡◌, ℕ, ◌+◌, ◌*◌, ◌/◌, ◌%◌, ◌<◌, ◌≤◌, Bool, ◌&&◌, All, length, replicate, slice_index, slice_index_or, slice_set};
 ghost use Rattle.std.specs.List.{list_any, range_with_len};
@@ -18,18 +18,19 @@ use mcs_nibble::{Bit, Nibble};
 use mcs_shift4003::Chain;
 use std::marker::Model;
 
-// The numbers of column masks: one for each row, and one for each line of each ROM.
+// The number of row masks: one for each key row.
 const ROW_BYTES: usize = KEY_ROWS as usize;
 
+// The number of line masks: one for each line of each ROM.
 const ROM_LINE_BYTES: usize = 4 * ROMS;
 
-/// The key states of a matrix, and column masks computed from them and from the matrix. Bit j of a column mask
+/// The key states of a matrix, and the column masks of its rows and of all ROM lines. In a column mask, bit j
 /// represents column j.
 #[derive(Drop)]
 pub(crate) struct ScannedKeys {
     // The key states, row by row.
     down: ArrayVec<Bit, KEYS>,
-    // For each row, the mask of the columns whose keys are down.
+    // For each row, the mask of the columns in which its key is down.
     rows: [u8; ROW_BYTES],
     // At index 4 * c + k, the mask of the columns that pull line k of ROM c.
     lines: [u8; ROM_LINE_BYTES],
@@ -43,7 +44,7 @@ impl Model for ScannedKeys {
     ghost view = { λ k. record { down = k.down.items; row_bytes = k.rows; line_bytes = k.lines } };
 }
 
-/// Returns true if `column` is line `k` of ROM `chip`.
+/// Returns true if `column`, the line that a key column pulls, is line `k` of ROM `chip`.
 fn is_named(column: Line, chip: u8, k: u8) -> bool
     ensures { result ≡ is_rom_line chip k column }
 {
@@ -53,7 +54,8 @@ fn is_named(column: Line, chip: u8, k: u8) -> bool
     }
 }
 
-/// Returns true if the key at index `at` is down, and false if there is no such key. Keys are indexed row by row.
+/// Returns true if the key at index `at` is down. Returns false if it is up, or if `at` is past the last key. Keys
+/// are indexed row by row.
 fn is_down(down: &[Bit], at: usize) -> bool
     ensures { result ≡ is_down down.now at }
 {
@@ -63,7 +65,8 @@ fn is_down(down: &[Bit], at: usize) -> bool
     }
 }
 
-/// Returns the column mask of one row: for each j below `columns`, bit j is 1 if key `from` + j is down.
+/// Returns the column mask of a row with `columns` keys: bit j is 1 if key `from` + j is down. The first key of the
+/// row has index `from`. Bits from `columns` on are 0.
 fn row_byte(down: &[Bit], from: usize, columns: usize) -> u8
     requires columns { columns ≤ KEY_COLUMNS }
     requires from { from ≤ KEYS }
@@ -78,7 +81,7 @@ fn row_byte(down: &[Bit], from: usize, columns: usize) -> u8
     byte
 }
 
-/// Returns the column mask of one ROM line: bit j is 1 if column j is line `k` of ROM `chip`.
+/// Returns the column mask of one ROM line: bit j is 1 if column j pulls line `k` of ROM `chip`.
 fn line_byte(columns: &[Line], chip: u8, k: u8) -> u8
     requires { length columns.now ≤ KEY_COLUMNS }
     ensures { IsByteOf result (length columns.now)
@@ -93,7 +96,7 @@ fn line_byte(columns: &[Line], chip: u8, k: u8) -> u8
     byte
 }
 
-/// Returns the column mask of each row: bit j is 1 if the row's key in column j is down.
+/// Returns the column mask of each of the first `rows` rows: bit j is 1 if the row's key in column j is down.
 fn row_bytes(down: &[Bit], rows: u8, columns: usize) -> [u8; ROW_BYTES]
     requires rows { rows ≤ KEY_ROWS }
     requires columns { columns ≤ KEY_COLUMNS }
@@ -107,7 +110,8 @@ fn row_bytes(down: &[Bit], rows: u8, columns: usize) -> [u8; ROW_BYTES]
     bytes
 }
 
-/// Returns the column masks of all ROM lines. The mask at index 4 * c + k has the columns that are line k of ROM c.
+/// Returns the column masks of all ROM lines. The mask at index 4 * c + k is that of line k of ROM c: bit j is 1 if
+/// column j pulls this line.
 fn line_bytes(columns: &[Line]) -> [u8; ROM_LINE_BYTES]
     requires { length columns.now ≤ KEY_COLUMNS }
     ensures { (i : ℕ) → i < ROM_LINE_BYTES →
@@ -121,7 +125,7 @@ fn line_bytes(columns: &[Line]) -> [u8; ROM_LINE_BYTES]
     bytes
 }
 
-/// Returns 1 if some bit is 1 in both bytes, and 0 otherwise.
+/// Returns 1 if the masks `line` and `driven` have a column in common, and 0 otherwise.
 fn meets(line: u8, driven: u8) -> Bit
     ensures { (n : ℕ) (p q : ℕ → Bool) → IsByteOf line n p → IsByteOf driven n q →
         result ≡ bit_when (list_any (λ j. p j && q j) (range_with_len 0 n)) }
@@ -133,7 +137,7 @@ fn meets(line: u8, driven: u8) -> Bit
     }
 }
 
-/// Returns the states of `rows` * `columns` keys, all up.
+/// Returns the states of `rows` * `columns` keys that are all up.
 fn up(rows: u8, columns: usize) -> ArrayVec<Bit, KEYS>
     requires rows { rows ≤ KEY_ROWS }
     requires columns { columns ≤ KEY_COLUMNS }
@@ -158,7 +162,7 @@ fn copied(down: &ArrayVec<Bit, KEYS>) -> ArrayVec<Bit, KEYS>
 }
 
 impl ScannedKeys {
-    /// Returns the keys of an empty matrix.
+    /// Returns the keys of a matrix without rows and columns.
     pub(crate) fn none() -> ScannedKeys
         ensures up { result.down ≡ replicate 0 0 }
         ensures scanned { IsScanned no_matrix result }
@@ -171,7 +175,7 @@ impl ScannedKeys {
         })
     }
 
-    /// Returns the keys of a matrix, all up.
+    /// Returns the keys of a matrix. All keys are up.
     pub(crate) fn of(matrix: &KeyMatrix) -> ScannedKeys
         requires { matrix.now.rows ≤ KEY_ROWS }
         ensures up { result.down ≡ replicate (matrix.now.rows * length matrix.now.columns.items) 0 }
@@ -195,7 +199,7 @@ impl ScannedKeys {
         }
     }
 
-    /// Returns the state of a key: 1 if it is down, 0 if it is up. Keys are indexed row by row.
+    /// Returns the state of the key at index `at`: 1 if it is down, 0 if it is up. Keys are indexed row by row.
     pub(crate) fn key(&self, at: usize) -> Bit
         requires { at < length self.now.down }
         ensures { result ≡ slice_index self.now.down at }
@@ -203,7 +207,7 @@ impl ScannedKeys {
         self.down[at]
     }
 
-    /// Sets the state of a key of the matrix: 1 for down, 0 for up. Keys are indexed row by row.
+    /// Sets the state of the key at index `at` of the matrix: 1 for down, 0 for up. Keys are indexed row by row.
     pub(crate) fn set_key(&mut self, matrix: &KeyMatrix, at: usize, bit: Bit)
         requires at { at < length self.old.down }
         requires scanned { IsScanned matrix.now self.old }
@@ -214,8 +218,8 @@ impl ScannedKeys {
         self.rows = row_bytes(self.down.as_slice(), matrix.rows, matrix.columns.len());
     }
 
-    /// Returns the mask of the columns that at least one row drives. A row drives a column if its bit in the chain
-    /// `bits` is 1 and its key in that column is down.
+    /// Returns the mask of the columns that at least one row drives. A row drives a column if the row's bit in the
+    /// chain `bits` is 1 and its key in that column is down.
     fn driven<const MAX: usize>(&self, matrix: &KeyMatrix, bits: &Chain<MAX>) -> u8
         requires scanned { IsScanned matrix.now self.now }
         requires rows { matrix.now.first + matrix.now.rows ≤ length bits.now }
@@ -227,7 +231,7 @@ impl ScannedKeys {
         let mut left = levels;
         let mut driven: u8 = 0;
         for r in 0..usize::from(matrix.rows) {
-            // None of the remaining rows is driven.
+            // The chain bits of all remaining rows are 0.
             if left == 0 {
                 return driven;
             }
@@ -239,8 +243,8 @@ impl ScannedKeys {
         driven
     }
 
-    /// Returns a nibble whose bit k is 1 if a key of the matrix pulls line k of ROM `chip` to 1. The chain `bits`
-    /// drives the rows of the matrix.
+    /// Returns a nibble in which bit k is 1 if a key of the matrix pulls line k of ROM `chip` to 1. `bits` is the
+    /// chain that drives the rows of the matrix.
     pub(crate) fn pulls<const MAX: usize>(
         &self,
         matrix: &KeyMatrix,

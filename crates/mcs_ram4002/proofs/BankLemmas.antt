@@ -1,4 +1,4 @@
--- What a bank's flat lists are after a read of one of its chips, and after a write to one.
+-- Reads and writes of one chip, and the flat lists of its bank.
 use Rattle.std.proofs.Common.{◌≡◌, ℕ, ◌+◌, ◌*◌, ◌/◌, ◌%◌, ◌<◌, ◌≤◌, inl, inr, List, [], length, get_or, slice_set, slice_index, take, refl, sym, ap, ◌∙◌, arith, replicate, subst}
 use Rattle.std.proofs.Math.Seq.{take-set-lt}
 use Rattle.std.proofs.lemmas.Grind.{common_steps}
@@ -18,14 +18,15 @@ use Rattle.mcs_ram4002.proofs.Packed.{unpacked-small, unpacked-zeros, unpacked-n
 length_wired : (chips : List Chip) (wired : ℕ) → wired ≤ length chips → length (take wired chips) ≡ wired
 length_wired chips wired l = grind (arith, common_steps)
 
--- a chip that is there is the one that the code reads
+-- The chip at index i of the bank is the chip at index i of the list if i is below `wired`.
 chip_there : (chips : List Chip) (wired i : ℕ) (x : Chip) → i < wired → wired ≤ length chips → get_or (take wired chips) i no_chip ≡ get_or chips i x
 chip_there chips wired i x h l = get_or-take wired chips i no_chip h ∙ get_or_default chips i no_chip x (omega arith)
 
 chip_absent : (chips : List Chip) (wired i : ℕ) → wired ≤ i → get_or (take wired chips) i no_chip ≡ no_chip
 chip_absent chips wired i h = grind (arith, common_steps)
 
--- reads of cell k of chip i, which stands at p in the flat list
+-- Cell k of chip i is at index `i * wide + k` of the flat list. The same cell of an absent chip is
+-- 0.
 pub read-flat : (wide : ℕ) (f : Chip → List ℕ) (chips : List Chip) (wired i k p : ℕ) (x : Chip) → i < 4 → k < wide → p ≡ i * wide + k → i < wired → wired ≤ length chips → slice_index (f (get_or chips i x)) k ≡ slice_index (flat_rows 4 wide f no_chip (take wired chips)) p
 read-flat wide f chips wired i k p x h l at there fits =
     ap (λ c. slice_index (f c) k) (sym (chip_there chips wired i x there fits))
@@ -47,10 +48,11 @@ pub port-absent : (chips : List Chip) (wired src i : ℕ) → i < 4 → wired �
 port-absent chips wired src i h gone =
     sym (get-column 4 (λ (c : Chip). c.port) no_chip (take wired chips) i h ∙ ap (λ (c : Chip). c.port) (chip_absent chips wired i gone))
 
--- the lists that stay where chip i becomes d
+-- A present chip is within the bank's list of chips.
 within : (chips : List Chip) (wired i : ℕ) → i < wired → wired ≤ length chips → i < length (take wired chips)
 within chips wired i there fits = let e = length_wired chips wired fits in omega arith
 
+-- When chip i is replaced by d, the flat lists of contents that d does not change stay the same.
 kept : (wide : ℕ) (f : Chip → List ℕ) (chips : List Chip) (wired i : ℕ) (x d : Chip) → i < wired → wired ≤ length chips → f d ≡ f (get_or chips i x) → flat_rows 4 wide f no_chip (take wired (slice_set chips i d)) ≡ flat_rows 4 wide f no_chip (take wired chips)
 kept wide f chips wired i x d there fits same =
     ap (flat_rows 4 wide f no_chip) (take-set-lt wired chips i d there)
@@ -61,7 +63,7 @@ kept-ports chips wired i x d there fits same =
     ap (column 4 (λ (c : Chip). c.port) no_chip) (take-set-lt wired chips i d there)
     ∙ kept-column 4 (λ (c : Chip). c.port) no_chip (take wired chips) i d (within chips wired i there fits) (same ∙ ap (λ (c : Chip). c.port) (sym (chip_there chips wired i x there fits)))
 
--- the list that changes where cell k of chip i becomes n
+-- When chip i is replaced by d, whose cell k is n, element p of the flat list becomes n.
 written : (wide : ℕ) (f : Chip → List ℕ) (chips : List Chip) (wired i k p n : ℕ) (x d : Chip) → i < 4 → k < wide → p ≡ i * wide + k → i < wired → wired ≤ length chips → length (f (get_or chips i x)) ≡ wide → f d ≡ slice_set (f (get_or chips i x)) k n → flat_rows 4 wide f no_chip (take wired (slice_set chips i d)) ≡ slice_set (flat_rows 4 wide f no_chip (take wired chips)) p n
 written wide f chips wired i k p n x d h l at there fits len new =
     let old = chip_there chips wired i x there fits in
@@ -69,7 +71,7 @@ written wide f chips wired i k p n x d h l at there fits len new =
     ∙ set-flat 4 wide f no_chip (take wired chips) i k d n h l (within chips wired i there fits) (rw old (omega arith)) (new ∙ ap (λ c. slice_set (f c) k n) (sym old))
     ∙ ap (λ j. slice_set (flat_rows 4 wide f no_chip (take wired chips)) j n) (sym at)
 
--- a bank whose chip that a write goes to did it
+-- If a write was executed on its chip, it was executed on the bank.
 pub stored : (chips : List Chip) (wired src i : ℕ) (x d : Chip) (write : BankWrite) → IsInBank write → i ≡ chip_written write → i < 4 → i < wired → wired ≤ length chips → IsSizedChip (get_or chips i x) → cells_of d ≡ chip_after (cells_of (get_or chips i x)) write → bank_of (slice_set chips i d) wired (src_after write src) ≡ with_write (bank_of chips wired src) write
 stored chips wired src i x d (Character at n) place is h there fits sized new =
     rw (written 64 main_cells_of chips wired i (at % 64) at n x d h (omega arith) (omega arith) there fits sized.main (ap (λ (c : ChipState). c.main) new), kept 16 status_cells_of chips wired i x d there fits (ap (λ (c : ChipState). c.status) new), kept-ports chips wired i x d there fits (ap (λ (c : ChipState). c.port) new)) refl
@@ -84,7 +86,7 @@ stored chips wired src i x d (Port chip n) place is h there fits sized new =
 stored chips wired src i x d (Src byte) place is h there fits sized new =
     rw (kept 64 main_cells_of chips wired i x d there fits (ap (λ (c : ChipState). c.main) new), kept 16 status_cells_of chips wired i x d there fits (ap (λ (c : ChipState). c.status) new), kept-ports chips wired i x d there fits (ap (λ (c : ChipState). c.port) new)) refl
 
--- ---- what holds of every bank
+-- ---- properties of every bank
 
 whole : (chips : List Chip) (wired src : ℕ) → IsWhole (bank_of chips wired src)
 whole chips wired src = record { main = length-flat 4 64 _ _ _; status = length-flat 4 16 _ _ _; ports = length-column 4 _ _ _ }
@@ -92,7 +94,7 @@ whole chips wired src = record { main = length-flat 4 64 _ _ _; status = length-
 pub whole_of : (b : BankState) (chips : List Chip) (wired src : ℕ) → bank_of chips wired src ≡ b → IsWhole b
 whole_of b chips wired src is = subst IsWhole is (whole chips wired src)
 
--- a chip of a valid list, or an absent one
+-- If all chips of a list are valid, so is each chip of the bank, present or absent.
 chip_valid : (chips : List Chip) (wired i : ℕ) → All IsValidChip chips → IsValidChip (get_or (take wired chips) i no_chip)
 chip_valid chips wired i valid =
     elim (cases_lt i (length (take wired chips))) [
@@ -115,7 +117,7 @@ valid_of b chips wired src is small unwired valid =
     } in
     subst IsValidBank is at
 
--- a bank of blank chips
+-- If f gives x for a blank chip and for an absent chip, f gives x for each chip of a blank bank.
 equal : {X : Type 0} (f : Chip → X) (x : X) (n wired i : ℕ) (b : Chip) → wired ≤ n → f b ≡ x → f no_chip ≡ x → f (get_or (take wired (replicate n b)) i no_chip) ≡ x
 equal f x n wired i b l here none =
     elim (cases_lt i wired) [
@@ -123,7 +125,7 @@ equal f x n wired i b l here none =
       | inr h ↦ ap f (chip_absent (replicate n b) wired i h) ∙ none
     ]
 
--- a list of 0s is 0 at each index, and beyond its end
+-- A list of zeros reads as 0 at each index, even past its end.
 pub slice_index-zeros : (n k : ℕ) → slice_index (replicate n 0) k ≡ 0
 slice_index-zeros n k = grind (arith, common_steps)
 

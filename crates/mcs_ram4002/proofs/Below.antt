@@ -1,4 +1,4 @@
--- Lists of numbers that all are below a limit.
+-- Lists in which each number is below a limit m.
 use Rattle.std.proofs.Common.{ℕ, ◌*◌, ◌/◌, ◌%◌, ◌<◌, inl, inr, List, length, get_or, slice_index, sym, subst, arith}
 use Rattle.std.specs.Prelude.{All}
 use Rattle.std.proofs.lemmas.Bool.{cases_lt}
@@ -7,7 +7,8 @@ use Rattle.std.proofs.lemmas.List.Elements.{All-get_or, All-from_get_or}
 use Rattle.mcs_nibble.specs.Tables.{table_of, column, flat_rows}
 use Rattle.mcs_nibble.proofs.TabledLemmas.{get_or-tabled, length-tabled}
 
--- a number at an index, or 0 beyond the end
+-- If all numbers of a list are below m, so is the number that is read at any index, which is 0 past
+-- the end.
 pub below-at : (m : ℕ) (xs : List ℕ) (k : ℕ) → 0 < m → All (λ n. n < m) xs → slice_index xs k < m
 below-at m xs k some below =
     elim (cases_lt k (length xs)) [

@@ -1,4 +1,4 @@
--- Two characters in a byte.
+-- Nibbles that are stored two to a byte.
 use Rattle.std.proofs.Common.{◌≡◌, ℕ, ◌-◌, ◌*◌, ◌/◌, ◌%◌, ◌<◌, inl, inr, List, [], length, get_or, slice_set, slice_index, replicate, refl, sym, ap, ◌∙◌, subst, arith, get_or-set_other}
 use Rattle.std.specs.Prelude.{All}
 use Rattle.std.proofs.lemmas.Grind.{get_or-set_at}
@@ -23,7 +23,7 @@ unpacked-small bytes =
     All-from_get_or (λ n. n < 16) (characters_of bytes) 0 (λ k l.
     subst (λ n. n < 16) (sym (unpacked-at bytes k 0 (let e = length-unpacked bytes in omega arith))) (omega arith))
 
--- one character replaced
+-- Replacing one half of a byte replaces one nibble of the unpacked list.
 pub unpacked-set : (bytes : List ℕ) (at n new : ℕ) → at < 2 * length bytes → half_of new (at % 2) ≡ n → half_of new (1 - at % 2) ≡ half_of (slice_index bytes (at / 2)) (1 - at % 2) → characters_of (slice_set bytes (at / 2) new) ≡ slice_set (characters_of bytes) at n
 unfolding characters_of
 unpacked-set bytes at n new h is kept =

@@ -1,6 +1,6 @@
 -- A bank of 4002s as flat lists. Source: MCS-4 Users Manual, 4002: each chip has an output port and
--- four registers of 16 main nibbles and 4 status characters. SRC selects a chip, a register and a
--- main nibble. That an absent chip reads as 0 is our own choice.
+-- four registers of 16 main nibbles and 4 status characters each. SRC selects a chip, a register
+-- and a main nibble. Our own choice: an absent chip reads as 0.
 use Rattle.std.specs.Prelude.{◌≡◌, ℕ, ◌+◌, ◌*◌, ◌/◌, ◌%◌, ◌^◌, ◌<◌, ◌≤◌, List, [], All, replicate, slice_index, slice_set, length, take, if◌then◌else◌, nat_lt}
 use Rattle.mcs_nibble.specs.Tables.{table_of, flat_rows, column}
 use Rattle.mcs_ram4002.specs.declared.BankWrite.{BankWrite}
@@ -12,15 +12,16 @@ pub record BankState : Type 0 where
   pub wired : ℕ
   -- the last SRC byte
   pub src : ℕ
-  -- the main nibbles, indexed by SRC byte; 256
+  -- the 256 main nibbles, indexed by the SRC byte that selects them
   pub main : List ℕ
-  -- the status characters, 64; status character k of the register that the upper SRC nibble h
+  -- the 64 status characters; status character k of the register that the upper SRC nibble h
   -- selects is at index h * 4 + k
   pub status : List ℕ
   -- the output port latches of chips 0 to 3
   pub ports : List ℕ
 
--- the index of status character k of the register that the upper SRC nibble `high` selects
+-- the index of status character k of the register that `high`, the upper nibble of an SRC byte,
+-- selects
 abbrev pub status_cell : ℕ → ℕ → ℕ
 status_cell high k = high * 4 + k
 
@@ -35,14 +36,15 @@ blank_bank wired =
 
 -- ---- writes
 
--- holds if the write is within a bank: its status character is 0 to 3, or its chip is 0 to 3
+-- holds if a write is within a bank: the number of a status character is 0 to 3, and so is the chip
+-- number of a port write
 abbrev pub IsInBank : BankWrite → Type 0
 IsInBank (Character src n) = Unit {0}
 IsInBank (Status high k n) = k < 4
 IsInBank (Port chip n) = chip < 4
 IsInBank (Src byte) = Unit {0}
 
--- the number of the chip that a write goes to
+-- the number of the chip that a write changes; 0 for an SRC byte
 abbrev pub chip_written : BankWrite → ℕ
 chip_written (Character src n) = chip_of src
 chip_written (Status high k n) = high / 4
@@ -56,7 +58,7 @@ with_write b (Status high k n) = record b { status = slice_set b.status (status_
 with_write b (Port chip n) = record b { ports = slice_set b.ports chip n }
 with_write b (Src byte) = record b { src = byte }
 
--- the bank after a write; the write is lost if its chip is absent
+-- the bank after a write, which has no effect if the chip is absent
 unfoldable pub after_write : BankState → BankWrite → BankState
 after_write b write = if nat_lt (chip_written write) b.wired then with_write b write else b
 
@@ -68,7 +70,7 @@ pub record IsWhole (b : BankState) : Type 0 where
   pub ports : length b.ports ≡ 4
 
 -- Holds if the lists have their lengths, and each number is in its range. The contents of absent
--- chips are 0, and so is the SRC byte of a bank without chips.
+-- chips are 0. The SRC byte of a bank without chips is 0.
 pub record IsValidBank (b : BankState) : Type 0 where
   pub whole : IsWhole b
   pub main : All (λ n. n < 16) b.main
@@ -83,23 +85,24 @@ pub record IsValidBank (b : BankState) : Type 0 where
 
 -- ---- how a bank stores its chips
 
--- half k of a byte: 0 is the lower half, 1 the upper half
+-- half k of a byte: the lower half if k is 0, the upper half if k is 1
 abbrev pub half_of : ℕ → ℕ → ℕ
 half_of byte k = byte / 16 ^ k % 16
 
--- the nibbles in bytes that store two nibbles each, lower half first
+-- the nibbles in a list of bytes; each byte stores two nibbles, with the first one in its lower
+-- half
 unfoldable pub characters_of : List ℕ → List ℕ
 characters_of bytes = table_of (2 * length bytes) (λ k. half_of (slice_index bytes (k / 2)) (k % 2))
 
--- The main nibbles of a chip by index. The next definition gives its status characters. Only these
--- two say how a chip stores them.
+-- the main nibbles of a chip, in order of index
 abbrev pub main_cells_of : Chip → List ℕ
 main_cells_of c = characters_of c.main
 
+-- the status characters of a chip, in order of index
 abbrev pub status_cells_of : Chip → List ℕ
 status_cells_of c = characters_of c.status
 
--- the main nibbles and the status characters of a chip, each list by index, and its port latch
+-- the contents of a chip: its main nibbles, its status characters and its port latch
 pub record ChipState : Type 0 where
   -- the main nibbles, at index register * 16 + nibble number
   pub main : List ℕ
@@ -107,14 +110,15 @@ pub record ChipState : Type 0 where
   pub status : List ℕ
   pub port : ℕ
 
--- the main nibbles, the status characters and the port latch of a chip
+-- the contents of a chip, unpacked from its bytes
 abbrev pub cells_of : Chip → ChipState
 cells_of c = record { main = main_cells_of c; status = status_cells_of c; port = c.port }
 
+-- an absent chip: it has no nibbles, and its port latch is 0
 abbrev pub no_chip : Chip
 no_chip = record { main = []; status = []; port = 0 }
 
--- the bank whose chips are the first `wired` of these, with the SRC byte `src`
+-- the bank whose chips are the first `wired` chips of the list, with the SRC byte `src`
 abbrev pub bank_of : List Chip → ℕ → ℕ → BankState
 bank_of chips wired src = record {
   wired = wired;
@@ -133,7 +137,7 @@ pub record IsValidChip (c : Chip) : Type 0 where
   pub status : All (λ n. n < 16) (status_cells_of c)
   pub port : c.port < 16
 
--- the contents of a chip after a bank write that goes to this chip
+-- the contents of a chip after a bank write to this chip
 abbrev pub chip_after : ChipState → BankWrite → ChipState
 chip_after c (Character src n) = record c { main = slice_set c.main (src % 64) n }
 chip_after c (Status high k n) = record c { status = slice_set c.status (high % 4 * 4 + k) n }

@@ -1,10 +1,10 @@
-//! The 4002: RAM chips, and the banks that they form. Intel calls a nibble of RAM a RAM character. A chip stores two
-//! nibbles in a byte.
+//! The 4002: RAM chips, and the banks that they form. Intel calls a nibble of RAM a RAM character. Each byte of a
+//! chip's storage holds two nibbles.
 //!
-//! A bank alone behaves as the processor sees it: `src`, `read`, `write`, `read_status`, `write_status` and
+//! On its own, a bank behaves as the processor sees it. `src`, `read`, `write`, `read_status`, `write_status` and
 //! `write_port` access the location that the last SRC selected. A rig accesses a bank by index instead (`at`,
-//! `status_at`, `port`, `store`), as an observer of the board does. The rig therefore defines once, on the state of all
-//! banks, which location SRC selects.
+//! `status_at`, `port`, `store`), as an observer of the board does. This lets the rig define once, for all banks,
+//! which location SRC selects.
 #![tactic(auto)]
 
 ghost use Rattle.std.specs.Prelude.{◌≡◌, ℕ, ◌+◌, ◌-◌, ◌*◌, ◌/◌, ◌%◌, ◌<◌, ◌≤◌, All, replicate, slice_index};
@@ -16,19 +16,19 @@ use std::marker::Model;
 /// One write to a bank: a location and its new value.
 #[derive(Clone, Copy)]
 pub enum BankWrite {
-    /// The RAM nibble that an SRC byte selects, and its new value.
+    /// A main nibble: the SRC byte that selects it, and its new value.
     Character(u8, Nibble),
-    /// A status character of a register: the upper nibble of the SRC byte that selects the register, the number of the
-    /// status character, 0 to 3, and its new value.
+    /// A status character: the upper nibble of the SRC byte that selects its register, its number, 0 to 3, and its
+    /// new value.
     Status(Nibble, u8, Nibble),
-    /// The output port of a chip: the chip, 0 to 3, and its new value.
+    /// The output port latch of a chip: the number of the chip, 0 to 3, and the new value.
     Port(u8, Nibble),
-    /// The bank's stored SRC byte. The write is lost if the bank does not have chip 0.
+    /// The SRC byte that the bank stores. The write has no effect if the bank lacks chip 0.
     Src(u8),
 }
 
 impl BankWrite {
-    /// Returns the number of the chip that the write goes to. A new SRC byte goes to chip 0.
+    /// Returns the number of the chip that the write changes. For a new SRC byte, returns 0.
     fn chip(self) -> u8
         ensures chip { result ≡ chip_written self }
         ensures few { IsInBank self → result < 4 }
@@ -41,7 +41,7 @@ impl BankWrite {
         }
     }
 
-    /// Returns the bank's stored SRC byte after the write. `src` is the byte before it.
+    /// Returns the SRC byte that the bank stores after the write. `src` is the byte that it stores before the write.
     fn src_after(self, src: u8) -> u8
         ensures { result ≡ src_after self src }
     {
@@ -52,7 +52,7 @@ impl BankWrite {
     }
 }
 
-/// Returns the half of a byte that stores nibble `at` of a chip: the lower half if `at` is even, the upper half if it
+/// Returns nibble `at` of a chip from the byte that stores it: the lower half if `at` is even, the upper half if `at`
 /// is odd.
 fn half(byte: u8, at: u8) -> Nibble
     ensures { result ≡ half_of byte (at % 2) }
@@ -64,8 +64,8 @@ fn half(byte: u8, at: u8) -> Nibble
     }
 }
 
-/// Returns the byte with nibble `at` of a chip replaced by `n`: in the lower half if `at` is even, in the upper half if
-/// it is odd.
+/// Returns the byte with nibble `at` of a chip replaced by `n`. The nibble is the lower half if `at` is even, and the
+/// upper half if `at` is odd.
 fn with_half(byte: u8, at: u8, n: Nibble) -> u8
     ensures set { half_of result (at % 2) ≡ n }
     ensures kept { half_of result (1 - at % 2) ≡ half_of byte (1 - at % 2) }
@@ -77,11 +77,11 @@ fn with_half(byte: u8, at: u8, n: Nibble) -> u8
     }
 }
 
-/// A 4002 (MCS-4 Users Manual): four registers of 16 main nibbles and four status characters, and a four-line output
-/// port. All access to a chip is through its bank.
+/// A 4002 (MCS-4 Users Manual): four registers of 16 main nibbles and four status characters each, and a four-line
+/// output port. A chip is accessed only through its bank.
 #[derive(Clone, Copy)]
 pub struct Chip {
-    // Two nibbles in each byte, the first of them in the lower half.
+    // Each byte holds two nibbles, the first one in the lower half.
     main: [u8; 32],
     status: [u8; 8],
     port: Nibble,
@@ -99,7 +99,7 @@ impl Chip {
         }
     }
 
-    /// Returns a main nibble. Its index `at` is register * 16 + nibble number.
+    /// Returns the main nibble at index `at`, which is register * 16 + nibble number.
     fn character(&self, at: u8) -> Nibble
         requires { at < 64 }
         ensures { result ≡ slice_index (main_cells_of self.now) at }
@@ -107,7 +107,7 @@ impl Chip {
         half(self.main[usize::from(at / 2)], at)
     }
 
-    /// Returns a status character. Its index `at` is register * 4 + status character number.
+    /// Returns the status character at index `at`, which is register * 4 + status character number.
     fn status_character(&self, at: u8) -> Nibble
         requires { at < 16 }
         ensures { result ≡ slice_index (status_cells_of self.now) at }
@@ -115,13 +115,14 @@ impl Chip {
         half(self.status[usize::from(at / 2)], at)
     }
 
+    /// Returns the output port latch of the chip.
     fn port(&self) -> Nibble
         ensures { result ≡ self.now.port }
     {
         self.port
     }
 
-    /// Executes a bank write that goes to this chip. A new SRC byte changes nothing in the chip.
+    /// Executes a write to this chip. The write of an SRC byte changes nothing in the chip.
     #[inline(always)]
     fn store(&mut self, write: BankWrite)
         requires { IsInBank write }
@@ -144,7 +145,7 @@ impl Chip {
         }
     }
 
-    /// Proves that the port, each main nibble and each status character are in the range 0 to 15.
+    /// Proves that the port latch, each main nibble and each status character are 0 to 15.
     fn show_state_is_valid(&self)
         ensures { IsValidChip self.now }
     {
@@ -152,7 +153,7 @@ impl Chip {
     }
 }
 
-/// Proves that the contents of each chip are in the range 0 to 15.
+/// Proves that the port latch, main nibbles and status characters of each chip are 0 to 15.
 fn are_valid(chips: &[Chip])
     ensures { All IsValidChip chips.now }
 {
@@ -172,8 +173,8 @@ fn copied<const CHIPS: usize>(chips: &[Chip; CHIPS]) -> [Chip; CHIPS]
     copy
 }
 
-/// A bank of RAM chips. The first `wired` chips are present. Main nibbles, status characters and ports of absent chips
-/// read as 0, and writes to them are lost. Each bank stores its own last SRC byte.
+/// A bank of RAM chips. The first `wired` chips are present. Main nibbles, status characters and ports of absent
+/// chips read as 0, and writes to them have no effect. Each bank stores its own SRC byte.
 ///
 /// The upper two bits of an SRC byte select the chip, the next two bits the register, and the lower four bits the main
 /// nibble.
@@ -196,7 +197,7 @@ impl<const CHIPS: usize> Model for Bank<CHIPS> {
 }
 
 impl<const CHIPS: usize> Bank<CHIPS> {
-    /// Returns a bank whose first `wired` chips are present. All contents are 0.
+    /// Returns a bank whose first `wired` chips are present. All its contents are 0.
     pub fn new(wired: usize) -> Self
         requires { wired ≤ CHIPS }
         ensures { result ≡ blank_bank wired }
@@ -219,7 +220,7 @@ impl<const CHIPS: usize> Bank<CHIPS> {
         }
     }
 
-    /// Executes a write. The write is lost if its chip is absent.
+    /// Executes a write. Has no effect if the chip that it changes is absent.
     #[inline(always)]
     pub fn store(&mut self, write: BankWrite)
         requires { IsInBank write }
@@ -235,14 +236,14 @@ impl<const CHIPS: usize> Bank<CHIPS> {
         }
     }
 
-    /// Stores an SRC byte. In a bank without chips, it stays 0.
+    /// Stores an SRC byte. If the bank has no chips, the stored byte stays 0.
     pub fn src(&mut self, byte: u8)
         ensures { self.new ≡ after_write self.old (BankWrite.Src byte) }
     {
         self.store(BankWrite::Src(byte));
     }
 
-    /// Returns the last stored SRC byte.
+    /// Returns the SRC byte that the bank stores.
     pub fn last_src(&self) -> u8
         ensures { result ≡ self.now.src }
     {
@@ -250,7 +251,7 @@ impl<const CHIPS: usize> Bank<CHIPS> {
         self.src
     }
 
-    /// Returns the main nibble that an SRC byte selects.
+    /// Returns the main nibble that the SRC byte `src` selects, or 0 if its chip is absent.
     pub fn at(&self, src: u8) -> Nibble
         ensures { result ≡ slice_index self.now.main src }
     {
@@ -262,14 +263,15 @@ impl<const CHIPS: usize> Bank<CHIPS> {
         }
     }
 
-    /// Writes the main nibble that an SRC byte selects.
+    /// Writes the main nibble that the SRC byte `src` selects. Has no effect if its chip is absent.
     pub fn set_at(&mut self, src: u8, n: Nibble)
         ensures { self.new ≡ after_write self.old (BankWrite.Character src n) }
     {
         self.store(BankWrite::Character(src, n));
     }
 
-    /// Returns status character `k`, 0 to 3, of the register that the upper nibble of an SRC byte selects.
+    /// Returns status character `k` (0 to 3) of the register that `high`, the upper nibble of an SRC byte, selects.
+    /// Returns 0 if its chip is absent.
     pub fn status_at(&self, high: Nibble, k: u8) -> Nibble
         requires { k < 4 }
         ensures { result ≡ slice_index self.now.status (status_cell high k) }
@@ -283,7 +285,8 @@ impl<const CHIPS: usize> Bank<CHIPS> {
         }
     }
 
-    /// Writes status character `k`, 0 to 3, of the register that the upper nibble of an SRC byte selects.
+    /// Writes status character `k` (0 to 3) of the register that `high`, the upper nibble of an SRC byte, selects.
+    /// Has no effect if its chip is absent.
     pub fn set_status_at(&mut self, high: Nibble, k: u8, n: Nibble)
         requires { k < 4 }
         ensures { self.new ≡ after_write self.old (BankWrite.Status high k n) }
@@ -291,7 +294,7 @@ impl<const CHIPS: usize> Bank<CHIPS> {
         self.store(BankWrite::Status(high, k, n));
     }
 
-    /// Returns the output port latch of a chip, 0 to 3.
+    /// Returns the output port latch of chip `chip` (0 to 3), or 0 if the chip is absent.
     pub fn port(&self, chip: u8) -> Nibble
         requires { chip < 4 }
         ensures { result ≡ slice_index self.now.ports chip }
@@ -304,14 +307,14 @@ impl<const CHIPS: usize> Bank<CHIPS> {
         }
     }
 
-    /// Returns the main nibble that the last SRC selected.
+    /// Returns the main nibble that the last SRC selected, or 0 if its chip is absent.
     pub fn read(&self) -> Nibble
         ensures { result ≡ slice_index self.now.main self.now.src }
     {
         self.at(self.last_src())
     }
 
-    /// Writes the main nibble that the last SRC selected.
+    /// Writes the main nibble that the last SRC selected. Has no effect if its chip is absent.
     pub fn write(&mut self, n: Nibble)
         ensures { self.new ≡ after_write self.old (BankWrite.Character self.old.src n) }
     {
@@ -319,7 +322,7 @@ impl<const CHIPS: usize> Bank<CHIPS> {
         self.set_at(src, n);
     }
 
-    /// Returns status character `k`, 0 to 3, of the register that the last SRC selected.
+    /// Returns status character `k` (0 to 3) of the register that the last SRC selected, or 0 if its chip is absent.
     pub fn read_status(&self, k: u8) -> Nibble
         requires { k < 4 }
         ensures { result ≡ slice_index self.now.status (status_cell (self.now.src / 16) k) }
@@ -327,7 +330,8 @@ impl<const CHIPS: usize> Bank<CHIPS> {
         self.status_at(Nibble::high_of(self.last_src()), k)
     }
 
-    /// Writes status character `k`, 0 to 3, of the register that the last SRC selected.
+    /// Writes status character `k` (0 to 3) of the register that the last SRC selected. Has no effect if its chip is
+    /// absent.
     pub fn write_status(&mut self, k: u8, n: Nibble)
         requires { k < 4 }
         ensures { self.new ≡ after_write self.old (BankWrite.Status (self.old.src / 16) k n) }
@@ -336,7 +340,7 @@ impl<const CHIPS: usize> Bank<CHIPS> {
         self.set_status_at(high, k, n);
     }
 
-    /// Writes the output port of the chip that the last SRC selected.
+    /// Writes the output port of the chip that the last SRC selected. Has no effect if that chip is absent.
     pub fn write_port(&mut self, n: Nibble)
         ensures { self.new ≡ after_write self.old (BankWrite.Port (chip_of self.old.src) n) }
     {
@@ -344,7 +348,8 @@ impl<const CHIPS: usize> Bank<CHIPS> {
         self.store(BankWrite::Port(chip, n));
     }
 
-    /// Sets all main nibbles, status characters, port latches and the SRC byte to 0. The set of chips stays the same.
+    /// Sets all main nibbles, status characters and port latches, and the SRC byte, to 0. The same chips stay
+    /// present.
     pub fn clear(&mut self)
         ensures { self.new ≡ blank_bank self.old.wired }
     {
@@ -353,8 +358,8 @@ impl<const CHIPS: usize> Bank<CHIPS> {
         *self = Bank::new(wired);
     }
 
-    /// Proves that the state lists have their lengths, and that each main nibble, status character and port is in the
-    /// range 0 to 15. Also proves that absent ones are 0.
+    /// Proves that the bank's state is valid: each list has its fixed length, and each main nibble, status character
+    /// and port latch is 0 to 15. The contents of absent chips are 0.
     pub fn show_state_is_valid(&self)
         ensures { IsValidBank self.now }
     {

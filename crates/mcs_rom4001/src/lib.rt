@@ -1,7 +1,7 @@
 //! The 4001: 256 bytes of program memory and a four-line port.
 //!
-//! A `Rom` is a whole chip. A rig stores only the port of each ROM, as a `RomPort`. The bytes of all ROMs are in one
-//! list, indexed by address. A fetch therefore reads one list element.
+//! A `Rom` is a complete chip. A rig uses only the port of each ROM, a `RomPort`. It stores the bytes of all ROMs in
+//! one list, indexed by address, so that a fetch reads one list element.
 #![tactic(auto)]
 
 ghost use Rattle.std.specs.Prelude.{◌≡◌, ℕ, ◌<◌, All, slice_index, slice_set, replicate, length};
@@ -12,8 +12,8 @@ ghost use Rattle.mcs_nibble.specs.Ports.{latch_value, latch_bit, read_bit, read_
 use mcs_nibble::{Bit, LineMask, Nibble};
 use std::marker::Model;
 
-/// The port of a 4001 (MCS-4 Users Manual). The mask makes each of its four lines an input or an output. The latch
-/// holds the levels of the output lines; the latch bit of an input line is 0.
+/// The port of a 4001 (MCS-4 Users Manual). Its mask makes each of its four lines an input or an output. Its latch
+/// holds the levels of the output lines. The latch bit of an input line is 0.
 #[derive(Drop)]
 pub struct RomPort {
     mask: [LineMask; 4],
@@ -32,7 +32,8 @@ impl Model for RomPort {
     ghost invariant = { λ r. latch_value r.mask r.port ≡ r.port };
 }
 
-/// Returns the latch bit of line `k` after `n` is written.
+/// Returns the latch bit of line `k` (0 to 3) after `n` is written: bit `k` of `n` for an output line, 0 for an input
+/// line.
 fn held_line(mask: &[LineMask; 4], n: Nibble, k: u8) -> Bit
     requires { k < 4 }
     ensures { result ≡ latch_bit mask.now n k }
@@ -43,8 +44,8 @@ fn held_line(mask: &[LineMask; 4], n: Nibble, k: u8) -> Bit
     }
 }
 
-/// Returns the bit that the processor reads from line `k`. Bit `k` of `inputs` is the level of line `k` if it is an
-/// input line.
+/// Returns the bit that the processor reads from line `k` (0 to 3). If the line is an input, this is its level, bit
+/// `k` of `inputs`. If it is an output, this is the constant of its mask.
 fn read_line(mask: &[LineMask; 4], inputs: Nibble, k: u8) -> Bit
     requires { k < 4 }
     ensures { result ≡ read_bit (bit_of inputs) mask.now k }
@@ -56,8 +57,8 @@ fn read_line(mask: &[LineMask; 4], inputs: Nibble, k: u8) -> Bit
     }
 }
 
-/// Returns the latch contents after `n` is written to a port with these masks: the bits of `n` for output lines, 0 for
-/// input lines.
+/// Returns the latch contents after `n` is written to a port with these line masks: the bits of `n` for output lines,
+/// 0 for input lines.
 #[tactic(auto, unfolding(mcs_nibble::specs::Ports::latch_value))]
 pub fn held_port(mask: &[LineMask; 4], n: Nibble) -> Nibble
     ensures { result ≡ latch_value mask.now n }
@@ -70,8 +71,8 @@ pub fn held_port(mask: &[LineMask; 4], n: Nibble) -> Nibble
     )
 }
 
-/// Returns the value that the processor reads from a port with these masks. An input line reads as its level, and an
-/// output line as the constant of its mask. Bit `k` of `inputs` is the level of line `k`.
+/// Returns the value that the processor reads from a port with these line masks. An input line reads as its level,
+/// bit `k` of `inputs` for line `k`. An output line reads as the constant of its mask.
 #[tactic(auto, unfolding(mcs_nibble::specs::Ports::read_lines))]
 pub fn read_port_of(mask: &[LineMask; 4], inputs: Nibble) -> Nibble
     ensures { result ≡ read_lines (bit_of inputs) mask.now }
@@ -85,7 +86,7 @@ pub fn read_port_of(mask: &[LineMask; 4], inputs: Nibble) -> Nibble
 }
 
 impl RomPort {
-    /// Returns a port with these masks, line 0 first. Its latch is 0.
+    /// Returns a port with the given line masks, from line 0 to line 3. The latch is 0.
     pub fn new(mask: [LineMask; 4]) -> RomPort
         ensures { result ≡ record { mask = mask; port = 0 } }
     {
@@ -105,37 +106,37 @@ impl RomPort {
         }
     }
 
-    /// Writes `n` to the latch, as WRR does. Output lines hold their bits until the next write. Latch bits of input
-    /// lines stay 0.
+    /// Writes `n` to the latch, as the instruction WRR does. Output lines hold their bits until the next write. The
+    /// latch bits of input lines stay 0.
     pub fn write_port(&mut self, n: Nibble)
         ensures { self.new ≡ record self.old { port = latch_value self.old.mask n } }
     {
         self.port = held_port(&self.mask, n);
     }
 
-    /// Returns the value that RDR reads. An input line reads as its level, and an output line as the constant of its
-    /// mask. Bit `k` of `inputs` is the level of line `k`.
+    /// Returns the value that the instruction RDR reads. An input line reads as its level, bit `k` of `inputs` for
+    /// line `k`. An output line reads as the constant of its mask.
     pub fn read_port(&self, inputs: Nibble) -> Nibble
         ensures { result ≡ read_lines (bit_of inputs) self.now.mask }
     {
         read_port_of(&self.mask, inputs)
     }
 
-    /// Returns the latch contents.
+    /// Returns the contents of the port latch.
     pub fn port(&self) -> Nibble
         ensures { result ≡ self.now.port }
     {
         self.port
     }
 
-    /// Sets the latch to 0.
+    /// Sets the port latch to 0.
     pub fn clear_port(&mut self)
         ensures { self.new ≡ record self.old { port = 0 } }
     {
         self.port = Nibble::ZERO;
     }
 
-    /// Proves that the latch contents are a nibble, and that the latch bits of input lines are 0.
+    /// Proves that the port latch is 0 to 15, and that the latch bits of input lines are 0.
     pub fn show_state_is_valid(&self)
         ensures { IsValidPort self.now }
     {
@@ -143,7 +144,7 @@ impl RomPort {
     }
 }
 
-/// A 4001 chip: its 256 bytes and its port.
+/// A 4001 chip: 256 bytes of program memory, and a port.
 #[derive(Drop)]
 pub struct Rom {
     bytes: [u8; 256],
@@ -167,7 +168,7 @@ fn are_bytes(bytes: &[u8; 256])
 }
 
 impl Rom {
-    /// Returns a ROM with these masks, line 0 first. All bytes and the latch are 0.
+    /// Returns a ROM with the given line masks, from line 0 to line 3. All bytes and the port latch are 0.
     pub fn new(mask: [LineMask; 4]) -> Rom
         ensures { result ≡ record { mask = mask; bytes = replicate 256 0; port = 0 } }
     {
@@ -177,14 +178,14 @@ impl Rom {
         }
     }
 
-    /// Returns the byte at word `at`.
+    /// Returns the byte at address `at` within the chip.
     pub fn byte(&self, at: u8) -> u8
         ensures { result ≡ slice_index self.now.bytes at }
     {
         self.bytes[usize::from(at)]
     }
 
-    /// Sets the byte at word `at`.
+    /// Sets the byte at address `at` within the chip.
     pub fn set_byte(&mut self, at: u8, byte: u8)
         ensures byte { self.new ≡ record self.old { bytes = slice_set self.old.bytes at byte } }
         ensures whole { length self.old.bytes ≡ 256 }
@@ -192,23 +193,23 @@ impl Rom {
         self.bytes[usize::from(at)] = byte;
     }
 
-    /// Writes `n` to the latch, as WRR does. Output lines hold their bits until the next write. Latch bits of input
-    /// lines stay 0.
+    /// Writes `n` to the latch, as the instruction WRR does. Output lines hold their bits until the next write. The
+    /// latch bits of input lines stay 0.
     pub fn write_port(&mut self, n: Nibble)
         ensures { self.new ≡ record self.old { port = latch_value self.old.mask n } }
     {
         self.lines.write_port(n);
     }
 
-    /// Returns the value that RDR reads. An input line reads as its level, and an output line as the constant of its
-    /// mask. Bit `k` of `inputs` is the level of line `k`.
+    /// Returns the value that the instruction RDR reads. An input line reads as its level, bit `k` of `inputs` for
+    /// line `k`. An output line reads as the constant of its mask.
     pub fn read_port(&self, inputs: Nibble) -> Nibble
         ensures { result ≡ read_lines (bit_of inputs) self.now.mask }
     {
         self.lines.read_port(inputs)
     }
 
-    /// Returns the latch bit of line `k`, 0 to 3. It is 0 for an input line.
+    /// Returns the latch bit of line `k` (0 to 3), which is 0 for an input line.
     pub fn line(&self, k: u8) -> Bit
         requires { k < 4 }
         ensures { result ≡ bit_of self.now.port k }
@@ -216,29 +217,29 @@ impl Rom {
         self.port().bit(k)
     }
 
-    /// Returns the latch contents.
+    /// Returns the contents of the port latch.
     pub fn port(&self) -> Nibble
         ensures { result ≡ self.now.port }
     {
         self.lines.port()
     }
 
-    /// Sets the latch. Latch bits of input lines stay 0.
+    /// Sets the port latch to `n`. The latch bits of input lines stay 0.
     pub fn set_port(&mut self, n: Nibble)
         ensures { self.new ≡ record self.old { port = latch_value self.old.mask n } }
     {
         self.write_port(n);
     }
 
-    /// Sets the latch to 0.
+    /// Sets the port latch to 0.
     pub fn clear_port(&mut self)
         ensures { self.new ≡ record self.old { port = 0 } }
     {
         self.lines.clear_port();
     }
 
-    /// Proves that the ROM has 256 bytes, each below 256, and that the latch contents are a nibble. Also proves that
-    /// the latch bits of input lines are 0.
+    /// Proves that the ROM has 256 bytes, each below 256, and that the port latch is 0 to 15. Also proves that the
+    /// latch bits of input lines are 0.
     pub fn show_state_is_valid(&self)
         ensures { IsValidRom self.now }
     {

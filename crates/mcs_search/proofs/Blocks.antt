@@ -1,4 +1,4 @@
--- Keys in blocks of one size.
+-- Keys that are stored in blocks of the same size.
 use Rattle.std.proofs.Common.{◌≡◌, ℕ, ◌+◌, ◌*◌, ◌-◌, ◌/◌, ◌%◌, ◌<◌, ◌≤◌, zero, suc, List, [], ◌∷◌, ◌++◌, length, get_or, sym, ap, ◌∙◌, arith, length-append, append_assoc}
 use Rattle.std.proofs.Math.Nat.{suc-mul}
 use Rattle.std.proofs.lemmas.List.{append-nil, get_or_append_left, get_or-append_right}
@@ -12,7 +12,7 @@ full width n b = (b.width ≡ width) × (length b.keys ≡ n)
 first-full : (width n : ℕ) (b : Stored) (bs : List Stored) → AreFull width n (b ∷ bs) → length b.keys ≡ n
 first-full width n b bs all = (all 0 b (omega arith)).1
 
--- full blocks have n keys each
+-- Full blocks of n keys together have n keys for each block.
 pub length-keys_of : (width n : ℕ) (bs : List Stored) → AreFull width n bs → length (keys_of bs) ≡ length bs * n
 unfolding keys_of
 length-keys_of width n [] all = omega arith
@@ -23,7 +23,7 @@ length-keys_of width n (b ∷ bs) all =
     let q = suc-mul (length bs) n in
     omega arith
 
--- the key at an index in a full block
+-- The key at index q * n + r of the arena is the key at index r of full block q.
 pub key-in-block : (width n q r : ℕ) (bs : List Stored) (ys : List (List ℕ)) (d : Stored) → AreFull width n bs → q < length bs → r < n →
     get_or (keys_of bs ++ ys) (q * n + r) [] ≡ get_or (get_or bs q d).keys r []
 unfolding keys_of
@@ -43,7 +43,7 @@ key-in-block width n (suc q) r (b ∷ bs) ys d all h k =
     ∙ ap (λ i. get_or (keys_of bs ++ ys) i []) at
     ∙ key-in-block width n q r bs ys d (All-tail (full width n) b bs all) (omega arith) k
 
--- the key at an index behind the full blocks
+-- The key at index r after the full blocks is the key at index r of the last block.
 pub key-behind-blocks : (width n r : ℕ) (bs : List Stored) (ys : List (List ℕ)) → AreFull width n bs →
     get_or (keys_of bs ++ ys) (length bs * n + r) [] ≡ get_or ys r []
 key-behind-blocks width n r bs ys all =
@@ -52,13 +52,13 @@ key-behind-blocks width n r bs ys all =
     get_or-append_right (keys_of bs) ys (length bs * n) (length bs * n + r) [] l (omega arith)
     ∙ ap (λ i. get_or ys i []) at
 
--- one block more
+-- Appending a block appends its keys.
 pub keys_of-more : (bs : List Stored) (b : Stored) → keys_of (bs ++ b ∷ []) ≡ keys_of bs ++ b.keys
 unfolding keys_of
 keys_of-more [] b = append-nil b.keys
 keys_of-more (a ∷ bs) b = ap (λ ks. a.keys ++ ks) (keys_of-more bs b) ∙ sym (append_assoc a.keys (keys_of bs) b.keys)
 
--- ---- an arena
+-- ---- the keys of an arena
 
 pub arena-length : (width len : ℕ) (bs : List Stored) (last : Stored) → FitsArena width len bs last → len ≡ length (keys_of bs ++ last.keys)
 arena-length width len bs last fits = fits.count ∙ sym (length-append (keys_of bs) last.keys)
@@ -70,7 +70,7 @@ key-of-full width len i bs last d fits h =
     sym (key-in-block width 65536 (i / 65536) (i % 65536) bs last.keys d fits.blocks h (omega arith))
     ∙ ap (λ j. get_or (keys_of bs ++ last.keys) j []) at
 
--- an index behind the full blocks is one of the last block
+-- An index after the full blocks is an index in the last block.
 pub within-last : (width len i : ℕ) (bs : List Stored) (last : Stored) → FitsArena width len bs last → i < length (keys_of bs ++ last.keys) → length bs ≤ i / 65536 →
     (i / 65536 ≡ length bs) × (i % 65536 < length last.keys)
 within-last width len i bs last fits h k =
@@ -88,7 +88,7 @@ key-of-last width len i bs last fits h k =
     sym (key-behind-blocks width 65536 (i % 65536) bs last.keys fits.blocks)
     ∙ ap (λ j. get_or (keys_of bs ++ last.keys) j []) at
 
--- ---- one key more
+-- ---- an arena after one more key is added
 
 pub arena-more : (width len : ℕ) (bs : List Stored) (last new : Stored) (key : List ℕ) → FitsArena width len bs last →
     new.width ≡ last.width → new.keys ≡ last.keys ++ key ∷ [] → length new.keys < BLOCK → FitsArena width (len + 1) bs new
@@ -102,7 +102,7 @@ arena-more width len bs last new key fits w k few =
       count = omega arith;
     }
 
--- the last block is full now, and a new one begins
+-- The new key fills the last block, and a new empty block becomes the last.
 pub arena-turned : (width len : ℕ) (bs : List Stored) (last new next : Stored) (key : List ℕ) → FitsArena width len bs last →
     new.width ≡ last.width → new.keys ≡ last.keys ++ key ∷ [] → BLOCK ≤ length new.keys → next ≡ record { width = width; keys = [] } →
     FitsArena width (len + 1) (bs ++ new ∷ []) next
@@ -130,7 +130,7 @@ keys-turned width bs last new next key k is =
     ∙ keys_of-more bs new
     ∙ keys-more bs last new key k
 
--- ---- no keys
+-- ---- an empty arena
 
 pub arena-none : (width : ℕ) (bs : List Stored) (last : Stored) → bs ≡ [] → last ≡ record { width = width; keys = [] } → FitsArena width 0 bs last
 unfolding keys_of

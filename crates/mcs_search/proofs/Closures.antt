@@ -1,4 +1,4 @@
--- Keys that were found become more until they are closed, and then all is followed.
+-- The keys that a search has found: they only grow, and when all are followed, they are a closure.
 use Rattle.std.proofs.Common.{◌≡◌, ◌<◌, ◌≤◌, ◌+◌, ℕ, ◌⊎◌, inl, inr, List, [], ◌∷◌, ◌++◌, length, get_or, refl, sym, ap, ◌∙◌, subst, arith, append_assoc, below_more}
 use Rattle.std.specs.List.{Contains, All}
 use Rattle.std.proofs.lemmas.List.{append-nil, get_or_append_left, length-append}
@@ -29,7 +29,7 @@ states-when : (P : List ℕ → Type 0) (old new : List (List ℕ)) (key : List 
 states-when P old new key all k (inl same) = All-same P new old same all
 states-when P old new key all k (inr more) = All-same P new (old ++ key ∷ []) more (All-push P old key all k)
 
--- what holds of the keys and of one that is added
+-- If a property holds for all keys and for the key that is added, it holds for all keys afterwards.
 pub adds-states : (P : List ℕ → Type 0) {old new : Stored} {key : List ℕ} → All P old.keys → P key → Adds old key new → All P new.keys
 adds-states P {old = old} {new = new} {key = key} all k a = states-when P old.keys new.keys key all k a.keys
 
@@ -48,7 +48,7 @@ grows-length {old = old} {new = new} g = let e = ap length g.keys.1 in let l = l
 pub grows-key : {old new : Stored} (k : ℕ) → Grows old new → k < length old.keys → get_or new.keys k [] ≡ get_or old.keys k []
 grows-key {old = old} {new = new} k g h = ap (λ (ks : List (List ℕ)). get_or ks k []) g.keys.1 ∙ get_or_append_left old.keys g.keys.0 [] k h
 
--- one key more is followed
+-- If the first `next` keys and the key after them are followed, the first next + 1 keys are.
 pub followed-more : (r : Rules) {old new : Stored} (next : ℕ) → Grows old new → next < length old.keys →
     ((k : ℕ) → k < next → IsFollowed r old.keys (get_or old.keys k [])) → IsFollowed r new.keys (get_or old.keys next []) →
     (k : ℕ) → k < next + 1 → IsFollowed r new.keys (get_or new.keys k [])
@@ -58,9 +58,9 @@ followed-more r {old = old} {new = new} next g l before now =
     (λ k h. subst (IsFollowed r new.keys) (sym (grows-key k g (omega arith))) (grows-followed r (get_or old.keys k []) g (before k h)))
     (subst (IsFollowed r new.keys) (sym (grows-key next g l)) now)
 
--- ---- a search under way
+-- ---- the invariant of a search
 
--- more keys, which are states too
+-- The invariant still holds if keys of states are added.
 pub under-way-grows : (r : Rules) {old new : Stored} (n : ℕ) → Grows old new → n ≤ length old.keys → All r.is_state new.keys →
     IsUnderWay r (record { keys = old.keys; followed = n }) → IsUnderWay r (record { keys = new.keys; followed = n })
 under-way-grows r {old = old} {new = new} n g l states u = record {
@@ -68,7 +68,7 @@ under-way-grows r {old = old} {new = new} n g l states u = record {
   followed = λ k h. subst (IsFollowed r new.keys) (sym (grows-key k g (omega arith))) (grows-followed r (get_or old.keys k []) g (u.followed k h));
 }
 
--- and one key more is followed
+-- The invariant still holds if keys of states are added and the next key is followed.
 pub under-way-more : (r : Rules) {old new : Stored} (n : ℕ) → Grows old new → n < length old.keys → All r.is_state new.keys →
     IsUnderWay r (record { keys = old.keys; followed = n }) → IsFollowed r new.keys (get_or old.keys n []) → IsUnderWay r (record { keys = new.keys; followed = n + 1 })
 under-way-more r {old = old} {new = new} n g l states u now = record {
@@ -76,7 +76,7 @@ under-way-more r {old = old} {new = new} n g l states u now = record {
   followed = followed-more r n g l u.followed now;
 }
 
--- where all keys are followed, they are a closure
+-- If all keys are followed, they are a closure.
 pub closure : (r : Rules) (keys : List (List ℕ)) (n : ℕ) → 0 < length keys → n ≡ length keys → IsUnderWay r (record { keys = keys; followed = n }) →
     Closure r (get_or keys 0 []) n
 closure r keys n some all u = record {
@@ -86,13 +86,13 @@ closure r keys n some all u = record {
   followed = All-from_get_or (IsFollowed r keys) keys [] (λ k h. u.followed k (omega arith));
 }
 
--- ---- how a search begins
+-- ---- the first key of a search
 
 first-key : (start : List ℕ) (old new : List (List ℕ)) → old ≡ [] → (new ≡ old) ⊎ (new ≡ old ++ start ∷ []) → Contains new start → new ≡ start ∷ []
 first-key start old new e (inl same) at = absurd (let none : length new ≡ 0 = ap length (same ∙ e) in let l = at.1 in omega arith)
 first-key start old new e (inr more) at = more ∙ ap (λ ks. ks ++ start ∷ []) e
 
--- what is added to no keys is the only one
+-- After a key is added to an empty store, it is the only key.
 pub begun-keys : (start : List ℕ) (old new : Stored) (a : Added) → old.keys ≡ [] → Adds old start new → WasAdded 1 old.keys new.keys start a → new.keys ≡ start ∷ []
 begun-keys start old new added.New e adds was = first-key start old.keys new.keys e adds.keys was
 begun-keys start old new added.Known e adds was = first-key start old.keys new.keys e adds.keys was

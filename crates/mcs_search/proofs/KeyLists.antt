@@ -1,4 +1,4 @@
--- Keys of one width in one list of bytes.
+-- Keys of one width that are stored back to back in a list of bytes.
 use Rattle.std.proofs.Common.{◌≡◌, ℕ, ◌+◌, ◌*◌, ◌<◌, ◌≤◌, zero, suc, List, [], ◌∷◌, ◌++◌, length, take, drop, get_or, refl, sym, ap, ◌∙◌, arith, length-drop}
 use Rattle.std.proofs.Math.Nat.{suc-mul, mul-le-mul_right}
 use Rattle.std.proofs.Math.Seq.{take-length}
@@ -10,14 +10,14 @@ unfolding keys_in
 length-keys_in width zero bytes = refl
 length-keys_in width (suc n) bytes = ap suc (length-keys_in width n (drop width bytes))
 
--- a key ends within the bytes
+-- Each key ends within the list of bytes.
 pub key-within : (width n i len : ℕ) → i < n → len ≡ n * width → i * width + width ≤ len
 key-within width n i len h e =
     let p : suc i * width ≤ n * width = mul-le-mul_right width (omega arith) in
     let q = suc-mul i width in
     omega arith
 
--- the key at an index
+-- Key i has the `width` bytes that begin at byte i * width.
 pub key-at : (width n i : ℕ) (bytes : List ℕ) → i < n → get_or (keys_in width n bytes) i [] ≡ take width (drop (i * width) bytes)
 unfolding keys_in
 key-at width zero i bytes h = absurd (omega arith)
@@ -26,7 +26,7 @@ key-at width (suc n) (suc i) bytes h =
     key-at width n i (drop width bytes) (omega arith)
     ∙ ap (take width) (drop-drop (i * width) width bytes ∙ ap (λ k. drop k bytes) (let q = suc-mul i width in omega arith))
 
--- one key more
+-- Appending the bytes of a key appends the key.
 pub key-more : (width n : ℕ) (bytes key : List ℕ) → length bytes ≡ n * width → length key ≡ width → keys_in width (n + 1) (bytes ++ key) ≡ keys_in width n bytes ++ key ∷ []
 unfolding keys_in
 key-more width zero [] key e w = ap (λ k. k ∷ []) (ap (λ m. take m key) (sym w) ∙ take-length key)

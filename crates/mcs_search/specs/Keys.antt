@@ -1,14 +1,15 @@
--- The stored form of keys of one width.
+-- The way in which a search stores keys of one width.
 use Rattle.std.specs.Prelude.{◌≡◌, ◌<◌, ◌⊎◌, ◌+◌, ℕ, zero, suc, List, [], ◌∷◌, ◌++◌, take, drop, length}
 use Rattle.std.specs.List.{All}
 use Rattle.mcs_search.specs.declared.block.TheConstants.{BLOCK}
 
--- the first n keys in a list of bytes that holds keys of the given width back to back
+-- the first n keys in a list of bytes; each key has `width` bytes, and the next one follows it
+-- directly
 unfoldable pub keys_in : ℕ → ℕ → List ℕ → List (List ℕ)
 keys_in width zero bytes = []
 keys_in width (suc n) bytes = take width bytes ∷ keys_in width n (drop width bytes)
 
--- a store of keys: their width, and the keys in order
+-- a store of keys: the number of bytes of each key, and the keys in order
 pub record Stored : Type 0 where
   pub width : ℕ
   pub keys : List (List ℕ)
@@ -22,8 +23,8 @@ keys_of (b ∷ bs) = b.keys ++ keys_of bs
 abbrev pub AreFull : ℕ → ℕ → List Stored → Type 0
 AreFull width n = All (λ (b : Stored). (b.width ≡ width) × (length b.keys ≡ n))
 
--- the invariant of an arena: all blocks but the last are full, the last block is not, and the number of
--- keys is right
+-- the invariant of an arena: all blocks but the last are full, the last is not full, and `len` is
+-- the number of keys
 pub record FitsArena (width len : ℕ) (full : List Stored) (last : Stored) : Type 0 where
   pub blocks : AreFull width BLOCK full
   pub last_width : last.width ≡ width

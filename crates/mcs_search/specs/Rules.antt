@@ -1,11 +1,13 @@
--- A transition system whose states are identified by keys, lists of bytes. (Our own choice.)
+-- A transition system in which each state is identified by a key, a list of bytes. (Our own
+-- choice.)
 use Rattle.std.specs.Prelude.{◌≡◌, ◌⊎◌, ℕ, List, [], ◌∷◌, length}
 use Rattle.std.specs.List.{All, Contains}
 
 -- the rules of a transition system:
--- `is_state`: the key is a state
--- `covers`: the choices are all that the state needs
--- `leads`: the choice leads from the state to the next one, and the property holds at every step
+-- `is_state`: the key is that of a state
+-- `covers`: the choices are all those that the state needs
+-- `leads`: the choice leads from the first state to the second, and the property holds at every
+-- step
 -- `fails`: the property fails while the choice is followed from the state
 pub record Rules : Type 1 where
   pub is_state : List ℕ → Type 0
@@ -17,20 +19,20 @@ pub record Rules : Type 1 where
 abbrev pub LeadsInto : Rules → List (List ℕ) → List ℕ → ℕ → Type 0
 LeadsInto r keys key choice = (next : List ℕ) × r.leads key choice next × Contains keys next
 
--- holds if all choices that a state needs lead to the given keys
+-- holds if every choice that a state needs leads to one of the given keys
 abbrev pub IsFollowed : Rules → List (List ℕ) → List ℕ → Type 0
 IsFollowed r keys key =
     (choices : List ℕ) × r.covers key choices × All (LeadsInto r keys key) choices
 
--- n keys that include the start and are closed under all choices: any number of choices from the start
--- reaches only these states, and the property holds at every step
+-- A list of n keys that includes the start and is closed under all choices. Any number of choices
+-- from the start reaches only these states, and the property holds at every step.
 pub record Closure (r : Rules) (start : List ℕ) (n : ℕ) : Type 0 where
   pub keys : List (List ℕ)
   pub count : length keys ≡ n
   pub contains_start : Contains keys start
   pub followed : All (IsFollowed r keys) keys
 
--- holds if these choices, followed one after another, lead to a failure of the property
+-- holds if the property fails when the choices are followed one after another from the given state
 abbrev pub Breaks : Rules → List ℕ → List ℕ → Type 0
 Breaks r key [] = ⊥
 Breaks r key (c ∷ cs) = r.fails key c ⊎ ((next : List ℕ) × r.leads key c next × Breaks r next cs)

@@ -1,4 +1,4 @@
-//! An arena for the keys that a search finds, stored in blocks.
+//! An arena that stores the keys found by a search, in blocks.
 ghost use Rattle.std.specs.Prelude.{◌≡◌, ◌<◌, ◌*◌, ◌+◌, [], ◌∷◌, ◌++◌, length, OnOk, OnErr, slice_index_or};
 ghost use Rattle.mcs_search.specs.Keys.{Stored};
 
@@ -7,8 +7,8 @@ use std::alloc::{AllocError, Global};
 use std::marker::Model;
 use std::mem;
 
-/// Keys of one width, each with its parent, stored in blocks. A growing arena never copies a full block. It needs no
-/// memory beyond that of its keys.
+/// Keys of one width, each with its parent, stored in blocks. When the arena grows, it copies no full block. It needs
+/// no memory beyond that of its keys.
 #[derive(Drop)]
 pub(crate) struct Arena {
     full: Vec<KeyBlock>,
@@ -30,7 +30,7 @@ impl Model for Arena {
 }
 
 impl Arena {
-    /// Creates an arena without keys.
+    /// Creates an empty arena for keys of `width` bytes.
     pub(crate) fn new(alloc: Global, width: usize) -> Arena
         ensures { result ≡ record { width = width; keys = [] } }
     {
@@ -43,14 +43,14 @@ impl Arena {
         }
     }
 
-    /// Returns the number of keys.
+    /// Returns the number of keys in the arena.
     pub(crate) fn len(&self) -> usize
         ensures { result ≡ length self.now.keys }
     {
         self.len
     }
 
-    /// Returns the key at an index.
+    /// Returns the key at index `i`, in the order in which keys were added.
     pub(crate) fn key(&self, i: usize) -> &[u8]
         requires { i < length self.now.keys }
         ensures key { result.now ≡ slice_index_or self.now.keys i [] }
@@ -63,7 +63,7 @@ impl Arena {
         }
     }
 
-    /// Returns the parent of the key at an index.
+    /// Returns the parent of the key at index `i`, or `None` if no parent is stored there.
     pub(crate) fn parent(&self, i: usize) -> Option<Parent> {
         match self.full.get(i / BLOCK) {
             Some(block) => block.parent(i % BLOCK),
@@ -71,7 +71,7 @@ impl Arena {
         }
     }
 
-    /// Appends a key. On an error the arena is unchanged.
+    /// Appends a key and its parent. Fails if memory cannot be allocated; the arena is then unchanged.
     pub(crate) fn push(&mut self, key: &[u8], parent: Parent) -> Result<(), AllocError>
         requires width { length key.now ≡ self.old.width }
         requires few { length self.old.keys < 4294967295 }
@@ -79,7 +79,8 @@ impl Arena {
         ensures width { self.new.width ≡ self.old.width }
         ensures err { OnErr result (self.new ≡ self.old) }
     {
-        // Reserves space for the block that this key may fill.
+        // If this key fills the last block, that block is pushed to `full`. Reserving its space first means that the
+        // push cannot fail.
         self.full.reserve(1)?;
         self.last.push(key, parent)?;
         self.len += 1;

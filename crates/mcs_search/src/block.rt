@@ -1,4 +1,4 @@
-//! A block of keys.
+//! A block of keys of one width, stored back to back.
 ghost use Rattle.std.specs.Prelude.{◌≡◌, ◌<◌, ◌*◌, [], ◌∷◌, ◌++◌, length, OnOk, OnErr, slice_index_or};
 ghost use Rattle.mcs_search.specs.Keys.{Stored};
 
@@ -8,8 +8,8 @@ use std::marker::Model;
 /// The number of keys in a full block.
 pub(crate) const BLOCK: usize = 65_536;
 
-/// The origin of a state: the index of the state from which it was first found, and the choice that led from there to
-/// it.
+/// The origin of a state: the index of the state from which the search first reached it, and the choice that it
+/// followed there.
 #[derive(Clone, Copy)]
 pub(crate) struct Parent {
     pub(crate) state: u32,
@@ -37,7 +37,7 @@ impl Model for KeyBlock {
 }
 
 impl KeyBlock {
-    /// Creates a block without keys.
+    /// Creates an empty block for keys of `width` bytes.
     pub(crate) fn new(alloc: Global, width: usize) -> KeyBlock
         ensures { result ≡ record { width = width; keys = [] } }
     {
@@ -49,14 +49,14 @@ impl KeyBlock {
         }
     }
 
-    /// Returns the number of keys.
+    /// Returns the number of keys in the block.
     pub(crate) fn len(&self) -> usize
         ensures { result ≡ length self.now.keys }
     {
         self.len
     }
 
-    /// Returns the key at an index.
+    /// Returns the key at index `i`, in the order in which keys were added.
     pub(crate) fn key(&self, i: usize) -> &[u8]
         requires { i < length self.now.keys }
         ensures key { result.now ≡ slice_index_or self.now.keys i [] }
@@ -66,12 +66,12 @@ impl KeyBlock {
         &self.bytes[at..at + self.width]
     }
 
-    /// Returns the parent of the key at an index.
+    /// Returns the parent of the key at index `i`, or `None` if no parent is stored there.
     pub(crate) fn parent(&self, i: usize) -> Option<Parent> {
         self.parents.get(i).copied()
     }
 
-    /// Appends a key. On an error the block is unchanged.
+    /// Appends a key and its parent. Fails if memory cannot be allocated; the keys are then unchanged.
     pub(crate) fn push(&mut self, key: &[u8], parent: Parent) -> Result<(), AllocError>
         requires width { length key.now ≡ self.old.width }
         requires few { length self.old.keys < BLOCK }
@@ -79,7 +79,7 @@ impl KeyBlock {
         ensures width { self.new.width ≡ self.old.width }
         ensures err { OnErr result (self.new ≡ self.old) }
     {
-        // An earlier call may have failed after it had pushed a parent.
+        // Removes the parent that an earlier call left behind if it failed before it stored the key.
         self.parents.truncate(self.len);
         self.parents.push(parent)?;
         self.bytes.extend_from_slice(key)?;

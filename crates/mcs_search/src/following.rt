@@ -1,4 +1,4 @@
-//! Follows the choices of one state, and replays the choices that led to it.
+//! Functions that follow the choices of one state, and that replay the choices that led to it.
 ghost use Rattle.std.specs.Prelude.{◌≡◌, ◌<◌, ◌≤◌, length, IfOk, IsTrue};
 ghost use Rattle.std.specs.List.{All};
 ghost use Rattle.mcs_search.specs.Rules.{Rules, Breaks};
@@ -10,20 +10,22 @@ use crate::system::System;
 use crate::visited::{Added, Visited};
 use std::alloc::{AllocError, Global};
 
-/// The result of following the choices of a state.
+/// The result of following the choices of one state.
 #[derive(Clone, Copy)]
 pub(crate) enum Followed {
-    /// All next states are in the set of visited states.
+    /// Every choice was followed, and all next states are among the visited states.
     All,
     /// The property fails while this choice is followed.
     Broken(u8),
-    /// A next state would exceed the limit on states.
+    /// A next state is new, but the search may visit no more states.
     TooMany,
-    /// The system gave up.
+    /// The system gave up on a choice.
     GaveUp,
 }
 
-/// Follows the given choices of the state at index `at`, and adds the next states to `visited`.
+/// Follows the given choices of the state `key`, whose index is `at`, and adds the next states to `visited`. Stops at
+/// the first choice that breaks the property, exceeds the limit of `most` states, or makes the system give up. Fails
+/// if memory cannot be allocated.
 pub(crate) fn follow<S: System>(
     system: &mut S,
     visited: &mut Visited,
@@ -66,8 +68,9 @@ pub(crate) fn follow<S: System>(
     Ok(Followed::All)
 }
 
-/// Returns the choices that led to the state at an index, followed by the choice `last`. They are read from the stored
-/// parents. Nothing is proved about parents, so the caller must replay the choices.
+/// Returns the choices that led to the state at index `state`, followed by the choice `last`. Reads them from the
+/// stored parents. Nothing is proved about parents, so the caller must replay the choices. Fails if memory cannot be
+/// allocated.
 pub(crate) fn choices_to(
     alloc: Global,
     visited: &Visited,
@@ -91,7 +94,7 @@ pub(crate) fn choices_to(
     Ok(choices)
 }
 
-/// Returns whether these choices, followed one after another, lead to a failure of the property.
+/// Returns true only if the property fails when the choices are followed one after another from the state `key`.
 pub(crate) fn breaks<S: System>(
     system: &mut S,
     key: &mut [u8],

@@ -1,4 +1,5 @@
-//! A breadth-first search through all states that a system can reach. The search is independent of any machine.
+//! A breadth-first search through all states that a transition system can reach. It is independent of what the system
+//! models.
 #![tactic(auto)]
 
 mod arena;

@@ -1,4 +1,4 @@
-//! The search, in one call or in slices.
+//! The search. It runs in one call or in several, each for a limited number of steps.
 ghost use Rattle.std.specs.Prelude.{◌≡◌, ◌<◌, ◌≤◌, [], ◌∷◌, length, IfOk, IfSome, slice_index_or};
 ghost use Rattle.mcs_search.specs.Rules.{Rules};
 ghost use Rattle.mcs_search.specs.Verdicts.{IsProved, IsUnderWay, Progress, start_of};
@@ -16,19 +16,19 @@ pub const MOST: usize = 4_000_000_000;
 /// The result of a search.
 #[derive(Drop)]
 pub enum Verdict {
-    /// The property holds for all choices. The field is the number of states.
+    /// The property holds for all choices. The field is the number of states that the search found.
     Holds(usize),
-    /// The property fails after these choices.
+    /// The property fails when these choices are followed from the start.
     Broken(Vec<u8>),
-    /// There are more states than the search may visit.
+    /// The search found more states than it may visit.
     TooMany,
-    /// An allocation failed. The field is the number of states found so far.
+    /// Memory could not be allocated. The field is the number of states found so far.
     NoMemory(usize),
     /// The system gave up, or a failure of the property could not be replayed from the start.
     GaveUp,
 }
 
-/// A breadth-first search in progress.
+/// A breadth-first search in progress: the states found, and the number of those whose choices were followed.
 #[derive(Drop)]
 pub struct Search {
     visited: Visited,
@@ -53,7 +53,8 @@ impl Model for Search {
 }
 
 impl Search {
-    /// Begins a search from the key `start`, of at most `most` states.
+    /// Begins a search from the state with the key `start`. The search may visit at most `most` states. Fails if
+    /// memory cannot be allocated.
     pub fn begin(alloc: Global, start: &[u8], most: usize) -> Result<Search, AllocError>
         requires { most ≤ MOST }
         ensures { IfOk result (λ search.
@@ -85,14 +86,14 @@ impl Search {
         self.visited.len()
     }
 
-    /// Returns the number of states whose choices were followed. All other states are the frontier.
+    /// Returns the number of states whose choices were followed. The other states found are the frontier.
     pub fn followed(&self) -> usize
         ensures { result ≡ self.now.followed }
     {
         self.followed
     }
 
-    /// Returns the key of the state at index `i`. States are indexed in the order in which they were found.
+    /// Returns the key of the state at index `i`. States are indexed from 0 in the order in which they were found.
     pub fn key(&self, i: usize) -> &[u8]
         requires { i < length self.now.keys }
         ensures { result.now ≡ slice_index_or self.now.keys i [] }
@@ -100,8 +101,8 @@ impl Search {
         self.visited.key(i)
     }
 
-    /// Returns the verdict after a choice broke the property. It is `Broken`, with all choices from the start, if a
-    /// replay breaks the property again, and otherwise `GaveUp`.
+    /// Returns the verdict after `choice` broke the property. Replays all choices from the start. Returns `Broken`
+    /// with these choices if the property fails again, and otherwise `GaveUp`. Fails if memory cannot be allocated.
     fn counterexample<S: System>(
         &mut self,
         system: &mut S,
@@ -121,8 +122,8 @@ impl Search {
         }
     }
 
-    /// Follows the choices of the next state in the frontier. Returns a verdict if the frontier is empty, if the limit
-    /// on states is exceeded, or if a choice ends the search.
+    /// Follows the choices of the next state in the frontier. Returns a verdict if the frontier is empty, if the
+    /// limit on states is exceeded, or if a choice ends the search. Fails if memory cannot be allocated.
     fn follow_next<S: System>(&mut self, system: &mut S) -> Result<Option<Verdict>, AllocError>
         requires under_way { IsUnderWay (S.rules (S.setting system.old)) self.old }
         ensures setting { S.setting system.new ≡ S.setting system.old }
@@ -159,8 +160,8 @@ impl Search {
         }
     }
 
-    /// Follows the choices of at most `steps` states. Returns `None` if the search has not ended. The next call resumes
-    /// the search, even after an error.
+    /// Follows the choices of at most `steps` states. Returns `None` if the search has not ended. Fails if memory
+    /// cannot be allocated. The next call resumes the search, even after an error.
     pub fn go_on<S: System>(
         &mut self,
         system: &mut S,
@@ -183,7 +184,7 @@ impl Search {
     }
 }
 
-/// Searches all states that a system can reach from `start`, up to `most` states. It fails only if memory for the first
+/// Searches all states that a system can reach from `start`, up to `most` states. Fails only if memory for the first
 /// state cannot be allocated.
 pub fn search_all<S: System>(
     alloc: Global,
@@ -197,7 +198,8 @@ pub fn search_all<S: System>(
     ensures proved { IfOk result (IsProved (S.rules (S.setting system.old)) start.now) }
 {
     let mut search = Search::begin(alloc, start, most)?;
-    // Each step follows one state, and there are at most `most` states. One more step finds the frontier empty.
+    // Each step follows one state, and there are at most `most` states. One more step detects that the frontier is
+    // empty.
     match search.go_on(system, most + 1) {
         Ok(Some(verdict)) => Ok(verdict),
         Ok(None) => Ok(Verdict::TooMany),

@@ -1,11 +1,11 @@
-//! The interface of a transition system that a search runs on.
+//! The interface of the transition systems that can be searched.
 ghost use Rattle.std.specs.Prelude.{◌≡◌, length, true, false, IfSome, OnOk};
 ghost use Rattle.mcs_search.specs.Rules.{Rules};
 
 use std::alloc::AllocError;
 
-/// A transition system. A choice leads from one state to the next. A key, a list of bytes, identifies a state. All keys
-/// in a search have the same length.
+/// A transition system. A choice leads from one state to the next. Each state is identified by its key, a list of
+/// bytes. All keys in a search have the same length.
 pub trait System {
     /// The type of the system's setting: the part that no call changes.
     ghost Setting: { Type 0 };
@@ -13,17 +13,17 @@ pub trait System {
     /// The system's setting: the part that no call changes.
     ghost setting: { Self → Setting };
 
-    /// The rules of the system: the keys that are states, their choices, and where the choices lead.
+    /// The rules of the system: which keys are states, which choices a state needs, and where a choice leads.
     ghost rules: { Setting → Rules };
 
-    /// Replaces the contents of `into` with the choices of a state.
+    /// Replaces the contents of `into` with the choices of the state `key`. Fails if memory cannot be allocated.
     fn choices(&mut self, key: &[u8], into: &mut Vec<u8>) -> Result<(), AllocError>
         requires { (rules (setting self.old)).is_state key.now }
         ensures setting { setting self.new ≡ setting self.old }
         ensures covers { OnOk result ((rules (setting self.old)).covers key.now into.new.items) };
 
-    /// Follows a choice of a state. Returns true, with the key of the next state in `into`, if the property holds at
-    /// every step, and false if it fails. Returns `None` if the system gives up.
+    /// Follows `choice` from the state `key`. Returns true if the property holds at every step, and stores the key of
+    /// the next state in `into`. Returns false if the property fails. Returns `None` if the system gives up.
     fn go(&mut self, key: &[u8], choice: u8, into: &mut [u8]) -> Option<bool>
         requires state { (rules (setting self.old)).is_state key.now }
         requires into { length into.old ≡ length key.now }

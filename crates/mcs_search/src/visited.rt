@@ -1,4 +1,4 @@
-//! The states that a search found, with a hash table that looks up a state by its key.
+//! The set of states that a search has found, with a hash table that looks up a state by its key.
 ghost use Rattle.std.specs.Prelude.{◌≡◌, ◌≢◌, ◌<◌, ◌≤◌, ◌+◌, ℕ, List, [], ◌∷◌, ◌++◌, length, vec_len, IfOk, OnOk, MatchOption, slice_index_or};
 ghost use Rattle.std.specs.List.{Contains};
 ghost use Rattle.mcs_search.specs.Keys.{Stored, Adds};
@@ -10,15 +10,15 @@ use std::alloc::{AllocError, Global};
 use std::hash::{FoldHasher, Hasher};
 use std::marker::Model;
 
-/// The number of slots in the first hash table.
+/// The number of slots in the hash table of a new set.
 const FIRST_SLOTS: usize = 1_024;
 
-/// The result of adding a key.
+/// The result of adding a key to the set.
 #[derive(Clone, Copy)]
 pub(crate) enum Added {
-    /// The key was new.
+    /// The key was new and was added.
     New,
-    /// The key was already present.
+    /// The key was already in the set.
     Known,
     /// The key was new, but the limit on keys was reached, so it was not added.
     Full,
@@ -39,7 +39,7 @@ fn first_slot(count: usize, key: &[u8]) -> usize
     hash(key) & (count - 1)
 }
 
-/// Returns the slot after `at`. The first slot follows the last.
+/// Returns the slot to probe after `at`. The first slot follows the last.
 fn slot_behind(count: usize, at: usize) -> usize
     requires { at < count }
     ensures { result < count }
@@ -47,8 +47,8 @@ fn slot_behind(count: usize, at: usize) -> usize
     if at + 1 < count { at + 1 } else { 0 }
 }
 
-/// Looks up a key. Returns `None` if the arena has the key, and otherwise a slot for it. A slot holds the index of a
-/// key plus 1, or 0 if it is free.
+/// Looks up a key. Returns `None` if the arena has the key, and otherwise a slot for the key. A slot holds the index
+/// of a key plus 1, or 0 if it is free.
 fn slot_for(slots: &[u32], arena: &Arena, key: &[u8]) -> Option<usize>
     requires { 0 < length slots.now }
     ensures { MatchOption result (Contains arena.now.keys key.now) (λ at. at < length slots.now) }
@@ -68,7 +68,7 @@ fn slot_for(slots: &[u32], arena: &Arena, key: &[u8]) -> Option<usize>
     Some(at)
 }
 
-/// Returns a free slot for a key that is not in the table.
+/// Returns a free slot for a key that is not in the table, if the table has one.
 fn free_slot(slots: &[u32], key: &[u8]) -> usize
     requires { 0 < length slots.now }
     ensures { result < length slots.now }
@@ -84,7 +84,7 @@ fn free_slot(slots: &[u32], key: &[u8]) -> usize
     at
 }
 
-/// Inserts all keys of an arena into an empty table.
+/// Inserts all keys of an arena into an empty hash table.
 fn enter_all(slots: &mut [u32], arena: &Arena)
     requires room { 0 < length slots.old }
     requires few { length arena.now.keys < 4294967295 }
@@ -95,10 +95,10 @@ fn enter_all(slots: &mut [u32], arena: &Arena)
     }
 }
 
-/// Keys of one width, each with its parent, and a hash table over them.
+/// A set of keys of one width, each with its parent, and a hash table that finds them.
 ///
-/// Nothing is proved about the table, and nothing needs to be. A key counts as known only if its bytes equal those of a
-/// key in the arena. A key that the table misses is stored twice.
+/// The proofs do not rely on the table. A key counts as known only if its bytes equal those of a key in the arena. If
+/// the table misses a key, the key is stored twice.
 #[derive(Drop)]
 pub(crate) struct Visited {
     arena: Arena,
@@ -118,7 +118,7 @@ impl Model for Visited {
 }
 
 impl Visited {
-    /// Creates a set without keys.
+    /// Creates an empty set for keys of `width` bytes. Fails if memory cannot be allocated.
     pub(crate) fn new(alloc: Global, width: usize) -> Result<Visited, AllocError>
         ensures { IfOk result (λ visited. visited ≡ record { width = width; keys = [] }) }
     {
@@ -130,14 +130,14 @@ impl Visited {
         })
     }
 
-    /// Returns the number of keys.
+    /// Returns the number of keys in the set.
     pub(crate) fn len(&self) -> usize
         ensures { result ≡ length self.now.keys }
     {
         self.arena.len()
     }
 
-    /// Returns the key at an index.
+    /// Returns the key at index `i`, in the order in which keys were added.
     pub(crate) fn key(&self, i: usize) -> &[u8]
         requires { i < length self.now.keys }
         ensures key { result.now ≡ slice_index_or self.now.keys i [] }
@@ -146,13 +146,13 @@ impl Visited {
         self.arena.key(i)
     }
 
-    /// Returns the parent of the key at an index.
+    /// Returns the parent of the key at index `i`, or `None` if no parent is stored there.
     pub(crate) fn parent(&self, i: usize) -> Option<Parent> {
         self.arena.parent(i)
     }
 
-    /// Rebuilds the table with at least four slots per key if the keys fill half of it or more. Frees the old table
-    /// first, because the arena has all its keys.
+    /// Rebuilds the table if it is at least half full. The new table has at least four slots per key. The old table
+    /// is freed first: it is not needed, because the arena has all keys. Fails if memory cannot be allocated.
     fn make_room(&mut self) -> Result<(), AllocError>
         requires few { length self.old.keys < 4294967295 }
         ensures { self.new ≡ self.old }
@@ -169,7 +169,8 @@ impl Visited {
         Ok(())
     }
 
-    /// Adds a key unless it is present or the set already has `most` keys. On an error no key is lost.
+    /// Adds a key unless it is present or the set already has `most` keys. Fails if memory cannot be allocated; no
+    /// key is then lost.
     pub(crate) fn add(
         &mut self,
         key: &[u8],

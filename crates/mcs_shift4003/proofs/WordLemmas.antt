@@ -1,4 +1,5 @@
--- Words of ten bits: what a write and a shift do to their bits, and the row that they hold.
+-- Ten-bit words: the effect of a write and of a shift on their bits, and the list of chain bits
+-- that they store.
 use Rattle.std.proofs.Common.{◌≡◌, ◌≢◌, ℕ, zero, suc, ◌+◌, ◌-◌, ◌*◌, ◌/◌, ◌%◌, ◌^◌, ◌<◌, ◌≤◌, inl, inr, List, ◌∷◌, ◌++◌, drop, All, Some, None, length, get_or, slice_get, slice_index, slice_set, take, replicate, refl, sym, ap, ◌∙◌, arith, bit_or, bit_and, eqb, if◌then◌else◌, get_or-set_other, subst}
 use Rattle.std.proofs.lemmas.Bool.Decides.{nat_tests}
 use Rattle.std.proofs.Math.Pow.{pow-lt}
@@ -18,7 +19,7 @@ use Rattle.mcs_shift4003.specs.Packing.{packed_bit, bit_before, chain_bits_of, I
 
 -- ---- one word
 
--- 1 << j, of a word
+-- For j below 10, the word 1 << j is a ten-bit word.
 pub place : (j : ℕ) → j < 10 → 1 * 2 ^ j % 65536 < 1024
 place j h = let e : 2 ^ j < 2 ^ 10 = pow-lt h in omega arith
 
@@ -31,7 +32,7 @@ clear-small word m h = let e = and_le_l word m in omega arith
 bit-mod : (n k i : ℕ) → i < k → bit_of (n % 2 ^ k) i ≡ bit_of n i
 bit-mod n k i h = sym (bit_at_cat_low (n / 2 ^ k) k (n % 2 ^ k) i h) ∙ ap (λ m. bit_of m i) (div-add-mod' n (2 ^ k))
 
--- a word that took in a level
+-- After a word is shifted, bit 0 is the level that was shifted in, and bit j + 1 is the old bit j.
 moved-low : (word level : ℕ) → level < 2 → bit_of ((2 * word + level) % 1024) 0 ≡ level
 moved-low word level l = bit-mod (2 * word + level) 10 0 (omega arith) ∙ bit_at_lowest (2 * word + level) ∙ omega arith
 
@@ -43,7 +44,7 @@ moved-high word level j l h =
 lost : (word : ℕ) → word < 1024 → word / 512 ≡ bit_of word 9
 lost word h = omega arith
 
--- ---- words
+-- ---- a list of words
 
 pub set-ten : (words : List ℕ) (at new : ℕ) → new < 1024 → ((k : ℕ) → slice_index words k < 1024) → (k : ℕ) → slice_index (slice_set words at new) k < 1024
 set-ten words at new h ten k =
@@ -58,7 +59,8 @@ set-ten words at new h ten k =
 
 -- ---- a shift, word by word
 
--- the words after k of them were moved
+-- holds if `new` is the list `old` after its first k words were shifted, and `level_next` is the
+-- bit to shift into the next word
 pub record IsMoved (level : ℕ) (old new : List ℕ) (k level_next : ℕ) : Type 0 where
   pub len : length new ≡ length old
   pub ten : (m : ℕ) → slice_index new m < 1024
@@ -111,7 +113,7 @@ one-more level old new k carry word last m there is lost-is =
       small = omega arith;
     }
 
--- a word past the last one is 0
+-- A bit past the last word is 0.
 no-word : (words : List ℕ) (i : ℕ) → 10 * length words ≤ i → packed_bit words i ≡ 0
 no-word words i gone = ap (λ w. bit_of w (i % 10)) (get_or_past words (i / 10) 0 (omega arith)) ∙ bit_at-zero (i % 10)
 
@@ -123,7 +125,7 @@ past-end bits level old new (suc i) p len moved h =
       | inr gone ↦ no-word new (suc i) (omega arith)
     ]
 
--- what bits past the end become
+-- If the first bit past the end of the chain is cleared after a shift, all bits past the end are 0.
 pub trimmed : (bits level : ℕ) (old new last : List ℕ) → IsPacked bits old → length new ≡ length old → ((k : ℕ) → slice_index last k < 1024) → length last ≡ length new → ((i : ℕ) → i < 10 * length old → packed_bit new i ≡ bit_before level old i) → packed_bit last bits ≡ 0 → ((k : ℕ) → k ≢ bits → packed_bit last k ≡ packed_bit new k) → IsPacked bits last
 trimmed bits level old new last p len ten len2 moved zero-there others = record {
   used = len2 ∙ len ∙ p.used;
@@ -135,7 +137,7 @@ trimmed bits level old new last p len ten len2 moved zero-there others = record 
       ];
 }
 
--- ---- the row
+-- ---- the list of chain bits
 
 pub length-row : (bits : ℕ) (words : List ℕ) → length (chain_bits_of bits words) ≡ bits
 unfolding chain_bits_of
@@ -145,7 +147,7 @@ pub row-bit : (bits : ℕ) (words : List ℕ) (i d : ℕ) → i < bits → get_o
 unfolding chain_bits_of
 row-bit bits words i d h = get_or-tabled bits (packed_bit words) i d h
 
--- a bit of the row, or 0 beyond its end
+-- Reading index i of the list of chain bits gives bit i of the words. Past the end both are 0.
 pub any-bit : (bits : ℕ) (words : List ℕ) (i : ℕ) → IsPacked bits words → slice_index (chain_bits_of bits words) i ≡ packed_bit words i
 any-bit bits words i p =
     elim (cases_lt i bits) [
@@ -164,7 +166,7 @@ row-small bits words =
     All-from_get_or (λ bit. bit < 2) (chain_bits_of bits words) 0 (λ i l.
     subst (λ bit. bit < 2) (sym (row-bit bits words i 0 (let e = length-row bits words in omega arith))) (bit_at-lt (slice_index words (i / 10)) (i % 10)))
 
--- a row of zeros
+-- Each bit of a list of zero words is 0.
 zeros : (n i : ℕ) → packed_bit (replicate n 0) i ≡ 0
 zeros n i =
     elim (cases_lt (i / 10) n) [
@@ -176,7 +178,7 @@ pub blank : (bits n : ℕ) → chain_bits_of bits (replicate n 0) ≡ replicate 
 unfolding chain_bits_of
 blank bits n = sym (tabled_from bits (packed_bit (replicate n 0)) (replicate bits 0) 0 (length-replicate {A = ℕ} bits 0) (λ k l. get_or-replicate bits k 0 0 l ∙ sym (zeros n k)))
 
--- a row with one bit replaced
+-- If one bit of the words is replaced, the same bit of the list of chain bits is replaced.
 pub set-row : (bits : ℕ) (words new : List ℕ) (i level : ℕ) → i < bits → packed_bit new i ≡ level → ((k : ℕ) → k ≢ i → packed_bit new k ≡ packed_bit words k) → chain_bits_of bits new ≡ slice_set (chain_bits_of bits words) i level
 unfolding chain_bits_of
 set-row bits words new i level h at others = sym (set-tabled bits (packed_bit words) (packed_bit new) i level h at (λ k _ ne. others k ne))
@@ -188,7 +190,8 @@ set-packed bits words new i p h len ten others = record {
   past = λ k l. others k (λ e. omega arith) ∙ p.past k l;
 }
 
--- a row that was moved
+-- Element k of the list with `level` before the chain bits is the bit that a shift moves into bit
+-- k.
 row-before : (bits level : ℕ) (words : List ℕ) (k : ℕ) → k < bits → get_or (level ∷ chain_bits_of bits words) k 0 ≡ bit_before level words k
 row-before bits level words zero h = refl
 row-before bits level words (suc k) h = row-bit bits words k 0 (omega arith)
@@ -201,7 +204,7 @@ shifted-row bits level old new moved =
     sym (tabled_from bits (packed_bit new) (take (length (chain_bits_of bits old)) (level ∷ chain_bits_of bits old)) 0 taken (λ k l.
     get_or-take (length (chain_bits_of bits old)) (level ∷ chain_bits_of bits old) k 0 (omega arith) ∙ row-before bits level old k l ∙ sym (moved k l)))
 
--- ---- ten bits from a place on
+-- ---- ten bits from a given bit on
 
 bit-div : (n s j : ℕ) → bit_of (n / 2 ^ s) j ≡ bit_of n (s + j)
 bit-div n s j = ap (λ m. m % 2) (div-div-eq-div-mul n (2 ^ s) (2 ^ j) ∙ ap (λ m. n / m) (sym (pow-add 2 s j)))
@@ -222,11 +225,11 @@ ten-bits words first low high j is-low is-high small h =
           bit_at_cat_high high 10 low (s + j) small l ∙ ap (λ w. bit_of w (s + j - 10)) (is-high ∙ ap (slice_index words) p) ∙ ap (bit_of (slice_index words ((first + j) / 10))) q
     ]
 
--- a slice of words put back whole
+-- Refilling a list with new elements of the same number gives the new elements.
 pub back : (old new : List ℕ) → length new ≡ length old → refill (length old) old new ≡ new
 back old new len = ap (λ n. take n (new ++ drop (length new) old)) (sym len) ∙ take-append_seam new (drop (length new) old)
 
--- a level told by a test
+-- Testing a bit of a word gives its level.
 pub bit-when : (word j : ℕ) → (if eqb (bit_and (word / 2 ^ j) 1) 1 then 1 else 0) ≡ bit_of word j
 bit-when word j =
     let e = shr_and_one word j in

@@ -1,6 +1,6 @@
-//! The 4003: chains of 10-bit shift registers. A chain is one sequence of bits.
+//! The 4003 shift register: ten bits for each chip. Chips in a row form a chain, which is one sequence of bits.
 //!
-//! A chain stores ten bits in each word, as many as a chip has, and shifts word by word.
+//! A chain stores ten bits in each word, as many as a chip has. It is shifted word by word.
 #![tactic(auto)]
 
 ghost use Rattle.std.specs.Prelude.{◌≡◌, ◌≢◌, ℕ, ◌+◌, ◌*◌, ◌/◌, ◌%◌, ◌<◌, ◌≤◌, All, length, replicate, slice_index, slice_get, slice_set};
@@ -12,7 +12,7 @@ use arrayvec::ArrayVec;
 use mcs_nibble::Bit;
 use std::marker::Model;
 
-/// The number of bits in a word: the number of bits in a 4003.
+/// The number of chain bits in a word, which is the number of bits in a 4003.
 const WORD_BITS: usize = 10;
 
 /// A shift-register chain of 4003s (MCS-4 Users Manual): a sequence of at most `MAX` bits. Bit 0 is the bit that was
@@ -35,7 +35,7 @@ impl<const MAX: usize> Model for Chain<MAX> {
     ghost invariant = { λ c. record { fits : c.bits ≤ MAX; packed : IsPacked c.bits c.words.items } };
 }
 
-/// Returns the word with bit `j` set to `level`.
+/// Returns the ten-bit word with bit `j` (0 to 9) set to `level`.
 fn with_bit(word: u16, j: usize, level: Bit) -> u16
     requires word { word < 1024 }
     requires j { j < 10 }
@@ -50,8 +50,7 @@ fn with_bit(word: u16, j: usize, level: Bit) -> u16
     }
 }
 
-/// Shifts a ten-bit word up by one bit, with `level` as the new bit 0. Returns the new word and the bit that was
-/// shifted out.
+/// Returns a ten-bit word shifted up by one bit, with `level` as the new bit 0, and the bit that was shifted out.
 fn moved(word: u16, level: u16) -> (u16, u16)
     requires word { word < 1024 }
     requires level { level < 2 }
@@ -61,7 +60,7 @@ fn moved(word: u16, level: u16) -> (u16, u16)
     ((2 * word + level) % 1024, word / 512)
 }
 
-/// Sets bit `i` of a sequence of ten-bit words to `level`.
+/// Sets bit `i` of a chain, stored in ten-bit words, to `level`.
 fn put(words: &mut [u16], i: usize, level: Bit)
     requires there { i / 10 < length words.old }
     requires ten { (k : ℕ) → slice_index words.old k < 1024 }
@@ -74,7 +73,8 @@ fn put(words: &mut [u16], i: usize, level: Bit)
     words[at] = with_bit(words[at], i % WORD_BITS, level);
 }
 
-/// Shifts a sequence of ten-bit words up by one bit. `level` becomes bit 0, and the last bit of the last word is lost.
+/// Shifts a sequence of ten-bit words up by one bit. `level` becomes bit 0 of the first word, and the top bit of the
+/// last word is lost.
 fn shift_words(words: &mut [u16], level: Bit)
     requires { (k : ℕ) → slice_index words.old k < 1024 }
     ensures len { length words.new ≡ length words.old }
@@ -114,7 +114,7 @@ fn copied<const MAX: usize>(words: &ArrayVec<u16, MAX>) -> ArrayVec<u16, MAX>
     copy
 }
 
-/// Returns word `k`, or 0 if `k` is past the end.
+/// Returns word `k`, or 0 if there are at most `k` words.
 fn word_at(words: &[u16], k: usize) -> u16
     ensures { result ≡ slice_index words.now k }
 {
@@ -155,7 +155,7 @@ impl<const MAX: usize> Chain<MAX> {
         self.bits
     }
 
-    /// Returns bit `i`, or `None` if `i` is past the end.
+    /// Returns bit `i` of the chain, or `None` if the chain has at most `i` bits.
     pub fn bit(&self, i: usize) -> Option<Bit>
         ensures { result ≡ slice_get self.now i }
     {
@@ -167,8 +167,8 @@ impl<const MAX: usize> Chain<MAX> {
         }
     }
 
-    /// Returns ten bits of the chain, beginning at bit `first`. Bit j of the result is bit `first` + j of the chain, or
-    /// 0 past the end.
+    /// Returns ten bits of the chain, from bit `first` on. Bit j of the result is bit `first` + j of the chain, or 0
+    /// past its end.
     pub fn ten_from(&self, first: usize) -> u16
         ensures bits { (j : ℕ) → j < 10 → bit_of result j ≡ slice_index self.now (first + j) }
         ensures ten { result < 1024 }
@@ -181,7 +181,7 @@ impl<const MAX: usize> Chain<MAX> {
         (from_first % 1024) as u16
     }
 
-    /// Sets bit `i` without shifting.
+    /// Sets bit `i` of the chain to `bit`, and shifts nothing. `i` must be less than the number of bits.
     pub fn set_bit(&mut self, i: usize, bit: Bit)
         requires { i < length self.old }
         ensures { self.new ≡ slice_set self.old i bit }
@@ -189,21 +189,21 @@ impl<const MAX: usize> Chain<MAX> {
         put(&mut self.words, i, bit);
     }
 
-    /// Shifts the chain up by one bit. `level`, the level of the data line, becomes bit 0, and the last bit is lost.
+    /// Shifts the chain up by one bit. `level`, the level of the data line, becomes bit 0. The last bit is lost.
     pub fn shift(&mut self, level: Bit)
         ensures { self.new ≡ bits_after_shift level self.old }
     {
         shift_bits(&mut self.words, self.bits, level);
     }
 
-    /// Sets every bit to 0.
+    /// Sets every bit of the chain to 0.
     pub fn clear(&mut self)
         ensures { self.new ≡ replicate (length self.old) 0 }
     {
         *self = Chain::new(self.bits);
     }
 
-    /// Proves that each bit is 0 or 1.
+    /// Proves that each bit of the chain is 0 or 1.
     pub fn show_state_is_valid(&self)
         ensures { All (λ bit. bit < 2) self.now }
     {

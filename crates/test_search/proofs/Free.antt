@@ -1,4 +1,4 @@
--- A search by rules that say nothing is always under way.
+-- With rules that claim nothing, the invariant of a search always holds.
 use Rattle.std.proofs.Common.{ℕ, List, [], get_or}
 use Rattle.std.proofs.lemmas.List.Elements.{All-nil}
 use Rattle.mcs_search.specs.Rules.{LeadsInto}

@@ -1,4 +1,5 @@
--- Rules that state nothing. The tests count states and replay choices instead.
+-- Rules that every state and every choice satisfies, so that contracts claim nothing. The tests
+-- count states and replay choices instead.
 use Rattle.std.specs.Prelude.{ℕ}
 use Rattle.mcs_search.specs.Rules.{Rules}
 

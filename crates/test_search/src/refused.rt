@@ -1,5 +1,5 @@
-//! Tests with one failing allocation. `checks/allocations` makes each allocation fail in turn; in
-//! the gate, none fails.
+//! A test of a search in which one allocation fails. `checks/allocations` runs it repeatedly and makes another
+//! allocation fail each time. When `./test gate` runs it, no allocation fails.
 use crate::wheels::{Wheels, go_on};
 use mcs_search::{Search, Verdict};
 use std::alloc::Global;
@@ -8,16 +8,16 @@ use std::process::Abort;
 /// The start state: three wheels at position 0.
 const START: [u8; 3] = [0; 3];
 
-/// The number of positions of a wheel. It gives more states than a block can hold.
+/// The number of positions of a wheel. It is large enough that the states do not fit in one block.
 const PLACES: u8 = 41;
 
-/// The number of states: 41 * 41 * 41.
+/// The number of states: 41 * 41 * 41, one for each combination of positions.
 const STATES: usize = 68_921;
 
-/// More steps than all states need.
+/// A number of steps that is enough for all states.
 const STEPS: usize = 100_000;
 
-/// Checks that the search has found all states.
+/// Checks that the property holds, and that the search found all states.
 fn expect_all(rt: &impl Abort, verdict: Option<Verdict>) {
     match verdict {
         Some(Verdict::Holds(n)) => assert_eq!(rt; n, STATES),
@@ -25,8 +25,8 @@ fn expect_all(rt: &impl Abort, verdict: Option<Verdict>) {
     }
 }
 
-/// Continues a search to its end, and repeats this if an allocation failed. Returns the part whose
-/// allocation failed, or `nothing`.
+/// Runs a search to its end, and resumes it if an allocation fails. Returns the part whose allocation failed, or
+/// `nothing`.
 fn go_to_end(rt: &impl Abort, search: &mut Search) -> &'static str {
     let mut wheels = Wheels::new(3, PLACES);
     match go_on(search, &mut wheels, STEPS) {
@@ -42,8 +42,8 @@ fn go_to_end(rt: &impl Abort, search: &mut Search) -> &'static str {
     }
 }
 
-/// Starts a search, and repeats this if an allocation failed. Returns the part whose allocation
-/// failed, or `nothing`.
+/// Begins a search, and begins again if an allocation fails. Then runs the search to its end. Returns the part whose
+/// allocation failed, or `nothing`.
 fn run(alloc: Global, rt: &impl Abort) -> &'static str {
     match Search::begin(alloc, &START, STATES) {
         Ok(mut search) => go_to_end(rt, &mut search),

@@ -1,10 +1,10 @@
-//! Tests of complete searches and their verdicts.
+//! Tests of searches that run to their end, and of their verdicts.
 use crate::wheels::{Wheels, searched};
 use mcs_search::Verdict;
 use std::alloc::Global;
 use std::process::Abort;
 
-/// Checks that the property holds for the given number of states.
+/// Checks that the property holds, and that the search found the given number of states.
 fn expect_holds(rt: &impl Abort, verdict: &Verdict, states: usize) {
     match verdict {
         Verdict::Holds(n) => assert_eq!(rt; *n, states),
@@ -16,7 +16,7 @@ fn expect_too_many(rt: &impl Abort, verdict: &Verdict) {
     assert!(rt; matches!(verdict, Verdict::TooMany));
 }
 
-/// Checks that a search finds all states of the wheels.
+/// Checks that a search finds all states of `count` wheels with `places` positions each.
 fn expect_all(alloc: Global, rt: &impl Abort, count: usize, places: u8, states: usize) {
     let mut wheels = Wheels::new(count, places);
     expect_holds(rt, &searched(alloc, rt, &mut wheels, 1_000_000), states);
@@ -82,7 +82,7 @@ fn a_system_may_give_up(rt: HostRuntime) {
             Verdict::GaveUp
         )
     );
-    // a counterexample with fewer choices is found first
+    // The counterexample has fewer choices, so the search finds it first.
     wheels.bad = [0, 2, 0];
     assert!(&rt;
         matches!(

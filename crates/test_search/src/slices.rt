@@ -1,4 +1,4 @@
-//! Tests of a search that runs in slices.
+//! Tests of a search that runs in several calls, each for a limited number of steps.
 use crate::wheels::{Wheels, go_on};
 use mcs_search::{Search, Verdict};
 use std::process::Abort;
@@ -6,14 +6,14 @@ use std::process::Abort;
 /// The start state: three wheels at position 0.
 const START: [u8; 3] = [0; 3];
 
-/// Follows the next state, which has the given number, and checks that the search does not end.
+/// Follows the choices of the next state, whose index must be `number`, and checks that the search does not end.
 fn follow_one(rt: &impl Abort, search: &mut Search, wheels: &mut Wheels, number: usize) {
     assert_eq!(rt; search.followed(), number);
     assert!(rt; number < search.states());
     assert!(rt; go_on(search, wheels, 1).expect(rt, "memory").is_none());
 }
 
-/// Checks that the next step ends the search and reports that the property holds.
+/// Checks that the next step ends the search, that the property holds, and that the search found `states` states.
 fn expect_end(rt: &impl Abort, search: &mut Search, wheels: &mut Wheels, states: usize) {
     match go_on(search, wheels, 1).expect(rt, "memory") {
         Some(Verdict::Holds(n)) => assert_eq!(rt; n, states),
@@ -29,7 +29,7 @@ fn each_slice_goes_on(rt: HostRuntime) {
         follow_one(&rt, &mut search, &mut wheels, number);
     }
     assert_eq!(&rt; search.states(), 125);
-    // a search that has ended gives the same verdict again
+    // A search that has ended returns the same verdict again.
     expect_end(&rt, &mut search, &mut wheels, 125);
     expect_end(&rt, &mut search, &mut wheels, 125);
 }

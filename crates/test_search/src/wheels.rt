@@ -1,23 +1,23 @@
-//! A system of wheels for tests.
+//! A transition system of wheels, for tests.
 use mcs_search::{Search, System, Verdict, search_all};
 use std::alloc::{AllocError, Global};
 use std::process::Abort;
 
-/// A system of `count` wheels with `places` positions each. All wheels start at position 0. A
-/// choice turns one wheel by one position.
+/// A system of `count` wheels with `places` positions each. The state is the position of each wheel, which is 0 at
+/// the start. A choice turns one wheel by one position.
 #[derive(Drop)]
 pub(crate) struct Wheels {
     pub(crate) count: usize,
     pub(crate) places: u8,
-    /// The positions at which the property fails. With fewer than three wheels, only the first
-    /// bytes count.
+    /// The positions of the wheels at which the property fails. With fewer than three wheels, only the first `count`
+    /// bytes matter.
     pub(crate) bad: [u8; 3],
-    /// The positions at which the system gives up. With fewer than three wheels, only the first
-    /// bytes count.
+    /// The positions of the wheels at which the system gives up. With fewer than three wheels, only the first `count`
+    /// bytes matter.
     pub(crate) stuck: [u8; 3],
 }
 
-/// Positions that no state has, because no wheel has position 255.
+/// Positions of three wheels that no state has, because no wheel reaches position 255.
 pub(crate) const NOWHERE: [u8; 3] = [255; 3];
 
 impl Wheels {
@@ -32,7 +32,8 @@ impl Wheels {
     }
 }
 
-/// Returns true if the wheels of a state are at the given positions.
+/// Returns true if the wheels of a state are at the given positions. Returns false if there are no wheels or more
+/// than three.
 fn are_at(key: &[u8], places: &[u8; 3]) -> bool {
     !key.is_empty() && key.len() <= 3 && key == &places[..key.len()]
 }
@@ -71,7 +72,7 @@ impl System for Wheels {
     }
 }
 
-/// Continues a search for at most `steps` states.
+/// Resumes a search for at most `steps` states.
 #[tactic(auto, using(crate::proofs::Free::free_under_way))]
 pub(crate) fn go_on(
     search: &mut Search,
@@ -81,7 +82,7 @@ pub(crate) fn go_on(
     search.go_on(wheels, steps)
 }
 
-/// Searches all states of the wheels, with at most `most` states.
+/// Searches all states of the wheels, up to `most` states.
 pub(crate) fn searched(
     alloc: Global,
     rt: &impl Abort,

@@ -9,7 +9,7 @@ use Rattle.mcs_board.specs.RigFields.{rig_parts}
 use Rattle.mcs_board.proofs.MakingLemmas.{IsRewired, rewired-every, wire-state, wire-fitted}
 use Rattle.mcs_board.proofs.rig.Rig.wire.Goals as goal
 
--- a board with all its keys up
+-- A key pad for a copy of board b is the key pad of b, with all keys up.
 made : (b copy : BoardParts) (k : KeyState) → k ≡ record { board = copy; down = replicate (key_count copy) 0 } → copy ≡ b → k ≡ record { board = b; down = replicate (key_count b) 0 }
 made b copy k new same = new ∙ ap (λ (x : BoardParts). let made : KeyState = record { board = x; down = replicate (key_count x) 0 } in made) same
 
