@@ -1,4 +1,4 @@
--- Valid buses that agree in what is there are the same (the core of packing).
+-- Two valid buses are equal if they agree in every present chip. This is the main step of `keys_decide`.
 use Rattle.std.proofs.Common.{◌≡◌, ◌<◌, ◌/◌, ◌%◌, ℕ, inl, inr, List, Option, Some, None, MatchOption, length, get_or, slice_index, refl, sym, ap, ◌∙◌, arith}
 use Rattle.std.proofs.lemmas.Bool.{cases_lt}
 use Rattle.std.proofs.lemmas.List.{same_lists}

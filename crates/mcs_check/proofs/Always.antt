@@ -1,4 +1,5 @@
--- From a search to what holds of a machine, and of those that differ from it in their levels alone.
+-- A closed search proves the property of its first machine, and of the machines that differ from it only in
+-- their input levels.
 use Rattle.std.proofs.Common.{◌≡◌, ℕ, zero, suc, List, Bool, sym, ap, ◌∙◌, subst}
 use Rattle.mcs_drive.specs.Driven.{Levels, FitBoard}
 use Rattle.mcs_drive.specs.Tracked.{Observer, Tracked, under, plain, cycled, driven, Holds}

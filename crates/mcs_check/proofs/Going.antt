@@ -1,11 +1,11 @@
--- A run cycle by cycle.
+-- A run that is extended one cycle at a time.
 use Rattle.std.proofs.Common.{◌≡◌, ◌<◌, ℕ, zero, suc, Bool, true, false, refl, sym, ap, ◌∙◌, arith, below_more}
 use Rattle.mcs_drive.specs.Tracked.{Observer, Tracked, cycled, after_cycles, is_asking}
 use Rattle.mcs_check.specs.Keys.{Keeps}
 use Rattle.mcs_check.specs.Stations.{Reaches}
 use Rattle.mcs_check.proofs.Keeping.{cycle-keeps, keeps-itself, keeps-on}
 
--- a run from s to t, in which no cycle reads of the outside, and the property holds before each
+-- a run from s to t in which no cycle reads an input, and the property holds before each cycle
 pub record Walked (w : Observer) (p : Tracked → Bool) (s t : Tracked) : Type 0 where
   pub cycles : ℕ
   pub quiet : (i : ℕ) → i < cycles → is_asking (after_cycles w i s) ≡ false

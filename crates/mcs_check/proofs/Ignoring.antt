@@ -1,4 +1,4 @@
--- Conditions do not look at keys and TEST.
+-- Conditions do not depend on the levels of the keys and of TEST.
 use Rattle.std.proofs.Common.{◌≡◌, ◌%◌, ℕ, not, cond, ◌&&◌, List, [], ◌∷◌, slice_index, nat_le, refl, ap, ◌∙◌}
 use Rattle.mcs_model.specs.Bus.{fetch_of}
 use Rattle.mcs_drive.specs.Tracked.{Tracked, plain}

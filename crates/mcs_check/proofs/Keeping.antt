@@ -1,4 +1,4 @@
--- What never changes in a search: the board, the bytes of the ROMs, the keys and TEST.
+-- The parts of a machine that never change in a search: the board, the ROM bytes, the keys and TEST.
 use Rattle.std.proofs.Common.{◌≡◌, ℕ, ◌/◌, List, Bool, true, false, cond, Option, Some, None, unwrap_or, nat_lt, refl, ◌∙◌, ap, eqb}
 use Rattle.mcs_nibble.specs.declared.lines.LineMask.{LineMask}
 use Rattle.mcs_nibble.specs.Ports.{latch_value}
@@ -24,7 +24,7 @@ either-keeps : (b : Bool) (s m n : BusState) → Keeps s m → Keeps s n → Kee
 either-keeps true s m n h k = h
 either-keeps false s m n h k = k
 
--- ---- what is set
+-- ---- setting a cell
 
 pub ram-keeps : (s : BusState) (bank src n : ℕ) → Keeps s (with_ram s bank src n)
 unfolding with_ram
@@ -89,6 +89,6 @@ pub cycle-keeps : (w : Observer) (s : Tracked) → Keeps s.1 (cycled w s).1
 unfolding cycle_of
 cycle-keeps w s = cycle-keeps-when (machine_in s) (eqb s.0.owed 1) (instruction_at s.0 s.1)
 
--- the same, of equal buses
+-- `Keeps` also holds for two buses that are equal to these
 pub keeps-same : (r s t u : BusState) → r ≡ s → t ≡ u → Keeps r u → Keeps s t
 keeps-same r s t u e f h = record { board = ap (λ (b : BusState). b.board) f ∙ h.board ∙ ap (λ (b : BusState). b.board) e; rom = ap (λ (b : BusState). b.rom) f ∙ h.rom ∙ ap (λ (b : BusState). b.rom) e; keys = ap (λ (b : BusState). b.keys) f ∙ h.keys ∙ ap (λ (b : BusState). b.keys) e; test = ap (λ (b : BusState). b.test) f ∙ h.test ∙ ap (λ (b : BusState). b.test) e }

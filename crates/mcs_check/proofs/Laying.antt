@@ -1,4 +1,4 @@
--- A layout that is filled list by list.
+-- A layout that is extended one list at a time.
 use Rattle.std.proofs.Common.{◌≡◌, ◌<◌, ◌≤◌, ◌+◌, ◌*◌, ◌/◌, ℕ, inl, inr, Bool, true, false, cond, ◌||◌, List, [], ◌∷◌, ◌++◌, slice_index_or, nat_lt, refl, sym, ap, ◌∙◌, subst, arith, below_more}
 use Rattle.std.specs.List.{Contains}
 use Rattle.std.proofs.lemmas.Bool.{both_ways, cases_lt, ltb-true, or_parts}
@@ -13,19 +13,20 @@ use Rattle.mcs_check.specs.declared.cells.CellList.{CellList}
 use Rattle.mcs_check.specs.declared.cells.CellList.TheVariants.{Characters, StatusCharacters, RamPorts, RomPorts, BankSrcs, Registers, Counters, Chain}
 use Rattle.mcs_check.specs.Cells.{byte_of, count_of, is_narrow, is_there, HasAll, HasList, IsComplete}
 
--- others were kept, and one more byte was added behind them
+-- after one more byte is appended, the layout still contains all bytes of `others`
 more-kept : (others before after : List KeyByte) (byte : KeyByte) → after ≡ before ++ byte ∷ [] → HasAll others before → HasAll others after
 more-kept others before after byte e keeps = λ c k. subst (λ (cs : List KeyByte). Contains cs c) (sym e) (Contains-append_left before (byte ∷ []) c (keeps c k))
 
 last-there : (before after : List KeyByte) (byte : KeyByte) → after ≡ before ++ byte ∷ [] → Contains after byte
 last-there before after byte e = subst (λ (cs : List KeyByte). Contains cs byte) (sym e) (Contains-append_right before (byte ∷ []) byte (0, omega arith, refl))
 
--- the first n cells of a list that a board has were added behind others
+-- holds if a layout contains all bytes of `others`, and those of the first n cells of a list that exist on
+-- the board
 pub record IsLaid (b : BoardParts) (list : CellList) (n : ℕ) (others layout : List KeyByte) : Type 0 where
   pub keeps : HasAll others layout
   pub has : (k : ℕ) → k < n → is_there b list k ≡ true → Contains layout (byte_of list k)
 
--- ---- cell by cell
+-- ---- one cell per byte
 
 in-one : (list : CellList) (i : ℕ) → is_narrow list ≡ false → byte_of list i ≡ One (record { list = list; index = i })
 in-one list i wide = ap (λ (n : Bool). cond n (Pair list (i / 2)) (One (record { list = list; index = i }))) wide
@@ -45,7 +46,7 @@ laid-skipped b list i others layout gone h = record {
   has = below_more (λ k. is_there b list k ≡ true → Contains layout (byte_of list k)) i h.has (λ there. absurd (cc));
 }
 
--- ---- pair by pair
+-- ---- two cells per byte
 
 in-pair : (list : CellList) (i h : ℕ) → is_narrow list ≡ true → i / 2 ≡ h → byte_of list i ≡ Pair list h
 in-pair list i h narrow half = ap (λ (n : Bool). cond n (Pair list (i / 2)) (One (record { list = list; index = i }))) narrow ∙ ap (Pair list) half
@@ -76,7 +77,7 @@ pair-skipped b list h others layout gone laid =
       ];
     }
 
--- each list has an even number of cells, so its pairs have all of them
+-- each list has an even number of cells, so its pairs contain all of its cells
 pub even-count : (list : CellList) → count_of list ≡ 2 * (count_of list / 2)
 even-count Characters = refl
 even-count StatusCharacters = refl

@@ -1,4 +1,4 @@
--- A limit of a stopwatch, as conditions on its three bytes.
+-- The limit of a stopwatch, as conditions on the three bytes of its cycles.
 use Rattle.std.proofs.Common.{◌≡◌, ◌<◌, ◌/◌, ◌%◌, ◌++◌, ℕ, inl, inr, Bool, true, false, not, ◌&&◌, List, [], ◌∷◌, nat_le, refl, sym, ap, ◌∙◌, arith}
 use Rattle.std.proofs.lemmas.Bool.{cases_order, le-leb, lt-leb}
 use Rattle.mcs_drive.specs.Tracked.{Tracked}
@@ -10,26 +10,27 @@ pub and-assoc : (a b c : Bool) → ((a && b) && c) ≡ (a && (b && c))
 and-assoc true b c = refl
 and-assoc false b c = refl
 
--- the conditions of two lists
+-- no list of `xs ++ ys` is met if and only if no list of xs and no list of ys is met
 pub keeps-both : (xs ys : List (List Condition)) (s : Tracked) → keeps_to (xs ++ ys) s ≡ (keeps_to xs s && keeps_to ys s)
 keeps-both [] ys s = refl
 keeps-both (x ∷ xs) ys s = ap (λ b. not (are_met s x) && b) (keeps-both xs ys s) ∙ sym (and-assoc (not (are_met s x)) (keeps_to xs s) (keeps_to ys s))
 
--- three lists more, one after the other
+-- appending three lists one at a time gives the same as appending them at once
 pub three-more : (xs : List (List Condition)) (a b c : List Condition) → ((xs ++ a ∷ []) ++ b ∷ []) ++ c ∷ [] ≡ xs ++ a ∷ b ∷ c ∷ []
 three-more [] a b c = refl
 three-more (x ∷ xs) a b c = ap (λ (ys : List (List Condition)). x ∷ ys) (three-more xs a b c)
 
 -- ---- the bytes
 
--- of three bytes, not above those of a limit: what the conditions say, byte by byte
+-- true if the number with the bytes a, b and c is not above the limit with the bytes x, y and z, as the
+-- conditions compare them
 abbrev in_bytes : ℕ → ℕ → ℕ → ℕ → ℕ → ℕ → Bool
 in_bytes a b c x y z =
     not (not (nat_le 0 a && nat_le a x) && true)
     && (not ((nat_le x a && nat_le a x) && (not (nat_le 0 b && nat_le b y) && true))
     && (not ((nat_le x a && nat_le a x) && ((nat_le y b && nat_le b y) && (not (nat_le 0 c && nat_le c z) && true))) && true))
 
--- what each comparison of two bytes gives
+-- the results of the two comparisons of bytes a and x
 record Order (a x : ℕ) (less more : Bool) : Type 0 where
   below : nat_le a x ≡ less
   above : nat_le x a ≡ more
@@ -85,7 +86,7 @@ bytes-say n m =
 
 -- ---- the conditions
 
--- that it shows more than a limit of these bytes
+-- the lists of conditions that are met if the stopwatch shows more than the limit with these three bytes
 abbrev pub beyond : ℕ → ℕ → ℕ → List (List Condition)
 beyond x y z =
     (Compare (elapsed_byte 0 0 x false) ∷ [])

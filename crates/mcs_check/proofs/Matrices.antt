@@ -13,7 +13,7 @@ matrix-size b m v e =
     not-false (is_matrix_size m)
     (subst (λ (o : Option KeyMatrix). elim o as (λ _. Bool) [ Some m ↦ not (is_matrix_size m) | None ↦ false ] ≡ false) e (sound b v).values.matrix)
 
--- the bits of its rows
+-- the chain bits of the rows of a key matrix have numbers below 256
 pub rows-fit : (m : KeyMatrix) → is_matrix_size m ≡ true → m.first + m.rows < 256
 rows-fit m is =
     let p4 = and_parts (nat_lt m.chain 4 && nat_lt m.first 80 && nat_lt 0 m.rows && nat_le m.rows 10) (nat_lt 0 (length m.columns.items)) is in
@@ -24,7 +24,7 @@ rows-fit m is =
     let rows = leb-true m.rows 10 p3.1 in
     omega arith
 
--- bits of a nibble above bit 3
+-- the bits of a nibble above bit 3 are 0
 pub no-bit : (n k : ℕ) → n < 16 → 4 ≤ k → bit_of n k ≡ 0
 no-bit n k small high =
     let power : 2 ^ 4 ≤ 2 ^ k = pow-le-pow_right (lit< tt) high in

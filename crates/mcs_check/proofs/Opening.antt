@@ -1,4 +1,4 @@
--- Conditions that are met only after marks were seen, list by list.
+-- The requirement that conditions are met only after marks were seen, added one list at a time.
 use Rattle.std.proofs.Common.{◌≡◌, ◌<◌, ◌-◌, ◌+◌, ◌++◌, ℕ, Bool, true, false, not, ◌&&◌, List, [], ◌∷◌, inl, inr, length, nat_lt, get_or, take, refl, sym, ap, ◌∙◌, arith, add-one}
 use Rattle.std.proofs.Math.Seq.{take-suc}
 use Rattle.std.proofs.lemmas.Bool.{cases_lt, le-leb, le-ltb, lt-leb, lt-ltb}
@@ -8,7 +8,7 @@ use Rattle.mcs_check.specs.declared.conditions.Condition.TheVariants.{Compare}
 use Rattle.mcs_check.specs.Conditions.{are_met, is_met, keeps_to, sees_fewer}
 use Rattle.mcs_check.proofs.Limiting.{and-assoc, keeps-both}
 
--- no list of `opens` is met before n marks were seen, and no list of `nevers` at all
+-- true if no list in `nevers` is met, and no list in `opens` is met before n marks were seen
 abbrev pub opens_in_turn : List (List Condition) → List (List Condition) → ℕ → Tracked → Bool
 opens_in_turn nevers opens n s = keeps_to nevers s && not (not (keeps_to opens s) && nat_lt s.2.seen n)
 
@@ -32,7 +32,8 @@ sees-fewer n s some =
 
 -- ---- the lists
 
--- with one list more: k, that of the lists so far none is met; m, that the next one is; f, that marks are to be seen
+-- the requirement with one more list in `opens`. k is true if none of the earlier lists is met, m if the new
+-- list is met, and f if fewer marks were seen than required.
 turn-more : (a k m f : Bool) → ((a && not (not k && f)) && (not (m && f) && true)) ≡ (a && not (not (k && (not m && true)) && f))
 turn-more false k m f = refl
 turn-more true true true true = refl
@@ -67,6 +68,6 @@ unmarked true true f e = rw e refl
 unmarked true false f e = refl
 unmarked false k f e = refl
 
--- without marks
+-- if no marks are required, only the lists in `nevers` must not be met
 pub opened-unmarked : (nevers opens : List (List Condition)) (n : ℕ) (s : Tracked) → n ≡ 0 → keeps_to nevers s ≡ opens_in_turn nevers opens n s
 opened-unmarked nevers opens n s none = unmarked (keeps_to nevers s) (not (keeps_to opens s)) (nat_lt s.2.seen n) (le-ltb s.2.seen n (omega arith))

@@ -1,4 +1,4 @@
--- Two machines for which one key stands are the same.
+-- Two machines with the same board, ROM bytes and key are equal.
 use Rattle.std.proofs.Common.{◌≡◌, ◌<◌, ◌+◌, ◌*◌, ◌/◌, ◌%◌, ℕ, zero, suc, inl, inr, true, not, List, [], Option, Some, None, is_some, length, get_or, slice_index, slice_index_or, nat_lt, nat_le, refl, sym, ap, ◌∙◌, subst, arith}
 use Rattle.std.specs.List.{Contains}
 use Rattle.std.proofs.Math.Nat.{mod-eq_of_lt}
@@ -60,7 +60,8 @@ narrow-at t regs bus (Chain n) narrow i = bit-at t n i bus
 split : (a b c d : ℕ) → a < 16 → b < 16 → c < 16 → d < 16 → a % 16 * 16 + b % 16 ≡ c % 16 * 16 + d % 16 → (a ≡ c) × (b ≡ d)
 split a b c d la lb lc ld e = (omega arith, omega arith)
 
--- both cells of a pair, if they are at places f and g
+-- cell i has the same value in two machines if the byte with cells f and g has, where f and g are the
+-- cells of the pair that contains i
 pair-same : (s t : Tracked) (list : CellList) (i f g : ℕ) → ((j : ℕ) → slice_index (list_of s list) j < 16) → ((j : ℕ) → slice_index (list_of t list) j < 16) → f ≡ 2 * (i / 2) → g ≡ 2 * (i / 2) + 1 →
     slice_index (list_of s list) f % 16 * 16 + slice_index (list_of s list) g % 16 ≡ slice_index (list_of t list) f % 16 * 16 + slice_index (list_of t list) g % 16 →
     slice_index (list_of s list) i ≡ slice_index (list_of t list) i
@@ -71,7 +72,7 @@ pair-same s t list i f g small-s small-t first second e =
       | inr odd ↦ (let at : i ≡ g = omega arith in ap (slice_index (list_of s list)) at ∙ parts.1 ∙ ap (slice_index (list_of t list)) (sym at))
     ]
 
--- ---- each cell that is there
+-- ---- cells of present chips
 
 cell-same : (s t : Tracked) → IsValidRegs s.0 → IsValidBus s.1 → IsValidRegs t.0 → IsValidBus t.1 → (list : CellList) (i : ℕ) → i < count_of list → byte_at s (byte_of list i) ≡ byte_at t (byte_of list i) → slice_index (list_of s list) i ≡ slice_index (list_of t list) i
 cell-same s t rs bs rt bt Characters i few e = pair-same s t Characters i (2 * (i / 2 % 1024) % 2048) ((2 * (i / 2 % 1024) + 1) % 2048) (narrow-at s rs bs Characters refl) (narrow-at t rt bt Characters refl) (omega arith) (omega arith) e
@@ -94,7 +95,7 @@ number-same b rom s t layout on-s on-t whole e list i few there =
 same-numbers : (xs ys : List ℕ) (n : ℕ) → length xs ≡ n → length ys ≡ n → ((i : ℕ) → i < n → slice_index xs i ≡ slice_index ys i) → xs ≡ ys
 same-numbers xs ys n lx ly h = ext_get_or 0 xs ys (lx ∙ sym ly) (λ i l. h i (omega arith))
 
--- a number of a list above 0 is in it
+-- if item i of a list is above 0, i is below the length of the list
 in-list : (xs : List ℕ) (i n : ℕ) → n < slice_index xs i → i < length xs
 in-list xs i n h =
     elim (cases_lt i (length xs)) [

@@ -1,8 +1,8 @@
--- Keys that are put down one by one.
+-- Keys that are pressed one at a time.
 use Rattle.std.proofs.Common.{◌≡◌, ◌<◌, ◌≤◌, ◌+◌, ℕ, List, length, get_or, slice_set, replicate, sym, ◌∙◌, arith, below_more, get_or-set_same, get_or-set_other}
 use Rattle.std.proofs.lemmas.List.{ext_get_or, get_or-replicate, length-set, length-replicate}
 
--- of this many keys, the first i are down
+-- holds if there are `count` keys and the first i of them are down
 pub record IsPressed (count i : ℕ) (keys : List ℕ) : Type 0 where
   pub len : length keys ≡ count
   pub down : (k : ℕ) → k < i → get_or keys k 0 ≡ 1
@@ -10,7 +10,7 @@ pub record IsPressed (count i : ℕ) (keys : List ℕ) : Type 0 where
 pub pressed-none : (count : ℕ) (keys : List ℕ) → length keys ≡ count → IsPressed count 0 keys
 pressed-none count keys len = record { len = len; down = λ k h. absurd (omega arith) }
 
--- one key more
+-- one more key is pressed
 pub pressed-more : (count i place : ℕ) (keys : List ℕ) → i < count → place ≡ i → IsPressed count i keys → IsPressed count (i + 1) (slice_set keys place 1)
 pressed-more count i place keys within at is = rw at (record {
   len = length-set keys i 1 ∙ is.len;

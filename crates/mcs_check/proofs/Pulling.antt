@@ -1,4 +1,4 @@
--- With all keys down, each line is at 1 that can be: no keys give a port more.
+-- With all keys pressed, a port reads 1 on every line on which any pressed keys make it read 1.
 use Rattle.std.proofs.Common.{◌≡◌, ◌<◌, ◌≤◌, ◌+◌, ◌*◌, ◌/◌, ℕ, inl, inr, Bool, true, false, ◌&&◌, ◌||◌, List, [], ◌∷◌, Option, Some, None, length, replicate, slice_index, slice_index_or, eqb, refl, ap, ◌∙◌, arith}
 use Rattle.std.specs.List.{list_any, range_with_len}
 use Rattle.std.proofs.lemmas.Bool.{cases_lt, le-leb, eqb-true, eq-eqb}
@@ -105,21 +105,21 @@ port-when : (f g : ℕ → Bool) (o : Option (List LineMask)) → ((k : ℕ) →
 port-when f g (Some mask) h = lines-more f g mask h
 port-when f g None h = refl
 
--- whatever keys are down, the port of the selected ROM reads no more than with all keys down
+-- at any input levels, the selected ROM's port reads 1 only on lines that read 1 with all keys pressed
 pub port-no-more : (l : Levels) (s : BusState) → FitBoard s.board l → s.keys ≡ replicate (key_count s.board) 1 → has_no_more (port_of (at_levels l s)) (port_of s) ≡ true
 unfolding port_at
 port-no-more l s fit all =
     let chip = s.rom_src / 16 in
     port-when (λ k. is_pulled (at_levels l s) chip k) (λ k. is_pulled s chip k) (masks_on s.board chip) (λ k h. pulled-more l s chip k fit all h)
 
--- nor less than with none down
+-- at any input levels, the selected ROM's port reads 1 on every line that reads 1 with no key pressed
 pub port-no-less : (l : Levels) (s : BusState) → has_no_more (port_unpressed s) (port_of (at_levels l s)) ≡ true
 unfolding port_at
 port-no-less l s =
     let chip = s.rom_src / 16 in
     port-when (λ k. false) (λ k. is_pulled (at_levels l s) chip k) (masks_on s.board chip) (λ k e. absurd (cc))
 
--- the port by its masks
+-- the bits of 0, read through a mask, give the same value as level 0 on every line
 pub unpressed-read : (mask : List LineMask) → read_lines (bit_of 0) mask ≡ read_lines (λ k. 0) mask
 unfolding read_lines
 unpressed-read mask = refl

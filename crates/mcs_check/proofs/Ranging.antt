@@ -1,4 +1,4 @@
--- A test of each number of a range, one after the other.
+-- A test that is applied to the numbers of a range, one at a time.
 use Rattle.std.proofs.Common.{◌≡◌, ◌<◌, ◌+◌, ℕ, true, false, [], ◌∷◌, Bool, get_or, refl, ap, ◌∙◌, arith, add-one}
 use Rattle.std.specs.List.{list_any, range_with_len}
 use Rattle.std.proofs.lemmas.Bool.{or_from}
@@ -6,14 +6,14 @@ use Rattle.std.proofs.lemmas.List.Folds.{list_any-append, list_any_at}
 use Rattle.std.proofs.lemmas.List.FromFn.{get_or-range_with_len, length-range_with_len}
 use Rattle.mcs_model.proofs.ListLemmas.{range_more}
 
--- the first i numbers do not pass, nor does the next one
+-- none of the first i + 1 numbers passes the test if none of the first i does and number i does not
 pub none-more : (p : ℕ → Bool) (i : ℕ) → list_any p (range_with_len 0 i) ≡ false → p i ≡ false → list_any p (range_with_len 0 (i + 1)) ≡ false
 none-more p i none here =
     let last : 0 + i ≡ i = omega arith in
     ap (λ (n : ℕ). list_any p (range_with_len 0 n)) (add-one i) ∙ ap (list_any p) (range_more 0 i)
     ∙ list_any-append p (range_with_len 0 i) ((0 + i) ∷ []) ∙ or_from _ _ none (or_from (p (0 + i)) false (ap p last ∙ here) refl)
 
--- a number of a range passes
+-- if number i of a range passes the test, some number of the range passes
 pub some-here : (p : ℕ → Bool) (n i : ℕ) → i < n → p i ≡ true → list_any p (range_with_len 0 n) ≡ true
 some-here p n i within here =
     let at : get_or (range_with_len 0 n) i 0 ≡ i = get_or-range_with_len 0 n i 0 within ∙ (let e : 0 + i ≡ i = omega arith in e) in

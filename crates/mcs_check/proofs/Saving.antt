@@ -1,4 +1,4 @@
--- A key written byte by byte.
+-- A key that is written one byte at a time.
 use Rattle.std.proofs.Common.{◌≡◌, ◌<◌, ◌+◌, ℕ, List, length, get_or, slice_set, sym, ap, ◌∙◌, arith, below_more, get_or-set_same, get_or-set_other}
 use Rattle.std.proofs.lemmas.List.{ext_get_or, get_or-map, get_or_default, length-map}
 use Rattle.mcs_drive.specs.Tracked.{Tracked}
@@ -7,11 +7,11 @@ use Rattle.mcs_check.specs.declared.cells.KeyByte.TheVariants.{One}
 use Rattle.mcs_check.specs.declared.cells.CellList.TheVariants.{Counters}
 use Rattle.mcs_check.specs.Cells.{byte_at, key_of}
 
--- the first i bytes of a key are those of the layout
+-- holds if the first i bytes of `key` are those of the machine's key
 abbrev pub IsSaved : Tracked → List KeyByte → List ℕ → ℕ → Type 0
 IsSaved t layout key i = (k : ℕ) (d : KeyByte) → k < i → get_or key k 0 ≡ byte_at t (get_or layout k d)
 
--- one byte more, which was written
+-- one more byte of the key is written
 pub saved-more : (t : Tracked) (layout : List KeyByte) (key : List ℕ) (i v : ℕ) (e : KeyByte) → i < length layout → length key ≡ length layout → v ≡ byte_at t (get_or layout i e) → IsSaved t layout key i → IsSaved t layout (slice_set key i v) (i + 1)
 saved-more t layout key i v e within len is h =
     let here : (d : KeyByte) → get_or (slice_set key i v) i 0 ≡ byte_at t (get_or layout i d) =
@@ -19,7 +19,7 @@ saved-more t layout key i v e within len is h =
     λ k d. below_more (λ k. get_or (slice_set key i v) k 0 ≡ byte_at t (get_or layout k d)) i
     (λ k l. get_or-set_other key i k v 0 (omega arith) ∙ h k d l) (here d) k
 
--- one byte more, which was the same
+-- one more byte of the key is already correct
 pub same-more : (t : Tracked) (layout : List KeyByte) (key : List ℕ) (i : ℕ) (e : KeyByte) → i < length layout → get_or key i 0 ≡ byte_at t (get_or layout i e) → IsSaved t layout key i → IsSaved t layout key (i + 1)
 same-more t layout key i e within is h =
     λ k d. below_more (λ k. get_or key k 0 ≡ byte_at t (get_or layout k d)) i (λ k l. h k d l) (is ∙ ap (byte_at t) (get_or_default layout i e d within)) k

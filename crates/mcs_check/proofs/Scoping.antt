@@ -1,4 +1,5 @@
--- A cycle that changes nothing in the scope of conditions leaves them as they are, but for mistakes.
+-- A cycle that changes nothing in a scope does not change whether the conditions in the scope are met, except
+-- for mistakes.
 use Rattle.std.proofs.Common.{◌≡◌, ℕ, ◌+◌, ◌*◌, ◌/◌, ◌%◌, inl, inr, Bool, true, false, not, cond, ◌&&◌, ◌||◌, List, [], ◌∷◌, Option, Some, None, unwrap_or, slice_index, slice_index_or, slice_set, nat_le, nat_lt, get_or-set_other, refl, sym, ap, ◌∙◌, eqb, eqb-true}
 use Rattle.std.proofs.lemmas.Bool.{and_cases, and_from, and_left, and_parts, and_right, both_ways, not-true, not_from_false, or_from, or_parts}
 use Rattle.mcs_model.specs.declared.regs.Regs.{Regs}
@@ -21,9 +22,9 @@ use Rattle.mcs_check.specs.Conditions.{are_met, compares, is_met, keeps_to, part
 use Rattle.mcs_check.specs.Mistaken.{errs_in_calls, errs_in_chips, errs_in_lines, has_input, has_output, is_fourth_call, is_lone_return, is_mistaken, is_rdr, is_wrr, lacks_ram, lacks_word, makes, uses_ram}
 use Rattle.mcs_check.specs.Scopes.{all_mistakes, changes, cycle_changes, errs, has_all, has_cell, has_condition, has_each, has_register}
 
--- ---- conditions but for mistakes
+-- ---- conditions without mistakes
 
--- as is_met, are_met and keeps_to, but that no mistake is made
+-- `is_met`, `are_met` and `keeps_to` for a machine whose next cycle is assumed to make no mistake
 abbrev pub met_apart : Tracked → Condition → Bool
 met_apart t (Compare x) = compares t x
 met_apart t (Mistaken asked) = false
@@ -56,7 +57,7 @@ kept-apart (xs ∷ nevers) t e =
     (not_from_false (all_apart t xs) (all-less t xs (not-true (are_met t xs) parts.0)))
     (kept-apart nevers t parts.1)
 
--- ---- a cycle that makes no mistake makes none of those that are asked for
+-- ---- a cycle that makes no mistake makes none of the mistakes in `asked`
 
 and-asked : (a u l : Bool) → (u && l) ≡ false → (a && u && l) ≡ false
 and-asked true u l e = e
@@ -106,7 +107,7 @@ mistaken-when asked s true (Some op) e = makes-less asked op s e
 mistaken-less : (asked : Mistakes) (s : Tracked) → is_mistaken all_mistakes s ≡ false → is_mistaken asked s ≡ false
 mistaken-less asked s e = mistaken-when asked s (not (eqb s.0.owed 1)) (instruction_at s.0 s.1) e
 
--- ---- so the conditions are what they are but for mistakes
+-- ---- before a cycle that makes no mistake, conditions with and without mistakes agree
 
 none-made : (b m : Bool) → b ≡ true → (b && m) ≡ false → m ≡ false
 none-made b m is e = sym (ap (λ c. c && m) is) ∙ e
@@ -127,7 +128,7 @@ keeps-alone c t free (xs ∷ nevers) has =
     let parts = and_parts (has_all c xs) (has_each c nevers) has in
     ap (λ b. not b && keeps_to nevers t) (all-alone c t free xs parts.0) ∙ ap (λ b. not (all_apart t xs) && b) (keeps-alone c t free nevers parts.1)
 
--- ---- machines that are the same in a scope
+-- ---- machines that agree in a scope
 
 pub record SameIn (c : Scope) (s t : Tracked) : Type 0 where
   pub seen : t.2.seen ≡ s.2.seen
@@ -222,13 +223,14 @@ cycle-same : (w : Observer) (c : Scope) (s : Tracked) → (cycled w s).2.seen �
 unfolding cycle_of
 cycle-same w c s unseen rest = cycle-same-when c s (counts_after w s) (eqb s.0.owed 1) (instruction_at s.0 s.1) unseen rest
 
--- ---- what is known of the property
+-- ---- the property before and after a cycle
 
--- where it holds but for mistakes, it holds if the next cycle makes none
+-- the property holds if it holds without mistakes and the next cycle makes none
 pub known-keeps : (c : Scope) (nevers : List (List Condition)) (t : Tracked) → has_each c nevers ≡ true → keeps_apart nevers t ≡ true → errs c t ≡ false → keeps_to nevers t ≡ true
 known-keeps c nevers t has apart free = keeps-alone c t free nevers has ∙ apart
 
--- after a cycle that changes nothing in the scope and sees no mark it holds but for mistakes, if it held before
+-- the property without mistakes holds after a cycle that changes nothing in the scope and sees no mark, if the
+-- property held before the cycle
 pub known-next : (w : Observer) (c : Scope) (nevers : List (List Condition)) (s t : Tracked) → has_each c nevers ≡ true → t.2.seen ≡ s.2.seen → cycle_changes c (next_op s.0 s.1) ≡ false → keeps_to nevers s ≡ true → t ≡ cycled w s → keeps_apart nevers t ≡ true
 known-next w c nevers s t has unseen rest well e =
     let same = cycle-same w c s (ap (λ (x : Tracked). x.2.seen) (sym e) ∙ unseen) rest in

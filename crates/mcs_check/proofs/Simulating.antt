@@ -1,4 +1,4 @@
--- From a search to what holds of a machine for all inputs.
+-- A closed search proves a property of a machine for all inputs.
 use Rattle.std.proofs.Common.{ℕ, List, Bool, refl}
 use Rattle.std.specs.List.{Contains, All}
 use Rattle.std.proofs.lemmas.List.Elements.{All-contains}
@@ -9,7 +9,7 @@ use Rattle.mcs_drive.proofs.Stations.{Leads, Closed, closed-holds}
 use Rattle.mcs_search.specs.Rules.{IsFollowed, LeadsInto, Closure}
 use Rattle.mcs_check.specs.Simulated.{IsStation, machine_rules}
 
--- a machine for which one of these keys stands
+-- holds if one of these keys identifies the machine
 record Stands (keys : List (List ℕ)) (is_key_of : List ℕ → Tracked → Type 0) (a : Tracked) : Type 0 where
   key : List ℕ
   found : Contains keys key
@@ -26,7 +26,7 @@ module _ (w : Observer) where
       let run = to.1 a at.is in
       (run.0, record { key = to.0; found = to.2; is = run.1 }, run.2 l fit refl)
 
-  -- what a search found holds of each machine that its start stands for
+  -- a closed search proves the property of every machine that its start key identifies
   pub searched-holds : (p : Tracked → Bool) (is_state : List ℕ → Type 0) (is_key_of : List ℕ → Tracked → Type 0) (start : List ℕ) (n : ℕ) →
       Ignores p → ((key : List ℕ) (a : Tracked) → is_key_of key a → IsStation p a) →
       Closure (machine_rules w p is_state is_key_of) start n → (a : Tracked) → is_key_of start a → Holds w p a

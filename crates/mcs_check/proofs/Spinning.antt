@@ -1,4 +1,4 @@
--- The passes of a loop of one ISZ.
+-- The passes of an ISZ that jumps to itself.
 use Rattle.std.proofs.Common.{◌≡◌, ◌<◌, ℕ, ◌+◌, ◌-◌, ◌%◌, zero, suc, inl, inr, Bool, true, false, not, cond, ◌&&◌, List, [], Option, Some, None, unwrap_or, length, slice_get, slice_set, refl, sym, ap, ◌∙◌, subst, arith, eqb}
 use Rattle.std.proofs.lemmas.Bool.{and_right, cases_lt, cond-false, ne_eqb}
 use Rattle.std.proofs.lemmas.List.{get_or-set_same, set-get_or, set-set, set_past}
@@ -24,7 +24,7 @@ use Rattle.mcs_check.specs.Stations.{HasSpun, IsStill, Spins}
 use Rattle.mcs_check.proofs.Going.{Walked, walked-more}
 use Rattle.mcs_check.proofs.Scoping.{SameIn, keeps_apart, keeps-same, kept-apart, known-keeps, set-rests}
 
--- a machine with v in register r, before a pass and before the second cycle of one
+-- the machine with v in register r, before a pass (below: before the second cycle of a pass)
 abbrev pub at_pass : ℕ → ℕ → Tracked → Tracked
 at_pass r v s = (with_register s.0 r v, s.1, s.2)
 
@@ -32,7 +32,7 @@ abbrev pub in_pass : ℕ → ℕ → Tracked → Tracked
 in_pass r v s = (record s.0 { r = slice_set s.0.r r v; owed = 1 }, s.1, s.2)
 
 module _ (w : Observer) where
-  -- a loop that changes nothing in a scope, and makes no mistake
+  -- holds if the register of an ISZ that jumps to itself is not in the scope, and the ISZ makes no mistake
   record IsLeft (c : Scope) (r : ℕ) (s : Tracked) : Type 0 where
     spins : Spins w r s
     unseen : has_register c r ≡ false
@@ -68,7 +68,7 @@ module _ (w : Observer) where
   still-sees : (s : Tracked) → IsStill w s.2 → seen_after w s ≡ s.2.seen
   still-sees s still = still-marks w.marks s.2.seen (opens_at w s) (shows (next_op s.0 s.1) s.1 (port_of s.1)) still.unseen (still.closed (plain s)) still.unmarked
 
-  -- a cycle that begins an ISZ, or none, leaves what is counted as it is
+  -- a cycle that leaves the number of open calls unchanged leaves all counts unchanged if the observer is still
   counts-rest : (s : Tracked) → IsStill w s.2 → open_after s.0 s.1 s.2.calls ≡ s.2.calls → counts_after w s ≡ s.2
   counts-rest s still calls =
       ap (λ (n : ℕ). record s.2 { calls = n; elapsed = elapsed_after w s; seen = seen_after w s }) calls
@@ -104,7 +104,7 @@ module _ (w : Observer) where
       first-cycle (at_pass r v s) r spins.word spins.still free spins.next
       ∙ ap (λ (x : Regs). (x, s.1, s.2)) (isz-registers s.0 s.1 r v spins.word within small spins.back)
 
-  -- ---- what they leave
+  -- ---- reads, scope and mistakes in a pass
 
   pass-quiet : (s : Tracked) (r v : ℕ) → Spins w r s → is_asking (at_pass r v s) ≡ false
   unfolding fetch_of
@@ -128,7 +128,7 @@ module _ (w : Observer) where
   middle-errs : (c : Scope) (s : Tracked) (r v : ℕ) → errs c (in_pass r v s) ≡ false
   middle-errs c s r v = and_right c.mistakes false refl
 
-  -- ---- all of them
+  -- ---- all passes but the last
 
   passes : (c : Scope) (nevers : List (List Condition)) (start s : Tracked) (r : ℕ) → has_each c nevers ≡ true → IsLeft c r s → r < length s.0.r → keeps_apart nevers s ≡ true →
       (k v : ℕ) → v + k ≡ 15 → Walked w (keeps_to nevers) start (at_pass r v s) → Walked w (keeps_to nevers) start (at_pass r 15 s)

@@ -17,7 +17,7 @@ use Rattle.std.specs.List.{Contains}
 use Rattle.mcs_check.proofs.Packed.{same-machine}
 use Rattle.mcs_check.proofs.ValuesRead.{answer-lt, reaches-leads}
 
--- the machine of a key
+-- a machine on this board with the key `key` equals the machine that `key` identifies
 the-machine : (g : Setting) (key : List ℕ) (m a : Tracked) → IsComplete g.board g.layout → IsOn g.board g.rom m → key ≡ key_of g.layout m → IsKeyOf g key a → m ≡ a
 the-machine g key m a complete on is h = same-machine g.board g.rom g.layout m a complete on h.on (sym is ∙ h.cells)
 
@@ -31,7 +31,7 @@ walked-leads g key next value m x n ignores complete on is read reaches to = λ 
     (the-machine g key m a complete on is h)
     (leads-from g next value m x n ignores on.bus.board.valid read reaches to)
 
--- all values are listed, or all that the machine of a key can read
+-- `values` covers a key if it contains all 16 values (below: every value that the key's machine can read)
 pub covers-all : (g : Setting) (key values : List ℕ) → ((value : ℕ) → value < 16 → Contains values value) → Covers g key values
 covers-all g key values each = λ a h l fit. each (answer l a) (answer-lt l a fit)
 
@@ -42,17 +42,17 @@ covers-read g key values m complete on is each = λ a h l fit.
       | inr there ↦ there
     ]
 
--- the machine of a rig, in its setting
+-- a valid machine with all keys pressed and TEST at 0 satisfies `IsOn` with its own board and ROM bytes
 pub on-itself : (m : Tracked) → IsValidRegs m.0 → IsValidBus m.1 → m.1.keys ≡ replicate (key_count m.1.board) 1 → m.1.test ≡ 0 → IsOn m.1.board m.1.rom m
 on-itself m registers bus keys test = record { registers = registers; bus = bus; board = refl; rom = refl; keys = keys; test = test }
 
--- after what keeps board, ROM, keys and TEST, it is still in that setting
+-- a machine still satisfies `IsOn` after a change that keeps the board, the ROM bytes, the keys and TEST
 pub on-kept : (m n : Tracked) → IsValidRegs n.0 → IsValidBus n.1 → m.1.keys ≡ replicate (key_count m.1.board) 1 → m.1.test ≡ 0 → Keeps m.1 n.1 → IsOn m.1.board m.1.rom n
 on-kept m n registers bus keys test k = record { registers = registers; bus = bus; board = k.board; rom = k.rom; keys = k.keys ∙ keys; test = k.test ∙ test }
 
 pub reaches-well : (w : Observer) (p : Tracked → Bool) (s t : Tracked) → Reaches w p s t → p t ≡ true
 reaches-well w p s t r = ap p r.at ∙ r.well r.cycles (omega arith)
 
--- all keys are down still
+-- all keys are still pressed after a change that keeps the board and the keys
 pub down-kept : (s t : BusState) → Keeps s t → s.keys ≡ replicate (key_count s.board) 1 → t.keys ≡ replicate (key_count t.board) 1
 down-kept s t k down = k.keys ∙ down ∙ ap (λ (b : BoardParts). replicate (key_count b) 1) (sym k.board)

@@ -1,4 +1,4 @@
--- What is read decides: one run for each value shows what all levels do.
+-- The value read determines the run, so one run for each value covers all input levels.
 use Rattle.std.proofs.Common.{◌≡◌, ◌<◌, ◌≤◌, ◌%◌, ℕ, suc, Bool, true, false, not, ◌&&◌, cond, replicate, Option, Some, None, unwrap_or, length, slice_get, refl, sym, ap, ◌∙◌, arith, eqb}
 use Rattle.mcs_model.specs.declared.regs.Regs.{Regs}
 use Rattle.mcs_model.specs.declared.op.Op.{Op}
@@ -30,14 +30,14 @@ nothing-read w value s v quiet = λ l fit e. ap plain (cycle-rest w l s v quiet)
 test-answer : (m : Levels) (o : Option Op) (b : BusState) (c w : ℕ) → o ≡ Some (Jcn c w) → eqb (c % 2) 1 ≡ true → answer_to o m b ≡ m.test
 test-answer m o b c w is odd = rw (is, odd) refl
 
--- TEST was set to the value, and may be set to any level then
+-- a JCN that tests TEST has read `value` if TEST was at `value` in its cycle, whatever TEST is afterwards
 pub test-read : (w : Observer) (value : ℕ) (s t : Tracked) → board_fault_of s.1.board ≡ None → Begins LooksAtTest s → plain t ≡ plain (cycled w (s.0, record s.1 { test = value }, s.2)) → HasRead w value s t
 test-read w value s t v begins e = λ l fit same.
     let m : Levels = record { keys = s.1.keys; test = value } in
     let is : instruction_at s.0 s.1 ≡ Some (Jcn begins.is.condition begins.is.word) = begins.next ∙ ap Some begins.is.is in
     answers-decide w l m s v (same ∙ sym (test-answer m (instruction_at s.0 s.1) s.1 begins.is.condition begins.is.word is begins.is.odd)) ∙ sym e
 
--- a machine with this accumulator
+-- the machine with n in its accumulator
 abbrev pub with_accumulator : ℕ → Tracked → Tracked
 with_accumulator n s = (record s.0 { acc = n }, s.1, s.2)
 
@@ -49,7 +49,7 @@ port-when l s b o free is = rw (free, is) refl
 port-answer : (l : Levels) (o : Option Op) (m : BusState) → o ≡ Some Rdr → answer_to o l m ≡ port_of (at_levels l m)
 port-answer l o m is = rw is refl
 
--- the accumulator was set to the value afterwards, and so was what was seen
+-- an RDR has read `value` if its accumulator and count of marks seen are set for `value` after the cycle
 pub port-read : (w : Observer) (value : ℕ) (s : Tracked) → Begins (λ op. op ≡ Rdr) s → HasRead w value s (with_accumulator value (with_seen (seen_reading w s value) (cycled w s)))
 unfolding cycle_of fetch_of
 port-read w value s begins = λ l fit same.
@@ -63,7 +63,7 @@ port-read w value s begins = λ l fit same.
 
 -- ---- marks
 
--- a cycle that shows no mark
+-- the count of marks after a cycle that shows no mark, for any value read
 pub unseen-cycle : (w : Observer) (s : Tracked) → ((value : ℕ) → shows_next w s value ≡ false) → with_seen (marks_after (length w.marks) s.2.seen (opens_at w s) false) (cycled w s) ≡ cycled w s
 unseen-cycle w s unseen = ap (λ b. with_seen (marks_after (length w.marks) s.2.seen (opens_at w s) b) (cycled w s)) (sym (unseen (port_of s.1)))
 
@@ -76,7 +76,7 @@ test-unseen w s value begins =
     none-shown (slice_get w.marks (progress (length w.marks) s.2.seen)) (shows (next_op s.0 s.1) s.1 value)
     (λ mark. test-shows (eqb s.0.owed 1) (instruction_at s.0 s.1) s.1 value begins.is.condition begins.is.word mark (begins.next ∙ ap Some begins.is.is))
 
--- at each level of TEST
+-- a JCN that tests TEST shows no mark at any level of TEST
 pub test-unseen-at : (w : Observer) (s : Tracked) (level value : ℕ) → Begins LooksAtTest s → shows_next w (s.0, record s.1 { test = level }, s.2) value ≡ false
 unfolding fetch_of
 test-unseen-at w s level value begins =
@@ -85,7 +85,7 @@ test-unseen-at w s level value begins =
 port-shows : (b : Bool) (o : Option Op) (m : BusState) (value : ℕ) (mark : Mark) → b ≡ false → o ≡ Some Rdr → shows (cond b None o) m value mark ≡ port_shows m value mark
 port-shows b o m value mark free is = rw (free, is) refl
 
--- an RDR shows the next mark
+-- an RDR shows the next mark if and only if its port shows this mark
 pub read-shows : (w : Observer) (s : Tracked) (value : ℕ) (mark : Mark) → Begins (λ op. op ≡ Rdr) s → slice_get w.marks (progress (length w.marks) s.2.seen) ≡ Some mark → shows_next w s value ≡ port_shows s.1 value mark
 read-shows w s value mark begins is =
     ap (λ o. some_shown o (shows (next_op s.0 s.1) s.1 value)) is
@@ -128,7 +128,7 @@ test-lt : (b : Bool) (n : ℕ) → n < 2 → cond b n 0 < 16
 test-lt true n h = omega arith
 test-lt false n h = omega arith
 
--- each value that is read is a nibble
+-- every value that a cycle reads is below 16
 answer-lt-when : (o : Option Op) (l : Levels) (m : BusState) → l.test < 2 → answer_to o l m < 16
 answer-lt-when (Some Rdr) l m h = port-lt (at_levels l m)
 answer-lt-when (Some (Jcn c w)) l m h = test-lt (eqb (c % 2) 1) l.test h

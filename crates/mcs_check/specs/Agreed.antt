@@ -1,12 +1,12 @@
--- Buses that agree in all chips that are present.
+-- The agreement of two buses in every chip that the board has.
 use Rattle.std.specs.Prelude.{◌≡◌, ◌<◌, ◌/◌, ℕ, List, Some, slice_index}
 use Rattle.mcs_nibble.specs.declared.lines.LineMask.{LineMask}
 use Rattle.mcs_model.specs.Boards.{masks_on}
 use Rattle.mcs_model.specs.Bus.{BusState, chips_of, ram_index, status_index, ram_port_index}
 use Rattle.mcs_model.specs.Validity.{IsValidBus}
 
--- holds if two buses have the same board, ROM bytes and input levels, and agree in every cell of a chip
--- that is present
+-- holds if two buses have the same board, the same ROM bytes and the same input levels, and every cell of
+-- a present chip has the same value in both
 pub record AgreesInChips (s t : BusState) : Type 0 where
   pub board : s.board ≡ t.board
   pub rom : s.rom ≡ t.rom
@@ -24,7 +24,7 @@ pub record AgreesInChips (s t : BusState) : Type 0 where
   pub keys : s.keys ≡ t.keys
   pub test : s.test ≡ t.test
 
--- valid buses that agree in all chips that are present are equal: the cells in a key determine all
--- others
+-- two valid buses are equal if they agree in every present chip. The cells in a key therefore determine
+-- all other cells.
 abbrev pub AgreeingAreSame : Type 0
 AgreeingAreSame = (s t : BusState) → IsValidBus s → IsValidBus t → AgreesInChips s t → s ≡ t

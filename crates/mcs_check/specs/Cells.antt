@@ -1,6 +1,6 @@
 -- The cells of a machine: the values that can differ between two machines with the same board and the
--- same program. A layout lists the bytes of a key; each byte has the value of one cell, or the values of
--- two neighbouring cells. (Our own choice.)
+-- same program. A layout lists the bytes of a key. Each byte holds the value of one cell, or the values
+-- of two neighbouring cells. (Our own choice.)
 use Rattle.std.specs.Prelude.{◌≡◌, ◌<◌, ◌+◌, ◌*◌, ◌/◌, ◌%◌, ℕ, List, [], ◌∷◌, Bool, true, false, is_some, map, nat_lt, slice_index, slice_index_or, if◌then◌else◌}
 use Rattle.std.specs.List.{Contains}
 use Rattle.mcs_model.specs.declared.board.BoardParts.{BoardParts}
@@ -13,9 +13,9 @@ use Rattle.mcs_check.specs.declared.cells.KeyByte.{KeyByte}
 use Rattle.mcs_check.specs.declared.cells.KeyByte.TheVariants.{One, Pair}
 use Rattle.mcs_check.specs.declared.cells.CellList.TheVariants.{Characters, StatusCharacters, RamPorts, RomPorts, BankSrcs, Registers, Counters, Chain}
 
--- all registers except the index registers, the SRC byte that the ROMs store, the number of open calls,
--- the stopwatch's cycles, and the number of marks seen. An address takes two bytes and the cycles take
--- three, most significant first.
+-- the counters of a machine. First come the registers other than the index registers, then the SRC byte
+-- that the ROMs store, the number of open calls, the stopwatch's cycles and the number of marks seen. An
+-- address takes two bytes and the cycles take three bytes, most significant byte first.
 abbrev pub counters_of : Regs → ℕ → Counts → List ℕ
 counters_of s src t =
     s.acc ∷ s.cy ∷ s.dcl ∷ s.owed ∷ s.pc / 256 ∷ s.pc % 256
@@ -46,7 +46,7 @@ count_of Registers = 16
 count_of Counters = 18
 count_of (Chain n) = 256
 
--- true if a board has the chip that contains cell i of a list; every board has the processor
+-- true if the board has the chip that contains cell i of a list. Every board has the processor.
 abbrev pub is_there : BoardParts → CellList → ℕ → Bool
 is_there b Characters i = nat_lt (i % 256 / 64) (slice_index b.banks (i / 256))
 is_there b StatusCharacters i = nat_lt (i % 64 / 16) (slice_index b.banks (i / 64))
@@ -61,20 +61,20 @@ is_there b (Chain n) i = nat_lt i (chain_bits b n)
 abbrev pub value_at : Tracked → Cell → ℕ
 value_at t c = slice_index (list_of t c.list) (c.index % count_of c.list)
 
--- true if each cell of a list has a value below 16, so that a byte of a key has two of them
+-- true if each cell of a list has a value below 16. One byte of a key then holds two of these cells.
 abbrev pub is_narrow : CellList → Bool
 is_narrow BankSrcs = false
 is_narrow Counters = false
 is_narrow _ = true
 
--- the first cell of pair h of a list; the second cell follows it
+-- the first cell (below: the second cell) of pair h in a list, with h reduced modulo 1024
 abbrev pub first_of : CellList → ℕ → Cell
 first_of list h = record { list = list; index = 2 * (h % 1024) }
 
 abbrev pub second_of : CellList → ℕ → Cell
 second_of list h = record { list = list; index = 2 * (h % 1024) + 1 }
 
--- the value of a key's byte; the first cell of a pair is the upper nibble
+-- the value of a key's byte. The first cell of a pair is the upper nibble.
 abbrev pub byte_at : Tracked → KeyByte → ℕ
 byte_at t (One c) = value_at t c
 byte_at t (Pair list h) = value_at t (first_of list h) % 16 * 16 + value_at t (second_of list h) % 16
@@ -83,19 +83,19 @@ byte_at t (Pair list h) = value_at t (first_of list h) % 16 * 16 + value_at t (s
 abbrev pub key_of : List KeyByte → Tracked → List ℕ
 key_of layout t = map (byte_at t) layout
 
--- the byte of a key that has cell i of a list
+-- the byte of a key that holds cell i of a list
 abbrev pub byte_of : CellList → ℕ → KeyByte
 byte_of list i = if is_narrow list then Pair list (i / 2) else One (record { list = list; index = i })
 
--- holds if a layout has every byte of another one
+-- holds if `layout` contains every byte of the layout `others`
 abbrev pub HasAll : List KeyByte → List KeyByte → Type 0
 HasAll others layout = (c : KeyByte) → Contains others c → Contains layout c
 
--- holds if a layout has every cell of the list that the board has
+-- holds if a layout contains every cell of a list that exists on the board
 abbrev pub HasList : BoardParts → List KeyByte → CellList → Type 0
 HasList b layout list =
     (i : ℕ) → i < count_of list → is_there b list i ≡ true → Contains layout (byte_of list i)
 
--- holds if a layout has every cell that the board has
+-- holds if a layout contains every cell that exists on the board
 abbrev pub IsComplete : BoardParts → List KeyByte → Type 0
 IsComplete b layout = (list : CellList) → HasList b layout list

@@ -8,7 +8,8 @@ use Rattle.mcs_drive.specs.Tracked.{Tracked}
 abbrev pub held : Tracked → Tracked
 held s = (s.0, record s.1 { keys = replicate (key_count s.1.board) 1; test = 0 }, s.2)
 
--- holds if the board has a key in row i / columns and column i % columns, and its index is i
+-- holds if `columns` is above 0, and the board has a key with index i in row i / columns and column
+-- i % columns
 pub record IsKeyAt (b : BoardParts) (columns i : ℕ) : Type 0 where
   pub some : 0 < columns
   pub there : has_key b (i / columns) (i % columns) ≡ true

@@ -20,11 +20,12 @@ pub record Setting : Type 0 where
 abbrev pub setting_of : Tracked → List KeyByte → Aimed → Setting
 setting_of s layout aim = record { board = s.1.board; rom = s.1.rom; layout = layout; aim = aim }
 
--- the property to check: true if none of the lists that must never be met has all its conditions met
+-- the property that a search checks: true if no list of conditions in `nevers` is met
 abbrev pub test_of : Setting → Tracked → Bool
 test_of g = keeps_to g.aim.nevers
 
--- holds if a machine is valid and has this board, these ROM bytes, all its keys pressed and TEST at 0
+-- holds if a machine is valid, has this board and these ROM bytes, and has all its keys pressed and TEST
+-- at 0
 pub record IsOn (b : BoardParts) (bytes : List ℕ) (a : Tracked) : Type 0 where
   pub registers : IsValidRegs a.0
   pub bus : IsValidBus a.1
@@ -33,8 +34,8 @@ pub record IsOn (b : BoardParts) (bytes : List ℕ) (a : Tracked) : Type 0 where
   pub keys : a.1.keys ≡ replicate (key_count b) 1
   pub test : a.1.test ≡ 0
 
--- holds if a key identifies a machine: the machine has the setting's board and ROM bytes, the property
--- holds for it, and the key is the machine's
+-- holds if a key identifies a machine: the machine has the setting's board and ROM bytes (`IsOn`), the
+-- property holds for the machine, and the key holds the values of its cells
 pub record IsKeyOf (g : Setting) (key : List ℕ) (a : Tracked) : Type 0 where
   pub on : IsOn g.board g.rom a
   pub well : test_of g a ≡ true
@@ -47,8 +48,7 @@ pub record Keeps (s t : BusState) : Type 0 where
   pub keys : t.keys ≡ s.keys
   pub test : t.test ≡ s.test
 
--- a key identifies at most one machine with a given board and given ROM bytes: the cells of a complete
--- layout determine everything else
+-- a key identifies at most one machine with a given board and given ROM bytes, if the layout is complete
 abbrev pub KeysDecide : Type 0
 KeysDecide =
     (b : BoardParts) (rom : List ℕ) (layout : List KeyByte) (s t : Tracked) → IsComplete b layout →

@@ -1,6 +1,6 @@
--- Common programming mistakes. Each is made in the cycle that begins an instruction. (MCS-4 Users
--- Manual: the instruction table, the three return addresses, the ports of the 4001 and the 4002. To call
--- these mistakes is our own choice; Effect and Bus of mcs_model define what each one does.)
+-- Common programming mistakes. A program makes a mistake in the cycle that begins an instruction. (MCS-4
+-- Users Manual: the instruction table, the three return addresses, the ports of the 4001 and the 4002.
+-- The choice of mistakes is our own. Effect and Bus of mcs_model define the effect of each mistake.)
 use Rattle.std.specs.Prelude.{◌+◌, ◌/◌, ◌%◌, ℕ, Bool, true, false, not, ◌&&◌, ◌||◌, ◌==◌, Some, None, is_none, nat_lt}
 use Rattle.mcs_model.specs.declared.board.BoardParts.{BoardParts}
 use Rattle.mcs_model.specs.declared.op.Op.{Op}
@@ -42,13 +42,13 @@ uses_ram Rd2 = true
 uses_ram Rd3 = true
 uses_ram _ = false
 
--- true if the selected RAM chip is absent: the board lacks the chip that the SRC byte of the designated
--- bank selects
+-- true if the board lacks the selected RAM chip. The SRC byte that the designated bank stores selects
+-- this chip.
 abbrev pub lacks_ram : Regs → BusState → Bool
 lacks_ram s m = not (has_chip m s.dcl (src_of m s.dcl))
 
 -- the address of the last word that an instruction reads from ROM: its second word, or the byte that FIN
--- loads; the instruction's own address if it reads no other word
+-- loads. If the instruction reads no other word, it is the instruction's own address.
 abbrev pub last_read : Op → Regs → ℕ
 last_read (Jcn c b) s = (s.pc + 1) % 4096
 last_read (Fim k b) s = (s.pc + 1) % 4096
@@ -62,11 +62,11 @@ last_read _ s = s.pc
 abbrev pub lacks_word : Op → Regs → BoardParts → Bool
 lacks_word op s b = lacks_rom b s.pc || lacks_rom b (last_read op s)
 
--- true if a ROM's port has an input line; an absent ROM has none
+-- true if a ROM's port has an input line. An absent ROM has none.
 abbrev pub has_input : BoardParts → ℕ → Bool
 has_input b chip = input_on b chip 0 || input_on b chip 1 || input_on b chip 2 || input_on b chip 3
 
--- true if a ROM's port has an output line; an absent ROM has none
+-- true if a ROM's port has an output line. An absent ROM has none.
 abbrev pub has_output : BoardParts → ℕ → Bool
 has_output b chip =
     not (is_none (masks_on b chip))
@@ -82,29 +82,32 @@ abbrev pub is_wrr : Op → Bool
 is_wrr Wrr = true
 is_wrr _ = false
 
--- true if an instruction makes one of the given mistakes with calls
+-- true if an instruction makes a call mistake that `asked` includes: a fourth nested call, or a BBL while
+-- no call is open
 abbrev pub errs_in_calls : Mistakes → Op → Tracked → Bool
 errs_in_calls asked op s =
     (asked.fourth_call && is_fourth_call op s.2.calls) || (asked.lone_return && is_lone_return op s.2.calls)
 
--- true if an instruction makes one of the given mistakes with chips
+-- true if an instruction makes a chip mistake that `asked` includes: it uses an absent RAM chip or an
+-- absent ROM
 abbrev pub errs_in_chips : Mistakes → Op → Tracked → Bool
 errs_in_chips asked op s =
     (asked.absent_ram && uses_ram op && lacks_ram s.0 s.1)
     || (asked.absent_rom && lacks_word op s.0 s.1.board)
 
--- true if an instruction makes one of the given mistakes with port lines
+-- true if an instruction makes a port mistake that `asked` includes: an RDR without input lines, or a WRR
+-- without output lines
 abbrev pub errs_in_lines : Mistakes → Op → Tracked → Bool
 errs_in_lines asked op s =
     (asked.no_inputs && is_rdr op && not (has_input s.1.board (s.1.rom_src / 16)))
     || (asked.no_outputs && is_wrr op && not (has_output s.1.board (s.1.rom_src / 16)))
 
--- true if an instruction makes one of the given mistakes
+-- true if an instruction makes a mistake that `asked` includes
 abbrev pub makes : Mistakes → Op → Tracked → Bool
 makes asked op s = errs_in_calls asked op s || errs_in_chips asked op s || errs_in_lines asked op s
 
--- true if the next cycle makes one of the given mistakes: it begins an instruction that makes one, or
--- the opcode at the program counter is outside the instruction table
+-- true if the next cycle makes a mistake that `asked` includes. Either it begins an instruction that
+-- makes the mistake, or the opcode at the program counter is outside the instruction table.
 abbrev pub is_mistaken : Mistakes → Tracked → Bool
 is_mistaken asked s =
     not (s.0.owed == 1)

@@ -4,8 +4,8 @@ use Rattle.mcs_drive.specs.Tracked.{Observer, Tracked, Holds}
 use Rattle.mcs_check.specs.declared.checking.Outcome.{Outcome}
 use Rattle.mcs_check.specs.declared.checking.Outcome.TheVariants as outcome
 
--- if the outcome is Holds, the property holds at every moment, for all levels of the keys and TEST; the
--- property may refer to the stopwatch. Any other outcome promises nothing.
+-- if the outcome is Holds, the property holds at every moment, for all levels of the keys and TEST. The
+-- property may refer to the stopwatch. All other outcomes promise nothing.
 abbrev pub IsProved : Observer → (Tracked → Bool) → Tracked → Outcome → Type 0
 IsProved w p s (outcome.Holds n) = Holds w p s
 IsProved w p s (outcome.MayFail values) = Unit {0}

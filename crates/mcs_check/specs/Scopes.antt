@@ -1,5 +1,5 @@
--- The scope of conditions: the parts of a machine that they depend on. A cycle that changes nothing in
--- the scope does not change whether the conditions are met. (Our own choice.)
+-- The scope of conditions: the parts of a machine that the conditions depend on. A cycle that changes
+-- nothing in the scope does not change whether a comparison is met. (Our own choice.)
 use Rattle.std.specs.Prelude.{ℕ, ◌+◌, ◌*◌, ◌%◌, ◌==◌, List, [], ◌∷◌, Bool, true, false, ◌&&◌, ◌||◌, Option, Some, None, slice_index_or}
 use Rattle.mcs_model.specs.declared.op.Op.{Op}
 use Rattle.mcs_model.specs.declared.op.Op.TheVariants.{Fim, Src, Fin, Inc, Isz, Xch, Wrm, Wmp, Wrr, Wr0, Wr1, Wr2, Wr3}
@@ -16,7 +16,8 @@ use Rattle.mcs_check.specs.Mistaken.{is_mistaken}
 abbrev pub has_register : Scope → ℕ → Bool
 has_register c r = slice_index_or c.registers r false
 
--- true if cell i of a list is in a scope; of the list Counters, only the number of marks seen is, always
+-- true if cell i of a list is in a scope. Of the counters, the number of marks seen is in every scope,
+-- and the others are in none.
 abbrev pub has_cell : Scope → CellList → ℕ → Bool
 has_cell c Registers i = has_register c (i % 16)
 has_cell c Counters i = i % 18 == 17
@@ -54,7 +55,8 @@ changes c Wr2 = c.chips
 changes c Wr3 = c.chips
 changes c _ = false
 
--- true if a cycle may change a register or a chip in a scope; None is a cycle that begins no instruction
+-- true if a cycle that begins this instruction may change a register or a chip in a scope. A cycle that
+-- begins no instruction (None) cannot.
 abbrev pub cycle_changes : Scope → Option Op → Bool
 cycle_changes c (Some op) = changes c op
 cycle_changes c None = false

@@ -7,13 +7,13 @@ use Rattle.mcs_search.specs.Rules.{Rules}
 use Rattle.mcs_check.specs.Keys.{Setting, IsKeyOf}
 use Rattle.mcs_check.specs.Walking.{IsState, Leads}
 
--- holds if the values include every value that the machine that a key identifies can read next
+-- holds if `values` contains every value that the key's machine can read in its next cycle
 abbrev pub Covers : Setting → List ℕ → List ℕ → Type 0
 Covers g key values =
     (a : Tracked) → IsKeyOf g key a → (l : Levels) → FitBoard a.1.board l → Contains values (answer l a)
 
--- the rules of the search. A failure that the search reports promises nothing: it must be replayed on a
--- bench.
+-- the rules of the search. They promise nothing about a failure that the search reports, so a bench must
+-- replay the failure.
 abbrev pub rules_of : Setting → Rules
 rules_of g = record {
   is_state = IsState g;

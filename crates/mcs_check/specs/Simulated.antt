@@ -7,14 +7,14 @@ use Rattle.mcs_drive.specs.Tracked.{Observer, Tracked, under, after_cycles, answ
 use Rattle.mcs_drive.specs.Leading.{LeadsTo}
 use Rattle.mcs_search.specs.Rules.{Rules}
 
--- holds if a key may identify a machine: its board is sound, and p holds for it
+-- holds if a key may identify the machine: the machine's board is sound, and property p holds for it
 pub record IsStation (p : Tracked → Bool) (a : Tracked) : Type 0 where
   pub sound : board_fault_of a.1.board ≡ None
   pub well : p a ≡ true
 
--- the rules of a search whose keys identify machines. A choice is the value that a machine reads. It
--- leads to a key if, at all input levels that give this value, the machine runs into one that the key
--- identifies, and p holds at every step.
+-- the rules of a search whose keys identify machines. A choice is the value that a machine reads. A
+-- choice leads from a key to a next key if the first key's machine runs to the next key's machine at all
+-- input levels that give this value, and p holds at every step.
 abbrev pub machine_rules : Observer → (Tracked → Bool) → (List ℕ → Type 0) → (List ℕ → Tracked → Type 0) → Rules
 machine_rules w p is_state is_key_of = record {
   is_state = is_state;

@@ -14,7 +14,7 @@ use Rattle.mcs_drive.specs.Tracked.{Counts, Observer, Tracked, under, plain, cyc
 use Rattle.mcs_check.specs.declared.reading.Source.{Source}
 use Rattle.mcs_check.specs.declared.reading.Source.TheVariants.{Nothing, Port, Test}
 
--- holds if an instruction is a JCN that tests the TEST pin
+-- holds if an instruction is a JCN whose condition tests the TEST pin
 pub record LooksAtTest (op : Op) : Type 0 where
   pub condition : ℕ
   pub word : ℕ
@@ -40,7 +40,7 @@ Reads s Nothing = is_asking s ≡ false
 Reads s Port = Begins (λ op. op ≡ Rdr) s
 Reads s Test = Begins LooksAtTest s
 
--- holds if the next instruction does not read this value at any input levels
+-- holds if no input levels make the next instruction read this value
 abbrev pub CannotRead : ℕ → Tracked → Type 0
 CannotRead value s = (l : Levels) → FitBoard s.1.board l → answer l s ≡ value → ⊥
 
@@ -55,21 +55,22 @@ abbrev pub port_unpressed : BusState → ℕ
 port_unpressed m =
     elim (masks_on m.board (m.rom_src / 16)) [ Some mask ↦ read_lines (λ k. 0) mask | None ↦ 0 ]
 
--- holds if one cycle leads from s to t, at all input levels at which s reads the given value; the levels
--- of the result are ignored
+-- holds if one cycle takes s to t at all input levels at which s reads this value. The input levels of t
+-- are ignored.
 abbrev pub HasRead : Observer → ℕ → Tracked → Tracked → Type 0
 HasRead w value s t =
     (l : Levels) → FitBoard s.1.board l → answer l s ≡ value → plain (cycled w (under l s)) ≡ plain t
 
--- holds if s runs to t, no cycle of that run reads an input, and the property holds at every moment
+-- holds if a run leads from s to t, no cycle of the run reads an input, and property p holds before and
+-- after each cycle
 pub record Reaches (w : Observer) (p : Tracked → Bool) (s t : Tracked) : Type 0 where
   pub cycles : ℕ
   pub quiet : (i : ℕ) → i < cycles → is_asking (after_cycles w i s) ≡ false
   pub well : (i : ℕ) → i ≤ cycles → p (after_cycles w i s) ≡ true
   pub at : t ≡ after_cycles w cycles s
 
--- holds if the counts of an observer never change: its stopwatch is at 0 and never begins, its condition
--- never holds, and it has no marks and has seen none
+-- holds if an observer's stopwatch and its count of marks never change. The stopwatch is at 0 and never
+-- begins, the condition never holds, and the observer has no marks and has seen none.
 pub record IsStill (w : Observer) (n : Counts) : Type 0 where
   pub stands : n.elapsed ≡ 0
   pub never : (t : Tracked) → w.begins t ≡ false
@@ -77,12 +78,12 @@ pub record IsStill (w : Observer) (n : Counts) : Type 0 where
   pub closed : (t : Tracked) → w.opens t ≡ false
   pub unmarked : w.marks ≡ []
 
--- a machine with another number of marks seen
+-- the machine with n as its number of marks seen
 abbrev pub with_seen : ℕ → Tracked → Tracked
 with_seen n s = (s.0, s.1, record s.2 { seen = n })
 
--- holds if the next cycle begins an ISZ of register r that jumps to itself, this is not its last pass,
--- and the observer is still
+-- holds if the next cycle begins an ISZ of register r that jumps to itself, the ISZ will jump, and the
+-- observer is still (`IsStill`)
 pub record Spins (w : Observer) (r : ℕ) (s : Tracked) : Type 0 where
   pub still : IsStill w s.2
   pub free : s.0.owed ≡ 0
@@ -91,7 +92,7 @@ pub record Spins (w : Observer) (r : ℕ) (s : Tracked) : Type 0 where
   pub back : address_beside ((s.0.pc + 2) % 4096) word ≡ s.0.pc
   pub few : register_of s.0 r < 15
 
--- holds if all passes but the last of an ISZ that jumps to itself lead from s to t
+-- holds if t is the machine s after all passes but the last of an ISZ that jumps to itself
 pub record HasSpun (w : Observer) (s t : Tracked) : Type 0 where
   pub register : ℕ
   pub spins : Spins w register s

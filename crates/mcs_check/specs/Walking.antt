@@ -10,8 +10,8 @@ use Rattle.mcs_check.specs.Keys.{Setting, IsKeyOf, test_of}
 abbrev pub IsState : Setting → List ℕ → Type 0
 IsState g key = (a : Tracked) × IsKeyOf g key a
 
--- holds if the machine that a key identifies runs into the one that the next key identifies, at all
--- input levels at which it reads this value, and the property holds at every step
+-- holds if each machine that `key` identifies runs to a machine that `next` identifies, at all input
+-- levels at which it reads `value`, and the property holds at every step
 abbrev pub Leads : Setting → List ℕ → ℕ → List ℕ → Type 0
 Leads g key value next =
     (a : Tracked) → IsKeyOf g key a → (b : Tracked) × IsKeyOf g next b

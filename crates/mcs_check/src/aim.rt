@@ -1,4 +1,4 @@
-//! The conditions that a run checks, and what it observes beside the machine.
+//! The conditions that a run checks, and the stopwatch and marks that it observes.
 ghost use Rattle.std.specs.Prelude.{◌≡◌, ◌≤◌, [], length, not, slice_get, true};
 ghost use Rattle.mcs_check.specs.Conditions.{keeps_to};
 ghost use Rattle.mcs_check.specs.Scopes.{has_each};
@@ -11,8 +11,8 @@ use mcs_drive::Mark;
 use std::alloc::Global;
 use std::marker::Model;
 
-/// The conjunctions that a run checks: those that must never be met, those that begin or end a stopwatch, and those that
-/// are to be met only after some marks were seen. Contracts see lists of conditions, and the list of marks.
+/// The conjunctions that a run uses: those that must never be met, those that begin or end a stopwatch, and those
+/// that must not be met before all marks were seen. Contracts see lists of conditions, and the list of marks.
 #[derive(Drop)]
 pub struct Aim {
     nevers: Vec<Conjunction>,
@@ -31,8 +31,9 @@ impl Model for Aim {
 }
 
 impl Aim {
-    /// Creates an aim from conjunctions that must never be met, conjunctions that begin and end a stopwatch, and
-    /// conjunctions that are to be met only after marks were seen. `add_opening` adds that requirement to `nevers`.
+    /// Creates a property from its conjunctions and marks. A run must never meet `nevers`. `begins` and `ends` begin
+    /// and end a stopwatch. A run must not meet `opens` before all marks were seen: `add_opening` adds this to
+    /// `nevers`.
     pub fn of(
         nevers: Vec<Conjunction>,
         begins: Vec<Conjunction>,
@@ -51,8 +52,8 @@ impl Aim {
         }
     }
 
-    /// Creates an aim from conjunctions that must never be met and conjunctions that begin and end a stopwatch, without
-    /// marks.
+    /// Creates a property without marks, from conjunctions that must never be met and conjunctions that begin and end
+    /// a stopwatch.
     pub fn timed(
         alloc: Global,
         nevers: Vec<Conjunction>,
@@ -64,7 +65,7 @@ impl Aim {
         Aim::of(nevers, begins, ends, Vec::new(alloc), Marks::none(alloc))
     }
 
-    /// Creates an aim from conjunctions that must never be met, without a stopwatch and without marks.
+    /// Creates a property with neither a stopwatch nor marks, from conjunctions that must never be met.
     pub fn never(alloc: Global, nevers: Vec<Conjunction>) -> Aim
         ensures { result ≡ record { nevers = nevers.items; begins = []; ends = []; opens = []; marks = [] } }
     {
@@ -90,14 +91,14 @@ impl Aim {
         scope.has_each(&self.nevers)
     }
 
-    /// Returns whether no conjunction begins the stopwatch.
+    /// Returns true only if no conjunction begins the stopwatch.
     pub(crate) fn never_begins(&self) -> bool
         ensures { result ≡ true → self.now.begins ≡ [] }
     {
         self.begins.is_empty()
     }
 
-    /// Returns whether there is neither a conjunction that waits for marks nor a mark.
+    /// Returns true only if the property has no marks and no conjunctions in `opens`.
     pub(crate) fn is_unmarked(&self) -> bool
         ensures opens { result ≡ true → self.now.opens ≡ [] }
         ensures marks { result ≡ true → self.now.marks ≡ [] }
@@ -119,7 +120,7 @@ impl Aim {
         !keeps_to(replica, &self.ends)
     }
 
-    /// Returns whether a conjunction that waits for marks is met in the machine's present state.
+    /// Returns whether a conjunction in `opens` is met in the machine's present state.
     pub(crate) fn opens(&self, replica: &Replica) -> bool
         ensures { result ≡ not (keeps_to self.now.opens replica.now) }
     {
@@ -134,7 +135,7 @@ impl Aim {
         self.marks.count()
     }
 
-    /// Returns mark `i`, counted from 0.
+    /// Returns mark `i`, counted from 0, or `None` if there are fewer marks.
     pub(crate) fn mark(&self, i: u8) -> Option<Mark>
         ensures { result ≡ slice_get self.now.marks i }
     {

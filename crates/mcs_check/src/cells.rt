@@ -1,4 +1,5 @@
-//! The cells of a machine, and a board's layout: the bytes of a key, which have all cells of machines on the board.
+//! The cells of a machine, and a board's layout. The layout lists the bytes of a key, which together hold every cell
+//! of a machine on the board.
 ghost use Rattle.std.specs.Prelude.{◌≡◌, ◌<◌, ◌+◌, ◌*◌, ◌%◌, ◌||◌, true, false, IfOk, OnOk};
 ghost use Rattle.mcs_check.specs.Cells.{count_of, first_of, is_narrow, is_there, second_of, HasAll, HasList, IsComplete};
 
@@ -11,8 +12,8 @@ use std::alloc::{AllocError, Global};
 pub enum CellList {
     /// The nibbles of RAM (Intel's "RAM characters"), indexed by bank * 256 + SRC byte.
     Characters,
-    /// The status characters, indexed by (bank * 16 + upper nibble of the SRC byte) * 4 + number of the character (0 to
-    /// 3).
+    /// The status characters, indexed by (bank * 16 + upper nibble of the SRC byte) * 4 + number of the character (0
+    /// to 3).
     StatusCharacters,
     /// The port latches of the RAM chips, indexed by bank * 4 + chip.
     RamPorts,
@@ -23,7 +24,7 @@ pub enum CellList {
     /// The index registers.
     Registers,
     /// All other registers (an address as two bytes), the SRC byte that the ROMs store, the number of open calls,
-    /// the stopwatch's cycles as three bytes, and the number of marks seen. The upper byte comes first.
+    /// the stopwatch's cycles as three bytes, and the number of marks seen. The most significant byte comes first.
     Counters,
     /// The bits of the shift-register chain with this number.
     Chain(u8),
@@ -78,8 +79,8 @@ impl CellList {
 pub enum KeyByte {
     /// The value of a cell.
     One(Cell),
-    /// The values of two neighbouring cells, each below 16, given by their list and the number of the pair, counted
-    /// from 0. The first cell is the upper nibble.
+    /// The values of two neighbouring cells, each below 16. The fields are their list and the number of the pair,
+    /// counted from 0. The first cell is the upper nibble.
     Pair(CellList, u16),
 }
 
@@ -89,7 +90,7 @@ impl Default for KeyByte {
     }
 }
 
-/// Returns the first cell of a pair.
+/// Returns the first cell of pair `pair` in a list, with `pair` reduced modulo 1024.
 pub(crate) fn first_of(list: CellList, pair: u16) -> Cell
     ensures { result ≡ first_of list pair }
 {
@@ -99,7 +100,7 @@ pub(crate) fn first_of(list: CellList, pair: u16) -> Cell
     }
 }
 
-/// Returns the second cell of a pair.
+/// Returns the second cell of pair `pair` in a list, with `pair` reduced modulo 1024.
 pub(crate) fn second_of(list: CellList, pair: u16) -> Cell
     ensures { result ≡ second_of list pair }
 {
@@ -110,7 +111,7 @@ pub(crate) fn second_of(list: CellList, pair: u16) -> Cell
 }
 
 impl Cell {
-    /// Returns the index into the list, reduced modulo the maximum number of cells in the list.
+    /// Returns the cell's index, reduced modulo the maximum number of cells in its list.
     pub(crate) fn place(self) -> u16
         ensures { result ≡ self.index % count_of self.list }
     {
@@ -134,7 +135,7 @@ fn is_there(board: &Board, list: CellList, i: u16) -> bool
     }
 }
 
-/// Returns whether a board has the chip that contains one of the cells of a pair.
+/// Returns whether at least one of the two cells of a pair exists on a board.
 fn is_pair_there(board: &Board, list: CellList, pair: u16) -> bool
     requires { 2 * pair + 1 < count_of list }
     ensures { result ≡ (is_there board.now list (2 * pair) || is_there board.now list (2 * pair + 1)) }
@@ -142,7 +143,7 @@ fn is_pair_there(board: &Board, list: CellList, pair: u16) -> bool
     is_there(board, list, 2 * pair) || is_there(board, list, 2 * pair + 1)
 }
 
-/// Appends the cells of one list that a board has to the layout, each in a byte of its own.
+/// Appends to the layout every cell of a list that exists on the board, one cell per byte. Fails if memory runs out.
 fn add_cells(layout: &mut Vec<KeyByte>, board: &Board, list: CellList) -> Result<(), AllocError>
     requires { is_narrow list ≡ false }
     ensures keeps { OnOk result (HasAll layout.old.items layout.new.items) }
@@ -156,7 +157,7 @@ fn add_cells(layout: &mut Vec<KeyByte>, board: &Board, list: CellList) -> Result
     Ok(())
 }
 
-/// Appends the cells of one list that a board has to the layout, two in a byte.
+/// Appends to the layout every cell of a list that exists on the board, two cells per byte. Fails if memory runs out.
 fn add_pairs(layout: &mut Vec<KeyByte>, board: &Board, list: CellList) -> Result<(), AllocError>
     requires { is_narrow list ≡ true }
     ensures keeps { OnOk result (HasAll layout.old.items layout.new.items) }
@@ -170,7 +171,7 @@ fn add_pairs(layout: &mut Vec<KeyByte>, board: &Board, list: CellList) -> Result
     Ok(())
 }
 
-/// Appends the cells of one list that a board has to the layout.
+/// Appends to the layout every cell of a list that exists on the board. Fails if memory runs out.
 fn add_list(layout: &mut Vec<KeyByte>, board: &Board, list: CellList) -> Result<(), AllocError>
     ensures keeps { OnOk result (HasAll layout.old.items layout.new.items) }
     ensures has { OnOk result (HasList board.now layout.new.items list) }
@@ -183,11 +184,11 @@ fn add_list(layout: &mut Vec<KeyByte>, board: &Board, list: CellList) -> Result<
     Ok(())
 }
 
-/// Returns a board's layout, which contains every cell that machines on the board have.
+/// Returns a board's layout, which contains every cell that exists on the board. Fails if memory runs out.
 pub fn layout_of(alloc: Global, board: &Board) -> Result<Vec<KeyByte>, AllocError>
     ensures { IfOk result (λ layout. IsComplete board.now layout.items) }
 {
-    // This call gives the proof the fact that a board has at most four chains.
+    // The proof learns from this call that a board has at most four chains.
     let _parts = board.parts();
     let mut layout = Vec::new(alloc);
     for n in 0..CHAINS {

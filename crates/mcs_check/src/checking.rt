@@ -21,13 +21,13 @@ pub enum Outcome {
     MayFail(Vec<u8>),
     /// The search found more states than the caller's limit allows.
     TooMany,
-    /// Memory ran out. The field is the number of states that fit; there may be more.
+    /// Memory ran out. The field is the number of states that fitted into memory. The machine may have more states.
     NoMemory(usize),
     /// The search gave up without a result.
     GaveUp,
 }
 
-/// The maximum number of bytes that a state needs besides its key: its parent, and its share of the hash table.
+/// The maximum number of bytes that a state needs besides its key, for its parent and its share of the hash table.
 const STATE_BYTES: usize = 24;
 
 /// Returns the number of states with keys of `key_len` bytes that fit into `memory` bytes.
@@ -36,8 +36,8 @@ fn room_in(memory: usize, key_len: usize) -> usize {
 }
 
 /// Searches all runs of a machine, for all levels of its keys and its TEST pin, and checks the conditions after each
-/// cycle. The search uses at most `most` states and about `memory` bytes. It splits a stretch of cycles without reads
-/// every `pause` cycles.
+/// cycle. The search stores at most `most` states and uses about `memory` bytes. It splits each run of cycles without
+/// reads into steps of `pause` cycles. Fails if memory for the layout or for the first state cannot be allocated.
 pub fn check_all(
     alloc: Global,
     mut replica: Replica,

@@ -29,7 +29,7 @@ pub struct Mistakes {
 }
 
 impl Mistakes {
-    /// Looks for no mistakes.
+    /// No kind of mistake.
     pub const NONE: Mistakes = Mistakes {
         no_code: false,
         fourth_call: false,
@@ -40,7 +40,7 @@ impl Mistakes {
         no_outputs: false,
     };
 
-    /// Looks for all kinds of mistake.
+    /// All kinds of mistake.
     pub(crate) const ALL: Mistakes = Mistakes {
         no_code: true,
         fourth_call: true,
@@ -165,7 +165,7 @@ impl Replica {
     }
 
     /// Returns whether an instruction makes a call mistake that `asked` includes: a fourth nested call, or a BBL
-    /// without one.
+    /// while no call is open.
     fn errs_in_calls(&self, asked: &Mistakes, op: &Op) -> bool
         ensures { result ≡ errs_in_calls asked.now op.now self.now }
     {
@@ -182,8 +182,8 @@ impl Replica {
             || asked.absent_rom && lacks_word(op, &self.cpu.regs(), self.rig.board())
     }
 
-    /// Returns whether an instruction makes a port mistake that `asked` includes: an RDR without input lines, or a WRR
-    /// without output lines.
+    /// Returns whether an instruction makes a port mistake that `asked` includes: an RDR without input lines, or a
+    /// WRR without output lines.
     fn errs_in_lines(&self, asked: &Mistakes, op: &Op) -> bool
         ensures { result ≡ errs_in_lines asked.now op.now self.now }
     {

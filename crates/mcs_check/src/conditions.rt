@@ -17,8 +17,8 @@ pub enum Part {
     Line(u8),
 }
 
-/// A comparison of a cell's value with a range. It is met if the value is in `low..=high`, or, if `inside` is false, if
-/// it is not.
+/// A comparison of a cell's value with a range. If `inside` is true, the comparison is met if the value is in
+/// `low..=high`. If `inside` is false, it is met if the value is outside that range.
 #[derive(Clone, Copy, Debug)]
 pub struct Comparison {
     pub cell: Cell,
@@ -40,7 +40,7 @@ impl Default for Comparison {
     }
 }
 
-/// Returns a whole value, or one of its lower four bits.
+/// Returns the part of a value that a comparison uses: the whole value, or one of its lower four bits.
 fn part_of(n: u8, part: Part) -> u8
     ensures { result ≡ part_of n part }
 {

@@ -1,8 +1,8 @@
 //! Checks properties of a machine for all inputs, by a search over keys.
 //!
-//! A key identifies one machine of a board. `Replica` loads a machine from a key, saves it into a key, and runs it from
-//! one read of an input to the next. Contracts see a replica as a machine of `mcs_model` with three counts: its open
-//! calls, the cycles on a stopwatch, and the number of marks seen.
+//! A key is a list of bytes that identifies one machine of a board. `Replica` loads a machine from a key, saves it
+//! into a key, and runs it from one read of an input to the next. Contracts see a replica as a machine of `mcs_model`
+//! with three counts: its open calls, the cycles on a stopwatch, and the number of marks seen.
 #![tactic(auto)]
 
 mod aim;

@@ -1,4 +1,4 @@
-//! The marks that a run is to see, and the requirement that they come first.
+//! The marks that a run must see, and the requirement that it sees all of them before it meets some conjunctions.
 ghost use Rattle.std.specs.Prelude.{◌≡◌, ◌<◌, ◌≤◌, ◌&&◌, ◌↔◌, [], ◌∷◌, ◌++◌, length, nat_lt, not, slice_get, true, IsSome, IfSome, IfOk, OnOk};
 ghost use Rattle.mcs_drive.specs.Tracked.{Tracked};
 ghost use Rattle.mcs_check.specs.Conditions.{keeps_to, sees_fewer};
@@ -10,10 +10,10 @@ use mcs_drive::Mark;
 use std::alloc::{AllocError, Global};
 use std::marker::Model;
 
-/// The most marks.
+/// The maximum number of marks.
 const MOST: usize = 200;
 
-/// Marks to be seen in their order, at most 200. Contracts see their list.
+/// A list of at most 200 marks, which a run must see in this order. Contracts see the list.
 #[derive(Drop)]
 pub struct Marks {
     marks: Vec<Mark>,
@@ -31,7 +31,7 @@ impl Model for Marks {
 }
 
 impl Marks {
-    /// Returns no marks.
+    /// Creates an empty list of marks.
     pub fn none(alloc: Global) -> Marks
         ensures { result ≡ [] }
     {
@@ -40,7 +40,7 @@ impl Marks {
         }
     }
 
-    /// Returns these marks, if there are at most 200.
+    /// Creates a list from these marks, or returns `None` if there are more than 200.
     pub fn of(marks: Vec<Mark>) -> Option<Marks>
         ensures in_range { IsSome result ↔ (length marks.items ≤ 200) }
         ensures value { IfSome result (λ m. m ≡ marks.items) }
@@ -60,14 +60,14 @@ impl Marks {
         self.marks.len() as u8
     }
 
-    /// Returns whether there is no mark.
+    /// Returns true only if the list is empty.
     pub(crate) fn is_empty(&self) -> bool
         ensures { result ≡ true → self.now ≡ [] }
     {
         self.marks.is_empty()
     }
 
-    /// Returns mark `i`, counted from 0.
+    /// Returns mark `i`, counted from 0, or `None` if the list is shorter.
     pub(crate) fn get(&self, i: u8) -> Option<Mark>
         ensures { result ≡ slice_get self.now i }
     {
@@ -80,7 +80,7 @@ impl Marks {
     }
 }
 
-/// Returns the condition that fewer than `count` marks were seen.
+/// Returns the condition that the count of marks seen is less than `count`, which must be above 0.
 fn sees_fewer(count: u8) -> Condition
     requires { 0 < count }
     ensures { result ≡ Compare (sees_fewer count) }
@@ -97,7 +97,7 @@ fn sees_fewer(count: u8) -> Condition
     })
 }
 
-/// Returns a conjunction with one more condition.
+/// Returns the conjunction of `conditions` and the condition `last`. Fails if memory runs out.
 fn with_condition(
     alloc: Global,
     conditions: &[Condition],
@@ -110,7 +110,8 @@ fn with_condition(
     Ok(Conjunction::of(all))
 }
 
-/// Adds conjunctions to `nevers` that are met if a conjunction of `opens` is met before all marks were seen.
+/// Appends conjunctions to `nevers` that are met if a conjunction in `opens` is met before all marks were seen. Fails
+/// if memory runs out.
 pub fn add_opening(
     alloc: Global,
     nevers: &mut Vec<Conjunction>,

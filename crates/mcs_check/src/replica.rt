@@ -1,4 +1,4 @@
-//! A processor on a rig. Its cells can be loaded from a key and saved into one.
+//! A processor on a rig, whose cells are loaded from a key and saved into a key.
 ghost use Rattle.std.specs.Prelude.{◌≡◌, ◌<◌, All, length, slice_index, IsTrue};
 ghost use Rattle.mcs_model.specs.Validity.{IsValidBus, IsValidRegs};
 ghost use Rattle.mcs_drive.specs.Tracked.{without_calls};
@@ -35,7 +35,8 @@ impl Model for Replica {
     ghost view = { λ r. (r.cpu, r.rig, record { calls = r.calls; elapsed = r.elapsed; seen = r.seen }) };
 }
 
-/// Returns an address with its upper or its lower byte replaced. Only the lower nibble of an upper byte is used.
+/// Returns the address with its upper byte replaced if `is_upper` is true, and its lower byte otherwise. Only the
+/// lower nibble of an upper byte is used.
 fn with_byte(at: Addr, is_upper: bool, byte: u8) -> Addr {
     if is_upper {
         Addr::on_page(Nibble::low_of(byte), at.low())
@@ -44,7 +45,7 @@ fn with_byte(at: Addr, is_upper: bool, byte: u8) -> Addr {
     }
 }
 
-/// Sets the register, or the byte of an address register, that is counter `i`.
+/// Sets counter `i` of the list `Counters` in `regs`: a register, or one byte of an address register.
 fn set_counter(regs: &mut Regs, i: u16, n: u8) {
     match i {
         0 => regs.acc = Nibble::low_of(n),
@@ -89,7 +90,7 @@ fn registers_are_valid(cpu: &Cpu)
 }
 
 impl Replica {
-    /// Creates a replica from a processor and a rig, with no open calls and the stopwatch at 0.
+    /// Creates a replica from a processor and a rig, with no open calls, the stopwatch at 0 and no marks seen.
     pub fn of(cpu: Cpu, rig: BenchRig) -> Replica
         ensures { result ≡ without_calls (cpu, rig) }
     {
@@ -102,7 +103,7 @@ impl Replica {
         }
     }
 
-    /// Returns the board.
+    /// Returns the board of the rig.
     pub fn board(&self) -> &Board
         ensures { result.now ≡ self.now.1.board }
     {
@@ -166,7 +167,7 @@ impl Replica {
         }
     }
 
-    /// Returns the byte that has both cells of a pair.
+    /// Returns the byte of a key that holds both cells of a pair.
     #[inline(always)]
     fn join_cells(&self, list: CellList, pair: u16) -> u8
         ensures { result ≡ byte_at self.now (Pair list pair) }
@@ -176,7 +177,8 @@ impl Replica {
         first * 16 + second
     }
 
-    /// Returns the byte that has both RAM characters of a pair, as `join_cells` does, but finds their bank only once.
+    /// Returns the byte of a key that holds both RAM characters of a pair. This is faster than `join_cells`, because
+    /// it computes the bank only once.
     fn join_characters(&self, pair: u16) -> u8
         ensures { result ≡ byte_at self.now (Pair Characters pair) }
     {
@@ -188,8 +190,8 @@ impl Replica {
         first * 16 + second
     }
 
-    /// Returns the value of a key's byte. The lists with many cells have arms of their own: in such an arm, the compiler
-    /// knows the list, so the program does not look it up for each of the two cells.
+    /// Returns the value of a key's byte. Each list with many cells has its own match arm. In that arm the list is
+    /// constant, so the compiled program does not test it for each of the two cells.
     fn byte(&self, byte: KeyByte) -> u8
         ensures { result ≡ byte_at self.now byte }
     {
@@ -205,8 +207,8 @@ impl Replica {
         }
     }
 
-    /// Sets the value of a cell: of a register in `regs`, of any other cell in this machine. The contract does not
-    /// promise the value; `load` checks it with `is_at`.
+    /// Sets the value of a cell. Writes a register to `regs` and any other cell to this machine. The contract does
+    /// not promise the value, so `load` checks it with `is_at`.
     #[inline(always)]
     fn set(&mut self, regs: &mut Regs, cell: Cell, n: u8)
         ensures { Keeps self.old.1 self.new.1 }
@@ -254,7 +256,7 @@ impl Replica {
         }
     }
 
-    /// Sets both cells of a pair from the byte that has them, as `set` does.
+    /// Sets both cells of a pair from a key's byte `n`. Calls `set` for each cell.
     #[inline(always)]
     fn split_into_cells(&mut self, regs: &mut Regs, list: CellList, pair: u16, n: u8)
         ensures { Keeps self.old.1 self.new.1 }
@@ -263,7 +265,8 @@ impl Replica {
         self.set(regs, second_of(list, pair), n % 16);
     }
 
-    /// Sets the cells of a key's byte, as `set` does. The arms are those of `byte`, for the same reason.
+    /// Sets the cells of a key's byte to the value `n`. Calls `set` for each cell. The match arms are the same as in
+    /// `byte`, for the same reason.
     fn set_byte(&mut self, regs: &mut Regs, byte: KeyByte, n: u8)
         ensures { Keeps self.old.1 self.new.1 }
     {
@@ -298,7 +301,7 @@ impl Replica {
         self.cpu.set_owed(regs.owed % 2);
     }
 
-    /// Writes the machine's key into `key`.
+    /// Writes the machine's key for a layout into `key`, which must have the same length as the layout.
     pub fn save(&self, layout: &[KeyByte], key: &mut [u8])
         requires { length key.old ≡ length layout.now }
         ensures { key.new ≡ key_of layout.now self.now }
@@ -308,7 +311,7 @@ impl Replica {
         }
     }
 
-    /// Returns whether a key is the machine's.
+    /// Returns true only if `key` is the machine's key for this layout.
     pub(crate) fn is_at(&self, layout: &[KeyByte], key: &[u8]) -> bool
         requires { length key.now ≡ length layout.now }
         ensures { IsTrue result → key.now ≡ key_of layout.now self.now }
@@ -321,7 +324,8 @@ impl Replica {
         true
     }
 
-    /// Sets a layout's cells from a key. Returns whether the key is then the machine's.
+    /// Sets the cells of a layout from a key, which must have the same length as the layout. Returns true only if the
+    /// machine then has this key.
     pub fn load(&mut self, layout: &[KeyByte], key: &[u8]) -> bool
         requires { length key.now ≡ length layout.now }
         ensures keeps { Keeps self.old.1 self.new.1 }
@@ -335,7 +339,8 @@ impl Replica {
         self.is_at(layout, key)
     }
 
-    /// Sets the cells whose bytes differ in two keys. Returns whether the second key is then the machine's.
+    /// Sets the cells whose bytes differ between the keys `last` and `key`. Returns true only if the machine then has
+    /// the key `key`.
     fn set_changed(&mut self, layout: &[KeyByte], last: &[u8], key: &[u8]) -> bool
         requires last { length last.now ≡ length layout.now }
         requires key { length key.now ≡ length layout.now }
@@ -352,8 +357,8 @@ impl Replica {
         self.is_at(layout, key)
     }
 
-    /// Sets a layout's cells from a key, as `load` does. This is faster if `last` is the machine's key. `last` becomes
-    /// the new key.
+    /// Sets the cells of a layout from a key, as `load` does. This is faster if `last` is the machine's present key.
+    /// Copies `key` into `last` if their lengths are equal.
     pub(crate) fn reload(&mut self, layout: &[KeyByte], last: &mut [u8], key: &[u8]) -> bool
         requires { length key.now ≡ length layout.now }
         ensures keeps { Keeps self.old.1 self.new.1 }

@@ -7,7 +7,7 @@ use crate::conditions::{Condition, Conjunction};
 use mcs_model::op::Op;
 use mcs_nibble::PairNo;
 
-/// The parts of a machine that some conditions depend on.
+/// The parts of a machine that a set of conditions depends on.
 #[derive(Clone, Copy)]
 pub(crate) struct Scope {
     /// For each index register, true if a condition depends on it.
@@ -32,7 +32,7 @@ pub(crate) fn scope_of(nevers: &[Conjunction]) -> Scope {
 }
 
 impl Scope {
-    /// Adds the index register or the chip that contains a cell. A counter adds nothing.
+    /// Adds a cell to the scope. A cell of a chip adds all chips, and a counter adds nothing.
     fn add_cell(&mut self, cell: Cell) {
         match cell.list {
             CellList::Registers => self.registers[usize::from(cell.place())] = true,
@@ -41,7 +41,7 @@ impl Scope {
         }
     }
 
-    /// Adds the index registers and chips that the conditions depend on, and whether the conditions look for mistakes.
+    /// Adds everything that these conditions depend on: index registers, chips and mistakes.
     fn add_all(&mut self, conditions: &[Condition]) {
         for i in 0..conditions.len() {
             match &conditions[i] {
@@ -67,7 +67,8 @@ impl Scope {
         self.has_register(even) || self.has_register(even + 1)
     }
 
-    /// Returns whether a cell is in the scope. Of the counters, only the number of marks seen is, always.
+    /// Returns whether a cell is in the scope. Of the counters, the number of marks seen is in every scope, and the
+    /// others are in none.
     fn has_cell(&self, cell: Cell) -> bool
         ensures { result ≡ has_cell self.now cell.list cell.index }
     {

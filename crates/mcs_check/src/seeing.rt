@@ -17,14 +17,14 @@ use mcs_drive::Mark;
 use mcs_model::board::{KeyMatrix, Line};
 use mcs_nibble::Nibble;
 
-/// Returns bit `k` of a nibble, 0 for `k` above 3.
+/// Returns bit `k` of a nibble, or 0 if `k` is above 3.
 fn bit_at(n: Nibble, k: u8) -> u8
     ensures { result ≡ bit_of n k }
 {
     if k < 4 { n.bit(k).get() } else { 0 }
 }
 
-/// Returns whether a line is line `k` of a ROM.
+/// Returns whether `line` is line `k` of ROM `chip`.
 fn is_rom_line(line: Line, chip: u8, k: u8) -> bool
     ensures { result ≡ is_rom_line chip k line }
 {
@@ -34,7 +34,7 @@ fn is_rom_line(line: Line, chip: u8, k: u8) -> bool
     }
 }
 
-/// Returns the line that column `j` pulls.
+/// Returns the line that column `j` of the key matrix pulls.
 fn column_line(matrix: &KeyMatrix, j: usize) -> Line
     requires { j < length matrix.now.columns.items }
     ensures { result ≡ column_line matrix.now j }
@@ -42,7 +42,7 @@ fn column_line(matrix: &KeyMatrix, j: usize) -> Line
     matrix.columns.as_slice()[j]
 }
 
-/// Returns whether row `r` is driven.
+/// Returns whether row `r` of the key matrix is driven.
 fn is_row_driven(rig: &BenchRig, matrix: &KeyMatrix, r: u8) -> bool
     requires { matrix.now.first + r < 256 }
     ensures { result ≡ is_row_driven rig.now matrix.now r }
@@ -50,7 +50,7 @@ fn is_row_driven(rig: &BenchRig, matrix: &KeyMatrix, r: u8) -> bool
     rig.chain_bit(matrix.chain, matrix.first + r).get() == 1
 }
 
-/// Returns whether row `r` is driven and its key of column `j` is not the mark's.
+/// Returns whether row `r` is driven and its key in column `j` is not the mark's key.
 fn is_driven_apart(rig: &BenchRig, matrix: &KeyMatrix, mark: Mark, j: usize, r: u8) -> bool
     requires { matrix.now.first + r < 256 }
     ensures { result ≡ (is_row_driven rig.now matrix.now r && not (r == mark.row && j == mark.column)) }
@@ -58,7 +58,7 @@ fn is_driven_apart(rig: &BenchRig, matrix: &KeyMatrix, mark: Mark, j: usize, r: 
     is_row_driven(rig, matrix, r) && !(r == mark.row && j == usize::from(mark.column))
 }
 
-/// Returns whether a key of column `j` other than the mark's is in a driven row.
+/// Returns whether a key in column `j`, other than the mark's key, is in a driven row.
 fn is_another_driven(rig: &BenchRig, matrix: &KeyMatrix, mark: Mark, j: usize) -> bool
     requires { is_matrix_size matrix.now ≡ true }
     ensures { result ≡ list_any (λ r. is_row_driven rig.now matrix.now r && not (r == mark.row && j == mark.column))
@@ -72,7 +72,7 @@ fn is_another_driven(rig: &BenchRig, matrix: &KeyMatrix, mark: Mark, j: usize) -
     false
 }
 
-/// Returns whether a key of column `j` other than the mark's can pull line `k` of a ROM.
+/// Returns whether a key in column `j`, other than the mark's key, can pull line `k` of ROM `chip`.
 fn can_column_pull(
     rig: &BenchRig,
     matrix: &KeyMatrix,
@@ -90,7 +90,7 @@ fn can_column_pull(
     is_rom_line(column_line(matrix, j), chip, k) && is_another_driven(rig, matrix, mark, j)
 }
 
-/// Returns whether a key other than the mark's can pull line `k` of a ROM.
+/// Returns whether a key other than the mark's key can pull line `k` of ROM `chip`.
 fn can_another_pull(rig: &BenchRig, matrix: &KeyMatrix, mark: Mark, chip: u8, k: u8) -> bool
     requires { is_matrix_size matrix.now ≡ true }
     ensures { result ≡ can_another_pull rig.now matrix.now mark chip k }
@@ -103,7 +103,8 @@ fn can_another_pull(rig: &BenchRig, matrix: &KeyMatrix, mark: Mark, chip: u8, k:
     false
 }
 
-/// Returns whether a value that is read at the port of the selected ROM shows a mark whose key pulls this line.
+/// Returns whether the value `value`, read at the port of the selected ROM, shows the mark. `line` is the line that
+/// the mark's key pulls.
 fn line_shows(rig: &BenchRig, matrix: &KeyMatrix, value: Nibble, mark: Mark, line: Line) -> bool
     requires size { is_matrix_size matrix.now ≡ true }
     requires row { mark.row < matrix.now.rows }
@@ -124,7 +125,8 @@ fn line_shows(rig: &BenchRig, matrix: &KeyMatrix, value: Nibble, mark: Mark, lin
     }
 }
 
-/// Returns whether a value that is read at the port of the selected ROM shows a mark.
+/// Returns whether the value `value`, read at the port of the selected ROM, shows the mark. Returns false if the
+/// board does not have the mark's key.
 fn port_shows(rig: &BenchRig, value: Nibble, mark: Mark) -> bool
     ensures { result ≡ port_shows rig.now value mark }
 {
@@ -142,7 +144,7 @@ fn port_shows(rig: &BenchRig, value: Nibble, mark: Mark) -> bool
 }
 
 impl Replica {
-    /// Returns the number of marks seen since a conjunction that waits for them was met last.
+    /// Returns the number of marks seen since a conjunction in `opens` was last met.
     fn progress(&self, aim: &Aim) -> u8
         ensures seen { result ≡ progress (length aim.now.marks) self.now.2.seen }
         ensures few { result ≤ 200 }
@@ -166,7 +168,8 @@ impl Replica {
         }
     }
 
-    /// Returns the number of marks seen after the next cycle, by whether it shows the next mark.
+    /// Returns the count of marks seen after the next cycle. `shown` is true if that cycle shows the next mark. If a
+    /// conjunction in `opens` is met, the count is the number of marks plus 1.
     pub(crate) fn seen_after(&self, aim: &Aim, shown: bool) -> u8
         ensures { result ≡ marks_after (length aim.now.marks) self.now.2.seen (opens_at (observer_in aim.now) self.now) shown }
     {

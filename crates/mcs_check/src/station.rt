@@ -44,7 +44,7 @@ fn calls_after_op(op: &Op, calls: u8) -> u8
     }
 }
 
-/// The maximum number of cycles that an ISZ that jumps to itself takes before its last pass.
+/// The maximum number of cycles before the last pass of an ISZ that jumps to itself: 15 passes of 2 cycles.
 const MOST_PASSED: u32 = 30;
 
 /// Facts about the next cycle that are known before it runs. Some depend on the scope of the conditions.
@@ -58,8 +58,8 @@ struct Ahead {
     changes: bool,
     /// The number of open calls after the cycle.
     calls: u8,
-    /// The register of an ISZ that jumps to itself, if the cycle begins one of its passes but not the last. `None` if a
-    /// stopwatch runs or can begin.
+    /// The register of an ISZ that jumps to itself, if the cycle begins this ISZ and the ISZ will jump. `None` in all
+    /// other cases, and if the stopwatch or the count of marks seen can change.
     spins: Option<RegNo>,
 }
 
@@ -73,15 +73,16 @@ fn may_read(op: Op) -> bool
     }
 }
 
-/// Returns whether a two-word instruction at address `at`, with `word` as its second word, jumps to itself if it jumps.
+/// Returns whether the jump target of a two-word instruction at address `at` is `at` itself. `word` is the second
+/// word, the lower byte of the target.
 fn leads_back(at: Addr, word: u8) -> bool
     ensures { result ≡ (address_beside ((at + 2) % 4096) word == at) }
 {
     Addr::on_page(at.plus(2).page(), word).get() == at.get()
 }
 
-/// Returns whether an ISZ at the program counter, with `word` as its second word, jumps to itself and this is not its
-/// last pass.
+/// Returns whether an ISZ of register `r` at the program counter, with `word` as its second word, will jump to
+/// itself. Returns false if the next cycle is the second one of an instruction.
 fn is_pass(regs: &Regs, r: RegNo, word: u8) -> bool
     ensures { result ≡ (regs.now.owed == 0 && address_beside ((regs.now.pc + 2) % 4096) word == regs.now.pc
         && nat_lt (register_of regs.now r) 15) }
@@ -89,9 +90,9 @@ fn is_pass(regs: &Regs, r: RegNo, word: u8) -> bool
     regs.owed == 0 && leads_back(regs.pc, word) && regs.register(r).get() < 15
 }
 
-/// Returns whether a loop's passes may run in one step. This requires that enough cycles are left and that the loop is
-/// not at the address where the run looks for the machine of its key. The scope must cover all conditions, and the next
-/// cycle must change nothing in it and make no mistake.
+/// Returns whether the passes of an ISZ that jumps to itself may run in one step. At least `MOST_PASSED` cycles must
+/// be left, and the ISZ must not be at the address at which the run compares keys (`is_sought`). The scope must cover
+/// all conditions, and the next cycle must change nothing in the scope and make no mistake.
 fn may_spin(left: u32, is_sought: bool, has_each: bool, ahead: &Ahead) -> bool
     ensures { result ≡ true → (has_each ≡ true) × ((ahead.now.errs ≡ false) × (ahead.now.changes ≡ false)) }
 {
@@ -132,8 +133,8 @@ impl Replica {
         }
     }
 
-    /// Returns the register of the instruction `op` at the program counter, if `op` is an ISZ that jumps to itself and
-    /// this is not its last pass. Returns `None` if a stopwatch runs or can begin.
+    /// Returns the register of `op`, the instruction at the program counter, if `op` is an ISZ that will jump to
+    /// itself. Returns `None` in all other cases, and if the stopwatch or the count of marks seen can change.
     fn spins(&self, aim: &Aim, op: Op) -> Option<RegNo>
         requires { instruction_at self.now.0 self.now.1 ≡ Some op }
         ensures { IfSome result (λ r. Spins (observer_in aim.now) r self.now) }
@@ -189,7 +190,7 @@ impl Replica {
         }
     }
 
-    /// Runs one cycle. `calls` is the number of open calls after it, `seen` the number of marks seen.
+    /// Runs one cycle. `calls` is the number of open calls after the cycle, and `seen` the number of marks seen.
     fn cycle(&mut self, aim: &Aim, calls: u8, seen: u8)
         requires { calls ≡ open_after self.old.0 self.old.1 self.old.2.calls }
         ensures { self.new ≡ with_seen seen (cycled (observer_in aim.now) self.old) }
@@ -201,7 +202,7 @@ impl Replica {
         self.seen = seen;
     }
 
-    /// Runs one cycle, which shows no mark. `calls` is the number of open calls after it.
+    /// Runs one cycle that shows no mark. `calls` is the number of open calls after the cycle.
     fn cycle_without_mark(&mut self, aim: &Aim, calls: u8)
         requires calls { calls ≡ open_after self.old.0 self.old.1 self.old.2.calls }
         requires unseen { (value : ℕ) → shows_next (observer_in aim.now) self.old value ≡ false }
@@ -221,8 +222,8 @@ impl Replica {
         2 * u32::from(passes)
     }
 
-    /// Runs one cycle, which reads no input, or, if `may_spin` is true, all passes but the last of an ISZ that jumps to
-    /// itself. Returns the number of cycles that it ran.
+    /// Runs one cycle that reads no input. If `may_spin` is true and the cycle begins an ISZ that will jump to
+    /// itself, runs all passes of this ISZ except the last instead. Returns the number of cycles that ran.
     fn go_on(&mut self, aim: &Aim, ahead: &Ahead, may_spin: bool) -> u32
         requires calls { ahead.now.calls ≡ open_after self.old.0 self.old.1 self.old.2.calls }
         requires spins { IfSome ahead.now.spins (λ r. Spins (observer_in aim.now) r self.old) }
@@ -238,8 +239,8 @@ impl Replica {
         1
     }
 
-    /// Returns whether `answer` may be this value at a cycle that reads no input. It is 0 if the cycle begins an
-    /// instruction.
+    /// Returns whether the next cycle, which reads no input, may have `value` as its answer. The answer is 0 unless
+    /// the cycle is the second one of an instruction.
     fn may_rest_at(&self, value: u8) -> bool
         ensures { result ≡ (value == 0 || self.now.0.owed == 1) }
     {
@@ -256,8 +257,8 @@ impl Replica {
         }
     }
 
-    /// Returns whether, on each line, this value is between the selected port's level with no key pressed and its
-    /// present level.
+    /// Returns whether each bit of `value` is at least the selected port's level with no key pressed, and at most its
+    /// present level. `value` must be less than 16.
     fn port_gives(&self, value: u8) -> bool
         requires { value < 16 }
         ensures { result ≡ (has_no_more (port_unpressed self.now.1) value && has_no_more value (port_of self.now.1)) }
@@ -267,8 +268,8 @@ impl Replica {
         has_no_more(self.unpressed_port(), value) && has_no_more(value, most)
     }
 
-    /// Returns whether the next cycle may read this value at some levels of the keys and TEST. All keys of the machine
-    /// must be pressed.
+    /// Returns false only if the next cycle cannot read this value at any levels of the keys and TEST. All keys of
+    /// the machine must be pressed, and `value` must be less than 16.
     pub fn can_read(&self, source: Source, value: u8) -> bool
         requires reads { Reads self.now source }
         requires keys { self.now.1.keys ≡ replicate (key_count self.now.1.board) 1 }
@@ -322,8 +323,8 @@ impl Replica {
         self.cycle_without_mark(aim, calls);
     }
 
-    /// Runs the next cycle as if it read this value. Returns false, without running it, if the value is out of the
-    /// source's range.
+    /// Runs the next cycle as if it read this value. Returns false, without running the cycle, if the value is out of
+    /// range: above 15 for a port, or above 1 for TEST.
     pub fn read(&mut self, aim: &Aim, source: Source, value: u8) -> bool
         requires reads { Reads self.old source }
         ensures read { IsTrue result → HasRead (observer_in aim.now) value self.old self.new }
@@ -351,15 +352,15 @@ impl Replica {
         }
     }
 
-    /// Returns whether the program counter is `at` and the values of a layout's cells equal the bytes of a key.
+    /// Returns whether the program counter is `at` and `key` is the machine's key for this layout.
     fn is_again(&self, layout: &[KeyByte], key: &[u8], at: Addr) -> bool
         requires { length key.now ≡ length layout.now }
     {
         self.cpu.regs().pc.get() == at.get() && self.is_at(layout, key)
     }
 
-    /// Returns whether the property holds. The check is skipped if the scope covers all conditions, the last step
-    /// changed nothing in it, and the next cycle makes no mistake.
+    /// Returns whether the property holds. Skips the check if the scope covers all conditions (`is_known`), the last
+    /// step changed nothing in the scope, and the next cycle makes no mistake.
     fn keeps_on(&self, aim: &Aim, is_known: bool, changed: bool, errs: bool) -> bool
         requires { is_known ≡ true → changed ≡ false → errs ≡ false → keeps_to aim.now.nevers self.now ≡ true }
         ensures { result ≡ true → keeps_to aim.now.nevers self.now ≡ true }
@@ -367,16 +368,16 @@ impl Replica {
         is_known && !changed && !errs || aim.keeps(self)
     }
 
-    /// Returns whether the last step may have changed something in a scope. `changes` says whether it may have changed a
-    /// register or a chip in it, `seen` is the number of marks seen before it.
+    /// Returns whether the last step may have changed something in a scope. `changes` is true if the step may have
+    /// changed a register or a chip in the scope. `seen` is the number of marks seen before the step.
     fn has_changed(&self, changes: bool, seen: u8) -> bool
         ensures { result ≡ false → (changes ≡ false) × (self.now.2.seen ≡ seen) }
     {
         changes || self.seen != seen
     }
 
-    /// Runs until the next cycle may read an input, the machine is back at the one that a key identifies, or `most`
-    /// cycles have run. `at` is that machine's program counter. Returns whether the property holds at every step.
+    /// Runs until the next cycle may read an input, the machine has the key `key` again, or `most` cycles have run.
+    /// `at` is the program counter of the key's machine. Returns true only if the property holds at every step.
     pub fn go_to_station(
         &mut self,
         aim: &Aim,
@@ -404,7 +405,7 @@ impl Replica {
             if ahead.may_read {
                 return true;
             }
-            // The run is in a loop that reads no input, and further passes reach no new state.
+            // The run is in a loop that reads no input. Further passes reach no new state.
             if self.is_again(layout, key, at) {
                 return true;
             }

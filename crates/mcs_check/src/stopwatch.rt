@@ -1,4 +1,4 @@
-//! The cycles that a stopwatch beside a machine shows, and the limit on them.
+//! The number of cycles that a stopwatch shows, and a limit on this number.
 ghost use Rattle.std.specs.Prelude.{◌≡◌, ◌==◌, ◌<◌, ◌/◌, ◌%◌, ◌∷◌, ◌&&◌, ◌↔◌, [], false, true, nat_le, IsSome, IfSome, OnOk};
 ghost use Rattle.mcs_drive.specs.Tracked.{Tracked, elapsed_after, shown_after};
 ghost use Rattle.mcs_check.specs.Conditions.{elapsed_byte, keeps_to, observer_in};
@@ -37,7 +37,7 @@ impl Cycles {
     /// Zero cycles.
     pub(crate) const ZERO: Cycles = Cycles { cycles: 0 };
 
-    /// Returns a number of cycles, or `None` if it is more than a stopwatch can show.
+    /// Returns this number of cycles, or `None` if it is above 2^24 - 1, the most that a stopwatch can show.
     pub fn of(cycles: u32) -> Option<Cycles>
         ensures in_range { IsSome result ↔ (cycles < 16777216) }
         ensures value { IfSome result (λ n. n ≡ cycles) }
@@ -77,8 +77,8 @@ impl Cycles {
         }
     }
 
-    /// Returns the number shown after one more cycle. `begins` and `ends` say whether the stopwatch begins or ends in
-    /// the state before that cycle.
+    /// Returns the number that the stopwatch shows after one more cycle. `begins` and `ends` are true if the
+    /// stopwatch begins or ends in the state before that cycle.
     fn after(self, begins: bool, ends: bool) -> Cycles
         ensures { result ≡ shown_after self begins ends }
     {
@@ -99,7 +99,7 @@ impl Cycles {
     }
 }
 
-/// Returns the condition that byte `i` of a stopwatch's cycles is greater than `n`. Byte 0 is the most significant.
+/// Returns the condition that byte `i` of the stopwatch's cycles is greater than `n`. Byte 0 is the most significant.
 fn is_above(i: u16, n: u8) -> Condition
     requires { i < 3 }
     ensures { result ≡ Compare (elapsed_byte i 0 n false) }
@@ -116,7 +116,7 @@ fn is_above(i: u16, n: u8) -> Condition
     })
 }
 
-/// Returns the condition that byte `i` of a stopwatch's cycles equals `n`. Byte 0 is the most significant.
+/// Returns the condition that byte `i` of the stopwatch's cycles equals `n`. Byte 0 is the most significant.
 fn is_same(i: u16, n: u8) -> Condition
     requires { i < 3 }
     ensures { result ≡ Compare (elapsed_byte i n n true) }
@@ -133,7 +133,8 @@ fn is_same(i: u16, n: u8) -> Condition
     })
 }
 
-/// Adds conjunctions to `nevers` that are met if a stopwatch shows more than a limit.
+/// Appends conjunctions to `nevers` that are met if the stopwatch shows more than `limit` cycles. Fails if memory
+/// runs out.
 pub fn add_limit(
     alloc: Global,
     nevers: &mut Vec<Conjunction>,
@@ -153,7 +154,7 @@ pub fn add_limit(
 }
 
 impl Replica {
-    /// Returns whether the stopwatch is at 0 and never begins.
+    /// Returns true only if the stopwatch is at 0 and never begins.
     fn is_stopped(&self, aim: &Aim) -> bool
         ensures zero { result ≡ true → self.now.2.elapsed ≡ 0 }
         ensures never { result ≡ true → (t : Tracked) → (observer_in aim.now).begins t ≡ false }
@@ -161,7 +162,7 @@ impl Replica {
         self.elapsed.is_zero() && aim.never_begins()
     }
 
-    /// Returns whether the counts of the observer never change.
+    /// Returns true only if the stopwatch and the count of marks seen never change.
     pub(crate) fn is_still(&self, aim: &Aim) -> bool
         ensures { result ≡ true → IsStill (observer_in aim.now) self.now.2 }
     {

@@ -14,7 +14,7 @@ use std::marker::Model;
 pub struct Walker {
     pub(crate) replica: Replica,
     pub(crate) layout: Vec<KeyByte>,
-    /// The key that the replica had last.
+    /// The key of the machine that the replica held last.
     pub(crate) last: Vec<u8>,
     pub(crate) aim: Aim,
     pub(crate) most: u32,

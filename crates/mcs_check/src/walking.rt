@@ -17,7 +17,7 @@ use std::alloc::AllocError;
 /// The number of values that a nibble can have.
 const VALUES: u8 = 16;
 
-/// Appends all 16 values of a nibble.
+/// Appends all 16 values of a nibble to `into`. Fails if memory runs out.
 fn list_all(into: &mut Vec<u8>) -> Result<(), AllocError>
     ensures { OnOk result ((value : ℕ) → value < 16 → Contains into.new.items value) }
 {
@@ -27,7 +27,8 @@ fn list_all(into: &mut Vec<u8>) -> Result<(), AllocError>
     Ok(())
 }
 
-/// Appends the values that a machine's next cycle can read. All keys of the machine must be pressed.
+/// Appends to `into` every value that the machine's next cycle can read. All keys of the machine must be pressed.
+/// Fails if memory runs out.
 fn list_readable(replica: &Replica, into: &mut Vec<u8>) -> Result<(), AllocError>
     requires keys { replica.now.1.keys ≡ replicate (key_count replica.now.1.board) 1 }
     ensures { OnOk result ((value : ℕ) → value < 16 → CannotRead value replica.now ⊎ Contains into.new.items value) }
@@ -41,8 +42,9 @@ fn list_readable(replica: &Replica, into: &mut Vec<u8>) -> Result<(), AllocError
     Ok(())
 }
 
-/// Lists the values that the machine that a key identifies can read in its next cycle. Lists all 16 values if the key
-/// cannot be loaded. `last` is the key that the replica had last, and becomes this key.
+/// Loads the machine that `key` identifies, and lists in `into` the values that it can read in its next cycle. Lists
+/// all 16 values if the key cannot be loaded. `last` is the replica's previous key, which `key` replaces. Fails if
+/// memory runs out.
 pub(crate) fn list_values(
     replica: &mut Replica,
     layout: &[KeyByte],
@@ -74,10 +76,10 @@ fn copy_key(last: &mut [u8], key: &[u8]) {
     }
 }
 
-/// Runs the machine that a key identifies until its next read, with `value` as the value that its first cycle reads.
-/// Saves the machine into `into` if the property holds. Returns whether the property holds at every step, or `None` if
-/// the key cannot be loaded or the first cycle cannot read `value`. `last` is the key that the replica had last, and
-/// becomes the key that it has now.
+/// Loads the machine that `key` identifies and runs it until its next read (see `go_to_station`). The first cycle
+/// reads `value`. Saves the machine's new key into `into` if the property holds. Returns whether the property holds
+/// at every step, or `None` if the key cannot be loaded or the first cycle cannot read `value`. `last` is the
+/// replica's previous key, which its new key replaces.
 pub(crate) fn follow(
     replica: &mut Replica,
     layout: &[KeyByte],

@@ -1,4 +1,4 @@
--- An outcome for a rig is an outcome for the machine that two texts define.
+-- An outcome that is proved for a rig is proved for the machine that two texts define.
 use Rattle.std.proofs.Common.{◌≡◌, ◌∙◌, ◌<◌, ◌&&◌, ℕ, List, [], ◌∷◌, Bool, true, false, not, cond, nat_lt, Option, Some, None, Result, Ok, Err, IfOk, length, refl, sym, ap, subst, arith, eqb}
 use Rattle.std.proofs.lemmas.Bool.{and_parts, eqb-true}
 use Rattle.mcs_model.specs.declared.regs.Regs.{Regs}
@@ -17,7 +17,7 @@ use Rattle.mcs_prove.proofs.Ignoring.{conditions-ignore}
 use Rattle.mcs_prove.specs.declared.refusal.Refusal.{Refusal}
 use Rattle.mcs_prove.specs.Questions.{QuestionSoFar, IsAnswerTo, IsPropertyProvedOf, question_of_text, keeps_property, are_marks_complete, is_consistent, is_stopwatch_complete, is_stopwatch_complete_with, observer_of_question}
 
--- an outcome for a property is one for each equal property
+-- an outcome that is proved for a property is also proved for an equal property
 pub proved-same : (w : Observer) (p q : Tracked → Bool) (s : Tracked) (found : Outcome) → ((t : Tracked) → p t ≡ q t) → IsProved w p s found → IsProved w q s found
 proved-same w p q s (outcome.Holds n) same h = λ f fit k. sym (same _) ∙ h f fit k
 proved-same w p q s (outcome.MayFail values) same h = h
@@ -35,7 +35,7 @@ proved-of board program w p q cpu rig found g new same h = record {
 
 -- ---- marks
 
--- the conjunctions that `add_opening` adds say that the marks come before the `open` conditions
+-- the requirement that `add_opening` adds is that no `open` list is met before all marks were seen
 pub in-turn : (opens : List (List Condition)) (marks : List Mark) (s : Tracked) →
     not (not (keeps_to opens s) && nat_lt s.2.seen (length marks)) ≡ is_open_in_turn (observer_of [] [] opens marks) s
 in-turn opens marks s = ap (λ (b : Bool). not (not b && nat_lt s.2.seen (length marks))) (conditions-ignore opens s)
@@ -65,7 +65,7 @@ unmarked q false is h some =
     let zero = eqb-true q.max_entries 0 (and_parts (not (eqb (length q.opens) 0)) (eqb q.max_entries 0) h).1 in
     absurd (omega arith)
 
--- an outcome for the conditions is the outcome for such a question
+-- an outcome that is proved for the `never` lists is proved for a question without a stopwatch and marks
 proved-alone : (board program : List ℕ) (q : QuestionSoFar) (found : Outcome) → is_consistent q ≡ true → 0 < q.max_entries → IsProvedOf board program no_observer (keeps_to q.nevers) found →
     IsPropertyProvedOf board program (observer_of_question q) q.nevers q.limit found
 proved-alone board program q found posed some h =

@@ -16,8 +16,8 @@ use Rattle.mcs_check.specs.Promised.{IsProved}
 abbrev pub bench_with_board : BoardParts → BenchState
 bench_with_board b = after new_bench_state (Wire b)
 
--- the machine of a new bench after `wire` with a board, `asm` with an image, and `reset`; no call is
--- open, and the stopwatch is at 0
+-- the machine of a new bench after `wire` with a board, `asm` with an image, and `reset`. No call is open
+-- and the stopwatch is at 0.
 abbrev pub machine_with_program : BoardParts → List (ℕ × ℕ) → Tracked
 machine_with_program b image = without_calls (machine_of (after (after (bench_with_board b) (Load image)) Reset))
 

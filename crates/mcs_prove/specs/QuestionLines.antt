@@ -99,7 +99,7 @@ abbrev pub with_mistakes : Mistakes → List (List ℕ) → Option Mistakes
 with_mistakes m [] = Some m
 with_mistakes m (word ∷ words) = with_mistake m word >>= λ more. with_mistakes more words
 
--- the kinds of mistake that words name, at least one
+-- the kinds of mistake that words name. There must be at least one word.
 abbrev pub mistakes_of : List (List ℕ) → Option Mistakes
 mistakes_of [] = None
 mistakes_of (word ∷ words) = with_mistakes no_mistakes (word ∷ words)
@@ -144,13 +144,13 @@ number_line name word =
     else if bytes_eq name (codes "pause") then number_up_to MAX_PAUSE word >>= pause_line
     else None
 
--- a line of four or more words: a comparison, which has six
+-- a line of four or more words. It is valid only if it is a comparison, which has six words.
 abbrev pub comparison_line : List ℕ → List ℕ → List ℕ → List (List ℕ) → Option QuestionLine
 comparison_line kind list index (part ∷ low ∷ high ∷ []) =
     option_map (λ c. OneCondition (condition.Compare c)) (comparison_of kind list index part low high)
 comparison_line kind list index words = None
 
--- a line of three or more words: a mark, which has three, or a comparison
+-- a line of three or more words: a mark, which has three words, or a comparison, which has six
 abbrev pub longer_line : List ℕ → List ℕ → List ℕ → List (List ℕ) → Option QuestionLine
 longer_line name first second [] = option_map NextMark (mark_of name first second)
 longer_line name first second (word ∷ words) = comparison_line name first second (word ∷ words)

@@ -23,8 +23,8 @@ use Rattle.mcs_prove.specs.MachineOfTexts.{IsProvedOf}
 use Rattle.mcs_prove.specs.QuestionLines.{line_of}
 
 -- a question as read so far. `nevers`, `begins`, `ends` and `opens` are the complete lists of conditions.
--- `conditions` is the list after the last `never`, `begin`, `end` or `open`, while it is read, and `role`
--- is its role. `section` is where the next line belongs. `has_prove_line` is true after `prove`.
+-- `conditions` is the current list: that of the last `never`, `begin`, `end` or `open`. `role` is its
+-- role. `section` is the section of the next line. `has_prove_line` is true after `prove`.
 pub record QuestionSoFar : Type 0 where
   pub board : Option (List ℕ)
   pub program : Option (List ℕ)
@@ -63,7 +63,7 @@ empty_question = record {
   has_prove_line = false;
 }
 
--- a question after the current list of conditions is complete: the list is stored by its role
+-- a question in which a list of conditions is complete and stored with the lists of its role
 abbrev pub with_list : QuestionSoFar → List Condition → Role → QuestionSoFar
 with_list a cs Never = record a { nevers = a.nevers ++ cs ∷ []; conditions = None }
 with_list a cs Begin = record a { begins = a.begins ++ cs ∷ []; conditions = None }
@@ -146,8 +146,8 @@ question_of_text text = after_lines empty_question (lines text)
 
 -- ---- the property of a question
 
--- true if the stopwatch is absent, or has a begin, an end and a limit and is not combined with sets of
--- values
+-- true if the question has no stopwatch or a complete stopwatch. A complete stopwatch has a begin, an end
+-- and a limit, and is not combined with sets of values.
 abbrev pub is_stopwatch_complete_with : Option ℕ → QuestionSoFar → Bool
 is_stopwatch_complete_with None a = length a.begins == 0 && length a.ends == 0
 is_stopwatch_complete_with (Some limit) a = not (length a.begins == 0) && not (length a.ends == 0) && a.max_entries == 0
@@ -163,7 +163,7 @@ are_marks_complete a = if length a.marks == 0 then length a.opens == 0 else not 
 abbrev pub is_consistent : QuestionSoFar → Bool
 is_consistent a = is_stopwatch_complete a && are_marks_complete a
 
--- the observer of a question
+-- the observer of a question's stopwatch and marks
 abbrev pub observer_of_question : QuestionSoFar → Observer
 observer_of_question a = observer_of a.begins a.ends a.opens a.marks
 

@@ -12,7 +12,7 @@ use mcs_model::refusal_numbers;
 use mcs_search::MOST;
 use std::alloc::{AllocError, Global};
 
-/// The number of bytes in a MB.
+/// The number of bytes in a megabyte (MB).
 const MB: usize = 1_048_576;
 
 /// The exit status if there is an outcome.
@@ -24,14 +24,14 @@ const WRONG_QUESTION: u8 = 2;
 /// The exit status if the board's text or the program's text is rejected, or memory runs out.
 const REFUSED: u8 = 3;
 
-/// The answer to a question: its line and the exit status.
+/// The answer to a question: its line and its exit status.
 #[derive(Drop)]
 pub struct Answer {
     pub text: String,
     pub status: u8,
 }
 
-/// Appends the values that were read, each after a space.
+/// Appends the values that the machine read, with a space before each value. Fails if memory runs out.
 fn push_values(out: &mut String, values: &[u8]) -> Result<(), AllocError>
     ensures { OnOk result (string_bytes out.new ≡ string_bytes out.old ++ flat_map spaced values.now) }
 {

@@ -2,7 +2,7 @@
 //!
 //!     most 1000000                search at most 1000000 states
 //!     sets 1000000                use sets of values, with at most 1000000 entries; 0: use search
-//!     memory 1000                 use about 1000 MB at most
+//!     memory 1000                 use at most about 1000 MB
 //!     pause 1000000               split a stretch of cycles without reads every 1000000 cycles
 //!     wire                        the board's text follows, up to a line with a single dot
 //!     asm                         the program's text follows, up to a line with a single dot
@@ -15,7 +15,7 @@
 //!     open                        the conditions that follow must not all be met before the marks were seen, in order
 //!     up 1 0                      mark: a read shows that the key at row 1, column 0 is up
 //!     down 1 0                    mark: a read shows that the key at row 1, column 0 is down
-//!     prove                       the question is complete; without this line it is not a question
+//!     prove                       the question is complete; every question must end with this line
 ghost use Rattle.std.specs.Prelude.{◌≡◌};
 ghost use Rattle.std.specs.Str.{bytes_eq};
 ghost use Rattle.mcs_model.specs.Numerals.{number_up_to};
@@ -63,11 +63,11 @@ pub(crate) enum QuestionLine {
     Blank,
     /// The maximum number of states.
     MaxStates(u32),
-    /// The maximum number of entries, if the proof uses sets of values; 0 if it uses search.
+    /// The maximum number of entries of a proof with sets of values, or 0 for a proof by search.
     MaxEntries(u32),
     /// The maximum memory for states or entries, in MB.
     MaxMemory(u32),
-    /// The number of cycles after which a stretch without reads is split.
+    /// The number of cycles after which a search splits a stretch of cycles without reads.
     Pause(u32),
     /// The maximum number of cycles that the stopwatch may show.
     TimeLimit(Cycles),
@@ -194,7 +194,7 @@ fn comparison_of(
     })
 }
 
-/// Adds the kind of mistake that a word names to `mistakes`. Returns `None` if the word names none.
+/// Returns `mistakes` with the kind of mistake that a word names, or `None` if the word names no kind.
 fn with_mistake(mistakes: Mistakes, word: &[u8]) -> Option<Mistakes>
     ensures { result ≡ with_mistake mistakes word.now }
 {
@@ -219,7 +219,7 @@ fn with_mistake(mistakes: Mistakes, word: &[u8]) -> Option<Mistakes>
     Some(more)
 }
 
-/// Parses the kinds of mistake that words name.
+/// Parses the kinds of mistake that words name. Returns `None` if a word names no kind.
 fn with_mistakes(words: &[u8]) -> Option<Mistakes>
     ensures { result ≡ with_mistakes no_mistakes (words_of words.now) }
 {
@@ -232,7 +232,7 @@ fn with_mistakes(words: &[u8]) -> Option<Mistakes>
     Some(mistakes)
 }
 
-/// Parses the kinds of mistake that words name. Returns `None` if there are no words.
+/// Parses the kinds of mistake that words name. Returns `None` if a word names no kind, or if there are no words.
 fn mistakes_of(words: &[u8]) -> Option<Mistakes>
     ensures { result ≡ mistakes_of (words_of words.now) }
 {
@@ -320,7 +320,7 @@ fn mark_of(level: &[u8], row: &[u8], column: &[u8]) -> Option<Mark>
     })
 }
 
-/// Parses a line of four or more words. Returns `None` unless it is a comparison, which has six words.
+/// Parses a line of four or more words. Returns `None` unless the line is a comparison, which has six words.
 fn comparison_line(kind: &[u8], list: &[u8], index: &[u8], rest: &[u8]) -> Option<QuestionLine>
     ensures { result ≡ comparison_line kind.now list.now index.now (words_of rest.now) }
 {
@@ -336,7 +336,7 @@ fn comparison_line(kind: &[u8], list: &[u8], index: &[u8], rest: &[u8]) -> Optio
     }
 }
 
-/// Parses a line of three or more words: a mark, which has three, or a comparison.
+/// Parses a line of three or more words: a mark, which has three words, or a comparison, which has six.
 fn longer_line(name: &[u8], first: &[u8], second: &[u8], rest: &[u8]) -> Option<QuestionLine>
     ensures { result ≡ longer_line name.now first.now second.now (words_of rest.now) }
 {

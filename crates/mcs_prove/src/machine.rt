@@ -32,8 +32,8 @@ fn load(rig: &mut BenchRig, image: &Image)
     }
 }
 
-/// Returns the rig of a new bench after `wire`, `asm` and `reset`. The processor of that bench has the state of a new
-/// one. Returns `None` if the image has a byte at an address where the board has no ROM.
+/// Returns the rig of a new bench after `wire`, `asm` and `reset`. The bench's processor then has the state of a new
+/// processor. Returns `None` if the image has a byte at an address where the board has no ROM.
 pub(crate) fn rig_with_program(
     alloc: Global,
     board: &Board,

@@ -46,7 +46,7 @@ fn rig_of(alloc: Global, board: &str, program: &str) -> Result<BenchRig, Refusal
     }
 }
 
-/// The property to prove of a machine, and the stopwatch and the marks that it may refer to.
+/// The property to prove, and the stopwatch and the marks to which the property may refer.
 #[derive(Drop)]
 pub struct Goal {
     /// Lists of conditions. The conditions of a list must never all be met at once.
@@ -77,8 +77,8 @@ fn conjunctions_of(
     Ok(conjunctions)
 }
 
-/// Returns the conjunctions that must never be met: those of `nevers`, and those of the stopwatch's limit, if there is
-/// one.
+/// Returns the conjunctions that must never be met: those of `nevers` and, if the stopwatch has a limit, those of the
+/// limit.
 fn with_limit(
     alloc: Global,
     nevers: Vec<Vec<Condition>>,
@@ -94,8 +94,8 @@ fn with_limit(
     Ok(conjunctions)
 }
 
-/// Returns the conjunctions that must never be met: those of `nevers`, those of the stopwatch's limit, if there is one,
-/// and those of the marks.
+/// Returns the conjunctions that must never be met: those of `nevers`, those of the marks and, if the stopwatch has a
+/// limit, those of the limit.
 fn nevers_of(
     alloc: Global,
     nevers: Vec<Vec<Condition>>,
@@ -111,8 +111,8 @@ fn nevers_of(
     Ok(conjunctions)
 }
 
-/// Searches all runs of the machine that a board's text and a program's text define, for all levels of its keys and its
-/// TEST pin. Checks the conditions, the stopwatch's limit and the marks after each cycle. The search uses at most
+/// Searches all runs of the machine that a board's text and a program's text define, for all levels of its keys and
+/// its TEST pin. Checks the conditions, the stopwatch's limit and the marks after each cycle. The search uses at most
 /// `max_states` states and about `memory` bytes. It splits a stretch of cycles without reads every `pause` cycles.
 pub fn prove(
     alloc: Global,
@@ -144,8 +144,8 @@ pub fn prove(
     )?)
 }
 
-/// Tries to prove with sets of values that the machine never meets all conditions of a list at once. Uses at most
-/// `max_entries` entries and about `memory` bytes.
+/// Tries to prove with sets of values that the machine never meets all conditions of a list at once. The machine is
+/// defined by a board's text and a program's text. Uses at most `max_entries` entries and about `memory` bytes.
 pub fn prove_by_sets(
     alloc: Global,
     board: &str,

@@ -12,10 +12,10 @@ use std::alloc::{AllocError, Global};
 use std::marker::Model;
 use std::mem;
 
-/// The default for `pause`: the number of cycles after which a stretch without reads is split.
+/// The default for `pause`: the number of cycles after which a search splits a stretch of cycles without reads.
 const DEFAULT_PAUSE: u32 = 1_000_000;
 
-/// The section of a question that the next line belongs to.
+/// The section of a question to which its next line belongs.
 #[derive(Clone, Copy, Debug)]
 pub(crate) enum Section {
     /// The lines outside the two texts.
@@ -47,19 +47,19 @@ pub(crate) struct Question {
     pub(crate) marks: Vec<Mark>,
     /// The maximum number of states of a search.
     pub(crate) max_states: u32,
-    /// The maximum number of entries, if the proof uses sets of values; 0 if it uses search.
+    /// The maximum number of entries of a proof with sets of values, or 0 for a proof by search.
     pub(crate) max_entries: u32,
     /// The maximum memory for states or entries, in MB.
     pub(crate) memory: u32,
-    /// The number of cycles after which a stretch without reads is split.
+    /// The number of cycles after which a search splits a stretch of cycles without reads.
     pub(crate) pause: u32,
     /// True after the line `prove`.
     pub(crate) has_prove_line: bool,
-    /// The role of `conditions`.
+    /// The role of the current list of conditions.
     role: Role,
     /// The current list of conditions, until it is complete.
     conditions: Option<Vec<Condition>>,
-    /// The section that the next line belongs to.
+    /// The section to which the next line belongs.
     section: Section,
 }
 
@@ -102,7 +102,7 @@ fn add_line(text: &mut Option<String>, line: &str) -> Result<(), AllocError>
 }
 
 impl Question {
-    /// Returns the question before its first line is read.
+    /// Creates an empty question, before its first line is read.
     fn new(alloc: Global) -> Question
         ensures { result ≡ empty_question }
     {
@@ -126,8 +126,8 @@ impl Question {
         }
     }
 
-    /// Returns whether the stopwatch is absent, or has a begin, an end and a limit and is not combined with sets of
-    /// values.
+    /// Returns whether the question has no stopwatch or a complete stopwatch. A complete stopwatch has a begin, an
+    /// end and a limit, and is not combined with sets of values.
     fn is_stopwatch_complete(&self) -> bool
         ensures { result ≡ is_stopwatch_complete self.now }
     {
@@ -148,14 +148,14 @@ impl Question {
         }
     }
 
-    /// Returns whether the stopwatch and the marks are complete, or absent, and not combined with sets of values.
+    /// Returns whether the stopwatch and the marks are each absent, or complete and not combined with sets of values.
     pub(crate) fn is_consistent(&self) -> bool
         ensures { result ≡ is_consistent self.now }
     {
         self.is_stopwatch_complete() && self.are_marks_complete()
     }
 
-    /// Ends the current list of conditions, if there is one, and stores it by its role.
+    /// Completes the current list of conditions, if there is one, and stores it with the lists of its role.
     fn end_conditions(&mut self) -> Result<(), AllocError>
         ensures { OnOk result (self.new ≡ with_list_ended self.old) }
     {
@@ -236,7 +236,7 @@ impl Question {
         Ok(true)
     }
 
-    /// Reads a line outside the two texts. Returns whether it is valid at this point.
+    /// Reads a line outside the two texts. Returns whether the line is valid at this point.
     fn read_outer_line(&mut self, alloc: Global, line: &str) -> Result<bool, AllocError>
         ensures { IfOk result (λ is_valid. if_valid is_valid self.new ≡ after_words self.old (words_of line.now)) }
     {
@@ -273,7 +273,7 @@ impl Question {
         Ok(())
     }
 
-    /// Reads a line of a question. Returns whether it is valid at this point.
+    /// Reads a line of a question. Returns whether the line is valid at this point.
     fn read_line(&mut self, alloc: Global, line: &str) -> Result<bool, AllocError>
         ensures { IfOk result (λ is_valid. if_valid is_valid self.new ≡ after_line self.old line.now) }
     {

@@ -14,7 +14,7 @@ record Known (board : BoardParts) (rom : List ℕ) (entries : List Entry) (s : T
   pub of : IsBusOf board rom s.1
   pub among : IsCovered entries s
 
--- new levels of the keys and of TEST do not change this
+-- a covered machine stays covered at other levels of the keys and of TEST
 under-known : (board : BoardParts) (rom : List ℕ) (entries : List Entry) (l : Levels) (s : Tracked) → l.test < 2 → Known board rom entries s → Known board rom entries (under l s)
 under-known board rom entries l s fit h = record {
   of = record { board = h.of.board; rom = h.of.rom; ram = h.of.ram; status = h.of.status; test = fit };
@@ -40,7 +40,7 @@ pub closure-suffices : ClosureSuffices
 closure-suffices board rom entries s each is among = λ f fit k.
     (driven-known board rom entries s each (record { of = is; among = among }) f fit k).among
 
--- the closure for an equal board and an equal ROM
+-- an entry that is closed under one cycle is also closed for an equal board and equal ROM bytes
 pub stays-moved : (board to_board : BoardParts) (rom to_rom : List ℕ) (entries : List Entry) (e : Entry) → board ≡ to_board → rom ≡ to_rom → StaysOneCycle board rom entries e → StaysOneCycle to_board to_rom entries e
 stays-moved board to_board rom to_rom entries e same alike h = λ s of is there.
     h s (record { board = of.board ∙ sym same; rom = of.rom ∙ sym alike; ram = of.ram; status = of.status; test = of.test }) is there

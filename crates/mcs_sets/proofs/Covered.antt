@@ -1,4 +1,4 @@
--- Covered choices: on an equal ROM and board, and with accumulator and carry as one number.
+-- Covered choices, for equal boards and ROM bytes, and with accumulator and carry in one number.
 use Rattle.std.proofs.Common.{◌≡◌, ◌/◌, ◌%◌, ℕ, List, ap, ◌∙◌}
 use Rattle.mcs_model.specs.declared.board.BoardParts.{BoardParts}
 use Rattle.mcs_model.specs.declared.op.Op.{Op}

@@ -8,7 +8,7 @@ use Rattle.mcs_sets.specs.Excluding.{EntriesSuffice}
 use Rattle.mcs_sets.specs.Closure.{IsBusOf, StaysCovered}
 use Rattle.mcs_sets.proofs.Memory.{has-lt, cycle-of_board}
 
--- at every moment, board and ROM are the same and RAM holds nibbles
+-- at every moment, the board and the ROM bytes are unchanged and all RAM values are nibbles
 driven-of : (entries : List Entry) (s : Tracked) → IsBusOf s.1.board s.1.rom s.1 → StaysCovered entries s →
     (f : ℕ → Levels) → ((k : ℕ) → FitBoard s.1.board (f k)) → (k : ℕ) → IsBusOf s.1.board s.1.rom (driven no_observer f k s).1
 driven-of entries s of stays f fit zero = of

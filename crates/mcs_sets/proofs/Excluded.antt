@@ -19,7 +19,7 @@ use Rattle.mcs_sets.specs.Excluding.{ForAllIn, HasChipsOfBank, MakesNoMistake, r
 use Rattle.mcs_sets.specs.Landing.{CallsAllow}
 use Rattle.mcs_sets.proofs.Memory.{has-lt}
 
--- conjunctions that are false because their last member is, if the members before it are true
+-- a conjunction of three is false if c is false whenever a and b are true
 guarded : (a b c : Bool) → (a ≡ true → b ≡ true → c ≡ false) → (a && b && c) ≡ false
 guarded false b c h = refl
 guarded true false c h = refl

@@ -56,17 +56,17 @@ after_status-src m bank k n = status-src m bank (src_of m bank / 16) k n
 
 -- ---- the registers
 
--- the fields of the registers after a conditional jump
+-- a conditional jump keeps all registers except the program counter and `owed`
 jump-acc : (b : Bool) (s : Regs) (w : ℕ) → ((cond b (with_word s w) s).acc ≡ s.acc) × ((cond b (with_word s w) s).cy ≡ s.cy) × ((cond b (with_word s w) s).dcl ≡ s.dcl) × ((cond b (with_word s w) s).r ≡ s.r) × ((cond b (with_word s w) s).ret ≡ s.ret) × ((cond b (with_word s w) s).pc ≡ cond b (address_beside s.pc w) s.pc)
 jump-acc true s w = (refl, refl, refl, refl, refl, refl)
 jump-acc false s w = (refl, refl, refl, refl, refl, refl)
 
--- the same after ISZ
+-- the jump of an ISZ keeps all registers except the program counter and `owed`
 isz-acc : (b : Bool) (s : Regs) (w : ℕ) → ((cond b s (with_word s w)).acc ≡ s.acc) × ((cond b s (with_word s w)).cy ≡ s.cy) × ((cond b s (with_word s w)).dcl ≡ s.dcl) × ((cond b s (with_word s w)).r ≡ s.r) × ((cond b s (with_word s w)).ret ≡ s.ret) × ((cond b s (with_word s w)).pc ≡ cond b s.pc (address_beside s.pc w))
 isz-acc true s w = (refl, refl, refl, refl, refl, refl)
 isz-acc false s w = (refl, refl, refl, refl, refl, refl)
 
--- the same after DAA
+-- the accumulator after DAA, if the accumulator is a and the carry is c
 abbrev daa_acc : ℕ → ℕ → ℕ
 daa_acc a c = cond (eqb c 1 || nat_lt 9 a) ((a + 6) % 16) a
 

@@ -31,7 +31,7 @@ locations-from s t o bank src srcs regs beyond k h =
           ]
     ]
 
--- an instruction that changes no location
+-- the value at each location after an instruction that changes no location
 kept-locations : (s t : Tracked) (o : Landing) → t.0.dcl ≡ o.regs.dcl → t.1.rom_src ≡ s.1.rom_src → t.1.ram_src ≡ s.1.ram_src → t.0.r ≡ s.0.r → o.first_location ≡ 26 → o.second_location ≡ 26 →
     (k : ℕ) → k < 26 → value_at t k ≡ value_after o k (value_at s k)
 kept-locations s t o bank src srcs r first second =
@@ -42,7 +42,7 @@ kept-locations s t o bank src srcs r first second =
     rw (f, g) (ap (λ (l : List ℕ). slice_index l k) r))
     (λ k up below. (λ e. omega arith, λ e. omega arith))
 
--- an instruction that changes one register
+-- the value at each location after an instruction that changes one register
 one-location : (s t : Tracked) (o : Landing) (i : ℕ) → i < 16 → length s.0.r ≡ 16 → t.0.dcl ≡ o.regs.dcl → t.1.rom_src ≡ s.1.rom_src → t.1.ram_src ≡ s.1.ram_src → t.0.r ≡ slice_set s.0.r i o.first_value → o.first_location ≡ i → o.second_location ≡ 26 →
     (k : ℕ) → k < 26 → value_at t k ≡ value_after o k (value_at s k)
 one-location s t o i small len bank src srcs r first second =
@@ -61,7 +61,7 @@ one-location s t o i small len bank src srcs r first second =
     ])
     (λ k up below. (λ e. omega arith, λ e. omega arith))
 
--- an instruction that changes both registers of a pair
+-- the value at each location after an instruction that changes both registers of a pair
 two-locations : (s t : Tracked) (o : Landing) (i : ℕ) → i < 8 → length s.0.r ≡ 16 → t.0.dcl ≡ o.regs.dcl → t.1.rom_src ≡ s.1.rom_src → t.1.ram_src ≡ s.1.ram_src → t.0.r ≡ slice_set (slice_set s.0.r (2 * i) o.first_value) (2 * i + 1) o.second_value → o.first_location ≡ 2 * i → o.second_location ≡ 2 * i + 1 →
     (k : ℕ) → k < 26 → value_at t k ≡ value_after o k (value_at s k)
 two-locations s t o i small len bank src srcs r first second =
@@ -91,7 +91,7 @@ two-locations s t o i small len bank src srcs r first second =
     ])
     (λ k up below. (λ e. omega arith, λ e. omega arith))
 
--- ---- the landings of such instructions
+-- ---- the landings of these instructions
 
 -- holds if a machine has the addresses, accumulator, carry and bank of a landing
 pub record Agrees (t : Tracked) (o : Landing) : Type 0 where

@@ -1,4 +1,4 @@
--- A cycle keeps board and ROM, and RAM holds nibbles after it.
+-- A cycle keeps the board and the ROM bytes, and all RAM values are nibbles after it.
 use Rattle.std.proofs.Common.{◌≡◌, ◌<◌, ◌/◌, ℕ, List, Bool, true, false, cond, Option, Some, None, unwrap_or, nat_lt, eqb}
 use Rattle.std.proofs.lemmas.Bool.{and_parts, ltb-true}
 use Rattle.std.proofs.lemmas.List.Elements.{All-set}
@@ -17,7 +17,7 @@ use Rattle.mcs_drive.specs.Tracked.{Tracked, machine_in, cycled, no_observer}
 use Rattle.mcs_sets.specs.Entries.{has}
 use Rattle.mcs_sets.specs.Closure.{IsBusOf}
 
--- the members of a set are nibbles
+-- each member of a set of nibbles is below 16
 pub has-lt : (set n : ℕ) → has set n ≡ true → n < 16
 has-lt set n h = ltb-true n 16 (and_parts (nat_lt n 16) _ h).0
 

@@ -1,4 +1,4 @@
--- A read of a port gives a nibble.
+-- A port reads a value below 16.
 use Rattle.std.proofs.Common.{◌<◌, ◌/◌, ℕ, Bool, true, false, List, Option, Some, None, arith}
 use Rattle.mcs_nibble.specs.declared.lines.LineMask.{LineMask}
 use Rattle.mcs_nibble.specs.declared.lines.LineMask.TheVariants.{Input, Zero, One}

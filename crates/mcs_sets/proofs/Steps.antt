@@ -120,7 +120,7 @@ cycled-op op s free next =
     ap (λ (m : Regs × BusState). (m.0, m.1, counts_after no_observer s)) work
     ∙ ap (λ (n : ℕ). ((effect op s.0 s.1).0, (effect op s.0 s.1).1, record s.2 { calls = n; elapsed = elapsed_after no_observer s; seen = seen_after no_observer s })) opened
 
--- a machine after its idle cycle
+-- a machine after the second cycle of an instruction, which does no work
 abbrev idle : Tracked → Tracked
 idle s = (record s.0 { owed = 0 }, s.1, record s.2 { elapsed = elapsed_after no_observer s; seen = seen_after no_observer s })
 
@@ -142,7 +142,7 @@ idle-in e s is = record { at = is.at; calls = is.calls; ret = is.ret; acc = is.a
 
 -- ---- the law
 
--- the choice of a machine, with accumulator and carry as one number
+-- a machine's own choice, with accumulator and carry in one number
 choice-flags : (op : Op) (s : Tracked) → s.0.acc < 16 → s.0.cy < 2 → choice_of op s ≡ choice_at (s.0.acc + 16 * s.0.cy) s.0.dcl (first_operand_of op s.0 s.1) (second_operand_of op s.0 s.1)
 choice-flags op s small carry =
     let acc : s.0.acc ≡ (s.0.acc + 16 * s.0.cy) % 16 = omega arith in

@@ -16,7 +16,7 @@ use Rattle.mcs_sets.specs.Landing.{op_at, first_operand_set, second_operand_set,
 abbrev pub CoversLocation : Entry → Entry → Landing → ℕ → Type 0
 CoversLocation source target o k = (v : ℕ) → has (slice_index source.sets k) v ≡ true → has (slice_index target.sets k) (value_after o k v) ≡ true
 
--- holds if two stacks have the same return addresses for the open calls
+-- holds if two call stacks have the same return addresses for the open calls
 abbrev pub AgreeOnOpenCalls : List ℕ → List ℕ → ℕ → Type 0
 AgreeOnOpenCalls a b calls = (k : ℕ) → k < 3 → k < calls → slice_index a k ≡ slice_index b k
 
@@ -26,7 +26,7 @@ pub record IsLandingCovered (entries : List Entry) (source : Entry) (o : Landing
   pub target_is_entry : Contains entries target
   pub covers_landing : CoversLanding source target o
 
--- a choice whose accumulator and carry are given by one number: accumulator + 16 * carry
+-- the choice with these values, with accumulator and carry in one number: accumulator + 16 * carry
 abbrev pub choice_at : ℕ → ℕ → ℕ → ℕ → Choice
 choice_at flags bank first second = record { acc = flags % 16; cy = flags / 16 % 2; bank = bank; first_operand = first; second_operand = second }
 
@@ -52,8 +52,8 @@ AllChoicesCovered rom board entries e op =
     (flags bank first second : ℕ) → flags < 32 → bank < 16 → first < 16 → second < 16 →
     AllowsChoice e op (choice_at flags bank first second) → IsChoiceCovered rom board entries e op (choice_at flags bank first second)
 
--- the law: if the certificate covers the landings of all choices of an entry, then the machines of that
--- entry stay in the certificate for one cycle
+-- the law: if the certificate covers the landings of all choices of an entry, it covers the machines of
+-- the entry after one more cycle
 abbrev pub LandingsSuffice : Type 0
 LandingsSuffice =
     (board : BoardParts) (rom : List ℕ) (entries : List Entry) (op : Op) (e : Entry) →

@@ -1,5 +1,5 @@
--- The meaning of a certificate. An entry covers many machines: all those at its address, with its open
--- calls, whose value at each location is in the entry's set for that location. (Our own choice.)
+-- The meaning of a certificate. An entry covers all machines at its address with its open calls, if the
+-- machine's value at each location is in the entry's set for this location. (Our own choice.)
 use Rattle.std.specs.Prelude.{◌≡◌, ◌<◌, ◌-◌, ◌/◌, ◌%◌, ◌^◌, ◌&&◌, ◌==◌, ℕ, List, length, Bool, true, nat_lt, slice_index, if◌then◌else◌}
 use Rattle.std.specs.List.{Contains}
 use Rattle.mcs_model.specs.declared.regs.Regs.{Regs}
@@ -10,11 +10,11 @@ use Rattle.mcs_sets.specs.declared.entries.Entry.{Entry}
 abbrev pub has : ℕ → ℕ → Bool
 has set n = nat_lt n 16 && (set / 2 ^ n % 2 == 1)
 
--- holds if a set is a subset of another one
+-- holds if `subset` is a subset of `superset`
 abbrev pub IsSubset : ℕ → ℕ → Type 0
 IsSubset subset superset = (n : ℕ) → has subset n ≡ true → has superset n ≡ true
 
--- the values that the accumulator may hold with this carry
+-- the set of values that the accumulator may hold with this carry
 abbrev pub acc_values_of : Entry → ℕ → ℕ
 acc_values_of e carry = if carry == 0 then e.acc_if_carry_0 else if carry == 1 then e.acc_if_carry_1 else 0
 

@@ -1,5 +1,5 @@
--- The conditions that a certificate excludes. From each list of conditions that must never all be met,
--- every entry excludes at least one.
+-- The conditions that a certificate excludes. For each list of conditions that must never all be met,
+-- every entry excludes at least one condition of the list.
 use Rattle.std.specs.Prelude.{◌≡◌, ◌+◌, ◌/◌, ◌<◌, ℕ, List, Bool, true, false, slice_index}
 use Rattle.std.specs.List.{Contains}
 use Rattle.mcs_model.specs.declared.board.BoardParts.{BoardParts}
@@ -38,7 +38,8 @@ EntriesSuffice =
 abbrev pub ForAllIn : ℕ → (ℕ → Type 0) → Type 0
 ForAllIn set p = (n : ℕ) → has set n ≡ true → p n
 
--- holds if the board has each chip of a bank that a SRC byte selects if its upper nibble is in the set
+-- holds if the board has each chip of a bank that a SRC byte can select. The set has the upper nibbles
+-- of these SRC bytes.
 abbrev pub HasSelectableChips : BoardParts → ℕ → ℕ → Type 0
 HasSelectableChips board bank set = ForAllIn set (λ n. n / 4 < slice_index board.banks bank)
 

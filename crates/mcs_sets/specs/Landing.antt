@@ -1,6 +1,6 @@
--- The effect of an instruction on one choice of values, by the instruction table. A stand-in processor
--- gets the values that the instruction uses; its other registers are arbitrary. It then executes the
--- instruction, as Effect of mcs_model defines it.
+-- The effect of an instruction on one choice of values. A stand-in processor gets the values that the
+-- instruction uses, and arbitrary values in its other registers. It then executes the instruction, as
+-- Effect of mcs_model defines it.
 use Rattle.std.specs.Prelude.{◌≡◌, ◌<◌, ◌+◌, ◌-◌, ◌*◌, ◌%◌, ◌==◌, ℕ, List, length, true, replicate, Option, Some, nat_lt, slice_index, slice_set, if◌then◌else◌}
 use Rattle.mcs_model.specs.declared.op.Op.{Op}
 use Rattle.mcs_model.specs.declared.op.Op.TheVariants.{Jcn, Fim, Src, Fin, Jin, Jms, Inc, Isz, Add, Sub, Ld, Xch, Bbl, Sbm, Rdm, Rdr, Adm, Rd0, Rd1, Rd2, Rd3}
@@ -44,7 +44,7 @@ second_operand_of (Fin k) s m = register_of s 1
 second_operand_of (Jin k) s m = register_of s (2 * k + 1)
 second_operand_of _ s m = 0
 
--- the set of possible values of the first operand; a value from RAM or a port may be any nibble
+-- the set of possible values of the first operand. A value from RAM or a port may be any nibble.
 abbrev pub first_operand_set : Op → Entry → ℕ
 first_operand_set (Src k) e = slice_index e.sets (2 * k)
 first_operand_set (Fin k) e = slice_index e.sets 0
@@ -65,7 +65,7 @@ first_operand_set Rd2 e = 65535
 first_operand_set Rd3 e = 65535
 first_operand_set _ e = 1
 
--- the set of possible values of the second operand; for TEST, its two levels
+-- the set of possible values of the second operand. For a JCN, these are the two levels of TEST.
 abbrev pub second_operand_set : Op → Entry → ℕ
 second_operand_set (Jcn c b) e = 3
 second_operand_set (Fin k) e = slice_index e.sets 1
@@ -78,7 +78,7 @@ second_operand_set _ e = 1
 abbrev pub op_at : List ℕ → ℕ → Option Op
 op_at rom at = instruction_of (slice_index rom at) (slice_index rom ((at + 1) % 4096))
 
--- index registers that hold both operand values at the indexes from which the instruction reads them
+-- index registers in which the instruction finds both of its operand values
 abbrev pub stand_in_registers : Op → ℕ → ℕ → List ℕ
 stand_in_registers (Fin k) first second = slice_set (replicate 16 first) 1 second
 stand_in_registers (Jin k) first second = slice_set (replicate 16 first) (2 * k + 1) second
@@ -87,8 +87,8 @@ stand_in_registers _ first second = replicate 16 first
 abbrev pub stand_in_before : Op → ℕ → List ℕ → Choice → Regs
 stand_in_before op at ret c = record { acc = c.acc; cy = c.cy; r = stand_in_registers op c.first_operand c.second_operand; pc = at; ret = ret; dcl = c.bank; owed = 0 }
 
--- the registers t after an instruction, corrected if it reads x from RAM or a port; s are those before
--- it
+-- the registers t after an instruction, corrected if the instruction reads the value x from RAM or a port.
+-- s are the registers before the instruction.
 abbrev pub with_value_read : Op → ℕ → Regs → Regs → Regs
 with_value_read Sbm x s t = with_sum t (s.acc + (15 - x) + (1 - s.cy))
 with_value_read Rdm x s t = with_acc t x
@@ -157,7 +157,8 @@ IsValidOp (Ld r) = r < 16
 IsValidOp (Xch r) = r < 16
 IsValidOp _ = Unit {0}
 
--- holds if the number of open calls allows an instruction: JMS needs fewer than three, BBL at least one
+-- holds if the number of open calls allows an instruction: JMS needs fewer than three open calls, and BBL
+-- at least one
 abbrev pub CallsAllow : Op → ℕ → Type 0
 CallsAllow (Jms h b) calls = calls < 3
 CallsAllow (Bbl d) calls = 0 < calls
@@ -211,8 +212,8 @@ pub record CoversLanding (source target : Entry) (o : Landing) : Type 0 where
 
 -- ---- the laws
 
--- holds if a machine, and the bus on which its stand-in processor runs, fit together: the premises of
--- the law below
+-- holds if the premises of the law below are met: the bus m and the return addresses `rets` of the
+-- stand-in processor fit the machine s
 pub record StandInFits (op : Op) (s : Tracked) (m : BusState) (rets : List ℕ) : Type 0 where
   pub valid : IsValidOp op
   pub calls : CallsAllow op s.2.calls
@@ -225,8 +226,7 @@ pub record StandInFits (op : Op) (s : Tracked) (m : BusState) (rets : List ℕ) 
   pub ret : (k : ℕ) → k < 3 → k < s.2.calls → slice_index s.0.ret k ≡ slice_index rets k
   pub nibbles : (k : ℕ) → k < 16 → slice_index s.0.r k < 16
 
--- the law of one step: the landing of a machine's own choice leads from the machine to the machine
--- after the instruction
+-- the law of one step: the landing of a machine's own choice describes the machine after the instruction
 abbrev pub LandingIsCorrect : Type 0
 LandingIsCorrect =
     (op : Op) (s : Tracked) (m : BusState) (rets : List ℕ) → StandInFits op s m rets →

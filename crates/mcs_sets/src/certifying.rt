@@ -14,7 +14,8 @@ use mcs_cpu4004::Cpu;
 use mcs_model::op::Op;
 use mcs_nibble::Addr;
 
-/// Returns whether the number of open calls allows an instruction: JMS needs fewer than three, and BBL at least one.
+/// Returns true only if the number of open calls allows an instruction: JMS needs fewer than three open calls, and
+/// BBL at least one.
 pub(crate) fn calls_allow(op: &Op, calls: u8) -> bool
     ensures { IsTrue result → CallsAllow op.now calls }
 {
@@ -40,7 +41,7 @@ fn op_is_valid(op: &Op)
     }
 }
 
-/// Returns whether the machines of an entry stay in the certificate for one cycle.
+/// Returns true only if the certificate covers the machines of an entry after one more cycle.
 fn stays_one_cycle(rig: &mut BenchRig, entries: &[Entry], links: &[usize], entry: &Entry) -> bool
     ensures stays_one_cycle { IsTrue result → StaysOneCycle rig.old.board rig.old.rom entries.now entry.now }
     ensures rom { rig.new.rom ≡ rig.old.rom }
@@ -72,7 +73,8 @@ fn value_at(cpu: &Cpu, rig: &BenchRig, location: u8) -> u8
     }
 }
 
-/// Returns the entry for one machine without open calls. It has a single value for each location.
+/// Returns the entry that covers only this machine, which has no open calls. The entry has a single value for each
+/// location.
 pub(crate) fn entry_of(cpu: &Cpu, rig: &BenchRig) -> Entry {
     let regs = cpu.regs();
     let acc = singleton(regs.acc.get());
@@ -141,7 +143,7 @@ fn allows_acc(entry: &Entry, cpu: &Cpu) -> bool
     has(entry.acc_values(regs.cy.get()), regs.acc.get())
 }
 
-/// Returns whether an entry covers a machine without open calls.
+/// Returns true only if an entry covers this machine, which has no open calls.
 fn covers(entry: &Entry, cpu: &Cpu, rig: &BenchRig) -> bool
     ensures { IsTrue result → Covers entry.now (without_calls (cpu.now, rig.now)) }
 {
@@ -155,7 +157,7 @@ fn covers(entry: &Entry, cpu: &Cpu, rig: &BenchRig) -> bool
     allows_all_values(entry, cpu, rig)
 }
 
-/// Returns whether the first entry covers a machine without open calls.
+/// Returns true only if the certificate's first entry covers this machine, which has no open calls.
 fn first_covers(cpu: &Cpu, rig: &BenchRig, entries: &[Entry]) -> bool
     ensures { IsTrue result → IsCovered entries.now (without_calls (cpu.now, rig.now)) }
 {
@@ -169,7 +171,7 @@ pub(crate) fn rig_is_valid(rig: &BenchRig)
     rig.show_state_is_valid();
 }
 
-/// Returns whether the machines of entry `i` stay in the certificate for one cycle.
+/// Returns true only if the certificate covers the machines of entry `i` after one more cycle.
 fn stays_one_cycle_at(rig: &mut BenchRig, entries: &[Entry], links: &[usize], i: usize) -> bool
     requires { i < length entries.now }
     ensures stays_one_cycle { IsTrue result → (d : Entry) →
@@ -180,8 +182,8 @@ fn stays_one_cycle_at(rig: &mut BenchRig, entries: &[Entry], links: &[usize], i:
     stays_one_cycle(rig, entries, links, &entries[i])
 }
 
-/// Returns whether a certificate covers a machine without open calls at every moment, for all inputs. The first entry
-/// must cover the machine in its present state.
+/// Returns true only if a certificate covers this machine at every moment, for all inputs. The machine has no open
+/// calls. The first entry must cover the machine in its present state.
 pub fn stays_covered(cpu: &Cpu, rig: &mut BenchRig, entries: &[Entry], links: &[usize]) -> bool
     ensures { IsTrue result → StaysCovered entries.now (without_calls (cpu.now, rig.old)) }
 {

@@ -9,7 +9,8 @@ use mcs_board::BenchRig;
 use mcs_model::op::Op;
 use mcs_nibble::{Addr, Bit, Nibble};
 
-/// Returns whether `target` allows the value at one location of every machine that this landing reaches from `source`.
+/// Returns whether `target` allows the value at one location of every machine that this landing reaches from
+/// `source`.
 fn covers_location(source: &Entry, target: &Entry, landing: &Landing, location: u8) -> bool
     requires { location < 26 }
     ensures { IsTrue result → CoversLocation source.now target.now landing.now location }
@@ -27,7 +28,8 @@ fn covers_location(source: &Entry, target: &Entry, landing: &Landing, location: 
     is_subset(source.sets[k], target.sets[k])
 }
 
-/// Returns whether `target` allows the values at all locations of every machine that this landing reaches from `source`.
+/// Returns whether `target` allows the values at all locations of every machine that this landing reaches from
+/// `source`.
 fn covers_locations(source: &Entry, target: &Entry, landing: &Landing) -> bool
     ensures { IsTrue result → (k : ℕ) → k < 26 → CoversLocation source.now target.now landing.now k }
 {
@@ -39,7 +41,7 @@ fn covers_locations(source: &Entry, target: &Entry, landing: &Landing) -> bool
     true
 }
 
-/// Returns whether two stacks have the same return addresses for the open calls.
+/// Returns true only if two call stacks have the same return addresses for the open calls.
 fn agree_on_open_calls(a: &[Addr; 3], b: &[Addr; 3], calls: u8) -> bool
     ensures { IsTrue result → AgreeOnOpenCalls a.now b.now calls }
 {
@@ -63,7 +65,8 @@ fn covers_landing(source: &Entry, target: &Entry, landing: &Landing) -> bool
         && covers_locations(source, target, landing)
 }
 
-/// Returns whether an entry that a link of `source` names covers every machine that this landing reaches from `source`.
+/// Returns true only if one of the entries that `source` links to covers every machine that this landing reaches from
+/// `source`.
 fn is_landing_covered(entries: &[Entry], links: &[usize], source: &Entry, landing: &Landing) -> bool
     ensures { IsTrue result → IsLandingCovered entries.now source.now landing.now }
 {
@@ -79,8 +82,8 @@ fn is_landing_covered(entries: &[Entry], links: &[usize], source: &Entry, landin
     false
 }
 
-/// Returns whether the certificate covers the landing of one choice. A choice with an operand value that the entry does
-/// not allow counts as covered.
+/// Returns whether the certificate covers the landing of one choice. A choice with an operand value that the entry
+/// does not allow counts as covered.
 fn is_choice_covered(
     rig: &mut BenchRig,
     entries: &[Entry],
@@ -145,8 +148,8 @@ fn are_covered_with_bank(
     true
 }
 
-/// Returns whether the certificate covers the landings of all allowed choices with this accumulator and carry. `flags`
-/// is the accumulator plus 16 times the carry.
+/// Returns whether the certificate covers the landings of all allowed choices with this accumulator and carry.
+/// `flags` is the accumulator plus 16 times the carry.
 fn are_covered_with_flags(
     rig: &mut BenchRig,
     entries: &[Entry],

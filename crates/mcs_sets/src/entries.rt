@@ -4,7 +4,7 @@ ghost use Rattle.mcs_sets.specs.Entries.{IsSubset, acc_values_of, has};
 
 use mcs_nibble::Addr;
 
-/// The values that a machine may hold at an address, with the given calls open. A set of nibbles is a bit mask: bit n
+/// The values that a machine may hold at one address with the same open calls. A set of nibbles is a bit mask: bit n
 /// is 1 if n is in the set.
 #[derive(Clone, Copy, Debug)]
 pub struct Entry {
@@ -18,10 +18,10 @@ pub struct Entry {
     pub acc_if_carry_0: u16,
     /// The values that the accumulator may hold while the carry is 1.
     pub acc_if_carry_1: u16,
-    /// The values of the other locations: the 16 registers, the bank number, the upper nibble of the SRC byte of the
-    /// ROMs, and that of each of the eight banks.
+    /// A set of values for each other location: the 16 index registers, the bank number, and the upper nibbles of the
+    /// SRC bytes that the ROMs and the eight banks store.
     pub sets: [u16; 26],
-    /// The index of this entry's first link. Its links are the indexes of the entries that may follow it.
+    /// The index of this entry's first link. A link is the index of an entry that may follow this entry.
     pub first_link: usize,
     /// The index after the last of this entry's links.
     pub end_link: usize,
@@ -34,7 +34,7 @@ pub(crate) fn has(set: u16, n: u8) -> bool
     n < 16 && (set >> n) % 2 == 1
 }
 
-/// Returns whether a number is in `superset`, or not in `subset`.
+/// Returns whether the number `n` is in `superset`, or is not in `subset`.
 fn keeps_member(subset: u16, superset: u16, n: u8) -> bool
     ensures { IsTrue result → has subset n ≡ true → has superset n ≡ true }
 {
@@ -57,7 +57,7 @@ pub(crate) fn is_subset(subset: u16, superset: u16) -> bool
 }
 
 impl Entry {
-    /// Returns the values that the accumulator may hold with this carry.
+    /// Returns the set of values that the accumulator may hold with this carry.
     pub(crate) fn acc_values(&self, carry: u8) -> u16
         ensures { result ≡ acc_values_of self.now carry }
     {

@@ -86,15 +86,15 @@ fn has_output(board: &Board, chip: u8) -> bool
             && board.is_input(chip, 3))
 }
 
-/// Returns whether a board has the chip of a bank that a SRC byte with upper nibble `n` selects. Returns true if `n` is
-/// not in the set.
+/// Returns whether a bank has the chip that a SRC byte with upper nibble `n` selects. Returns true if `n` is not in
+/// `set`.
 fn has_chip_if_member(board: &Board, bank: u8, set: u16, n: u8) -> bool
     ensures { IsTrue result → has set n ≡ true → n / 4 < slice_index board.now.banks bank }
 {
     !has(set, n) || n / 4 < board.bank_chips(bank)
 }
 
-/// Returns whether a board has each chip of a bank that a SRC byte selects if its upper nibble is in the set.
+/// Returns whether a bank has each chip that a SRC byte can select. `set` has the upper nibbles of these SRC bytes.
 fn has_selectable_chips(board: &Board, bank: u8, set: u16) -> bool
     ensures { IsTrue result → HasSelectableChips board.now bank set }
 {
@@ -106,8 +106,8 @@ fn has_selectable_chips(board: &Board, bank: u8, set: u16) -> bool
     true
 }
 
-/// Returns whether a bank number is below 8 and the board has each chip of that bank that the entry may select. Returns
-/// true if the entry does not allow the bank.
+/// Returns whether a bank number is below 8 and the board has each chip of that bank that the entry may select.
+/// Returns true if the entry does not allow the bank.
 fn has_chips_of_bank(board: &Board, entry: &Entry, bank: u8) -> bool
     ensures bank_exists { IsTrue result → has (slice_index entry.now.sets 16) bank ≡ true → bank < 8 }
     ensures chips { IsTrue result → has (slice_index entry.now.sets 16) bank ≡ true →
@@ -239,8 +239,8 @@ fn excludes_mistakes(rig: &BenchRig, entry: &Entry, mistakes: &Mistakes) -> bool
     }
 }
 
-/// Returns true only if no machine of an entry meets a condition. Comparisons are not evaluated: for them it returns
-/// false.
+/// Returns true only if no machine of an entry meets a condition. Returns false for each comparison, without
+/// evaluating it.
 fn excludes(rig: &BenchRig, entry: &Entry, condition: &Condition) -> bool
     ensures { IsTrue result → Excludes rig.now.board rig.now.rom condition.now entry.now }
 {
@@ -274,7 +274,7 @@ pub(crate) fn avoids_all(rig: &BenchRig, entry: &Entry, nevers: &[Vec<Condition>
     true
 }
 
-/// Returns whether sets of values can decide a condition.
+/// Returns whether sets of values can decide a condition: whether it looks for mistakes.
 fn is_decidable(condition: &Condition) -> bool {
     match condition {
         Condition::Compare(_) => false,

@@ -1,8 +1,8 @@
 //! Finds a certificate. Nothing is proved about the result; `stays_covered` checks it.
 //!
-//! A search begins with the entry for the machine's present state. It follows each entry and joins each resulting entry
-//! into the stored one with the same address, return addresses and exact registers. The search ends when no entry
-//! grows, or at an entry whose machines may meet the conditions.
+//! A search begins with the entry for the machine's present state. It follows each entry, which gives successor
+//! entries. It joins each successor into the stored entry with the same address, return addresses and exact
+//! registers. The search ends when no entry grows, or at an entry whose machines may meet the conditions.
 ghost use Rattle.std.specs.Prelude.{◌≡◌};
 
 use crate::entries::{Entry, has};
@@ -17,7 +17,7 @@ use mcs_nibble::{Addr, Bit, Nibble};
 use std::alloc::{AllocError, Global};
 use std::collections::HashMap;
 
-/// One more than the number of times that an entry can grow. An entry has 28 sets of at most 16 numbers.
+/// The maximum number of times that an entry can grow, plus 1. An entry has 28 sets of at most 16 numbers.
 const MAX_SWEEPS: usize = 449;
 
 /// A certificate: its entries, and the links that they refer to.
@@ -36,8 +36,8 @@ struct Key {
     exact: u64,
 }
 
-/// Returns the key of an entry: the values that all its machines share. Each exact register has a single value in the
-/// entry.
+/// Returns the key of an entry: the values that all of its machines share. `exact` has the exact registers, each of
+/// which has a single value in the entry.
 fn key_of(entry: &Entry, exact: u16) -> Key {
     let mut values = 0u64;
     for r in 0..16u8 {
@@ -76,7 +76,8 @@ impl From<AllocError> for Stop {
     }
 }
 
-/// Returns the landing of a choice, or `None` if its bank is above 7 or there is no instruction at the entry's address.
+/// Returns the landing of a choice, or `None` if its bank is above 7 or there is no instruction at the entry's
+/// address.
 fn landing_of(rig: &mut BenchRig, entry: &Entry, choice: &Choice) -> Option<Landing> {
     if choice.bank >= 8 {
         return None;
@@ -91,10 +92,10 @@ fn landing_of(rig: &mut BenchRig, entry: &Entry, choice: &Choice) -> Option<Land
 #[derive(Drop)]
 struct Finder {
     entries: Vec<Entry>,
-    /// For each entry, true if it is new or grew since it was last followed.
+    /// For each entry, true if the entry is new or grew since the search last followed it.
     pending: Vec<bool>,
     index: HashMap<Key, usize>,
-    /// The successors of the entry that was followed last.
+    /// The indexes of the successors of the entry that the search followed last.
     successors: Vec<usize>,
     /// The exact registers at each address. Register r is bit r.
     exact: Vec<u16>,
@@ -123,7 +124,7 @@ impl Finder {
         }
     }
 
-    /// Adds an entry. Returns its index.
+    /// Adds an entry and returns its index. Fails if memory runs out.
     fn push(&mut self, key: Key, entry: &Entry) -> Result<usize, AllocError> {
         let i = self.entries.len();
         self.entries.push(*entry)?;
@@ -132,7 +133,7 @@ impl Finder {
         Ok(i)
     }
 
-    /// Adds an entry and returns its index. Fails if the limit on entries is reached.
+    /// Adds an entry and returns its index. Fails if the limit on entries is reached or memory runs out.
     fn add(&mut self, key: Key, entry: &Entry) -> Result<usize, Stop> {
         if self.entries.len() >= self.max_entries {
             return Err(Stop::TooMany);
@@ -140,8 +141,8 @@ impl Finder {
         Ok(self.push(key, entry)?)
     }
 
-    /// Joins an entry into the stored entry with the same key, or stores it if there is none. Returns the index of the
-    /// stored entry.
+    /// Joins an entry into the stored entry with the same key, or stores it if there is none. Returns the index of
+    /// the stored entry.
     fn store(&mut self, entry: &Entry) -> Result<usize, Stop> {
         let key = key_of(entry, self.exact_at(entry.at));
         let Some(i) = self.index.get(&key).copied() else {
@@ -161,7 +162,8 @@ impl Finder {
         Ok(())
     }
 
-    /// Follows one choice of an entry: stores the entry that it leads to, and records it as a successor.
+    /// Follows one choice of an entry: stores the entry to which the choice leads, and records this entry as a
+    /// successor.
     fn follow_choice(
         &mut self,
         rig: &mut BenchRig,
@@ -176,8 +178,8 @@ impl Finder {
         Ok(())
     }
 
-    /// Follows the choices of an entry with this accumulator, carry and bank. `flags` is the accumulator plus 16 times
-    /// the carry.
+    /// Follows the choices of an entry with this accumulator, carry and bank. `flags` is the accumulator plus 16
+    /// times the carry.
     fn follow_operands(
         &mut self,
         rig: &mut BenchRig,
@@ -205,7 +207,7 @@ impl Finder {
         Ok(())
     }
 
-    /// Follows the choices in a sample of an entry. They represent all its choices.
+    /// Follows the choices in a sample of an entry. The sample represents all choices of the entry.
     fn follow_choices(&mut self, rig: &mut BenchRig, source: &Entry, op: &Op) -> Result<(), Stop> {
         let sample = sample(source, op);
         for flags in 0..32u8 {
@@ -226,7 +228,7 @@ impl Finder {
         i >= self.entries.len() || avoids_all(rig, &self.entries[i], nevers)
     }
 
-    /// Follows entry `i`: records its successors and joins into them the entries that its choices lead to.
+    /// Follows entry `i`: stores the entries to which its choices lead, and records them as successors.
     fn follow(&mut self, rig: &mut BenchRig, i: usize) -> Result<(), Stop> {
         self.successors.clear();
         if i >= self.entries.len() {
@@ -239,7 +241,8 @@ impl Finder {
         self.follow_choices(rig, &source, &op)
     }
 
-    /// Follows each entry that is new or grew since it was last followed. Returns whether there was one.
+    /// Follows each pending entry: an entry that is new or has grown since the search last followed it. Returns
+    /// whether there was a pending entry.
     fn follow_pending(
         &mut self,
         rig: &mut BenchRig,
@@ -262,7 +265,7 @@ impl Finder {
         Ok(found)
     }
 
-    /// Follows entries until none grows.
+    /// Follows pending entries until no entry grows.
     fn follow_until_stable(
         &mut self,
         rig: &mut BenchRig,
@@ -305,9 +308,9 @@ impl Finder {
     }
 }
 
-/// Finds a certificate of at most `max_entries` entries that covers the machines of the entry `begin`. Its machines
-/// never meet all conditions of a list in `nevers`. `exact` has the exact registers at each address, with register r as
-/// bit r. Each exact register must have a single value in `begin`.
+/// Finds a certificate of at most `max_entries` entries. It covers the machines of the entry `begin`, and none of its
+/// machines meets all conditions of a list in `nevers`. `exact` has the exact registers at each address, with
+/// register r as bit r. Each exact register must have a single value in `begin`.
 pub(crate) fn find(
     alloc: Global,
     rig: &mut BenchRig,

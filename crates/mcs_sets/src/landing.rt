@@ -11,8 +11,8 @@ use mcs_model::op::Op;
 use mcs_model::regs::Regs;
 use mcs_nibble::{Bit, Nibble};
 
-/// The effect of an instruction on one choice of values: the registers except the index registers, the number of open
-/// calls, and up to two changed locations with their new values. Location 26 stands for no location.
+/// The effect of an instruction on one choice of values. It has the new registers except the index registers, the
+/// number of open calls, and up to two changed locations with their new values. Location 26 means no location.
 #[derive(Clone, Copy)]
 pub(crate) struct Landing {
     pub(crate) regs: Regs,
@@ -52,7 +52,7 @@ pub(crate) fn second_operand_set(op: &Op, entry: &Entry) -> u16
     }
 }
 
-/// Returns index registers that hold both operand values at the indexes from which the instruction reads them.
+/// Returns index registers in which the instruction finds both of its operand values.
 pub(crate) fn stand_in_registers(op: &Op, first: Nibble, second: Nibble) -> [Nibble; 16]
     ensures { result ≡ stand_in_registers op.now first second }
 {
@@ -65,8 +65,8 @@ pub(crate) fn stand_in_registers(op: &Op, first: Nibble, second: Nibble) -> [Nib
     r
 }
 
-/// Returns the registers after an instruction, if it reads the nibble `n` from RAM or a port. Other instructions leave
-/// `after` unchanged.
+/// Returns the registers `after` an instruction, corrected if the instruction reads the nibble `n` from RAM or a
+/// port. Returns `after` unchanged for other instructions.
 pub(crate) fn with_value_read(op: &Op, n: Nibble, before: &Regs, after: Regs) -> Regs
     ensures { result ≡ with_value_read op.now n before.now after }
 {
@@ -104,7 +104,7 @@ pub(crate) fn second_location_written(op: &Op, chips: u8, bank: u8) -> u8
     }
 }
 
-/// Returns the value that an instruction with this first operand value leaves at a location.
+/// Returns the value that an instruction leaves at a location. `first` is the value of its first operand.
 pub(crate) fn value_written(op: &Op, first: Nibble, after: &Regs, location: u8) -> u8
     ensures { result ≡ value_written op.now first after.now location }
 {
@@ -120,7 +120,7 @@ pub(crate) fn value_written(op: &Op, first: Nibble, after: &Regs, location: u8) 
     }
 }
 
-/// Returns the number of open calls after an instruction, from the number before it.
+/// Returns the number of open calls after an instruction, if `calls` are open before it.
 pub(crate) fn calls_after(op: &Op, calls: u8) -> u8
     ensures { result ≡ calls_after (Some op.now) calls }
 {
@@ -159,7 +159,7 @@ fn processor(regs: &Regs) -> Cpu
     cpu
 }
 
-/// Returns the registers before an instruction, with its operand values in the index registers.
+/// Returns the stand-in processor's registers before an instruction. The index registers hold the operand values.
 fn stand_in_before(op: &Op, entry: &Entry, choice: &Choice) -> Regs
     ensures { result ≡ stand_in_before op.now entry.now.at entry.now.ret choice.now }
 {
@@ -174,7 +174,8 @@ fn stand_in_before(op: &Op, entry: &Entry, choice: &Choice) -> Regs
     }
 }
 
-/// Runs the instruction at the program counter for one cycle, with TEST at a level, and returns the registers after it.
+/// Runs the instruction at the program counter for one cycle, with TEST at a level, and returns the registers after
+/// it.
 fn run_instruction(rig: &mut BenchRig, op: &Op, regs: &Regs, level: Bit) -> Regs
     requires bank { regs.now.dcl < 8 }
     requires not_owed { regs.now.owed ≡ 0 }

@@ -4,8 +4,8 @@ ghost use Rattle.mcs_sets.specs.Closure.{ClosureSuffices};
 ghost use Rattle.mcs_sets.specs.Landing.{LandingIsCorrect};
 ghost use Rattle.mcs_sets.specs.Covering.{LandingsSuffice};
 
-/// Proves that a certificate that is closed under one cycle covers every machine that can be reached from a machine in
-/// it, for all inputs.
+/// Proves that a certificate that is closed under one cycle covers, for all inputs, every machine that can be reached
+/// from a covered machine.
 pub fn closure_suffices()
     ensures { ClosureSuffices }
 {}
@@ -15,8 +15,8 @@ pub fn landing_is_correct()
     ensures { LandingIsCorrect }
 {}
 
-/// Proves that the machines of an entry stay in the certificate for one cycle if the certificate covers the landings of
-/// all choices of the entry.
+/// Proves that a certificate covers the machines of an entry after one more cycle, if it covers the landings of all
+/// choices of the entry.
 pub fn landings_suffice()
     ensures { LandingsSuffice }
 {}

@@ -1,8 +1,9 @@
-//! Levels of precision. A register is exact if each entry has a single value for it.
+//! Levels of precision. A register is exact if each entry has a single value for the register.
 use mcs_model::op::Op;
 use mcs_nibble::{PairNo, RegNo};
 
-/// A level of precision: the instructions that need exact registers. Each level includes those of the levels before it.
+/// A level of precision: the instructions that need exact registers. Each level includes those of the levels before
+/// it.
 #[derive(Clone, Copy, Debug, PartialEq, Eq)]
 pub(crate) enum Level {
     /// No instruction.
@@ -13,11 +14,12 @@ pub(crate) enum Level {
     Banks,
     /// SRC, which uses the first register of a pair as a chip number.
     SrcChip,
-    /// SRC, with its whole register pair exact. A register that is exact at one address is exact at all addresses.
+    /// SRC, which then needs both registers of its pair. A register that is exact at one address is exact at all
+    /// addresses.
     SrcEverywhere,
 }
 
-/// The levels, in the order in which they are tried.
+/// The levels, in the order in which a proof tries them.
 pub(crate) const LEVELS: [Level; 5] = [
     Level::None,
     Level::Jumps,

@@ -1,4 +1,5 @@
-//! Proves with sets of values that a machine never meets given conditions, for all levels of its keys and its TEST pin.
+//! Proves with sets of values that a machine never meets given conditions, for all levels of its keys and its TEST
+//! pin.
 ghost use Rattle.std.specs.Prelude.{◌≡◌, ◌<◌, IsTrue, ℕ, length, map, slice_index_or};
 ghost use Rattle.mcs_drive.specs.Tracked.{no_observer, without_calls};
 ghost use Rattle.mcs_check.specs.Conditions.{keeps_to};
@@ -42,7 +43,7 @@ fn all_entries_avoid(rig: &BenchRig, entries: &[Entry], nevers: &[Vec<Condition>
     true
 }
 
-/// Checks a certificate for a machine without open calls, and returns the outcome.
+/// Checks a certificate for this machine, which has no open calls, and returns the outcome.
 fn outcome_of(
     cpu: &Cpu,
     rig: &mut BenchRig,
@@ -62,9 +63,10 @@ fn outcome_of(
     Outcome::Holds(entries.len())
 }
 
-/// Searches at one level of precision for a certificate whose machines never meet all conditions of a list in `nevers`.
-/// The search runs on `search_rig`, which has the board and the program of `rig`. `exact_before` has the exact registers
-/// of the level before. If this level has the same, returns `None` without a search.
+/// Searches at one level of precision for a certificate whose machines never meet all conditions of a list in
+/// `nevers`. The search runs on `search_rig`, which has the board and the program of `rig`. `exact_before` has the
+/// exact registers of the previous level. If this level has the same exact registers, returns `None` without a
+/// search.
 fn find_at_level(
     alloc: Global,
     cpu: &Cpu,

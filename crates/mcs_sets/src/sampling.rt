@@ -1,4 +1,4 @@
-//! Samples: representative choices of an entry, and the entries that they lead to.
+//! Samples: representative choices of an entry, and the entries to which these choices lead.
 use crate::entries::Entry;
 use crate::landing::Landing;
 use mcs_model::op::Op;
@@ -17,8 +17,8 @@ fn smallest_of(set: u16) -> u16 {
     singleton(set.trailing_zeros() as u8)
 }
 
-/// Returns whether an instruction leaves the accumulator and the carry unchanged, and no location of an entry depends
-/// on them.
+/// Returns whether an instruction leaves the accumulator and the carry unchanged, and writes to no location a value
+/// that depends on them.
 fn ignores_flags(op: &Op) -> bool {
     match op {
         Op::Nop | Op::Fim(_, _) | Op::Src(_) | Op::Fin(_) | Op::Jin(_) | Op::Jun(_, _) => true,
@@ -28,7 +28,8 @@ fn ignores_flags(op: &Op) -> bool {
     }
 }
 
-/// Returns whether an instruction replaces the accumulator by a value that depends neither on it nor on the carry.
+/// Returns whether an instruction replaces the accumulator with a value that depends neither on the accumulator nor
+/// on the carry.
 fn replaces_acc(op: &Op) -> bool {
     match op {
         Op::Rdm | Op::Rdr | Op::Rd0 | Op::Rd1 | Op::Rd2 | Op::Rd3 => true,
@@ -37,7 +38,7 @@ fn replaces_acc(op: &Op) -> bool {
     }
 }
 
-/// Returns whether a location of an entry depends on the bank number after an instruction.
+/// Returns whether the bank number determines which location of an entry an instruction changes.
 fn uses_bank(op: &Op) -> bool {
     match op {
         Op::Src(_) => true,
@@ -84,8 +85,8 @@ fn open_returns(ret: &[Addr; 3], calls: u8) -> [Addr; 3] {
     ]
 }
 
-/// Returns an entry for all machines that `source` leads to by the choices that a sampled choice represents. `landing`
-/// is the landing of the sampled choice.
+/// Returns the successor of `source` for one sampled choice and all choices that this choice represents. `landing` is
+/// the landing of the sampled choice.
 pub(crate) fn successor_entry(source: &Entry, op: &Op, landing: &Landing) -> Entry {
     let regs = &landing.regs;
     let acc = singleton(regs.acc.get());

@@ -1,10 +1,10 @@
-//! Determines the exact registers at each address. An entry has a single value of an exact register. Other values of
-//! that register have entries of their own.
+//! Determines the exact registers at each address. An entry has a single value for an exact register. Other values of
+//! the register have their own entries.
 //!
 //! A register is exact at an address if it is relevant there: its value may reach an instruction that needs an exact
-//! register. The relevant registers form a backward slice of the program. The counter of a loop is also relevant if the
-//! loop changes a register that is relevant at its first instruction. Nothing is proved about a slice, and only the
-//! choice of certificate depends on it.
+//! register. The relevant registers form a backward slice of the program. The counter of a loop is also relevant if
+//! the loop changes a register that is relevant at its first instruction. Nothing is proved about a slice, and only
+//! the choice of certificate depends on it.
 use crate::precision::{ACC, CARRY, Level, needs_exact, pair_bits, register_bit};
 use mcs_board::BenchRig;
 use mcs_cpu4004::Cpu;
@@ -45,7 +45,8 @@ fn falls_through(op: &Op) -> bool {
     }
 }
 
-/// Returns the address to which an instruction may jump in the same routine, if its words contain that address.
+/// Returns the address to which an instruction may jump in the same routine. Returns `None` if the instruction does
+/// not contain a jump address.
 fn jump_target(op: &Op, at: Addr) -> Option<Addr> {
     match op {
         Op::Jcn(_, word) | Op::Isz(_, word) => Some(Addr::on_page(at.plus(2).page(), *word)),
@@ -62,7 +63,7 @@ fn callee(op: &Op) -> Option<Addr> {
     }
 }
 
-/// Returns the first address of the page to whose addresses an instruction may jump, if it is a JIN.
+/// Returns the first address of the page to which a JIN jumps, or `None` for any other instruction.
 fn jump_page(op: &Op, at: Addr) -> Option<Addr> {
     match op {
         Op::Jin(_) => Some(Addr::on_page(at.plus(1).page(), 0)),
@@ -193,9 +194,9 @@ fn relevant_before(op: &Op, after: u32) -> u32 {
 struct Slice {
     /// 1 if the address may be reached, and otherwise 0.
     reached: Table,
-    /// The registers that may be written from the address on, until its routine returns.
+    /// The registers that the program may write between the address and the return of its routine.
     may_write: Table,
-    /// The registers that are written in the loop that an ISZ at the address closes.
+    /// The registers that the loop writes that ends with an ISZ at the address.
     loop_writes: Table,
     /// The registers that are relevant when the routine of the address returns.
     relevant_on_return: Table,
@@ -248,7 +249,8 @@ impl Slice {
         }
     }
 
-    /// Returns the registers that an instruction writes or, for a call, those that the routine may write.
+    /// Returns the registers that an instruction writes. For a call, returns the registers that the called routine
+    /// may write.
     fn writes_of(&self, op: &Op) -> u32 {
         match callee(op) {
             Some(routine) => self.may_write.get(routine),
@@ -256,8 +258,8 @@ impl Slice {
         }
     }
 
-    /// Makes one pass that adds, for each address, the registers that may be written from there on. Returns whether a
-    /// set grew.
+    /// Makes one pass over all addresses. Adds to each address the registers that the program may write from this
+    /// address on. Returns whether a set grew.
     fn add_may_write(&mut self, rig: &BenchRig) -> bool {
         let mut grew = false;
         for n in 0..ADDRESSES {
@@ -271,7 +273,7 @@ impl Slice {
         grew
     }
 
-    /// Computes the registers that may be written from each address on.
+    /// Computes the registers that the program may write from each address on.
     fn find_written(&mut self, rig: &BenchRig) {
         for _ in 0..MAX_PASSES {
             if !self.add_may_write(rig) {
@@ -280,8 +282,8 @@ impl Slice {
         }
     }
 
-    /// Adds to the body of a loop each address between `head` and `last` that leads into the body. Returns whether the
-    /// body grew.
+    /// Adds to the body of a loop each address between `head` and `last` that has a successor in the body. Returns
+    /// whether the body grew.
     fn add_to_body(&self, rig: &BenchRig, body: &mut Table, head: Addr, last: Addr) -> bool {
         let mut grew = false;
         for n in 0..ADDRESSES {
@@ -365,7 +367,8 @@ impl Slice {
         }
     }
 
-    /// Makes one pass that adds, for each address, the registers that are relevant there. Returns whether a set grew.
+    /// Makes one pass over all addresses. Adds to each address the registers that are relevant at this address.
+    /// Returns whether a set grew.
     fn add_relevant(&mut self, rig: &BenchRig, level: Level) -> bool {
         let mut grew = false;
         for n in 0..ADDRESSES {
@@ -381,8 +384,8 @@ impl Slice {
         grew
     }
 
-    /// Makes one pass that adds, for each address, the registers that are relevant when its routine returns. Returns
-    /// whether a set grew.
+    /// Makes one pass over all addresses. Adds to each address the registers that are relevant when its routine
+    /// returns. Returns whether a set grew.
     fn add_relevant_on_return(&mut self, rig: &BenchRig) -> bool {
         let mut grew = false;
         for n in 0..ADDRESSES {

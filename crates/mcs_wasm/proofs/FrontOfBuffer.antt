@@ -1,4 +1,4 @@
--- What was told stands at the front of the buffer.
+-- The answers are at the front of the buffer.
 use Rattle.std.proofs.Common.{◌≡◌, ◌≤◌, ℕ, List, length, take, drop, sym, arith}
 use Rattle.mcs_disk.specs.Disk.{bytes_of}
 use Rattle.mcs_disk.specs.States.{mem_disk_state}

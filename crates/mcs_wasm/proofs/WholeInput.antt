@@ -1,4 +1,4 @@
--- A shell that served its input leaves the disk its size, and the session open.
+-- A shell that serves all of its input keeps the size of the disk and leaves the session open.
 use Rattle.std.proofs.Common.{◌≡◌, ◌∙◌, ℕ, List, Option, length, ap}
 use Rattle.mcs_disk.specs.Disk.{size_of}
 use Rattle.mcs_disk.specs.States.{mem_disk_state}
@@ -13,7 +13,7 @@ use Rattle.mcs_shell.specs.ShellState.{ShellState}
 use Rattle.mcs_shell.specs.declared.ends.ShellEnd.{ShellEnd}
 use Rattle.mcs_shell.specs.declared.ends.ShellEnd.TheVariants.{End, ReadFault, WriteFault, DeviceFault, InputLimit, NoMemory}
 
--- where all of its input was served, no step halted it
+-- a shell that served all of its input was halted by no step, so the session recorded the acknowledged commands
 carries : (end : ShellEnd) (reader reader' : Option (List ℕ)) (a b : ShellState) → IsServedWhole end → (ran : RanShell end reader reader' a b) → RecordsCommands IsOpenOnHonestDisk a.session b.session (in_turn acknowledged_commands a.session.state ran.served.met)
 carries End reader reader' a b whole ran = carries_unhalted IsOpenOnHonestDisk a.session b.session a.session.state ran.served.met (ran.served.halts ∙ ran.ends.2) ran.served.serves.leaves
 carries InputLimit reader reader' a b whole ran = carries_unhalted IsOpenOnHonestDisk a.session b.session a.session.state ran.served.met (ran.served.halts ∙ ran.ends.2) ran.served.serves.leaves
@@ -28,6 +28,6 @@ keeps_size end reader reader' a b whole ran = ap length (carries end reader read
 pub keeps_open : (end : ShellEnd) (reader reader' : Option (List ℕ)) (a b : ShellState) → IsServedWhole end → RanShell end reader reader' a b → b.session.live ≡ a.session.live
 keeps_open end reader reader' a b whole ran = (carries end reader reader' a b whole ran).live
 
--- the disk of a session has the size of its file
+-- the disk of a resumed session has the size of the file
 pub size_resumed : (file : List ℕ) (session : SessionView MemDisk) → ResumesSession file session → size_of (mem_disk_state session.disk) ≡ length file
 size_resumed file session resumed = ap (λ (f : List ℕ). length f) (resumed.begun.counts.start ∙ resumed.held.start)

@@ -22,19 +22,19 @@ pub record HasBytes (file : List ℕ) (disk : DiskState) : Type 0 where
   pub honest : disk.honest
   pub bytes : bytes_of disk ≡ file
 
--- holds if these bytes are a file that holds the session of a new bench
+-- holds if these bytes represent the state of a new bench
 abbrev pub IsNewFile : List ℕ → Type 0
 IsNewFile file = StandsFor file new_bench_state
 
--- Holds if a session continues that of a file: `open` began it on a disk that has the file's bytes.
+-- Holds if a session resumes the session in a file: `open` opened it on a fresh disk with the file's bytes.
 pub record ResumesSession (file : List ℕ) (session : SessionView MemDisk) : Type 0 where
   pub disk : MemDisk
   pub held : IsFresh file (mem_disk_state disk)
   pub begun : OpenBegins (mem_disk_state disk) (mem_disk_state session.disk) session.live
       session.state
 
--- Holds if the session of a file continued, and its shell read this input, wrote these answers, and
--- left the session `left`.
+-- Holds if a shell resumed the session in a file, read this input, wrote these answers, and ended with
+-- the session `left`.
 pub record RunsOnFile (file input : List ℕ) (end : ShellEnd) (answers : List ℕ)
     (left : SessionView MemDisk) : Type 0 where
   pub session : SessionView MemDisk
@@ -43,20 +43,21 @@ pub record RunsOnFile (file input : List ℕ) (end : ShellEnd) (answers : List �
   pub ran : RanShell end (Some input) rest (shell_state mem_disk_state session (Some []))
       (shell_state mem_disk_state left (Some answers))
 
--- Holds if a shell ran on the session of a file, as in RunsOnFile, and `after` are the bytes of the
--- session's disk afterwards.
+-- Holds if a shell ran on the session in a file, as in RunsOnFile, and the session's disk then has the
+-- bytes `after`.
 pub record ServesFile (file input : List ℕ) (end : ShellEnd) (answers after : List ℕ) : Type 0 where
   pub left : SessionView MemDisk
   pub went : RunsOnFile file input end answers left
   pub kept : HasBytes after (mem_disk_state left.disk)
 
--- holds if all of the input was served, or as much of it as the input limit allows
+-- holds if a shell with this end served all of its input, or as much as the input limit allows
 abbrev pub IsServedWhole : ShellEnd → Type 0
 IsServedWhole End = Unit {0}
 IsServedWhole InputLimit = Unit {0}
 IsServedWhole end = ⊥
 
--- Holds if all of the input was served, with these answers, and left the session `left`, which is open.
+-- Holds if a shell served all of its input, or as much as the input limit allows, with these answers. It
+-- ended with the session `left`, which is open and whose disk has the size of the file.
 pub record ServesAllInput (file input : List ℕ) (end : ShellEnd) (answers : List ℕ)
     (left : SessionView MemDisk) : Type 0 where
   pub whole : IsServedWhole end
@@ -64,7 +65,8 @@ pub record ServesAllInput (file input : List ℕ) (end : ShellEnd) (answers : Li
   pub is_open : IsTrue left.live
   pub size : size_of (mem_disk_state left.disk) ≡ length file
 
--- holds if the input was served, and the answers are the first `count` bytes of the buffer
+-- Holds if the input was served, the answers are the first `count` bytes of the buffer, and the rest of
+-- the buffer is unchanged. The session's disk then has the bytes `after`.
 pub record AnswersInBuffer (file input : List ℕ) (end : ShellEnd) (count : ℕ)
     (buffer buffer' after : List ℕ) : Type 0 where
   pub whole : IsServedWhole end
@@ -72,8 +74,8 @@ pub record AnswersInBuffer (file input : List ℕ) (end : ShellEnd) (count : ℕ
   pub served : ServesFile file input end (take count buffer') after
   pub rest : drop count buffer' ≡ drop count buffer
 
--- Holds if this is a possible reason why a file cannot be opened: the content of its bytes, or lack of
--- memory. An in-memory disk has no other fault.
+-- Holds if opening a file can fail with this fault: because of the file's bytes, or because memory ran
+-- out. An in-memory disk has no other fault.
 abbrev pub IsFileRefused : StoreFault → List ℕ → Type 0
 IsFileRefused store_fault.NoMemory file = Unit {0}
 IsFileRefused store_fault.Device file = ⊥
@@ -81,8 +83,7 @@ IsFileRefused store_fault.NotBlank file = ⊥
 IsFileRefused fault file = (disk : MemDisk) × IsFresh file (mem_disk_state disk)
     × RefusesSession fault (mem_disk_state disk)
 
--- Holds if this input was served completely, and its answers have `count` bytes, more than fit into the
--- buffer.
+-- Holds if serving this input gives answers of `count` bytes, more than the `room` bytes of the buffer.
 pub record LacksBufferRoom (file input : List ℕ) (count room : ℕ) : Type 0 where
   pub end : ShellEnd
   pub whole : IsServedWhole end
@@ -92,12 +93,12 @@ pub record LacksBufferRoom (file input : List ℕ) (count room : ℕ) : Type 0 w
   pub counted : length answers ≡ count
   pub short : room < count
 
--- holds if this is a possible reason why the input was not served
+-- holds if this fault can be the reason why the input was not served
 abbrev pub IsWhyNotServed : ServeFault → List ℕ → List ℕ → ℕ → Type 0
 IsWhyNotServed (Refused fault) file input room = IsFileRefused fault file
 IsWhyNotServed (NoRoom count) file input room = LacksBufferRoom file input count room
 
--- Holds if the disk of a session represented its state, and these bytes hold a snapshot of that state
+-- Holds if a session's disk represents the session's state, and these bytes hold a snapshot of that state
 -- and no records.
 pub record SettlesTo (session : SessionView MemDisk) (file : List ℕ) : Type 0 where
   pub stood : StandsFor (bytes_of (mem_disk_state session.disk)) session.state
@@ -110,8 +111,8 @@ pub record StandsForSameState (old new : List ℕ) : Type 0 where
   pub before : StandsByEither old state
   pub after : HoldsState new state
 
--- Holds if the input was served, which produced some file, and a snapshot then replaced the records of
--- that file.
+-- Holds if the input was served as in AnswersInBuffer, and a snapshot of the resulting state then replaced
+-- the records of the file.
 pub record AnswersAndSettles (file input : List ℕ) (end : ShellEnd) (count : ℕ)
     (buffer buffer' after : List ℕ) : Type 0 where
   pub between : List ℕ
@@ -119,7 +120,7 @@ pub record AnswersAndSettles (file input : List ℕ) (end : ShellEnd) (count : �
   pub settled : StandsForSameState between after
   pub same : settled.state ≡ answers.served.left.state
 
--- holds if serving the input would give these answers; the file that this would produce is not specified
+-- Holds if serving the input would give these answers. The resulting file is not specified.
 pub record WouldAnswer (file input : List ℕ) (end : ShellEnd) (count : ℕ)
     (buffer buffer' : List ℕ) : Type 0 where
   pub after : List ℕ

@@ -1,4 +1,4 @@
-//! Sessions on in-memory disks, which are filled from the bytes of a file and written back to them.
+//! Sessions on in-memory disks. A disk is filled with a copy of a file's bytes, and is written back to the file.
 ghost use Rattle.std.specs.Prelude.{◌≡◌, length, IfErr, IfOk, IsTrue};
 ghost use Rattle.mcs_disk.specs.Disk.{bytes_of, size_of};
 ghost use Rattle.mcs_disk.specs.States.{IsFresh, mem_disk_state};
@@ -13,14 +13,14 @@ use std::alloc::{AllocError, Global};
 fn disk_of(alloc: Global, file: &[u8]) -> Result<MemDisk, AllocError>
     ensures { IfOk result (λ disk. IsFresh file.now (mem_disk_state disk)) }
 {
-    // zeros first, and then all bytes at once: `to_vec` copies byte by byte
+    // `to_vec` copies byte by byte, so the vector is filled with zeros first and then all bytes are copied at once
     let mut bytes = vec![in alloc; 0u8; file.len()]?;
     bytes.copy_from_slice(file);
     Ok(MemDisk::with_bytes(bytes))
 }
 
-/// Opens the session in the bytes of a file, on a copy of these bytes. Fails if the bytes do not hold a session or if
-/// memory runs out.
+/// Opens the session in a file, on a disk with a copy of the file's bytes. Fails if the bytes do not hold a session
+/// or if memory runs out.
 pub(crate) fn resume(alloc: Global, file: &[u8]) -> Result<Session<MemDisk>, StoreFault>
     ensures resumed { IfOk result (λ session. ResumesSession file.now session) }
     ensures refused { IfErr result (λ fault. IsFileRefused fault file.now) }
@@ -39,7 +39,7 @@ pub(crate) fn resume(alloc: Global, file: &[u8]) -> Result<Session<MemDisk>, Sto
     }
 }
 
-/// Replaces the bytes of a file with those of a disk.
+/// Copies the bytes of a disk to a file of the same size.
 pub(crate) fn write_back(disk: &MemDisk, file: &mut [u8])
     requires size { length file.old ≡ size_of (mem_disk_state disk.now) }
     ensures written { file.new ≡ bytes_of (mem_disk_state disk.now) }
@@ -47,8 +47,8 @@ pub(crate) fn write_back(disk: &MemDisk, file: &mut [u8])
     file.copy_from_slice(disk.bytes());
 }
 
-/// Replaces the records of an open session with a snapshot, and the bytes of a file with those of the session's disk.
-/// It cannot fail, because an in-memory disk has no device faults.
+/// Replaces the records of an open session with a snapshot, and copies the session's disk to a file of the same size.
+/// This cannot fail, because an in-memory disk has no device faults.
 pub(crate) fn settle_into(mut session: Session<MemDisk>, file: &mut [u8])
     requires open { IsTrue session.live }
     requires size { length file.old ≡ size_of (mem_disk_state session.disk) }

@@ -1,4 +1,4 @@
-//! The calls that a page makes.
+//! The bench's calls for a page in a browser.
 ghost use Rattle.std.specs.Prelude.{◌≡◌, ◌≤◌, ◌↔◌, drop, length, take, IfErr, IfOk, IsTrue, OnErr, OnOk};
 ghost use Rattle.mcs_wasm.specs.Page.{AnswersInBuffer, AnswersAndSettles, ServesAllInput, IsNewFile, IsFileRefused};
 ghost use Rattle.mcs_wasm.specs.Page.{IsServedWhole, IsWhyNotServed, StandsForSameState, WouldAnswer};
@@ -16,7 +16,7 @@ use std::alloc::{AllocError, Global};
 /// The result of input that was served.
 #[derive(Clone, Copy, Debug, PartialEq, Eq)]
 pub struct ServedInput {
-    /// The end of the shell: all input was served, or as much as the input limit allows.
+    /// The reason why the shell ended: it served all input, or as much as the input limit allows.
     pub end: ShellEnd,
     /// The number of bytes in the answers.
     pub count: usize,
@@ -30,7 +30,7 @@ struct Answered {
     output: Vec<u8>,
 }
 
-/// Writes the file of a new session. Fails if memory runs out, and then leaves the bytes unchanged.
+/// Writes a new session to a file of `FILE_SIZE` bytes. Fails if memory runs out, and then leaves the file unchanged.
 pub fn begin(alloc: Global, file: &mut [u8]) -> Result<(), AllocError>
     requires size { length file.old ≡ FILE_SIZE }
     ensures made { OnOk result (IsNewFile file.new) }
@@ -56,8 +56,8 @@ fn is_whole(end: ShellEnd) -> bool
     }
 }
 
-/// Continues the session in the bytes of a file, on a copy of these bytes, and serves the input lines. Fails if the
-/// bytes do not hold a session, if memory runs out, or if the answers have more than `room` bytes.
+/// Resumes the session in a file, on a copy of the file's bytes, and serves the input lines. Fails if the bytes do
+/// not hold a session, if memory runs out, or if the answers have more than `room` bytes.
 fn serve_on(alloc: Global, file: &[u8], input: &[u8], room: usize) -> Result<Answered, ServeFault>
     ensures served { IfOk result (λ a.
         ServesAllInput file.now input.now a.end a.output.items a.session) }
@@ -71,7 +71,7 @@ fn serve_on(alloc: Global, file: &[u8], input: &[u8], room: usize) -> Result<Ans
     let mut reader = input;
     let mut output = Vec::new(alloc);
     let end = run_shell(alloc, &mut reader, &mut output, &mut session);
-    // Every other end means that memory ran out. Nothing else can fail with a slice, a vector and bytes in memory.
+    // Every other end means that memory ran out: a slice, a vector and an in-memory disk cannot fail otherwise.
     if !is_whole(end) {
         return Err(ServeFault::Refused(StoreFault::NoMemory));
     }
@@ -85,7 +85,7 @@ fn serve_on(alloc: Global, file: &[u8], input: &[u8], room: usize) -> Result<Ans
     })
 }
 
-/// Copies answers to the front of a buffer, and returns the number of their bytes.
+/// Copies answers to the front of a buffer, and returns their number of bytes. The answers must fit into the buffer.
 pub fn put_in_front(buffer: &mut [u8], answers: &[u8]) -> usize
     requires room { length answers.now ≤ length buffer.old }
     ensures count { result ≡ length answers.now }
@@ -97,11 +97,11 @@ pub fn put_in_front(buffer: &mut [u8], answers: &[u8]) -> usize
     count
 }
 
-/// Continues the session in the bytes of a file, and serves the input lines. Writes the answers to the front of a
-/// buffer, and replaces the bytes of the file with those of the session's disk.
+/// Resumes the session in a file, and serves the input lines. Writes the answers to the front of the buffer
+/// `answers`, and copies the session's disk back to the file.
 ///
-/// The call does all of that or nothing. It fails if the bytes do not hold a session (50, 51), if memory runs out (90),
-/// or if the answers do not fit. The file and the buffer are then unchanged.
+/// The call does all of this or nothing. It fails if the bytes do not hold a session (refusals 50 and 51), if memory
+/// runs out (refusal 90), or if the answers do not fit. The file and the buffer are then unchanged.
 pub fn serve(
     alloc: Global,
     file: &mut [u8],
@@ -131,7 +131,7 @@ pub fn serve(
 /// Serves input as [`serve`] does, and then replaces the records of the file with a snapshot, as [`settle`] does.
 /// Opening the file then replays no commands.
 ///
-/// The call does all of that or nothing.
+/// The call does all of this or nothing. It fails in the same cases as [`serve`].
 pub fn serve_and_settle(
     alloc: Global,
     file: &mut [u8],
@@ -157,7 +157,8 @@ pub fn serve_and_settle(
     Ok(ServedInput { end, count })
 }
 
-/// Answers input as [`serve`] would, but leaves the file unchanged.
+/// Answers input as [`serve`] would, but leaves the file unchanged. Fails in the same cases as [`serve`], and then
+/// leaves the buffer unchanged.
 pub fn ask(
     alloc: Global,
     file: &[u8],
@@ -182,9 +183,9 @@ pub fn ask(
     Ok(ServedInput { end, count })
 }
 
-/// Replaces the records of a session's file with a snapshot. The file then represents the same state, and opening it
-/// replays no commands. Fails if the bytes do not hold a session (50, 51) or if memory runs out (90), and then leaves
-/// them unchanged.
+/// Replaces the records of a session file with a snapshot. The file still represents the same state, and opening it
+/// then replays no commands. Fails if the bytes do not hold a session (refusals 50 and 51) or if memory runs out
+/// (refusal 90). The file is then unchanged.
 pub fn settle(alloc: Global, file: &mut [u8]) -> Result<(), StoreFault>
     ensures settled { OnOk result (StandsForSameState file.old file.new) }
     ensures refused { IfErr result (λ fault. IsFileRefused fault file.old) }

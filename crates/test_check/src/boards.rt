@@ -1,4 +1,4 @@
-//! The board of the example with an electronic die, its program, and machines with it.
+//! The board and the program of the electronic die, an example, and machines with this board.
 use mcs_board::BenchRig;
 use mcs_check::Replica;
 use mcs_cpu4004::Cpu;
@@ -15,14 +15,14 @@ pub(crate) const DIE_PROGRAM: [u8; 29] = [
     177, 64, 11, 0, 0, 64, 11,
 ];
 
-/// The lamp patterns of the die's six faces. They are in ROM after its program.
+/// The lamp patterns of the die's six faces. In ROM they follow the program.
 pub(crate) const FACES: [u8; 6] = [8, 1, 9, 3, 11, 7];
 
-/// The address of the lamp patterns.
+/// The ROM address of the lamp patterns.
 const FACES_AT: u16 = 42;
 
-/// Returns the die's board with keys in `rows` rows of one column. It has a ROM with outputs, a ROM with inputs and a
-/// RAM chip.
+/// Returns the die's board with one column of keys in `rows` rows. The board has a ROM with outputs, a ROM with
+/// inputs and a RAM chip.
 fn board_with_keys(rows: u8) -> Result<Board, BoardFault> {
     let mut roms = [None; ROMS];
     roms[0] = Some(OUTPUTS);
@@ -83,7 +83,8 @@ pub(crate) fn machine(
     Ok(Replica::of(Cpu::new(), rig))
 }
 
-/// Returns a machine with the given program, before its first cycle. Its board has two keys, in two rows of one column.
+/// Returns a machine with the given program, before its first cycle. Its board has two keys, in two rows of one
+/// column.
 pub(crate) fn machine_with_two_keys(
     alloc: Global,
     rt: &impl Abort,

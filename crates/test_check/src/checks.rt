@@ -6,9 +6,9 @@ use mcs_check::{
 use std::alloc::{AllocError, Global};
 use std::process::Abort;
 
-/// The number of states of the die: one at the start, and two for each of the six faces. Of these
-/// two, one follows the display of the face, and one follows a read of its key as up. An
-/// independent model of the chips gives the same number.
+/// The number of states of the die: one at the start, and two for each of the six faces. The first of the two follows
+/// the display of the face, and the second follows a read of the key as up. An independent model of the chips gives
+/// the same number.
 pub(crate) const STATES: usize = 13;
 
 /// The number of cycles after which a search step ends if the program reads no input. It is large
@@ -36,7 +36,7 @@ fn lamps_show(n: u8, inside: bool) -> Condition {
     })
 }
 
-/// Returns the aim that the lamps show only faces, or are dark.
+/// Returns the property that the lamps are always dark or show a face.
 pub(crate) fn only_faces(alloc: Global) -> Result<Aim, AllocError> {
     let mut conditions = Vec::new(alloc);
     conditions.push(lamps_show(0, false))?;
@@ -48,7 +48,7 @@ pub(crate) fn only_faces(alloc: Global) -> Result<Aim, AllocError> {
     Ok(Aim::never(alloc, nevers))
 }
 
-/// Returns the aim that the lamps never show the pattern `n`.
+/// Returns the property that the lamps never show the pattern `n`.
 fn lamps_never_show(alloc: Global, n: u8) -> Result<Aim, AllocError> {
     let mut conditions = Vec::new(alloc);
     conditions.push(lamps_show(n, true))?;
@@ -57,13 +57,13 @@ fn lamps_never_show(alloc: Global, n: u8) -> Result<Aim, AllocError> {
     Ok(Aim::never(alloc, nevers))
 }
 
-/// Checks an aim on the die, with at most `STATES` states.
+/// Checks a property of the die, with at most `STATES` states.
 pub(crate) fn check_die(alloc: Global, rt: &impl Abort, aim: Aim) -> Result<Outcome, AllocError> {
     check_all(alloc, die(alloc, rt)?, aim, STATES, MEMORY, PAUSE)
 }
 
-/// Checks that the lamps never show the pattern `n`. Returns true if the outcome is that they may show it, and false if
-/// the check proves it.
+/// Checks that the lamps never show the pattern `n`. Returns true if the outcome is `MayFail`, and false if the check
+/// proves the property.
 fn may_show(alloc: Global, rt: &impl Abort, n: u8) -> bool {
     let aim = lamps_never_show(alloc, n).expect(rt, "memory");
     match check_die(alloc, rt, aim).expect(rt, "memory") {
@@ -75,7 +75,7 @@ fn may_show(alloc: Global, rt: &impl Abort, n: u8) -> bool {
     }
 }
 
-/// Expects the outcome that the aim holds, with `STATES` states.
+/// Expects the outcome `Holds` with `STATES` states.
 pub(crate) fn expect_holds(rt: &impl Abort, outcome: Outcome) {
     match outcome {
         Outcome::Holds(n) => assert_eq!(rt; n, STATES),

@@ -15,7 +15,7 @@ pub(crate) const ALL_MISTAKES: Mistakes = Mistakes {
     no_outputs: true,
 };
 
-/// Returns the aim that a program never makes any of these mistakes.
+/// Returns the property that a program never makes any of these mistakes.
 fn never_mistaken(alloc: Global, mistakes: Mistakes) -> Result<Aim, AllocError> {
     let mut conditions = Vec::new(alloc);
     conditions.push(Condition::Mistaken(mistakes))?;
@@ -36,7 +36,7 @@ fn the_die_makes_no_mistake(rt: HostRuntime) {
 
 /// Programs that make one mistake each: an invalid opcode, four nested calls, BBL without a call,
 /// WRM after DCL of bank 1, a jump to 0x200, RDR of the port of ROM 0, and WRR to the port of ROM
-/// 1. No program runs on into the die's faces.
+/// 1. No program reaches the addresses of the die's faces.
 pub(crate) const MISTAKEN_PROGRAMS: [[u8; 10]; 7] = [
     [0xFE, 0, 0, 0, 0, 0, 0, 0, 0, 0],
     [0x50, 2, 0x50, 4, 0x50, 6, 0x50, 8, 0x40, 8],
@@ -47,7 +47,7 @@ pub(crate) const MISTAKEN_PROGRAMS: [[u8; 10]; 7] = [
     [0x20, 0x10, 0x21, 0xE2, 0x40, 3, 0, 0, 0, 0],
 ];
 
-/// Returns the mistake that program `k` makes.
+/// Returns the only mistake that program `k` makes: the result has one true field.
 pub(crate) fn mistake_of(k: usize) -> Mistakes {
     let mut mistakes = Mistakes::NONE;
     match k {

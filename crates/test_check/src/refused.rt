@@ -1,5 +1,5 @@
-//! Tests with one failing allocation. `checks/allocations` makes each allocation fail in turn; in
-//! the gate, none fails.
+//! A test in which one allocation can fail. `checks/allocations` runs the test once for each allocation, and makes
+//! this allocation fail. In the gate, no allocation fails.
 use crate::checks::{STATES, check_die, expect_holds, only_faces};
 use mcs_check::{Aim, Outcome};
 use std::alloc::Global;

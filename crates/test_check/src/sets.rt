@@ -11,7 +11,8 @@ use std::process::Abort;
 /// More entries than a check of any of these programs needs.
 const ENTRIES: usize = 10_000;
 
-/// Returns the conditions that must never be met if a program makes none of these mistakes: one list with one condition.
+/// Returns the lists of conditions of a program that never makes these mistakes: one list with one condition, which
+/// must never be met.
 fn nevers_of_mistakes(
     alloc: Global,
     mistakes: Mistakes,

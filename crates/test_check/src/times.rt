@@ -11,9 +11,9 @@ use std::process::Abort;
 /// The maximum number of states of a check, more than these programs have.
 const MAX_STATES: usize = 10_000;
 
-/// The number of cycles after which a search step ends if the program reads no input. A loop is
-/// recognised when it runs once more after that. In the nested loops, the upper byte of the
-/// stopwatch is not 0 at the end of such a step.
+/// The number of cycles after which a search step ends if the program reads no input. The search recognises a loop
+/// when the loop runs once more after this step. In `NESTED`, the stopwatch's upper byte is not 0 at the end of a
+/// step.
 const PAUSE: u32 = 137_000;
 
 /// FIM P0 0, ISZ R0 2, JUN 0. The FIM takes 2 cycles, the ISZ 16 times 2 cycles, and the JUN 2 cycles.
@@ -29,8 +29,8 @@ const BRANCHES: [u8; 10] = [0x20, 0, 0x11, 6, 0, 0, 0x70, 2, 0x40, 0];
 /// The maximum number of cycles from address 0 back to address 0.
 const BRANCHES_CYCLES: u32 = 100;
 
-/// The number of states: pass n of the 16 passes reads TEST at n different times, and the start is
-/// one more state.
+/// The number of states of `BRANCHES`: pass n of the 16 passes reads TEST at n different times, and the start is one
+/// more state.
 const BRANCHES_STATES: usize = 137;
 
 /// FIM P0 0, FIM P1 8, four nested loops with ISZ R0 to R3, and JUN 0. The outermost loop has 8
@@ -39,8 +39,8 @@ const NESTED: [u8; 14] = [
     0x20, 0, 0x22, 8, 0x70, 4, 0x71, 4, 0x72, 4, 0x73, 4, 0x40, 0,
 ];
 
-/// The number of cycles: 2 + 2 for the FIMs, 2 for each of 8 + 128 + 2048 + 32768 passes, and 2 for
-/// the JUN.
+/// The number of cycles from address 0 back to address 0: 2 + 2 for the FIMs, 2 for each of 8 + 128 + 2048 + 32768
+/// passes, and 2 for the JUN.
 const NESTED_CYCLES: u32 = 69_910;
 
 /// Returns the condition that a counter equals `n`.
@@ -68,7 +68,8 @@ pub(crate) fn begins_at(alloc: Global, low: u8) -> Result<Vec<Conjunction>, Allo
     Ok(lists)
 }
 
-/// Checks that a program always gets from one address to another within `limit` cycles. Returns the outcome.
+/// Checks that a program always reaches the address `to` within `limit` cycles of the address `from`. Returns the
+/// outcome.
 fn check_time(
     alloc: Global,
     rt: &impl Abort,
@@ -87,7 +88,7 @@ fn check_time(
     check_all(alloc, machine, aim, MAX_STATES, MEMORY, PAUSE).expect(rt, "memory")
 }
 
-/// Checks that `cycles` is the longest time that a program takes from one address to another.
+/// Expects that `cycles` is the maximum number of cycles that a program takes from the address `from` to `to`.
 fn expect_longest(alloc: Global, rt: &impl Abort, program: &[u8], from: u8, to: u8, cycles: u32) {
     let outcome = check_time(alloc, rt, program, from, to, cycles);
     assert!(rt; matches!(&outcome, Outcome::Holds(_)), "{cycles}");

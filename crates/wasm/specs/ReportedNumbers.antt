@@ -32,40 +32,39 @@ pub record ReportsDryRun (file input : List ℕ) (number count : ℕ) (buffer bu
   pub number_reported : number ≡ exit_status_of end
   pub answers : WouldAnswer file input end count buffer buffer'
 
--- the number that a call reports if input was not served: that of the refusal, or 0 if the answers do
--- not fit
+-- the number that a call reports for a fault: the number of the refusal, or 0 if the answers do not fit
 abbrev pub number_of_fault : ServeFault → ℕ
 number_of_fault (Refused fault) = store_fault_number fault
 number_of_fault (NoRoom count) = 0
 
--- the count that a call reports if input was not served: the size of answers that do not fit, or 0
+-- the count that a call reports for a fault: the number of answer bytes if they do not fit, otherwise 0
 abbrev pub count_of_fault : ServeFault → ℕ
 count_of_fault (Refused fault) = 0
 count_of_fault (NoRoom count) = count
 
--- holds if the input was not served, and the number and the count report the fault
+-- holds if the number and the count report a fault that can be the reason why the input was not served
 pub record ReportsFault (file input : List ℕ) (number count room : ℕ) : Type 0 where
   pub fault : ServeFault
   pub number_reported : number ≡ number_of_fault fault
   pub count_reported : count ≡ count_of_fault fault
   pub is_fault : IsWhyNotServed fault file input room
 
--- Holds if a question to the prover can have no line of answer because of this fault: memory ran out,
--- or the line has `count` bytes and does not fit.
+-- Holds if this fault can prevent the prover from writing its answer line: memory ran out, or the line
+-- has `count` bytes, more than the `room` bytes of the buffer.
 abbrev pub IsProverFault : ServeFault → ℕ → Type 0
 IsProverFault (Refused store_fault.NoMemory) room = Unit {0}
 IsProverFault (Refused fault) room = ⊥
 IsProverFault (NoRoom count) room = room < count
 
--- holds if the number and the count report the fault because of which a question to the prover has no
--- line of answer
+-- holds if the number and the count report a fault that can prevent the prover from writing its answer
+-- line
 pub record ReportsProverFault (number count room : ℕ) : Type 0 where
   pub fault : ServeFault
   pub number_reported : number ≡ number_of_fault fault
   pub count_reported : count ≡ count_of_fault fault
   pub is_fault : IsProverFault fault room
 
--- holds if a line of `count` bytes is at the front of the buffer, and the rest of the buffer is
+-- holds if a line of `count` bytes fits into the buffer, and the buffer behind its first `count` bytes is
 -- unchanged
 pub record HasLineAtFront (count : ℕ) (buffer buffer' : List ℕ) : Type 0 where
   pub fits : count ≤ length buffer

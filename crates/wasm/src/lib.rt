@@ -1,5 +1,5 @@
-//! The functions that a page in a browser calls: the bench, on the bytes of a session file that the page keeps, and the
-//! prover.
+//! The functions that a page in a browser calls: those of the bench and the call of the prover. The bench works on
+//! the bytes of a session file, which the page keeps.
 #![tactic(auto)]
 
 ghost use Rattle.std.specs.Prelude.{◌≡◌, length, true, false};
@@ -18,18 +18,18 @@ use mcs_wasm::page::{ServedInput, ask, begin, put_in_front, serve, serve_and_set
 use std::alloc::Global;
 use std::str;
 
-/// The result of a call.
+/// The numbers that a call reports to the page.
 #[derive(Clone, Copy)]
 #[repr(C)]
 pub struct CallResult {
     /// The exit status for the shell's end, if input was served. Otherwise the number of the refusal, or 0 if the
     /// answers do not fit into the buffer.
     pub number: u32,
-    /// The number of bytes in the answers, even if they do not fit into the buffer.
+    /// The number of bytes in the answers, even if they do not fit into the buffer. 0 if there are no answers.
     pub count: usize,
 }
 
-/// Writes the result of input that was served to `report`, and returns true.
+/// Writes the exit status and the number of answer bytes of served input to `report`, and returns true.
 fn report_served(served: ServedInput, report: &mut CallResult) -> bool
     ensures value { result ≡ true }
     ensures number { report.new.number ≡ exit_status_of served.end }
@@ -42,7 +42,8 @@ fn report_served(served: ServedInput, report: &mut CallResult) -> bool
     true
 }
 
-/// Writes the fault because of which input was not served to `report`, and returns false.
+/// Writes a fault to `report`: the number of the refusal, or the number of answer bytes that do not fit. Returns
+/// false.
 fn report_fault(fault: ServeFault, report: &mut CallResult) -> bool
     ensures value { result ≡ false }
     ensures number { report.new.number ≡ number_of_fault fault }
@@ -66,7 +67,8 @@ pub extern "C" fn bench_file_size() -> usize
     mcs_journal::FILE_SIZE
 }
 
-/// Writes the file of a new session. Returns false if memory ran out; the bytes are then unchanged.
+/// Writes a new session to a file of `bench_file_size` bytes. Returns false if memory runs out. The file is then
+/// unchanged.
 #[unsafe(no_mangle)]
 pub extern "C" fn bench_begin(alloc: Global, file: &mut [u8]) -> bool
     requires size { length file.old ≡ FILE_SIZE }
@@ -76,9 +78,9 @@ pub extern "C" fn bench_begin(alloc: Global, file: &mut [u8]) -> bool
     begin(alloc, file).is_ok()
 }
 
-/// Continues the session in the bytes of a file, and serves the input lines. Writes the answers to the front of a
-/// buffer, and replaces the bytes of the file with those of the session's disk. If it returns false, nothing was done,
-/// and `report` has the reason.
+/// Resumes the session in a file, and serves the input lines. Writes the answers to the front of the buffer
+/// `answers`, and copies the session's disk back to the file. Returns false if the input was not served. The file and
+/// the buffer are then unchanged, and `report` has the reason.
 #[unsafe(no_mangle)]
 pub extern "C" fn bench_serve(
     alloc: Global,
@@ -99,8 +101,8 @@ pub extern "C" fn bench_serve(
     }
 }
 
-/// Serves input as `bench_serve` does, and then replaces the records of the file with a snapshot. If it returns false,
-/// nothing was done, and `report` has the reason.
+/// Serves input as `bench_serve` does, and then replaces the records of the file with a snapshot. Returns false if
+/// the input was not served. The file and the buffer are then unchanged, and `report` has the reason.
 #[unsafe(no_mangle)]
 pub extern "C" fn bench_serve_and_settle(
     alloc: Global,
@@ -121,8 +123,8 @@ pub extern "C" fn bench_serve_and_settle(
     }
 }
 
-/// Answers input as `bench_serve` would, but leaves the file unchanged. If it returns false, nothing was done, and
-/// `report` has the reason.
+/// Answers input as `bench_serve` would, but leaves the file unchanged. Returns false if the input cannot be served.
+/// The buffer is then unchanged, and `report` has the reason.
 #[unsafe(no_mangle)]
 pub extern "C" fn bench_ask(
     alloc: Global,
@@ -143,8 +145,8 @@ pub extern "C" fn bench_ask(
     }
 }
 
-/// Replaces the records of a session's file with a snapshot. Returns false if the bytes do not hold a session or memory
-/// ran out; the bytes are then unchanged.
+/// Replaces the records of a session file with a snapshot. Returns false if the bytes do not hold a session or memory
+/// runs out. The file is then unchanged.
 #[unsafe(no_mangle)]
 pub extern "C" fn bench_settle(alloc: Global, file: &mut [u8]) -> bool
     ensures settled { result ≡ true → StandsForSameState file.old file.new }
@@ -153,9 +155,10 @@ pub extern "C" fn bench_settle(alloc: Global, file: &mut [u8]) -> bool
     settle(alloc, file).is_ok()
 }
 
-/// Answers a question to the prover as the program mcs4_prove does. Writes the line of the answer to the front of the
-/// buffer. `report` then has the exit status and the number of bytes in the line. If it returns false, the buffer is
-/// unchanged. `report` then has 90 if memory ran out, or 0 and the number of bytes if the line does not fit.
+/// Answers a question to the prover, as the program mcs4_prove does. Writes the answer line to the front of the
+/// buffer, and the exit status and the number of bytes in the line to `report`. Returns false if there is no answer
+/// line. The buffer is then unchanged. `report` has 90 if memory ran out, or 0 and the number of bytes if the line
+/// does not fit.
 #[unsafe(no_mangle)]
 pub extern "C" fn bench_prove(
     alloc: Global,
@@ -168,7 +171,7 @@ pub extern "C" fn bench_prove(
         ReportsProverFault report.new.number report.new.count (length answers.old) }
     ensures unchanged { result ≡ false → answers.new ≡ answers.old }
 {
-    // The program mcs4_prove, too, takes bytes that are not valid text for an empty question.
+    // Bytes that are not valid text count as an empty question, as in the program mcs4_prove.
     let Ok(Answer { text, status }) = answer_to(alloc, str::from_utf8(question).unwrap_or(""))
     else {
         return report_fault(ServeFault::Refused(StoreFault::NoMemory), report);
