@@ -135,6 +135,7 @@ impl<const ROMS: usize, const BANKS: usize, const CHAINS: usize, const MAX: usiz
 
     /// Returns status character `k` (0 to 3) in bank `bank` (0 to 7), or 0 if the chip is absent. `high`, the upper
     /// nibble of an SRC byte, selects the chip and its register.
+    #[inline(always)]
     pub fn status(&self, bank: u8, high: Nibble, k: u8) -> Nibble
         requires bank { bank < 8 }
         requires k { k < 4 }

@@ -115,6 +115,7 @@ impl<const ROMS: usize, const BANKS: usize, const CHAINS: usize, const MAX: usiz
     }
 
     /// Returns bit `i` of chain `chain`, or 0 if the board lacks that bit. Chains and bits are numbered from 0.
+    #[inline(always)]
     pub fn chain_bit(&self, chain: u8, i: u8) -> Bit
         ensures { result ≡ chain_bit self.now chain i }
     {

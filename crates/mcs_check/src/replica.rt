@@ -161,7 +161,7 @@ impl Replica {
             }
             CellList::RomPorts => self.rig.rom_latch(cell.place() as u8).get(),
             CellList::BankSrcs => self.rig.ram_src(cell.place() as u8),
-            CellList::Registers => self.cpu.regs().r[usize::from(cell.place())].get(),
+            CellList::Registers => self.cpu.index_registers()[usize::from(cell.place())].get(),
             CellList::Counters => self.counter_at(cell.place()),
             CellList::Chain(n) => self.rig.chain_bit(n, cell.place() as u8).get(),
         }
@@ -192,6 +192,7 @@ impl Replica {
 
     /// Returns the value of a key's byte. Each list with many cells has its own match arm. In that arm the list is
     /// constant, so the compiled program does not test it for each of the two cells.
+    #[inline(always)]
     fn byte(&self, byte: KeyByte) -> u8
         ensures { result ≡ byte_at self.now byte }
     {
@@ -267,6 +268,7 @@ impl Replica {
 
     /// Sets the cells of a key's byte to the value `n`. Calls `set` for each cell. The match arms are the same as in
     /// `byte`, for the same reason.
+    #[inline(always)]
     fn set_byte(&mut self, regs: &mut Regs, byte: KeyByte, n: u8)
         ensures { Keeps self.old.1 self.new.1 }
     {

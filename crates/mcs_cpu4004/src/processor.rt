@@ -150,6 +150,13 @@ impl Cpu {
         self.regs
     }
 
+    /// Returns the index registers, `R0` first.
+    pub fn index_registers(&self) -> &[Nibble; 16]
+        ensures { result.now ≡ self.now.r }
+    {
+        &self.regs.r
+    }
+
     /// Sets the accumulator.
     pub fn set_acc(&mut self, acc: Nibble)
         ensures { self.new ≡ record self.old { acc = acc } }
