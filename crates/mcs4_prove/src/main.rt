@@ -8,7 +8,7 @@ use std::io::Read;
 use std::process::ExitCode;
 
 /// The exit status if memory runs out or the answer cannot be written.
-const FAILED: u8 = 3;
+const FAILURE_STATUS: u8 = 3;
 
 /// Reads the question from standard input. Returns an empty text if standard input cannot be read or is not valid
 /// text.
@@ -20,17 +20,17 @@ fn question(rt: &HostRuntime) -> String {
     }
 }
 
-/// Reads the question and prints its answer. Returns the exit status of the answer, or `FAILED` if memory runs out.
+/// Reads the question and prints its answer. Returns the exit status of the answer, or `FAILURE_STATUS` if memory runs out.
 /// Fails if the answer cannot be written.
 fn answer_question(rt: &HostRuntime) -> io::Result<u8> {
     let Ok(Answer { text, status }) = answer_to(rt.alloc(), question(rt).as_str()) else {
         println!(rt; "no 90")?;
-        return Ok(FAILED);
+        return Ok(FAILURE_STATUS);
     };
     println!(rt; "{text}")?;
     Ok(status)
 }
 
 fn main(rt: HostRuntime) -> ExitCode {
-    ExitCode::from(answer_question(&rt).unwrap_or(FAILED))
+    ExitCode::from(answer_question(&rt).unwrap_or(FAILURE_STATUS))
 }

@@ -16,19 +16,19 @@ use Rattle.mcs_model.specs.Command.{after, machine_of, stops_of}
 use Rattle.mcs_model.specs.QueryText.{address_text, hex_digit}
 use Rattle.mcs_model.specs.Running.{after_run, run_length}
 use Rattle.mcs_probe.specs.declared.probe.Probe.{Probe}
-use Rattle.mcs_probe.specs.Forecast.{Begun, begun_in, is_at, later, runs_at}
+use Rattle.mcs_probe.specs.Forecast.{BegunInstruction, instructions_begun_in, is_at, later, runs_at}
 use Rattle.mcs_trace.proofs.Parts.{begun-add-up}
-use Rattle.mcs_answers.specs.ForecastLaws.{is_line_at, later_lines}
+use Rattle.mcs_answers.specs.ForecastLaws.{is_line_at, trace_lines_from}
 use Rattle.mcs_answers.specs.ForecastTexts.{trace_line, trace_lines}
 
-lines-of-map : (probes : List Probe) (m : ℕ) (begun : List Begun) → flat_map (trace_line probes) (map (later m) begun) ≡ flat_map (λ x. trace_line probes (later m x)) begun
+lines-of-map : (probes : List Probe) (m : ℕ) (begun : List BegunInstruction) → flat_map (trace_line probes) (map (later m) begun) ≡ flat_map (λ x. trace_line probes (later m x)) begun
 lines-of-map probes m [] = refl
 lines-of-map probes m (x ∷ begun) = ap (λ (l : List (List ℕ)). trace_line probes (later m x) ++ l) (lines-of-map probes m begun)
 
-pub traces-add : (probes : List Probe) (b : BenchState) (m n : ℕ) → run_length (stops_of b) (m + n) (machine_of b) ≡ m + n → trace_lines probes b (m + n) ≡ trace_lines probes b m ++ later_lines probes m (after b (Run m)) n
+pub traces-add : (probes : List Probe) (b : BenchState) (m n : ℕ) → run_length (stops_of b) (m + n) (machine_of b) ≡ m + n → trace_lines probes b (m + n) ≡ trace_lines probes b m ++ trace_lines_from probes m (after b (Run m)) n
 traces-add probes b m n e =
-    let first = begun_in (stops_of b) m (machine_of b) in
-    let second = begun_in (stops_of b) n (after_run (stops_of b) m (machine_of b)) in
+    let first = instructions_begun_in (stops_of b) m (machine_of b) in
+    let second = instructions_begun_in (stops_of b) n (after_run (stops_of b) m (machine_of b)) in
     ap (flat_map (trace_line probes)) (begun-add-up (stops_of b) m n (machine_of b) e)
     ∙ flat_map-append (trace_line probes) first (map (later m) second)
     ∙ ap (λ (l : List (List ℕ)). trace_lines probes b m ++ l) (lines-of-map probes m second)
@@ -36,8 +36,8 @@ traces-add probes b m n e =
 -- ---- counts
 
 -- Different numbers have different hexadecimal digits.
-hex-one : (a b : ℕ) → hex_digit a ≡ hex_digit b → a ≡ b
-hex-one a b e =
+hex-digit-injective : (a b : ℕ) → hex_digit a ≡ hex_digit b → a ≡ b
+hex-digit-injective a b e =
     elim (cases_lt a 10) [
       | inl la ↦ elim (cases_lt b 10) [
         | inl lb ↦ (let s : nat_lt a 10 ≡ true = grind (arith, nat_tests) in let t : nat_lt b 10 ≡ true = grind (arith, nat_tests) in let h = rw (s, t) at e in omega arith)
@@ -50,38 +50,38 @@ hex-one a b e =
     ]
 
 -- Different addresses have different texts.
-address-one : (a b : ℕ) → address_text a ≡ address_text b → a ≡ b
-address-one a b e =
-    let high : a / 256 ≡ b / 256 = hex-one (a / 256) (b / 256) (ap (λ (l : List ℕ). get_or l 0 0) e) in
-    let middle : a / 16 % 16 ≡ b / 16 % 16 = hex-one (a / 16 % 16) (b / 16 % 16) (ap (λ (l : List ℕ). get_or l 1 0) e) in
-    let low : a % 16 ≡ b % 16 = hex-one (a % 16) (b % 16) (ap (λ (l : List ℕ). get_or l 2 0) e) in
+address-text-injective : (a b : ℕ) → address_text a ≡ address_text b → a ≡ b
+address-text-injective a b e =
+    let high : a / 256 ≡ b / 256 = hex-digit-injective (a / 256) (b / 256) (ap (λ (l : List ℕ). get_or l 0 0) e) in
+    let middle : a / 16 % 16 ≡ b / 16 % 16 = hex-digit-injective (a / 16 % 16) (b / 16 % 16) (ap (λ (l : List ℕ). get_or l 1 0) e) in
+    let low : a % 16 ≡ b % 16 = hex-digit-injective (a % 16) (b % 16) (ap (λ (l : List ℕ). get_or l 2 0) e) in
     omega arith
 
 -- the line of an instruction in a trace without probes
-abbrev plain_line : Begun → List ℕ
+abbrev plain_line : BegunInstruction → List ℕ
 plain_line x = decimal x.cycles ++ codes " " ++ address_text x.before.0.pc
 
 -- The line of an instruction ends with the address of the instruction.
-ends-with : (x : Begun) → drop (length (plain_line x) - 3) (plain_line x) ≡ address_text x.before.0.pc
+ends-with : (x : BegunInstruction) → drop (length (plain_line x) - 3) (plain_line x) ≡ address_text x.before.0.pc
 ends-with x = end_rest (plain_line x) (address_text x.before.0.pc) (decimal x.cycles ++ codes " ") refl
 
-line-at : (at : ℕ) (x : Begun) → is_line_at at (plain_line x) ≡ is_at at x
+line-at : (at : ℕ) (x : BegunInstruction) → is_line_at at (plain_line x) ≡ is_at at x
 line-at at x =
     ap (λ (l : List ℕ). bytes_eq l (address_text at)) (ends-with x)
     ∙ elim (cases_eq x.before.0.pc at) [
       | inl same ↦ (bytes_eq-Decides (address_text x.before.0.pc) (address_text at)).1 (ap address_text same) ∙ sym (let t : eqb x.before.0.pc at ≡ true = grind (arith, nat_tests) in t)
-      | inr other ↦ false_from_ne_true (bytes_eq (address_text x.before.0.pc) (address_text at)) (λ t. other (address-one x.before.0.pc at ((bytes_eq-Decides (address_text x.before.0.pc) (address_text at)).0 t))) ∙ sym (let f : eqb x.before.0.pc at ≡ false = grind (arith, nat_tests) in f)
+      | inr other ↦ false_from_ne_true (bytes_eq (address_text x.before.0.pc) (address_text at)) (λ t. other (address-text-injective x.before.0.pc at ((bytes_eq-Decides (address_text x.before.0.pc) (address_text at)).0 t))) ∙ sym (let f : eqb x.before.0.pc at ≡ false = grind (arith, nat_tests) in f)
     ]
 
 -- In a trace without probes, nothing follows the address in a line.
-line-of : (x : Begun) → trace_line [] x ≡ plain_line x ∷ []
+line-of : (x : BegunInstruction) → trace_line [] x ≡ plain_line x ∷ []
 line-of x = ap (λ (l : List ℕ). l ∷ []) (append-nil (plain_line x))
 
-pub counts-lines : (at : ℕ) (begun : List Begun) → runs_at begun at ≡ count_by (is_line_at at) (flat_map (trace_line []) begun)
+pub counts-lines : (at : ℕ) (begun : List BegunInstruction) → runs_at begun at ≡ count_by (is_line_at at) (flat_map (trace_line []) begun)
 counts-lines at [] = refl
 counts-lines at (x ∷ begun) =
     let rest = flat_map (trace_line []) begun in
-    sum_by-append (λ (y : Begun). cond (is_at at y) 1 0) (x ∷ []) begun
+    sum_by-append (λ (y : BegunInstruction). cond (is_at at y) 1 0) (x ∷ []) begun
     ∙ ap (λ b. 0 + cond b 1 0 + runs_at begun at) (sym (line-at at x))
     ∙ ap (λ k. 0 + cond (is_line_at at (plain_line x)) 1 0 + k) (counts-lines at begun)
     ∙ sym (sum_by-append (λ (l : List ℕ). cond (is_line_at at l) 1 0) (plain_line x ∷ []) rest)

@@ -12,20 +12,20 @@ use Rattle.mcs_model.specs.Command.{machine_of, stops_of}
 use Rattle.mcs_model.specs.QueryText.{address_text}
 use Rattle.mcs_model.specs.TextLines.{as_line}
 use Rattle.mcs_model.specs.Running.{Machine, after_cycles}
-use Rattle.mcs_cpu4004.specs.InstructionRan.{InstructionRan}
-use Rattle.mcs_model.proofs.ListLemmas.{range_more}
-use Rattle.mcs_probe.specs.Forecast.{Begun, begins, cycle_at, is_branch, jumps_at, runs_at}
+use Rattle.mcs_cpu4004.specs.IsInstructionRun.{IsInstructionRun}
+use Rattle.mcs_model.proofs.ListLemmas.{range-one-more}
+use Rattle.mcs_probe.specs.Forecast.{BegunInstruction, begins, cycle_at, is_branch, jumps_at, runs_at}
 use Rattle.mcs_answers.specs.AnswerTexts.{stop_name}
 use Rattle.mcs_probe.specs.declared.probe.Probe.{Probe}
-use Rattle.mcs_probe.specs.Forecast.{begun_within}
+use Rattle.mcs_probe.specs.Forecast.{instructions_begun_within}
 use Rattle.mcs_probe.specs.Probes.{row}
-use Rattle.mcs_trace.proofs.Steps.{begun-on, one-behind, rests}
-use Rattle.mcs_trace.proofs.Tallies.{begun_at}
-use Rattle.mcs_answers.proofs.Resting.{row-owed}
+use Rattle.mcs_trace.proofs.Steps.{begun-on, after_cycles-next, rests}
+use Rattle.mcs_trace.proofs.Tallies.{instruction_begun_at}
+use Rattle.mcs_answers.proofs.UnchangedProbes.{row-owed}
 use Rattle.mcs_answers.specs.ForecastTexts.{addresses, count_line, is_reported, trace_line}
-use Rattle.mcs_answers.specs.Traced.{IsTraced, cycle_lines, line_when}
-use Rattle.mcs_answers.specs.declared.traces.Traced.{Traced}
-use Rattle.mcs_bench.specs.Runs.{RanTo}
+use Rattle.mcs_answers.specs.TraceResult.{IsTraceOfRun, cycle_lines, line_if_reported}
+use Rattle.mcs_answers.specs.declared.traces.TraceResult.{TraceResult}
+use Rattle.mcs_bench.specs.Runs.{IsRunResult}
 
 -- the text of lines, each with its line feed
 abbrev pub lines_text : List (List ℕ) → List ℕ
@@ -44,7 +44,7 @@ pub addresses-more : (f : ℕ → List (List ℕ)) (n : ℕ) (piece : List (List
 unfolding addresses
 addresses-more f n piece e =
     let one : suc n ≡ n + 1 = omega arith in
-    ap (flat_map f) (ap (range_with_len 0) (sym one) ∙ range_more 0 n) ∙ flat_map-append f (range_with_len 0 n) ((0 + n) ∷ [])
+    ap (flat_map f) (ap (range_with_len 0) (sym one) ∙ range-one-more 0 n) ∙ flat_map-append f (range_with_len 0 n) ((0 + n) ∷ [])
     ∙ ap (λ v. flat_map f (range_with_len 0 n) ++ v) (append-nil (f (0 + n)) ∙ (let same : 0 + n ≡ n = omega arith in ap f same) ∙ e)
 
 pub addresses-none : (f : ℕ → List (List ℕ)) → flat_map f (addresses 0) ≡ []
@@ -57,12 +57,12 @@ address_line s at runs jumps =
     address_text at ++ codes " " ++ decimal runs
     ++ (if is_branch s at then codes " " ++ decimal jumps else [])
 
-pub line-some : (begun : List Begun) (s : Machine) (at runs jumps : ℕ) → runs ≡ runs_at begun at → jumps ≡ jumps_at begun at → 0 < runs → count_line begun s at ≡ address_line s at runs jumps ∷ []
+pub line-some : (begun : List BegunInstruction) (s : Machine) (at runs jumps : ℕ) → runs ≡ runs_at begun at → jumps ≡ jumps_at begun at → 0 < runs → count_line begun s at ≡ address_line s at runs jumps ∷ []
 line-some begun s at runs jumps e f some =
     let t : nat_lt 0 (runs_at begun at) ≡ true = grind (arith, nat_tests) in
     rw (e, f, t) refl
 
-pub line-none : (begun : List Begun) (s : Machine) (at runs : ℕ) → runs ≡ runs_at begun at → runs ≡ 0 → count_line begun s at ≡ []
+pub line-none : (begun : List BegunInstruction) (s : Machine) (at runs : ℕ) → runs ≡ runs_at begun at → runs ≡ 0 → count_line begun s at ≡ []
 line-none begun s at runs e none =
     let t : nat_lt 0 (runs_at begun at) ≡ false = grind (arith, nat_tests) in
     rw t refl
@@ -79,17 +79,17 @@ head-same word c d s t n m e f g = ap (λ x. head_of word x s n) e ∙ ap (λ x.
 
 -- the trace lines of the first k cycles
 abbrev pub lines_within : List Probe → ℕ → Machine → List (List ℕ)
-lines_within probes k s = flat_map (trace_line probes) (begun_within k s)
+lines_within probes k s = flat_map (trace_line probes) (instructions_begun_within k s)
 
-one-cycle : (probes : List Probe) (x : Begun) (b : Bool) → flat_map (trace_line probes) (cond b (x ∷ []) []) ≡ (if b then trace_line probes x else [])
+one-cycle : (probes : List Probe) (x : BegunInstruction) (b : Bool) → flat_map (trace_line probes) (cond b (x ∷ []) []) ≡ (if b then trace_line probes x else [])
 one-cycle probes x true = append-nil (trace_line probes x)
 one-cycle probes x false = refl
 
 -- After one more instruction, its trace line follows the earlier lines.
-within-more : (probes : List Probe) (k m : ℕ) (s : Machine) → begun_within m s ≡ begun_within k s ++ begun_at s k → lines_within probes m s ≡ lines_within probes k s ++ (if begins (cycle_at s k) then trace_line probes (cycle_at s k) else [])
+within-more : (probes : List Probe) (k m : ℕ) (s : Machine) → instructions_begun_within m s ≡ instructions_begun_within k s ++ instruction_begun_at s k → lines_within probes m s ≡ lines_within probes k s ++ (if begins (cycle_at s k) then trace_line probes (cycle_at s k) else [])
 within-more probes k m s e =
     ap (flat_map (trace_line probes)) e
-    ∙ flat_map-append (trace_line probes) (begun_within k s) (begun_at s k)
+    ∙ flat_map-append (trace_line probes) (instructions_begun_within k s) (instruction_begun_at s k)
     ∙ ap (λ v. lines_within probes k s ++ v) (one-cycle probes (cycle_at s k) (begins (cycle_at s k)))
 
 -- Cycle k of a run has the trace lines that `cycle_lines` computes from its registers and rows.
@@ -102,14 +102,14 @@ cycle-same probes k s owed pc before after e f g h =
 
 -- Holds if `before`, `text` and `lines` are the row, the trace text and the number of trace lines
 -- after k cycles.
-pub record Reported (probes : List Probe) (k : ℕ) (s t : Machine) (before text : List ℕ) (lines : ℕ) : Type 0 where
+pub record IsTraceSoFar (probes : List Probe) (k : ℕ) (s t : Machine) (before text : List ℕ) (lines : ℕ) : Type 0 where
   pub row_now : before ≡ row probes t
   pub so_far : text ≡ lines_text (lines_within probes k s)
   pub count : lines ≡ length (lines_within probes k s)
   pub few : lines ≤ k
 
-pub report-by : (probes : List Probe) (n : ℕ) (b : BenchState) (t : Machine) (k : ℕ) (x : Traced) (text : List ℕ) → RanTo (stops_of b) n (machine_of b) t k x.stop → x.cycles ≡ k → x.lines ≡ length (lines_within probes k (machine_of b)) → text ≡ lines_text (lines_within probes k (machine_of b)) → IsTraced probes n b x text
-report-by probes n b t k x text ran e lines report = record {
+pub is-trace-of-run : (probes : List Probe) (n : ℕ) (b : BenchState) (t : Machine) (k : ℕ) (x : TraceResult) (text : List ℕ) → IsRunResult (stops_of b) n (machine_of b) t k x.stop → x.cycles ≡ k → x.lines ≡ length (lines_within probes k (machine_of b)) → text ≡ lines_text (lines_within probes k (machine_of b)) → IsTraceOfRun probes n b x text
+is-trace-of-run probes n b t k x text ran e lines report = record {
   cycles = e ∙ ran.cycles;
   stop = ran.stop;
   lines = subst (λ j. x.lines ≡ length (lines_within probes j (machine_of b))) ran.cycles lines;
@@ -117,10 +117,10 @@ report-by probes n b t k x text ran e lines report = record {
 }
 
 pub within-none : (probes : List Probe) (s : Machine) → lines_within probes 0 s ≡ []
-unfolding begun_within
+unfolding instructions_begun_within
 within-none probes s = refl
 
-few-when : (report : Bool) (cycles at : ℕ) (after : List ℕ) → length (line_when report cycles at after) ≤ 1
+few-when : (report : Bool) (cycles at : ℕ) (after : List ℕ) → length (line_if_reported report cycles at after) ≤ 1
 few-when true cycles at after = omega arith
 few-when false cycles at after = omega arith
 
@@ -128,11 +128,11 @@ few-of : (b : Bool) (lines : List (List ℕ)) → length lines ≤ 1 → length 
 few-of true lines l = l
 few-of false lines l = omega arith
 
--- `Reported` still holds after one more instruction.
-pub report-more : (probes : List Probe) (left k d : ℕ) (s t u : Machine) (regs : Regs) (before text later longer : List ℕ) (lines added : ℕ) → t ≡ after_cycles k s → InstructionRan left t u d → 0 < d → regs ≡ t.0 → Reported probes k s t before text lines → later ≡ row probes u → added ≡ length (cycle_lines probes regs.owed k regs.pc before (row probes u)) → longer ≡ text ++ lines_text (cycle_lines probes regs.owed k regs.pc before (row probes u)) → Reported probes (k + d) s u later longer (lines + added)
-report-more probes left k d s t u regs before text later longer lines added at ran some e report now count grown =
+-- `IsTraceSoFar` still holds after one more instruction.
+pub trace-so-far-next : (probes : List Probe) (left k d : ℕ) (s t u : Machine) (regs : Regs) (before text later longer : List ℕ) (lines added : ℕ) → t ≡ after_cycles k s → IsInstructionRun left t u d → 0 < d → regs ≡ t.0 → IsTraceSoFar probes k s t before text lines → later ≡ row probes u → added ≡ length (cycle_lines probes regs.owed k regs.pc before (row probes u)) → longer ≡ text ++ lines_text (cycle_lines probes regs.owed k regs.pc before (row probes u)) → IsTraceSoFar probes (k + d) s u later longer (lines + added)
+trace-so-far-next probes left k d s t u regs before text later longer lines added at ran some e report now count grown =
     let more : List (List ℕ) = cycle_lines probes regs.owed k regs.pc before (row probes u) in
-    let after : row probes u ≡ row probes (cycle_at s k).after = ap (row probes) (rests left d t u ran some) ∙ row-owed probes (after_cycles 1 t) u.0.owed ∙ ap (row probes) (one-behind k s t at) in
+    let after : row probes u ≡ row probes (cycle_at s k).after = ap (row probes) (rests left d t u ran some) ∙ row-owed probes (after_cycles 1 t) u.0.owed ∙ ap (row probes) (after_cycles-next k s t at) in
     let same : more ≡ (if begins (cycle_at s k) then trace_line probes (cycle_at s k) else []) = cycle-same probes k s regs.owed regs.pc before (row probes u)
     (ap (λ (r : Regs). r.owed) e ∙ ap (λ (m : Machine). m.0.owed) at)
     (ap (λ (r : Regs). r.pc) e ∙ ap (λ (m : Machine). m.0.pc) at)

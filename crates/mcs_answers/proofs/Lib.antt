@@ -1,9 +1,9 @@
 pub mod DecimalDigits
-pub mod Growing
+pub mod AppendedTexts
 pub mod RamTexts
 pub mod ListedWords
 pub mod RegisterTexts
 pub mod StateText
 pub mod ForecastLines
 pub mod ForecastLaws
-pub mod Resting
+pub mod UnchangedProbes

@@ -4,26 +4,26 @@ use Rattle.std.proofs.lemmas.Grind.{common_steps, flat_map-append}
 use Rattle.std.proofs.lemmas.List.{map-append}
 use Rattle.std.proofs.lemmas.List.Folds.{flat_map-map}
 use Rattle.std.specs.List.{flat_map, join_with_byte, range_with_len}
-use Rattle.mcs_model.proofs.ListLemmas.{range_more}
-use Rattle.mcs_model.specs.QueryText.{one_word}
+use Rattle.mcs_model.proofs.ListLemmas.{range-one-more}
+use Rattle.mcs_model.specs.QueryText.{comma_list}
 use Rattle.mcs_answers.specs.Commas.{with_comma, with_commas}
 
 -- If a comma is appended to items separated by commas, each item is followed by a comma.
-joined : (x : List ℕ) (xs : List (List ℕ)) → join_with_byte 44 (x ∷ xs) ++ 44 ∷ [] ≡ with_commas (x ∷ xs)
-joined x [] = sym (append-nil (with_comma x))
-joined x (y ∷ ys) =
+joined_with_commas : (x : List ℕ) (xs : List (List ℕ)) → join_with_byte 44 (x ∷ xs) ++ 44 ∷ [] ≡ with_commas (x ∷ xs)
+joined_with_commas x [] = sym (append-nil (with_comma x))
+joined_with_commas x (y ∷ ys) =
     append_assoc x (44 ∷ join_with_byte 44 (y ∷ ys)) (44 ∷ [])
-    ∙ (ap (λ t. x ++ 44 ∷ t) (joined y ys) ∙ sym (append_assoc x (44 ∷ []) (with_commas (y ∷ ys))))
+    ∙ (ap (λ t. x ++ 44 ∷ t) (joined_with_commas y ys) ∙ sym (append_assoc x (44 ∷ []) (with_commas (y ∷ ys))))
 
 -- If the last element of a list is removed after it was appended, the list is unchanged.
-last_off : (xs : List ℕ) (c : ℕ) → take (length (xs ++ c ∷ []) - 1) (xs ++ c ∷ []) ≡ xs
-last_off xs c = grind (arith, common_steps)
+take_all_but_last : (xs : List ℕ) (c : ℕ) → take (length (xs ++ c ∷ []) - 1) (xs ++ c ∷ []) ≡ xs
+take_all_but_last xs c = grind (arith, common_steps)
 
 -- If no item was written, a dash ends the list.
 pub ended_by_dash : (before old new : List ℕ) (items : List (List ℕ)) → length old ≡ length before
     → old ≡ before ++ with_commas items
     → new ≡ old ++ codes "-"
-    → new ≡ before ++ one_word items
+    → new ≡ before ++ comma_list items
 ended_by_dash before old new [] same listed here = here ∙ ap (λ v. v ++ codes "-") (listed ∙ append-nil before)
 ended_by_dash before old new (x ∷ xs) same listed here =
     let whole : length old ≡ length before + (length (x ++ 44 ∷ []) + length (with_commas xs)) =
@@ -35,15 +35,15 @@ ended_by_dash before old new (x ∷ xs) same listed here =
 pub ended_by_pop : (before old new : List ℕ) (items : List (List ℕ)) → length before + 1 ≤ length old
     → old ≡ before ++ with_commas items
     → new ≡ take (length old - 1) old
-    → new ≡ before ++ one_word items
+    → new ≡ before ++ comma_list items
 ended_by_pop before old new [] more listed here =
     let none : length old ≡ length before = ap length (listed ∙ append-nil before) in
     absurd (omega arith)
 ended_by_pop before old new (x ∷ xs) more listed here =
     let text = before ++ join_with_byte 44 (x ∷ xs) in
     let whole : old ≡ text ++ 44 ∷ [] =
-    listed ∙ ap (λ v. before ++ v) (sym (joined x xs)) ∙ sym (append_assoc before (join_with_byte 44 (x ∷ xs)) (44 ∷ [])) in
-    here ∙ ap (λ v. take (length v - 1) v) whole ∙ last_off text 44
+    listed ∙ ap (λ v. before ++ v) (sym (joined_with_commas x xs)) ∙ sym (append_assoc before (join_with_byte 44 (x ∷ xs)) (44 ∷ [])) in
+    here ∙ ap (λ v. take (length v - 1) v) whole ∙ take_all_but_last text 44
 
 -- The items of all lists, with commas, are the items of each list with commas.
 pub commas-flat_map : {A : Type 0} (f : A → List (List ℕ)) (xs : List A) → with_commas (flat_map f xs) ≡ flat_map (λ x. with_commas (f x)) xs
@@ -54,16 +54,16 @@ pub commas-map : {A : Type 0} (f : A → List ℕ) (xs : List A) → with_commas
 commas-map f xs = flat_map-map with_comma f xs
 
 -- If numbers 0 to n - 1 are written, writing number n extends the text by that number.
-pub numbered : (f : ℕ → ℕ) (n : ℕ) (a b c : List ℕ)
+pub append_numbered : (f : ℕ → ℕ) (n : ℕ) (a b c : List ℕ)
     → b ≡ a ++ map f (range_with_len 0 n)
     → c ≡ b ++ f n ∷ []
     → c ≡ a ++ map f (range_with_len 0 (n + 1))
-numbered f n a b c so_far here =
+append_numbered f n a b c so_far here =
     let done = map f (range_with_len 0 n) in
     let above : n + 1 ≡ suc n = omega arith in
     let from : 0 + n ≡ n = omega arith in
     let next : range_with_len 0 (n + 1) ≡ range_with_len 0 n ++ n ∷ [] =
-    ap (range_with_len 0) above ∙ range_more 0 n ∙ ap (λ k. range_with_len 0 n ++ k ∷ []) from in
+    ap (range_with_len 0) above ∙ range-one-more 0 n ∙ ap (λ k. range_with_len 0 n ++ k ∷ []) from in
     here
     ∙ ap (λ v. v ++ f n ∷ []) so_far
     ∙ append_assoc a done (f n ∷ [])

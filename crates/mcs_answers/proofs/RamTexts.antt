@@ -13,14 +13,14 @@ use Rattle.mcs_answers.specs.PortPieces.{port_line}
 use Rattle.mcs_model.specs.TextLines.{as_line}
 use Rattle.mcs_wiring.proofs.PartTexts.{text_of-flat_map}
 use Rattle.mcs_wiring.proofs.QueryLines.{joined_lines}
-use Rattle.mcs_model.proofs.SoundBoards.{sound}
+use Rattle.mcs_model.proofs.ValidBoardLemmas.{sound}
 
 -- The lines of a chip are those of its registers, then that of its port.
-pub chip_is : (s : BusState) (bank chip : ℕ) (a b c : List ℕ)
+pub chip_text_is : (s : BusState) (bank chip : ℕ) (a b c : List ℕ)
     → b ≡ a ++ flat_map (λ r. as_line (register_line s bank chip r)) (range_with_len 0 4)
     → c ≡ b ++ as_line (port_line s bank chip)
     → c ≡ a ++ flat_map as_line (chip_lines s bank chip)
-chip_is s bank chip a b c registers port =
+chip_text_is s bank chip a b c registers port =
     let lines = flat_map (λ r. as_line (register_line s bank chip r)) (range_with_len 0 4) in
     let last = as_line (port_line s bank chip) in
     let written : flat_map as_line (chip_lines s bank chip) ≡ lines ++ last =
@@ -33,11 +33,11 @@ chip_is s bank chip a b c registers port =
     ∙ ap (λ v. a ++ v) (sym written)
 
 -- The lines of a bank are a line with the number of its chips, then the lines of each chip.
-pub ram_is : (s : BusState) (bank : ℕ) (a b : List ℕ)
+pub ram_text_is : (s : BusState) (bank : ℕ) (a b : List ℕ)
     → a ≡ as_line (codes "ram " ++ digit_text bank ++ codes " chips " ++ digit_text (chips_of s bank))
     → b ≡ a ++ flat_map (λ chip. flat_map as_line (chip_lines s bank chip)) (range_with_len 0 (chips_of s bank))
     → b ≡ join_with_byte 10 (ram_lines s bank) ++ 10 ∷ []
-ram_is s bank a b head chips =
+ram_text_is s bank a b head chips =
     let first = codes "ram " ++ digit_text bank ++ codes " chips " ++ digit_text (chips_of s bank) in
     let others = flat_map (chip_lines s bank) (range_with_len 0 (chips_of s bank)) in
     chips

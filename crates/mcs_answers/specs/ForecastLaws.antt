@@ -9,8 +9,8 @@ use Rattle.mcs_model.specs.Command.{after, machine_of, reply, stops_of}
 use Rattle.mcs_model.specs.QueryText.{address_text}
 use Rattle.mcs_model.specs.Running.{run_length}
 use Rattle.mcs_probe.specs.declared.probe.Probe.{Probe}
-use Rattle.mcs_probe.specs.Forecast.{begun_in, later, runs_at}
-use Rattle.mcs_answers.specs.ForecastTexts.{ahead_head, trace_line, trace_lines}
+use Rattle.mcs_probe.specs.Forecast.{instructions_begun_in, later, runs_at}
+use Rattle.mcs_answers.specs.ForecastTexts.{forecast_head, trace_line, trace_lines}
 use Rattle.mcs_answers.specs.AnswerTexts.{reply_text}
 
 -- Holds if the first line of an answer reports the number of cycles and the reason to stop that the
@@ -18,14 +18,14 @@ use Rattle.mcs_answers.specs.AnswerTexts.{reply_text}
 abbrev pub HeadsReportTheRun : Type 0
 HeadsReportTheRun =
     (word : List ℕ) (b : BenchState) (n : ℕ) (lines : List (List ℕ)) →
-    ahead_head word b n lines
+    forecast_head word b n lines
     ≡ word ++ reply_text (reply b (Run n)) ++ codes " lines " ++ decimal (length lines)
 
 -- the lines of a trace of n cycles that starts after m cycles of a run; cycles are counted from the
 -- start of the run
-abbrev pub later_lines : List Probe → ℕ → BenchState → ℕ → List (List ℕ)
-later_lines probes m b n =
-    flat_map (λ x. trace_line probes (later m x)) (begun_in (stops_of b) n (machine_of b))
+abbrev pub trace_lines_from : List Probe → ℕ → BenchState → ℕ → List (List ℕ)
+trace_lines_from probes m b n =
+    flat_map (λ x. trace_line probes (later m x)) (instructions_begun_in (stops_of b) n (machine_of b))
 
 -- Holds if a trace of m + n cycles is a trace of m cycles, followed by a trace of n cycles that
 -- starts after `run m`. The second trace counts its cycles from m. The premise is that nothing
@@ -35,7 +35,7 @@ TracesAddUp =
     (probes : List Probe) (b : BenchState) (m n : ℕ) →
     run_length (stops_of b) (m + n) (machine_of b) ≡ m + n →
     trace_lines probes b (m + n)
-    ≡ trace_lines probes b m ++ later_lines probes m (after b (Run m)) n
+    ≡ trace_lines probes b m ++ trace_lines_from probes m (after b (Run m)) n
 
 -- True if a line of a trace without probes is the line of an instruction at address `at`. This is
 -- so if the line ends with the text of the address.
@@ -43,8 +43,8 @@ abbrev pub is_line_at : ℕ → List ℕ → Bool
 is_line_at at line = bytes_eq (drop (length line - 3) line) (address_text at)
 
 -- holds if the count of each address is the number of its lines in a trace without probes
-abbrev pub CountsAreOfTheTrace : Type 0
-CountsAreOfTheTrace =
+abbrev pub CountsMatchTheTrace : Type 0
+CountsMatchTheTrace =
     (b : BenchState) (n at : ℕ) →
-    runs_at (begun_in (stops_of b) n (machine_of b)) at
+    runs_at (instructions_begun_in (stops_of b) n (machine_of b)) at
     ≡ count_by (is_line_at at) (trace_lines [] b n)

@@ -8,25 +8,25 @@ use Rattle.mcs_model.specs.BenchState.{BenchState}
 use Rattle.mcs_model.specs.Command.{machine_of, stops_of}
 use Rattle.mcs_model.specs.QueryText.{address_text}
 use Rattle.mcs_model.specs.TextLines.{as_line, text_of}
-use Rattle.mcs_model.specs.Running.{Machine, run_length, run_stop}
+use Rattle.mcs_model.specs.Running.{Machine, run_length, run_stop_reason}
 use Rattle.mcs_probe.specs.declared.probe.Probe.{Probe}
-use Rattle.mcs_probe.specs.Forecast.{Begun, begun_in, is_branch, jumps_at, runs_at}
+use Rattle.mcs_probe.specs.Forecast.{BegunInstruction, instructions_begun_in, is_branch, jumps_at, runs_at}
 use Rattle.mcs_probe.specs.Probes.{row}
 use Rattle.mcs_answers.specs.AnswerTexts.{stop_name}
 
 -- the start of the first line of an answer: the number of cycles that the run would take, the
 -- reason why it would stop, and the number of lines that follow
-abbrev pub ahead_head : List ℕ → BenchState → ℕ → List (List ℕ) → List ℕ
-ahead_head word b n lines =
+abbrev pub forecast_head : List ℕ → BenchState → ℕ → List (List ℕ) → List ℕ
+forecast_head word b n lines =
     word ++ codes " ran " ++ decimal (run_length (stops_of b) n (machine_of b))
-    ++ codes " " ++ stop_name (run_stop (stops_of b) n (machine_of b))
+    ++ codes " " ++ stop_name (run_stop_reason (stops_of b) n (machine_of b))
     ++ codes " lines " ++ decimal (length lines)
 
 -- The lines of `count` for an address: one if the run begins an instruction there, else none. A
 -- line has the address and the number of instructions begun there. For JCN and ISZ, the line also
 -- has the number of these instructions after which the program counter is not the address plus 2
 -- (`jumps_at`).
-abbrev pub count_line : List Begun → Machine → ℕ → List (List ℕ)
+abbrev pub count_line : List BegunInstruction → Machine → ℕ → List (List ℕ)
 count_line begun s at =
     if nat_lt 0 (runs_at begun at)
     then (address_text at ++ codes " " ++ decimal (runs_at begun at)
@@ -40,11 +40,11 @@ addresses n = range_with_len 0 n
 -- the lines of `count` for a run of n cycles, by ascending address
 abbrev pub count_lines : BenchState → ℕ → List (List ℕ)
 count_lines b n =
-    flat_map (count_line (begun_in (stops_of b) n (machine_of b)) (machine_of b)) (addresses 4096)
+    flat_map (count_line (instructions_begun_in (stops_of b) n (machine_of b)) (machine_of b)) (addresses 4096)
 
 abbrev pub count_answer : ℕ → BenchState → List ℕ
 count_answer n b =
-    as_line (ahead_head (codes "count") b n (count_lines b n)) ++ text_of (count_lines b n)
+    as_line (forecast_head (codes "count") b n (count_lines b n)) ++ text_of (count_lines b n)
 
 -- True if an instruction has a line in a trace. It has one if there are no probes, or if the row
 -- after it differs from the row before it.
@@ -54,7 +54,7 @@ is_reported probes before after = not (bytes_eq after before)
 
 -- The lines of `trace` for an instruction: one or none. A line has the number of cycles done before
 -- the instruction, the address of the instruction, and the row after it.
-abbrev pub trace_line : List Probe → Begun → List (List ℕ)
+abbrev pub trace_line : List Probe → BegunInstruction → List (List ℕ)
 trace_line probes b =
     if is_reported probes (row probes b.before) (row probes b.after)
     then (decimal b.cycles ++ codes " " ++ address_text b.before.0.pc ++ row probes b.after) ∷ []
@@ -63,10 +63,10 @@ trace_line probes b =
 -- the lines of `trace` for a run of n cycles, in order
 abbrev pub trace_lines : List Probe → BenchState → ℕ → List (List ℕ)
 trace_lines probes b n =
-    flat_map (trace_line probes) (begun_in (stops_of b) n (machine_of b))
+    flat_map (trace_line probes) (instructions_begun_in (stops_of b) n (machine_of b))
 
 -- the answer to `trace`; its first line ends with the row before the run
 abbrev pub trace_answer : List Probe → ℕ → BenchState → List ℕ
 trace_answer probes n b =
-    as_line (ahead_head (codes "trace") b n (trace_lines probes b n) ++ row probes (machine_of b))
+    as_line (forecast_head (codes "trace") b n (trace_lines probes b n) ++ row probes (machine_of b))
     ++ text_of (trace_lines probes b n)

@@ -4,5 +4,5 @@ pub mod PortPieces
 pub mod Version1
 pub mod ForecastTexts
 pub mod ForecastLaws
-pub mod Traced
-pub mod Resting
+pub mod TraceResult
+pub mod UnchangedProbes

@@ -9,7 +9,7 @@ ghost use Rattle.mcs_answers.specs.ForecastTexts.{count_answer};
 
 use crate::digits::{put, put_address};
 use crate::forecast::put_head;
-use crate::numbers::put_counted;
+use crate::numbers::put_word_and_number;
 use crate::size::ANSWER_BYTES;
 use arrayvec::ArrayVec;
 use mcs_bench::Bench;
@@ -32,7 +32,7 @@ fn is_branch(bench: &Bench, at: Addr) -> bool
 }
 
 /// Returns the entry of an address in a table of counts. The table must have 4096 entries.
-fn number_at(numbers: &Vec<u32>, at: Addr) -> u32
+fn count_at(numbers: &Vec<u32>, at: Addr) -> u32
     requires { length numbers.now.items ≡ 4096 }
     ensures { result ≡ slice_index numbers.now.items at }
 {
@@ -41,15 +41,21 @@ fn number_at(numbers: &Vec<u32>, at: Addr) -> u32
 
 /// Writes the line of an address in the answer to `count` into an empty buffer. For JCN and ISZ, the line
 /// also has `jumps`.
-fn put_line(line: &mut ArrayVec<u8, ANSWER_BYTES>, bench: &Bench, at: Addr, runs: u32, jumps: u32)
+fn put_count_line(
+    line: &mut ArrayVec<u8, ANSWER_BYTES>,
+    bench: &Bench,
+    at: Addr,
+    runs: u32,
+    jumps: u32,
+)
     requires { line.old.items ≡ [] }
     ensures { line.new.items ≡ as_line (address_text at ++ codes " " ++ decimal runs
         ++ (if is_branch (machine_of bench.now) at then codes " " ++ decimal jumps else [])) }
 {
     put_address(line, b"", at);
-    put_counted(line, b" ", u64::from(runs));
+    put_word_and_number(line, b" ", u64::from(runs));
     if is_branch(bench, at) {
-        put_counted(line, b" ", u64::from(jumps));
+        put_word_and_number(line, b" ", u64::from(jumps));
     }
     put(line, b"\n");
 }
@@ -72,11 +78,11 @@ pub fn put_count(
     let mut line = ArrayVec::new();
     for i in 0..4096u16 {
         let at = Addr::ZERO.plus(i);
-        let runs = number_at(&counts.runs, at);
-        let jumps = number_at(&counts.jumps, at);
+        let runs = count_at(&counts.runs, at);
+        let jumps = count_at(&counts.jumps, at);
         if runs > 0 {
             line.clear();
-            put_line(&mut line, bench, at, runs, jumps);
+            put_count_line(&mut line, bench, at, runs, jumps);
             text.extend_from_slice(line.as_slice())?;
             lines += 1;
         }

@@ -2,7 +2,7 @@
 ghost use Rattle.std.specs.Prelude.{◌≡◌, ◌+◌, ◌++◌, ◌<◌, ◌≤◌, length, map};
 ghost use Rattle.std.specs.Fmt.{decimal};
 ghost use Rattle.arrayvec.specs.ArrayVec.{array_vec_len};
-ghost use Rattle.mcs_model.specs.QueryText.{address_text, hex_2, digit_text, hex_digit};
+ghost use Rattle.mcs_model.specs.QueryText.{address_text, two_hex_digits, digit_text, hex_digit};
 
 use crate::size::ANSWER_BYTES;
 use arrayvec::ArrayVec;
@@ -73,7 +73,7 @@ pub fn put_address(answer: &mut ArrayVec<u8, ANSWER_BYTES>, word: &[u8], address
 /// Appends a word, then a byte as two hexadecimal digits.
 pub fn put_byte(answer: &mut ArrayVec<u8, ANSWER_BYTES>, word: &[u8], byte: u8)
     requires { array_vec_len answer.old + length word.now + 2 ≤ ANSWER_BYTES }
-    ensures text { answer.new.items ≡ answer.old.items ++ word.now ++ hex_2 byte }
+    ensures text { answer.new.items ≡ answer.old.items ++ word.now ++ two_hex_digits byte }
     ensures count { length answer.new.items ≡ length answer.old.items + length word.now + 2 }
 {
     let digits = [hex_digit(byte / 16), hex_digit(byte % 16)];

@@ -4,7 +4,7 @@ ghost use Rattle.std.specs.Fmt.{decimal};
 ghost use Rattle.mcs_answers.specs.AnswerTexts.{stop_name};
 
 use crate::digits::put;
-use crate::numbers::{put_counted, stop_name};
+use crate::numbers::{put_word_and_number, stop_name};
 use crate::size::ANSWER_BYTES;
 use arrayvec::ArrayVec;
 use mcs_model::stop::Stop;
@@ -25,8 +25,8 @@ pub(crate) fn put_head(
     ensures count { length head.new.items ≤ 63 }
 {
     put(head, word);
-    put_counted(head, b" ran ", u64::from(cycles));
+    put_word_and_number(head, b" ran ", u64::from(cycles));
     put(head, b" ");
     put(head, stop_name(stop));
-    put_counted(head, b" lines ", u64::from(lines));
+    put_word_and_number(head, b" lines ", u64::from(lines));
 }

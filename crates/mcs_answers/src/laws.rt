@@ -2,13 +2,13 @@
 ghost use Rattle.std.specs.Prelude.{◌≡◌, ℕ};
 ghost use Rattle.mcs_version1.specs.BenchState.{BenchState1};
 ghost use Rattle.mcs_version1.specs.Lift.{lift};
-ghost use Rattle.mcs_answers.specs.ForecastLaws.{CountsAreOfTheTrace, HeadsReportTheRun, TracesAddUp};
+ghost use Rattle.mcs_answers.specs.ForecastLaws.{CountsMatchTheTrace, HeadsReportTheRun, TracesAddUp};
 ghost use Rattle.mcs_answers.specs.AnswerTexts.{board_answer, listing_answer};
 ghost use Rattle.mcs_answers.specs.Version1.{board_answer_1, listing_answer_1};
 
 /// Proves that a version 1 state and its conversion to version 2 (`lift`) have the same answers to `list` and
 /// `board`.
-pub fn answers_lift()
+pub fn lifted_state_gives_same_answers()
     ensures listings { (s : BenchState1) (at lines : ℕ)
         → listing_answer at lines (lift s) ≡ listing_answer_1 s at lines }
     ensures board { (s : BenchState1) → board_answer (lift s) ≡ board_answer_1 s }
@@ -27,6 +27,6 @@ pub fn traces_add_up()
 {}
 
 /// Proves that the count of each address equals the number of its lines in a trace without probes.
-pub fn counts_are_of_the_trace()
-    ensures { CountsAreOfTheTrace }
+pub fn counts_match_the_trace()
+    ensures { CountsMatchTheTrace }
 {}

@@ -106,7 +106,7 @@ pub(crate) fn put_watch(answer: &mut ArrayVec<u8, ANSWER_BYTES>, word: &[u8], wa
 }
 
 /// Appends the bank and the SRC byte of each watched RAM character, after a space.
-fn put_watched(answer: &mut ArrayVec<u8, ANSWER_BYTES>, list: &[Addr])
+fn put_spaced_watches(answer: &mut ArrayVec<u8, ANSWER_BYTES>, list: &[Addr])
     requires room { array_vec_len answer.old + 5 * length list.now ≤ ANSWER_BYTES }
     ensures text { answer.new.items
         ≡ answer.old.items ++ flat_map (λ watch. codes " " ++ watch_text watch) list.now }
@@ -126,7 +126,7 @@ pub fn put_watches(answer: &mut ArrayVec<u8, ANSWER_BYTES>, bench: &Bench)
         [] => put(answer, b"watches -\n"),
         [first, others @ ..] => {
             put_watch(answer, b"watches ", *first);
-            put_watched(answer, others);
+            put_spaced_watches(answer, others);
             put(answer, b"\n");
         }
     }

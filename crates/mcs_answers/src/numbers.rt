@@ -13,7 +13,7 @@ use mcs_model::command::Reply;
 use mcs_model::stop::Stop;
 
 /// Appends a word and a number in decimal.
-pub(crate) fn put_counted(answer: &mut ArrayVec<u8, ANSWER_BYTES>, word: &[u8], n: u64)
+pub(crate) fn put_word_and_number(answer: &mut ArrayVec<u8, ANSWER_BYTES>, word: &[u8], n: u64)
     requires { array_vec_len answer.old + length word.now + 20 ≤ ANSWER_BYTES }
     ensures text { answer.new.items ≡ answer.old.items ++ (word.now ++ decimal n) }
     ensures count { length answer.new.items ≤ length answer.old.items + length word.now + 20 }
@@ -28,7 +28,7 @@ pub fn put_number(answer: &mut ArrayVec<u8, ANSWER_BYTES>, word: &[u8], n: u64)
     requires short { length word.now ≤ 20 }
     ensures { answer.new.items ≡ word.now ++ as_line (decimal n) }
 {
-    put_counted(answer, word, n);
+    put_word_and_number(answer, word, n);
     put(answer, b"\n");
 }
 
@@ -38,8 +38,8 @@ pub fn put_refusal_at(answer: &mut ArrayVec<u8, ANSWER_BYTES>, number: u8, line:
     requires { answer.old.items ≡ [] }
     ensures { answer.new.items ≡ no_line_text number line }
 {
-    put_counted(answer, b"no ", u64::from(number));
-    put_counted(answer, b" line ", line);
+    put_word_and_number(answer, b"no ", u64::from(number));
+    put_word_and_number(answer, b" line ", line);
     put(answer, b"\n");
 }
 
@@ -64,9 +64,9 @@ fn put_reply_text(answer: &mut ArrayVec<u8, ANSWER_BYTES>, reply: &Reply)
 {
     match *reply {
         Reply::Done => {}
-        Reply::Loaded(bytes) => put_counted(answer, b" bytes ", u64::from(bytes)),
+        Reply::Loaded(bytes) => put_word_and_number(answer, b" bytes ", u64::from(bytes)),
         Reply::Ran { cycles, stop } => {
-            put_counted(answer, b" ran ", u64::from(cycles));
+            put_word_and_number(answer, b" ran ", u64::from(cycles));
             put(answer, b" ");
             put(answer, stop_name(stop));
         }
@@ -79,7 +79,7 @@ pub fn put_reply(answer: &mut ArrayVec<u8, ANSWER_BYTES>, reply: &Reply, bench: 
     requires { answer.old.items ≡ [] }
     ensures { answer.new.items ≡ ok_text reply.now bench.now }
 {
-    put_counted(answer, b"ok ", u64::from(bench.seq()));
+    put_word_and_number(answer, b"ok ", u64::from(bench.seq()));
     put_reply_text(answer, reply);
     put(answer, b"\n");
 }

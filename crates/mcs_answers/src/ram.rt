@@ -15,7 +15,7 @@ use mcs_nibble::Nibble;
 
 /// Proves that a bench has 2048 RAM characters and 512 status characters, and at most four chips in each
 /// bank.
-fn are_whole(bench: &Bench)
+fn show_ram_sizes(bench: &Bench)
     ensures ram { length bench.now.bus.ram ≡ 2048 }
     ensures status { length bench.now.bus.status ≡ 512 }
     ensures chips { (bank : ℕ) → chips_of bench.now.bus bank ≤ 4 }
@@ -24,7 +24,13 @@ fn are_whole(bench: &Bench)
 }
 
 /// Appends the 16 RAM characters of register `r` of a RAM chip.
-fn put_main(answer: &mut ArrayVec<u8, ANSWER_BYTES>, bench: &Bench, bank: u8, chip: u8, r: u8)
+fn put_ram_characters(
+    answer: &mut ArrayVec<u8, ANSWER_BYTES>,
+    bench: &Bench,
+    bank: u8,
+    chip: u8,
+    r: u8,
+)
     requires bank { bank < 8 }
     requires chip { chip < 4 }
     requires r { r < 4 }
@@ -33,7 +39,7 @@ fn put_main(answer: &mut ArrayVec<u8, ANSWER_BYTES>, bench: &Bench, bank: u8, ch
         ++ map hex_digit (stretch bench.now.bus.ram (bank * 256 + chip * 64 + r * 16) 16) }
     ensures count { length answer.new.items ≡ length answer.old.items + 16 }
 {
-    are_whole(bench);
+    show_ram_sizes(bench);
     for k in 0..16 {
         let character = bench.ram(bank, chip * 64 + r * 16 + k);
         answer.push(hex_digit(character.get()));
@@ -50,7 +56,7 @@ fn put_status(answer: &mut ArrayVec<u8, ANSWER_BYTES>, bench: &Bench, bank: u8, 
         ++ map hex_digit (stretch bench.now.bus.status (bank * 64 + chip * 16 + r * 4) 4) }
     ensures count { length answer.new.items ≡ length answer.old.items + 4 }
 {
-    are_whole(bench);
+    show_ram_sizes(bench);
     let high = Nibble::low_of(chip * 4 + r);
     for k in 0..4 {
         let character = bench.status(bank, high, k);
@@ -72,7 +78,7 @@ fn put_register(answer: &mut ArrayVec<u8, ANSWER_BYTES>, bench: &Bench, bank: u8
     put_digit(answer, b".", chip);
     put_digit(answer, b".", r);
     put(answer, b" ");
-    put_main(answer, bench, bank, chip, r);
+    put_ram_characters(answer, bench, bank, chip, r);
     put(answer, b" ");
     put_status(answer, bench, bank, chip, r);
     put(answer, b"\n");
@@ -114,7 +120,7 @@ pub(crate) fn chips_of(bench: &Bench, bank: u8) -> u8
     ensures chips { result ≡ chips_of bench.now.bus bank }
     ensures few { result ≤ 4 }
 {
-    are_whole(bench);
+    show_ram_sizes(bench);
     bench.board().bank_chips(bank)
 }
 

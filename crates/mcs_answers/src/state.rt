@@ -5,7 +5,7 @@ ghost use Rattle.mcs_model.specs.TextLines.{as_line};
 
 use crate::digits::{put, put_byte};
 use crate::lists::add_lamps;
-use crate::numbers::put_counted;
+use crate::numbers::put_word_and_number;
 use crate::registers::put_registers;
 use crate::size::ANSWER_BYTES;
 use crate::state_lists::{
@@ -21,7 +21,7 @@ pub fn put_state(answer: &mut ArrayVec<u8, ANSWER_BYTES>, bench: &Bench)
     requires { answer.old.items ≡ [] }
     ensures { answer.new.items ≡ as_line (state_text bench.now) }
 {
-    put_counted(answer, b"state seq ", u64::from(bench.seq()));
+    put_word_and_number(answer, b"state seq ", u64::from(bench.seq()));
     put(answer, b" ");
     put_registers(answer, bench);
     put_address_list(answer, b" ret ", &bench.regs().ret);

@@ -6,7 +6,7 @@ ghost use Rattle.std.specs.List.{flat_map, range_with_len};
 ghost use Rattle.arrayvec.specs.ArrayVec.{array_vec_len};
 ghost use Rattle.mcs_model.specs.declared.board.KeyMatrix.{KeyMatrix};
 ghost use Rattle.mcs_model.specs.Boards.{chain_bits, chain_count, chain_part, has_key};
-ghost use Rattle.mcs_model.specs.QueryText.{address_text, bank_items, chain_item, key_item, key_items, one_word, ram_items, rom_items, row_items, watch_text};
+ghost use Rattle.mcs_model.specs.QueryText.{address_text, bank_items, chain_item, key_item, key_items, comma_list, ram_items, rom_items, row_items, watch_text};
 ghost use Rattle.mcs_answers.specs.PortPieces.{ram_item};
 ghost use Rattle.mcs_probe.specs.Probes.{bits_text};
 ghost use Rattle.mcs_answers.specs.Commas.{with_comma, with_commas};
@@ -26,7 +26,7 @@ use mcs_model::limits::{
 use mcs_nibble::{Addr, Bit, Nibble};
 
 /// Proves that a bench has at most the maximum number of chains, chips in a chain, key rows and key columns.
-fn are_within_limits(bench: &Bench)
+fn show_within_limits(bench: &Bench)
     ensures chains { chain_count bench.now.bus.board ≤ CHAINS }
     ensures chips { (n : ℕ) → (chain_part bench.now.bus.board n).chips ≤ CHAIN_CHIPS }
     ensures rows { (m : KeyMatrix) → bench.now.bus.board.keys ≡ Some m → m.rows ≤ KEY_ROWS }
@@ -42,7 +42,7 @@ fn end_list(answer: &mut ArrayVec<u8, ANSWER_BYTES>, start: usize)
     requires { array_vec_len answer.old + 1 ≤ ANSWER_BYTES }
     ensures text { (before : List ℕ) (items : List (List ℕ)) → length before ≡ start
         → answer.old.items ≡ before ++ with_commas items
-        → answer.new.items ≡ before ++ one_word items }
+        → answer.new.items ≡ before ++ comma_list items }
     ensures count { length answer.new.items ≤ length answer.old.items + 1 }
 {
     if answer.len() == start {
@@ -69,7 +69,7 @@ fn put_address_items(answer: &mut ArrayVec<u8, ANSWER_BYTES>, list: &[Addr])
 pub(crate) fn put_address_list(answer: &mut ArrayVec<u8, ANSWER_BYTES>, word: &[u8], list: &[Addr])
     requires { array_vec_len answer.old + length word.now + 4 * length list.now + 1 ≤ ANSWER_BYTES }
     ensures text { answer.new.items
-        ≡ answer.old.items ++ word.now ++ one_word (map address_text list.now) }
+        ≡ answer.old.items ++ word.now ++ comma_list (map address_text list.now) }
     ensures count { length answer.new.items
         ≤ length answer.old.items + length word.now + 4 * length list.now + 1 }
 {
@@ -96,7 +96,7 @@ fn put_watch_items(answer: &mut ArrayVec<u8, ANSWER_BYTES>, list: &[Addr])
 pub(crate) fn put_watch_list(answer: &mut ArrayVec<u8, ANSWER_BYTES>, list: &[Addr])
     requires { array_vec_len answer.old + 5 * length list.now + 10 ≤ ANSWER_BYTES }
     ensures text { answer.new.items
-        ≡ answer.old.items ++ codes " watches " ++ one_word (map watch_text list.now) }
+        ≡ answer.old.items ++ codes " watches " ++ comma_list (map watch_text list.now) }
     ensures count { length answer.new.items ≤ length answer.old.items + 5 * length list.now + 10 }
 {
     put(answer, b" watches ");
@@ -125,7 +125,7 @@ fn put_bank_item(answer: &mut ArrayVec<u8, ANSWER_BYTES>, bench: &Bench, bank: u
 pub(crate) fn put_bank_list(answer: &mut ArrayVec<u8, ANSWER_BYTES>, bench: &Bench)
     requires { array_vec_len answer.old + BANK_LIST_BYTES ≤ ANSWER_BYTES }
     ensures text { answer.new.items ≡ answer.old.items ++ codes " banks "
-        ++ one_word (flat_map (bank_items bench.now.bus) (range_with_len 0 BANKS)) }
+        ++ comma_list (flat_map (bank_items bench.now.bus) (range_with_len 0 BANKS)) }
     ensures count { length answer.new.items ≤ length answer.old.items + BANK_LIST_BYTES }
 {
     put(answer, b" banks ");
@@ -137,7 +137,7 @@ pub(crate) fn put_bank_list(answer: &mut ArrayVec<u8, ANSWER_BYTES>, bench: &Ben
 }
 
 /// Appends a number below 100 in decimal.
-fn put_small(answer: &mut ArrayVec<u8, ANSWER_BYTES>, n: u8)
+fn put_below_100(answer: &mut ArrayVec<u8, ANSWER_BYTES>, n: u8)
     requires small { n < 100 }
     requires room { array_vec_len answer.old + 2 ≤ ANSWER_BYTES }
     ensures text { answer.new.items ≡ answer.old.items ++ decimal n }
@@ -156,7 +156,7 @@ fn put_rom_item(answer: &mut ArrayVec<u8, ANSWER_BYTES>, bench: &Bench, chip: u8
     ensures count { length answer.new.items ≤ length answer.old.items + 7 }
 {
     if bench.board().mask(chip).is_some() {
-        put_small(answer, chip);
+        put_below_100(answer, chip);
         put_digit(answer, b".", bench.rom_port(chip).get());
         put_digit(answer, b".", bench.read_port(Nibble::low_of(chip)).get());
         put(answer, b",");
@@ -167,7 +167,7 @@ fn put_rom_item(answer: &mut ArrayVec<u8, ANSWER_BYTES>, bench: &Bench, chip: u8
 pub(crate) fn put_rom_list(answer: &mut ArrayVec<u8, ANSWER_BYTES>, bench: &Bench)
     requires { array_vec_len answer.old + ROM_LIST_BYTES ≤ ANSWER_BYTES }
     ensures text { answer.new.items ≡ answer.old.items ++ codes " roms "
-        ++ one_word (flat_map (rom_items bench.now.bus) (range_with_len 0 ROMS)) }
+        ++ comma_list (flat_map (rom_items bench.now.bus) (range_with_len 0 ROMS)) }
     ensures count { length answer.new.items ≤ length answer.old.items + ROM_LIST_BYTES }
 {
     put(answer, b" roms ");
@@ -211,7 +211,7 @@ fn put_ram_items(answer: &mut ArrayVec<u8, ANSWER_BYTES>, bench: &Bench, bank: u
 pub(crate) fn put_ram_list(answer: &mut ArrayVec<u8, ANSWER_BYTES>, bench: &Bench)
     requires { array_vec_len answer.old + RAM_LIST_BYTES ≤ ANSWER_BYTES }
     ensures text { answer.new.items ≡ answer.old.items ++ codes " rams "
-        ++ one_word (flat_map (ram_items bench.now.bus) (range_with_len 0 BANKS)) }
+        ++ comma_list (flat_map (ram_items bench.now.bus) (range_with_len 0 BANKS)) }
     ensures count { length answer.new.items ≤ length answer.old.items + RAM_LIST_BYTES }
 {
     put(answer, b" rams ");
@@ -223,12 +223,12 @@ pub(crate) fn put_ram_list(answer: &mut ArrayVec<u8, ANSWER_BYTES>, bench: &Benc
 }
 
 /// Returns the number of bits in a chain.
-fn bits_of(bench: &Bench, n: u8) -> u8
+fn chain_bit_count(bench: &Bench, n: u8) -> u8
     requires { n < chain_count bench.now.bus.board }
     ensures bits { result ≡ chain_bits bench.now.bus.board n }
     ensures few { result ≤ CHAIN_BITS }
 {
-    are_within_limits(bench);
+    show_within_limits(bench);
     10 * bench.board().chain(usize::from(n)).chips
 }
 
@@ -239,7 +239,7 @@ fn put_chain_item(answer: &mut ArrayVec<u8, ANSWER_BYTES>, bench: &Bench, n: u8)
     ensures text { answer.new.items ≡ answer.old.items ++ with_comma (chain_item bench.now.bus n) }
     ensures count { length answer.new.items ≤ length answer.old.items + CHAIN_ITEM_BYTES }
 {
-    let bits = bits_of(bench, n);
+    let bits = chain_bit_count(bench, n);
     for i in 0..bits {
         put_digit(answer, b"", bench.chain_bit(n, i).get());
     }
@@ -264,11 +264,11 @@ pub(crate) fn put_chain_bits(answer: &mut ArrayVec<u8, ANSWER_BYTES>, bench: &Be
 pub(crate) fn put_chain_list(answer: &mut ArrayVec<u8, ANSWER_BYTES>, bench: &Bench)
     requires { array_vec_len answer.old + CHAIN_LIST_BYTES ≤ ANSWER_BYTES }
     ensures text { answer.new.items ≡ answer.old.items ++ codes " chains "
-        ++ one_word (map (chain_item bench.now.bus)
+        ++ comma_list (map (chain_item bench.now.bus)
         (range_with_len 0 (chain_count bench.now.bus.board))) }
     ensures count { length answer.new.items ≤ length answer.old.items + CHAIN_LIST_BYTES }
 {
-    are_within_limits(bench);
+    show_within_limits(bench);
     let chains = bench.board().chain_count() as u8;
     put(answer, b" chains ");
     let start = answer.len();
@@ -312,7 +312,7 @@ fn put_row_items(answer: &mut ArrayVec<u8, ANSWER_BYTES>, bench: &Bench, columns
 }
 
 /// Appends the keys that are down in the first `rows` rows, row by row, each followed by a comma.
-fn put_rows_items(answer: &mut ArrayVec<u8, ANSWER_BYTES>, bench: &Bench, rows: u8, columns: u8)
+fn put_key_rows(answer: &mut ArrayVec<u8, ANSWER_BYTES>, bench: &Bench, rows: u8, columns: u8)
     requires keys { (row column : ℕ) → row < rows → column < columns
         → has_key bench.now.bus.board row column ≡ true }
     requires rows { rows ≤ KEY_ROWS }
@@ -333,10 +333,10 @@ fn put_key_items(answer: &mut ArrayVec<u8, ANSWER_BYTES>, bench: &Bench)
     ensures text { answer.new.items ≡ answer.old.items ++ with_commas (key_items bench.now.bus) }
     ensures count { length answer.new.items ≤ length answer.old.items + 4 * KEYS }
 {
-    are_within_limits(bench);
+    show_within_limits(bench);
     if let Some(matrix) = &bench.board().parts().keys {
         let columns = matrix.columns.len() as u8;
-        put_rows_items(answer, bench, matrix.rows, columns);
+        put_key_rows(answer, bench, matrix.rows, columns);
     }
 }
 
@@ -344,7 +344,7 @@ fn put_key_items(answer: &mut ArrayVec<u8, ANSWER_BYTES>, bench: &Bench)
 pub(crate) fn put_key_list(answer: &mut ArrayVec<u8, ANSWER_BYTES>, bench: &Bench)
     requires { array_vec_len answer.old + KEY_LIST_BYTES ≤ ANSWER_BYTES }
     ensures text { answer.new.items
-        ≡ answer.old.items ++ codes " keys " ++ one_word (key_items bench.now.bus) }
+        ≡ answer.old.items ++ codes " keys " ++ comma_list (key_items bench.now.bus) }
     ensures count { length answer.new.items ≤ length answer.old.items + KEY_LIST_BYTES }
 {
     put(answer, b" keys ");

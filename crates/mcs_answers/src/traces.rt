@@ -3,13 +3,13 @@ ghost use Rattle.std.specs.Prelude.{◌≡◌, ◌⊎◌, ℕ, ◌+◌, ◌*◌,
 ghost use Rattle.std.specs.Fmt.{decimal};
 ghost use Rattle.arrayvec.specs.ArrayVec.{array_vec_len};
 ghost use Rattle.mcs_model.specs.Command.{machine_of};
-ghost use Rattle.mcs_model.specs.QueryText.{address_text, one_word};
+ghost use Rattle.mcs_model.specs.QueryText.{address_text, comma_list};
 ghost use Rattle.mcs_model.specs.TextLines.{as_line};
-ghost use Rattle.mcs_bench.specs.Runs.{stop_by};
+ghost use Rattle.mcs_bench.specs.Runs.{stop_reason};
 ghost use Rattle.mcs_probe.specs.Probes.{probe_text, row};
 ghost use Rattle.mcs_answers.specs.ForecastTexts.{is_reported, trace_answer};
-ghost use Rattle.mcs_answers.specs.Resting.{Rests, RowKeeps, RowRests, SeesAll, SeesToo, WritesPort, WritesStatus, touches};
-ghost use Rattle.mcs_answers.specs.Traced.{IsTraced, cycle_lines, line_when};
+ghost use Rattle.mcs_answers.specs.UnchangedProbes.{StaysSame, RowAlwaysStaysSame, RowStaysSame, CoversProbes, IncludesProbeKind, WritesPort, WritesStatus, touches};
+ghost use Rattle.mcs_answers.specs.TraceResult.{IsTraceOfRun, cycle_lines, line_if_reported};
 ghost use Rattle.mcs_model.specs.declared.op.Op.TheVariants.{Src, Wrm};
 ghost use Rattle.mcs_model.specs.declared.regs.Regs.{Regs};
 ghost use Rattle.std.specs.List.{flat_map};
@@ -17,25 +17,25 @@ ghost use Rattle.std.specs.List.{flat_map};
 use crate::digits::{put, put_address, put_byte, put_digit};
 use crate::forecast::put_head;
 use crate::lists::put_lamp_marks;
-use crate::numbers::put_counted;
+use crate::numbers::put_word_and_number;
 use crate::port_levels::{ram_levels, rom_levels};
 use crate::size::{ANSWER_BYTES, PROBE_BYTES};
 use crate::state_lists::put_chain_bits;
-use crate::unchanged_rows::stands;
+use crate::unchanged_rows::is_present_row;
 use arrayvec::ArrayVec;
 use mcs_bench::Bench;
 use mcs_model::op::Op;
 use mcs_model::regs::Regs;
 use mcs_model::stop::Stop;
 use mcs_nibble::Addr;
-use mcs_probe::{PROBES, Probe};
+use mcs_probe::{MAX_PROBES, Probe};
 use std::alloc::{AllocError, Global};
 
 /// Appends a space and the three return addresses, separated by commas.
 fn put_returns(answer: &mut ArrayVec<u8, ANSWER_BYTES>, ret: [Addr; 3])
     requires { array_vec_len answer.old + 12 ≤ ANSWER_BYTES }
     ensures text { answer.new.items
-        ≡ answer.old.items ++ codes " " ++ one_word (map address_text ret) }
+        ≡ answer.old.items ++ codes " " ++ comma_list (map address_text ret) }
     ensures count { length answer.new.items ≡ length answer.old.items + 12 }
 {
     let [first, second, third] = ret;
@@ -75,7 +75,7 @@ fn put_probe(answer: &mut ArrayVec<u8, ANSWER_BYTES>, probe: Probe, bench: &Benc
             put(answer, b" ");
             put_lamp_marks(answer, bench);
         }
-        Probe::Returns => put_returns(answer, regs.ret),
+        Probe::ReturnAddresses => put_returns(answer, regs.ret),
     }
 }
 
@@ -104,7 +104,7 @@ fn add_line(
         ≡ text.old.items ++ as_line (decimal cycles ++ codes " " ++ address_text at ++ row.now)) }
 {
     start.clear();
-    put_counted(start, b"", u64::from(cycles));
+    put_word_and_number(start, b"", u64::from(cycles));
     put_address(start, b" ", at);
     text.extend_from_slice(start.as_slice())?;
     text.extend_from_slice(row)?;
@@ -141,8 +141,8 @@ fn writes_src(op: &Op) -> bool
 
 /// Returns true only if a probe is outside the processor and an instruction cannot change its value.
 #[inline(always)]
-fn keeps_outside(probe: Probe, op: &Op) -> bool
-    ensures { result ≡ true → (before after : Regs) → Rests op.now before after probe }
+fn keeps_outside_probe(probe: Probe, op: &Op) -> bool
+    ensures { result ≡ true → (before after : Regs) → StaysSame op.now before after probe }
 {
     match probe {
         Probe::Rom(_) => true,
@@ -160,7 +160,7 @@ fn keeps_outside(probe: Probe, op: &Op) -> bool
 
 /// The kinds of probes in a row. Each field is true if the row has a probe of that kind.
 #[derive(Clone, Copy)]
-struct Seen {
+struct ProbeKinds {
     /// Lines, ports, chains or lamps, which WMP and WRR can change.
     ports: bool,
     /// RAM characters, which WRM can change.
@@ -178,67 +178,73 @@ struct Seen {
 /// Returns true if an instruction can change the return addresses or a location outside the registers, and
 /// the row has a probe of that kind.
 #[inline(always)]
-fn touches(seen: &Seen, op: &Op) -> bool
-    ensures { result ≡ touches seen.now op.now }
+fn touches(probe_kinds: &ProbeKinds, op: &Op) -> bool
+    ensures { result ≡ touches probe_kinds.now op.now }
 {
     match op {
-        Op::Wmp | Op::Wrr => seen.ports,
-        Op::Wrm => seen.ram,
-        Op::Wr0 | Op::Wr1 | Op::Wr2 | Op::Wr3 => seen.status,
-        Op::Src(_) => seen.src,
-        Op::Jms(_, _) | Op::Bbl(_) => seen.returns,
+        Op::Wmp | Op::Wrr => probe_kinds.ports,
+        Op::Wrm => probe_kinds.ram,
+        Op::Wr0 | Op::Wr1 | Op::Wr2 | Op::Wr3 => probe_kinds.status,
+        Op::Src(_) => probe_kinds.src,
+        Op::Jms(_, _) | Op::Bbl(_) => probe_kinds.returns,
         _ => false,
     }
 }
 
 /// Returns the kinds of probes in a row after a probe is added to it.
-fn visible_too(seen: Seen, probe: Probe) -> Seen
-    ensures { SeesToo seen result probe }
+fn with_probe_kind(probe_kinds: ProbeKinds, probe: Probe) -> ProbeKinds
+    ensures { IncludesProbeKind probe_kinds result probe }
 {
     match probe {
-        Probe::Rom(_) => seen,
-        Probe::Ram(_, _) => Seen { ram: true, ..seen },
-        Probe::Status(_, _, _) => Seen {
+        Probe::Rom(_) => probe_kinds,
+        Probe::Ram(_, _) => ProbeKinds {
+            ram: true,
+            ..probe_kinds
+        },
+        Probe::Status(_, _, _) => ProbeKinds {
             status: true,
-            ..seen
+            ..probe_kinds
         },
-        Probe::Level(_) => Seen {
+        Probe::Level(_) => ProbeKinds {
             ports: true,
-            ..seen
+            ..probe_kinds
         },
-        Probe::RomPort(_) => Seen {
+        Probe::RomPort(_) => ProbeKinds {
             ports: true,
-            ..seen
+            ..probe_kinds
         },
-        Probe::RamPort(_, _) => Seen {
+        Probe::RamPort(_, _) => ProbeKinds {
             ports: true,
-            ..seen
+            ..probe_kinds
         },
-        Probe::Chain(_) => Seen {
+        Probe::Chain(_) => ProbeKinds {
             ports: true,
-            ..seen
+            ..probe_kinds
         },
-        Probe::Src => Seen { src: true, ..seen },
-        Probe::Lamps => Seen {
+        Probe::Src => ProbeKinds {
+            src: true,
+            ..probe_kinds
+        },
+        Probe::Lamps => ProbeKinds {
             ports: true,
-            ..seen
+            ..probe_kinds
         },
-        Probe::Returns => Seen {
+        Probe::ReturnAddresses => ProbeKinds {
             returns: true,
-            ..seen
+            ..probe_kinds
         },
-        _ => Seen {
+        _ => ProbeKinds {
             registers: true,
-            ..seen
+            ..probe_kinds
         },
     }
 }
 
 /// Returns the kinds of probes in a row.
-fn seen_of(probes: &[Probe]) -> Seen
-    ensures { SeesAll result probes.now }
+fn kinds_of_probes(probes: &[Probe]) -> ProbeKinds
+    ensures { CoversProbes result probes.now }
 {
-    let mut seen = Seen {
+    let mut probe_kinds = ProbeKinds {
         ports: false,
         ram: false,
         status: false,
@@ -247,25 +253,25 @@ fn seen_of(probes: &[Probe]) -> Seen
         registers: false,
     };
     for probe in probes {
-        seen = visible_too(seen, *probe);
+        probe_kinds = with_probe_kind(probe_kinds, *probe);
     }
-    seen
+    probe_kinds
 }
 
 /// Returns true only if an instruction cannot change the row, whatever values the registers have. Uses only
 /// the kinds of probes in the row. Returns false if no instruction was begun.
 #[inline(always)]
-fn all_keep(probes: &[Probe], seen: &Seen, op: Option<Op>) -> bool
-    requires { SeesAll seen.now probes.now }
-    ensures { result ≡ true → RowKeeps op probes.now }
+fn kinds_stay_same(probes: &[Probe], probe_kinds: &ProbeKinds, op: Option<Op>) -> bool
+    requires { CoversProbes probe_kinds.now probes.now }
+    ensures { result ≡ true → RowAlwaysStaysSame op probes.now }
 {
     match op {
         None => false,
         Some(op) => {
-            if seen.registers {
+            if probe_kinds.registers {
                 return false;
             }
-            !touches(seen, &op)
+            !touches(probe_kinds, &op)
         }
     }
 }
@@ -273,7 +279,7 @@ fn all_keep(probes: &[Probe], seen: &Seen, op: Option<Op>) -> bool
 /// Returns true only if an instruction leaves the value of a probe unchanged. `before` and `after` are the
 /// registers before and after the instruction. Builds no text.
 fn rests(probe: Probe, op: &Op, before: &Regs, after: &Regs) -> bool
-    ensures { result ≡ true → Rests op.now before.now after.now probe }
+    ensures { result ≡ true → StaysSame op.now before.now after.now probe }
 {
     match probe {
         Probe::Acc => before.acc == after.acc,
@@ -281,15 +287,15 @@ fn rests(probe: Probe, op: &Op, before: &Regs, after: &Regs) -> bool
         Probe::Pc => before.pc == after.pc,
         Probe::Register(k) => before.register(k) == after.register(k),
         Probe::Dcl => before.dcl == after.dcl,
-        Probe::Returns => before.ret == after.ret,
-        _ => keeps_outside(probe, op),
+        Probe::ReturnAddresses => before.ret == after.ret,
+        _ => keeps_outside_probe(probe, op),
     }
 }
 
 /// Returns true only if an instruction leaves the values of all probes unchanged. `before` and `after` are
 /// the registers before and after it. Returns false if no instruction was begun.
-fn all_rest(probes: &[Probe], op: Option<Op>, before: &Regs, after: &Regs) -> bool
-    ensures { result ≡ true → RowRests op before.now after.now probes.now }
+fn values_stay_same(probes: &[Probe], op: Option<Op>, before: &Regs, after: &Regs) -> bool
+    ensures { result ≡ true → RowStaysSame op before.now after.now probes.now }
 {
     match op {
         None => false,
@@ -307,27 +313,27 @@ fn all_rest(probes: &[Probe], op: Option<Op>, before: &Regs, after: &Regs) -> bo
 /// Returns true only if an instruction leaves the row unchanged. `before` and `after` are the registers
 /// before and after it; if `REGISTERS` is false, they are not compared.
 #[inline(always)]
-fn row_stays<const REGISTERS: bool>(
+fn row_stays_same<const REGISTERS: bool>(
     probes: &[Probe],
-    seen: &Seen,
+    probe_kinds: &ProbeKinds,
     op: Option<Op>,
     before: &Regs,
     after: &Regs,
 ) -> bool
-    requires { SeesAll seen.now probes.now }
-    ensures { result ≡ true → RowRests op before.now after.now probes.now ⊎ RowKeeps op probes.now }
+    requires { CoversProbes probe_kinds.now probes.now }
+    ensures { result ≡ true → RowStaysSame op before.now after.now probes.now ⊎ RowAlwaysStaysSame op probes.now }
 {
     if REGISTERS {
-        all_rest(probes, op, before, after)
+        values_stay_same(probes, op, before, after)
     } else {
-        all_keep(probes, seen, op)
+        kinds_stay_same(probes, probe_kinds, op)
     }
 }
 
 /// The result of a traced run: the number of cycles, the reason why it stopped, and the number of trace
 /// lines.
 #[derive(Drop)]
-struct Traced {
+struct TraceResult {
     cycles: u32,
     stop: Stop,
     lines: u32,
@@ -335,14 +341,14 @@ struct Traced {
 
 /// Returns the result of a traced run. `bench` is the bench after the run, and `mark` is the breakpoint or
 /// watch that stopped it, if any.
-fn came_to(bench: &Bench, cycles: u32, mark: Option<Stop>, lines: u32) -> Traced
+fn trace_result(bench: &Bench, cycles: u32, mark: Option<Stop>, lines: u32) -> TraceResult
     ensures cycles { result.cycles ≡ cycles }
-    ensures stop { result.stop ≡ stop_by (machine_of bench.now) mark }
+    ensures stop { result.stop ≡ stop_reason (machine_of bench.now) mark }
     ensures lines { result.lines ≡ lines }
 {
-    Traced {
+    TraceResult {
         cycles,
-        stop: bench.stop_by(mark),
+        stop: bench.stop_reason(mark),
         lines,
     }
 }
@@ -356,7 +362,7 @@ struct Rows {
 
 /// Returns the row of a bench before a run, with an empty buffer for the next row.
 fn first_row(probes: &[Probe], bench: &Bench) -> Rows
-    requires { length probes.now ≤ PROBES }
+    requires { length probes.now ≤ MAX_PROBES }
     ensures { result.last.items ≡ row probes.now (machine_of bench.now) }
 {
     let mut last = ArrayVec::new();
@@ -369,7 +375,7 @@ fn first_row(probes: &[Probe], bench: &Bench) -> Rows
 
 /// Appends the trace line of an instruction if the instruction has one, and returns true if it has.
 /// `rows.last` becomes the row after the instruction. Fails if allocation fails.
-fn add_reported(
+fn add_line_if_reported(
     text: &mut Vec<u8>,
     rows: &mut Rows,
     cycles: u32,
@@ -377,12 +383,12 @@ fn add_reported(
     probes: &[Probe],
     bench: &Bench,
 ) -> Result<bool, AllocError>
-    requires { length probes.now ≤ PROBES }
+    requires { length probes.now ≤ MAX_PROBES }
     ensures row { IfOk result (λ _. rows.new.last.items ≡ row probes.now (machine_of bench.now)) }
     ensures report { IfOk result (λ report. report
         ≡ is_reported probes.now rows.old.last.items (row probes.now (machine_of bench.now))) }
     ensures text { IfOk result (λ report. text.new.items ≡ text.old.items ++ flat_map as_line
-        (line_when report cycles at (row probes.now (machine_of bench.now)))) }
+        (line_if_reported report cycles at (row probes.now (machine_of bench.now)))) }
 {
     rows.next.clear();
     put_row(&mut rows.next, probes, bench);
@@ -399,8 +405,8 @@ fn add_reported(
 /// of lines appended (0 or 1). A pending second cycle (`owed` is not 0) has no line. `rows.last` becomes the
 /// row after the cycle. Fails if allocation fails. This function is not inlined because a row is seldom
 /// built.
-#[inline(never)]
-fn add_began(
+#[inline(absurd_if_true_is_false)]
+fn add_cycle_line(
     text: &mut Vec<u8>,
     rows: &mut Rows,
     cycles: u32,
@@ -409,7 +415,7 @@ fn add_began(
     probes: &[Probe],
     bench: &Bench,
 ) -> Result<u32, AllocError>
-    requires { length probes.now ≤ PROBES }
+    requires { length probes.now ≤ MAX_PROBES }
     ensures row { IfOk result (λ _. rows.new.last.items ≡ row probes.now (machine_of bench.now)) }
     ensures lines { IfOk result (λ lines. lines ≡ length (cycle_lines probes.now owed cycles
         at rows.old.last.items (row probes.now (machine_of bench.now)))) }
@@ -417,7 +423,7 @@ fn add_began(
         (cycle_lines probes.now owed cycles at rows.old.last.items
         (row probes.now (machine_of bench.now)))) }
 {
-    if !probes.is_empty() && stands(rows.last.as_slice(), probes, bench) {
+    if !probes.is_empty() && is_present_row(rows.last.as_slice(), probes, bench) {
         return Ok(0);
     }
     if owed != 0 {
@@ -425,7 +431,7 @@ fn add_began(
         put_row(&mut rows.last, probes, bench);
         return Ok(0);
     }
-    if add_reported(text, rows, cycles, at, probes, bench)? {
+    if add_line_if_reported(text, rows, cycles, at, probes, bench)? {
         return Ok(1);
     }
     Ok(0)
@@ -435,7 +441,7 @@ fn add_began(
 /// 1). `regs` are the registers before the instruction. `rests` must be false if the instruction changed the
 /// row. `rows.last` becomes the row after the instruction. Fails if allocation fails.
 #[inline(always)]
-fn add_went(
+fn add_instruction_line(
     text: &mut Vec<u8>,
     rows: &mut Rows,
     cycles: u32,
@@ -444,7 +450,7 @@ fn add_went(
     probes: &[Probe],
     bench: &Bench,
 ) -> Result<u32, AllocError>
-    requires room { length probes.now ≤ PROBES }
+    requires room { length probes.now ≤ MAX_PROBES }
     requires same { rests ≡ true → rows.old.last.items ≡ row probes.now (machine_of bench.now) }
     ensures row { IfOk result (λ _. rows.new.last.items ≡ row probes.now (machine_of bench.now)) }
     ensures lines { IfOk result (λ lines. lines ≡ length (cycle_lines probes.now regs.now.owed cycles
@@ -456,7 +462,7 @@ fn add_went(
     if rests && !probes.is_empty() {
         return Ok(0);
     }
-    add_began(text, rows, cycles, regs.owed, regs.pc, probes, bench)
+    add_cycle_line(text, rows, cycles, regs.owed, regs.pc, probes, bench)
 }
 
 /// Appends the trace lines of a run of at most `n` cycles. An instruction has a line if it changes the row,
@@ -466,13 +472,13 @@ fn add_lines<const REGISTERS: bool>(
     text: &mut Vec<u8>,
     n: u32,
     probes: &[Probe],
-    seen: &Seen,
+    probe_kinds: &ProbeKinds,
     bench: &Bench,
-) -> Result<Traced, AllocError>
+) -> Result<TraceResult, AllocError>
     requires empty { text.old.items ≡ [] }
-    requires room { length probes.now ≤ PROBES }
-    requires seen { SeesAll seen.now probes.now }
-    ensures { IfOk result (λ traced. IsTraced probes.now n bench.now traced text.new.items) }
+    requires room { length probes.now ≤ MAX_PROBES }
+    requires probe_kinds { CoversProbes probe_kinds.now probes.now }
+    ensures { IfOk result (λ traced. IsTraceOfRun probes.now n bench.now traced text.new.items) }
 {
     let mut rows = first_row(probes, bench);
     let mut lines = 0u32;
@@ -480,38 +486,44 @@ fn add_lines<const REGISTERS: bool>(
     let mut done = 0;
     while done < n {
         let regs = copy.regs();
-        match copy.go_on(n - done) {
-            None => return Ok(came_to(&copy, done, None, lines)),
+        match copy.continue_run(n - done) {
+            None => return Ok(trace_result(&copy, done, None, lines)),
             Some(went) => {
-                let rests = row_stays::<REGISTERS>(probes, seen, went.op, &regs, &copy.regs());
-                lines += add_went(text, &mut rows, done, &regs, rests, probes, &copy)?;
+                let rests = row_stays_same::<REGISTERS>(
+                    probes,
+                    probe_kinds,
+                    went.op,
+                    &regs,
+                    &copy.regs(),
+                );
+                lines += add_instruction_line(text, &mut rows, done, &regs, rests, probes, &copy)?;
                 done += went.cycles;
                 if let Some(why) = went.mark {
-                    return Ok(came_to(&copy, done, Some(why), lines));
+                    return Ok(trace_result(&copy, done, Some(why), lines));
                 }
             }
         }
     }
-    Ok(came_to(&copy, n, None, lines))
+    Ok(trace_result(&copy, n, None, lines))
 }
 
 /// Calls `add_lines`. Sets `REGISTERS` to true only if a probe is a register other than the return addresses.
-fn add_lines_of(
+fn add_lines_for_probes(
     alloc: Global,
     text: &mut Vec<u8>,
     n: u32,
     probes: &[Probe],
     bench: &Bench,
-) -> Result<Traced, AllocError>
+) -> Result<TraceResult, AllocError>
     requires empty { text.old.items ≡ [] }
-    requires room { length probes.now ≤ PROBES }
-    ensures { IfOk result (λ traced. IsTraced probes.now n bench.now traced text.new.items) }
+    requires room { length probes.now ≤ MAX_PROBES }
+    ensures { IfOk result (λ traced. IsTraceOfRun probes.now n bench.now traced text.new.items) }
 {
-    let seen = seen_of(probes);
-    if seen.registers {
-        add_lines::<true>(alloc, text, n, probes, &seen, bench)
+    let probe_kinds = kinds_of_probes(probes);
+    if probe_kinds.registers {
+        add_lines::<true>(alloc, text, n, probes, &probe_kinds, bench)
     } else {
-        add_lines::<false>(alloc, text, n, probes, &seen, bench)
+        add_lines::<false>(alloc, text, n, probes, &probe_kinds, bench)
     }
 }
 
@@ -527,12 +539,12 @@ pub fn put_trace(
     bench: &Bench,
 ) -> Result<Vec<u8>, AllocError>
     requires empty { head.old.items ≡ [] }
-    requires room { length probes.now ≤ PROBES }
+    requires room { length probes.now ≤ MAX_PROBES }
     ensures { IfOk result (λ lines. head.new.items ++ lines.items
         ≡ trace_answer probes.now n bench.now) }
 {
     let mut text = Vec::new(alloc);
-    let traced = add_lines_of(alloc, &mut text, n, probes, bench)?;
+    let traced = add_lines_for_probes(alloc, &mut text, n, probes, bench)?;
     put_head(head, b"trace", traced.cycles, traced.stop, traced.lines);
     put_row(head, probes, bench);
     put(head, b"\n");

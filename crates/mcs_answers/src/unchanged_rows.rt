@@ -2,7 +2,7 @@
 ghost use Rattle.std.specs.Prelude.{◌≡◌, ◌<◌, ◌∷◌, ◌++◌, IfSome, codes, map, true};
 ghost use Rattle.mcs_model.specs.Command.{machine_of};
 ghost use Rattle.mcs_model.specs.Levels.{level};
-ghost use Rattle.mcs_model.specs.QueryText.{address_text, digit_text, lamp_mark, one_word, or_dash};
+ghost use Rattle.mcs_model.specs.QueryText.{address_text, digit_text, lamp_mark, comma_list, or_dash};
 ghost use Rattle.mcs_probe.specs.Probes.{probe_text, row};
 
 use crate::digits::hex_digit;
@@ -14,7 +14,7 @@ use mcs_probe::Probe;
 
 /// Returns the text after its first byte if that byte is `byte`. Otherwise returns `None`.
 #[inline(always)]
-fn after_byte(text: &[u8], byte: u8) -> Option<&[u8]>
+fn strip_byte(text: &[u8], byte: u8) -> Option<&[u8]>
     ensures { IfSome result (λ rest. text.now ≡ byte ∷ rest.now) }
 {
     match text {
@@ -26,7 +26,7 @@ fn after_byte(text: &[u8], byte: u8) -> Option<&[u8]>
 /// Returns the text after a space and a hexadecimal digit if `text` begins with them. Otherwise returns
 /// `None`.
 #[inline(always)]
-fn after_digit(text: &[u8], digit: u8) -> Option<&[u8]>
+fn strip_digit(text: &[u8], digit: u8) -> Option<&[u8]>
     requires { digit < 16 }
     ensures { IfSome result (λ rest. text.now ≡ codes " " ++ digit_text digit ++ rest.now) }
 {
@@ -44,7 +44,7 @@ fn after_digit(text: &[u8], digit: u8) -> Option<&[u8]>
 
 /// Returns the text after a byte and an address if `text` begins with them. Otherwise returns `None`.
 #[inline(always)]
-fn after_address(text: &[u8], byte: u8, at: Addr) -> Option<&[u8]>
+fn strip_address(text: &[u8], byte: u8, at: Addr) -> Option<&[u8]>
     ensures { IfSome result (λ rest. text.now ≡ byte ∷ address_text at ++ rest.now) }
 {
     let number = at.get();
@@ -66,18 +66,18 @@ fn after_address(text: &[u8], byte: u8, at: Addr) -> Option<&[u8]>
 
 /// Returns the text after a space and three addresses with commas between them if `text` begins with them.
 /// Otherwise returns `None`.
-fn after_returns(text: &[u8], ret: [Addr; 3]) -> Option<&[u8]>
-    ensures { IfSome result (λ rest. text.now ≡ codes " " ++ one_word (map address_text ret) ++ rest.now) }
+fn strip_returns(text: &[u8], ret: [Addr; 3]) -> Option<&[u8]>
+    ensures { IfSome result (λ rest. text.now ≡ codes " " ++ comma_list (map address_text ret) ++ rest.now) }
 {
     let [first, second, third] = ret;
-    let rest = after_address(text, b' ', first)?;
-    let rest = after_address(rest, b',', second)?;
-    after_address(rest, b',', third)
+    let rest = strip_address(text, b' ', first)?;
+    let rest = strip_address(rest, b',', second)?;
+    strip_address(rest, b',', third)
 }
 
 /// Returns the text after the marks of the board's lamps if `text` begins with them. Otherwise returns
 /// `None`.
-fn after_marks<'a>(text: &'a [u8], bench: &Bench) -> Option<&'a [u8]>
+fn strip_marks<'a>(text: &'a [u8], bench: &Bench) -> Option<&'a [u8]>
     ensures { IfSome result (λ rest. text.now
         ≡ map (λ line. lamp_mark (level bench.now.bus line)) bench.now.bus.board.lamps.items ++ rest.now) }
 {
@@ -85,7 +85,7 @@ fn after_marks<'a>(text: &'a [u8], bench: &Bench) -> Option<&'a [u8]>
     let lamps = bench.board().parts().lamps.len();
     for i in 0..lamps {
         let level = bench.lamp(i).unwrap_or(Bit::ZERO);
-        match after_byte(rest, lamp_mark(level)) {
+        match strip_byte(rest, lamp_mark(level)) {
             None => {
                 return None;
             }
@@ -99,7 +99,7 @@ fn after_marks<'a>(text: &'a [u8], bench: &Bench) -> Option<&'a [u8]>
 
 /// Returns the text after a space and the marks of the board's lamps if `text` begins with them. Returns
 /// `None` if it does not, or if the board has no lamps.
-fn after_lamps<'a>(text: &'a [u8], bench: &Bench) -> Option<&'a [u8]>
+fn strip_lamps<'a>(text: &'a [u8], bench: &Bench) -> Option<&'a [u8]>
     ensures { IfSome result (λ rest. text.now ≡ codes " "
         ++ or_dash (map (λ line. lamp_mark (level bench.now.bus line)) bench.now.bus.board.lamps.items)
         ++ rest.now) }
@@ -107,34 +107,34 @@ fn after_lamps<'a>(text: &'a [u8], bench: &Bench) -> Option<&'a [u8]>
     if bench.board().parts().lamps.is_empty() {
         return None;
     }
-    let marks = after_byte(text, b' ')?;
-    after_marks(marks, bench)
+    let marks = strip_byte(text, b' ')?;
+    strip_marks(marks, bench)
 }
 
 /// Returns the text after a space and the value of a probe if `text` begins with them. Returns `None` if it
 /// does not, or if the value cannot be compared without building its text.
-fn rest_of_row<'a>(text: &'a [u8], probe: Probe, bench: &Bench) -> Option<&'a [u8]>
+fn strip_probe<'a>(text: &'a [u8], probe: Probe, bench: &Bench) -> Option<&'a [u8]>
     ensures { IfSome result (λ rest. text.now
         ≡ codes " " ++ probe_text (machine_of bench.now) probe ++ rest.now) }
 {
     match probe {
-        Probe::Level(line) => after_digit(text, bench.level(line).get()),
-        Probe::RomPort(chip) => after_digit(text, rom_levels(bench, chip)),
-        Probe::RamPort(bank, chip) => after_digit(text, ram_levels(bench, bank, chip)),
-        Probe::Lamps => after_lamps(text, bench),
-        Probe::Returns => after_returns(text, bench.regs().ret),
+        Probe::Level(line) => strip_digit(text, bench.level(line).get()),
+        Probe::RomPort(chip) => strip_digit(text, rom_levels(bench, chip)),
+        Probe::RamPort(bank, chip) => strip_digit(text, ram_levels(bench, bank, chip)),
+        Probe::Lamps => strip_lamps(text, bench),
+        Probe::ReturnAddresses => strip_returns(text, bench.regs().ret),
         _ => None,
     }
 }
 
 /// Returns true only if `text` is the present row of the probes. A result of false does not mean that the
 /// text differs, because some values cannot be compared without building their text.
-pub(crate) fn stands(text: &[u8], probes: &[Probe], bench: &Bench) -> bool
+pub(crate) fn is_present_row(text: &[u8], probes: &[Probe], bench: &Bench) -> bool
     ensures { result ≡ true → text.now ≡ row probes.now (machine_of bench.now) }
 {
     let mut rest = text;
     for probe in probes {
-        match rest_of_row(rest, *probe, bench) {
+        match strip_probe(rest, *probe, bench) {
             None => {
                 return false;
             }

@@ -19,19 +19,19 @@ within at n p = leb at p.0 && ltb p.0 (at + n)
 abbrev pub IsFree : List (ℕ × ℕ) → ℕ → Type 0
 IsFree pairs a = (b : ℕ) → Contains pairs (a, b) → ⊥
 
-some_same : (b c : ℕ) → Some b ≡ Some c → b ≡ c
-some_same b c e = ap (λ (o : Option ℕ). elim o [ Some x ↦ x | None ↦ 0 ]) e
+some_is_injective : (b c : ℕ) → Some b ≡ Some c → b ≡ c
+some_is_injective b c e = ap (λ (o : Option ℕ). elim o [ Some x ↦ x | None ↦ 0 ]) e
 
 -- If no pair has an address, the cells still agree with the pairs after a byte is written there.
-one_kept : (cells : List (Option ℕ)) (pairs : List (ℕ × ℕ)) (x b : ℕ) → x < 4096 → HoldsPairs cells pairs → IsFree pairs x → HoldsPairs (set cells x (Some b)) (pairs ++ (x, b) ∷ [])
-one_kept cells pairs x b lt kept free =
+one_write_holds_pairs : (cells : List (Option ℕ)) (pairs : List (ℕ × ℕ)) (x b : ℕ) → x < 4096 → HoldsPairs cells pairs → IsFree pairs x → HoldsPairs (set cells x (Some b)) (pairs ++ (x, b) ∷ [])
+one_write_holds_pairs cells pairs x b lt kept free =
     let within : x < length cells = omega (arith, kept.0) in (
       length-set cells x (Some b) ∙ kept.0,
       λ a c. (
         (λ e. elim (cases_eq a x) [
           | inl same ↦
               let here : get_or (set cells x (Some b)) x None ≡ Some c = subst (λ (k : ℕ). get_or (set cells x (Some b)) k None ≡ Some c) same e in
-              let value : b ≡ c = some_same b c (sym (get_or-set_same cells x (Some b) None within) ∙ here) in
+              let value : b ≡ c = some_is_injective b c (sym (get_or-set_same cells x (Some b) None within) ∙ here) in
               subst (λ (p : ℕ × ℕ). Contains (pairs ++ (x, b) ∷ []) p) (rw (same, value) refl) (Contains-push pairs (x, b))
           | inr other ↦ Contains-append_left pairs ((x, b) ∷ []) (a, c) ((kept.1 a c).0 (sym (get_or-set_other cells x a (Some b) None other) ∙ e))
         ]),
@@ -48,29 +48,29 @@ one_kept cells pairs x b lt kept free =
       ),
     )
 
-pub free_more : (pairs : List (ℕ × ℕ)) (x b y : ℕ) → x ≢ y → IsFree pairs y → IsFree (pairs ++ (x, b) ∷ []) y
-free_more pairs x b y other free c h = elim (Contains-push_cases pairs (x, b) (y, c) h) [
+pub stays_free_after_write : (pairs : List (ℕ × ℕ)) (x b y : ℕ) → x ≢ y → IsFree pairs y → IsFree (pairs ++ (x, b) ∷ []) y
+stays_free_after_write pairs x b y other free c h = elim (Contains-push_cases pairs (x, b) (y, c) h) [
   | inl old ↦ free c old
   | inr e ↦ other (ap (λ (p : ℕ × ℕ). p.0) e)
 ]
 
 -- If no pair has one of the addresses, the cells still agree with the pairs after bytes are written
 -- there.
-pub all_kept : (bytes : List ℕ) (x : ℕ) (cells : List (Option ℕ)) (pairs : List (ℕ × ℕ)) → x + length bytes ≤ 4096 → HoldsPairs cells pairs → ((y : ℕ) → x ≤ y → y < x + length bytes → IsFree pairs y)
+pub all_writes_hold_pairs : (bytes : List ℕ) (x : ℕ) (cells : List (Option ℕ)) (pairs : List (ℕ × ℕ)) → x + length bytes ≤ 4096 → HoldsPairs cells pairs → ((y : ℕ) → x ≤ y → y < x + length bytes → IsFree pairs y)
     → HoldsPairs (cells_after x bytes cells) (pairs ++ from_address x bytes)
-all_kept [] x cells pairs le kept free = subst (λ (ps : List (ℕ × ℕ)). HoldsPairs cells ps) (sym (append-nil pairs)) kept
-all_kept (b ∷ bytes) x cells pairs le kept free =
+all_writes_hold_pairs [] x cells pairs le kept free = subst (λ (ps : List (ℕ × ℕ)). HoldsPairs cells ps) (sym (append-nil pairs)) kept
+all_writes_hold_pairs (b ∷ bytes) x cells pairs le kept free =
     let le' : x + 1 + length bytes ≤ 4096 = omega (arith, le) in
     let here : IsFree pairs x = free x (omega arith) (omega arith) in
-    let one : HoldsPairs (set cells x (Some b)) (pairs ++ (x, b) ∷ []) = one_kept cells pairs x b (omega (arith, le)) kept here in
+    let one : HoldsPairs (set cells x (Some b)) (pairs ++ (x, b) ∷ []) = one_write_holds_pairs cells pairs x b (omega (arith, le)) kept here in
     let rest : HoldsPairs (cells_after (x + 1) bytes (set cells x (Some b))) ((pairs ++ (x, b) ∷ []) ++ from_address (x + 1) bytes) =
-    all_kept bytes (x + 1) (set cells x (Some b)) (pairs ++ (x, b) ∷ []) le' one
-    (λ y low high. free_more pairs x b y (λ e. omega (arith, e, low)) (free y (omega (arith, low)) (omega (arith, high)))) in
+    all_writes_hold_pairs bytes (x + 1) (set cells x (Some b)) (pairs ++ (x, b) ∷ []) le' one
+    (λ y low high. stays_free_after_write pairs x b y (λ e. omega (arith, e, low)) (free y (omega (arith, low)) (omega (arith, high)))) in
     subst (λ (ps : List (ℕ × ℕ)). HoldsPairs (cells_after (x + 1) bytes (set cells x (Some b))) ps) (append_assoc pairs ((x, b) ∷ []) (from_address (x + 1) bytes)) rest
 
 -- If bytes at n addresses from x on overlap no pairs, no pair has any of these addresses.
-pub free_from : (pairs : List (ℕ × ℕ)) (x n : ℕ) → overlaps pairs x n ≡ false → (y : ℕ) → x ≤ y → y < x + n → IsFree pairs y
-free_from pairs x n untaken y low high b has =
+pub free_if_no_overlap : (pairs : List (ℕ × ℕ)) (x n : ℕ) → overlaps pairs x n ≡ false → (y : ℕ) → x ≤ y → y < x + n → IsFree pairs y
+free_if_no_overlap pairs x n untaken y low high b has =
     let P : ℕ × ℕ → Bool = λ p. leb x p.0 && ltb p.0 (x + n) in
     let yes : list_any P pairs ≡ true = list_any_at P pairs has.0 (y, b) (has.1) (rw has.2 (rw (le-leb x y low, lt-ltb y (x + n) high) refl)) in
     absurd (true≢false (sym yes ∙ untaken))
@@ -88,79 +88,79 @@ Contains-head : (p : ℕ × ℕ) (ps : List (ℕ × ℕ)) → Contains (p ∷ ps
 Contains-head p ps = (0, omega arith, refl)
 
 -- the pair that `find` returns has the address and is one of the pairs
-found : (pairs : List (ℕ × ℕ)) (a : ℕ) (p : ℕ × ℕ) → find (λ (q : ℕ × ℕ). eqb q.0 a) pairs ≡ Some p → Contains pairs p × (p.0 ≡ a)
-found [] a p e = absurd (none-some p e)
-found (q ∷ pairs) a p e =
+found_pair_is_contained : (pairs : List (ℕ × ℕ)) (a : ℕ) (p : ℕ × ℕ) → find (λ (q : ℕ × ℕ). eqb q.0 a) pairs ≡ Some p → Contains pairs p × (p.0 ≡ a)
+found_pair_is_contained [] a p e = absurd (none-some p e)
+found_pair_is_contained (q ∷ pairs) a p e =
     (elim (eqb q.0 a) as (λ v. eqb q.0 a ≡ v → cond v (Some q) (find (λ (q : ℕ × ℕ). eqb q.0 a) pairs) ≡ Some p → Contains (q ∷ pairs) p × (p.0 ≡ a)) [
       | true ↦ λ yes f.
           let same : q ≡ p = ap (λ (o : Option (ℕ × ℕ)). elim o [ Some x ↦ x | None ↦ q ]) f in
           (subst (λ (r : ℕ × ℕ). Contains (q ∷ pairs) r) same (Contains-head q pairs), ap (λ (r : ℕ × ℕ). r.0) (sym same) ∙ eqb-true q.0 a yes)
       | false ↦ λ no f.
-          let more = found pairs a p f in
+          let more = found_pair_is_contained pairs a p f in
           (Contains-append_right (q ∷ []) pairs p more.0, more.1)
     ]) refl e
 
-is_found : (pairs : List (ℕ × ℕ)) (a b : ℕ) → Contains pairs (a, b) → find (λ (q : ℕ × ℕ). eqb q.0 a) pairs ≡ None → ⊥
-is_found [] a b has e = omega (arith, has.1)
-is_found (q ∷ pairs) a b has e =
+contained_pair_is_found : (pairs : List (ℕ × ℕ)) (a b : ℕ) → Contains pairs (a, b) → find (λ (q : ℕ × ℕ). eqb q.0 a) pairs ≡ None → ⊥
+contained_pair_is_found [] a b has e = omega (arith, has.1)
+contained_pair_is_found (q ∷ pairs) a b has e =
     (elim (eqb q.0 a) as (λ v. eqb q.0 a ≡ v → cond v (Some q) (find (λ (q : ℕ × ℕ). eqb q.0 a) pairs) ≡ None → ⊥) [
       | true ↦ λ yes f. none-some q (sym f)
       | false ↦ λ no f. elim (Contains-cons_cases q pairs (a, b) has) [
         | inl here ↦ true≢false (sym (eq-eqb q.0 a (ap (λ (r : ℕ × ℕ). r.0) here)) ∙ no)
-        | inr more ↦ is_found pairs a b more f
+        | inr more ↦ contained_pair_is_found pairs a b more f
       ]
     ]) refl e
 
 -- The cell at an address determines the result of `find`: nothing if the cell is empty, else the
 -- pair.
-nowhere : (pairs : List (ℕ × ℕ)) (a : ℕ) → ((b : ℕ) → (None ≡ Some b) ↔ Contains pairs (a, b)) → find (λ (q : ℕ × ℕ). eqb q.0 a) pairs ≡ None
-nowhere pairs a h =
+finds_none_if_empty : (pairs : List (ℕ × ℕ)) (a : ℕ) → ((b : ℕ) → (None ≡ Some b) ↔ Contains pairs (a, b)) → find (λ (q : ℕ × ℕ). eqb q.0 a) pairs ≡ None
+finds_none_if_empty pairs a h =
     (elim (find (λ (q : ℕ × ℕ). eqb q.0 a) pairs) as (λ (o : Option (ℕ × ℕ)). find (λ (q : ℕ × ℕ). eqb q.0 a) pairs ≡ o → o ≡ None) [
       | None ↦ λ e. refl
       | Some p ↦ λ e.
-          let f = found pairs a p e in
+          let f = found_pair_is_contained pairs a p e in
           absurd (none-some p.1 ((h p.1).1 (subst (λ (n : ℕ). Contains pairs (n, p.1)) f.1 f.0)))
     ]) refl
 
 there : (pairs : List (ℕ × ℕ)) (a b : ℕ) → ((c : ℕ) → (Some b ≡ Some c) ↔ Contains pairs (a, c)) → find (λ (q : ℕ × ℕ). eqb q.0 a) pairs ≡ Some (a, b)
 there pairs a b h =
     (elim (find (λ (q : ℕ × ℕ). eqb q.0 a) pairs) as (λ (o : Option (ℕ × ℕ)). find (λ (q : ℕ × ℕ). eqb q.0 a) pairs ≡ o → o ≡ Some (a, b)) [
-      | None ↦ λ e. absurd (is_found pairs a b ((h b).0 refl) e)
+      | None ↦ λ e. absurd (contained_pair_is_found pairs a b ((h b).0 refl) e)
       | Some p ↦ λ e.
-          let f = found pairs a p e in
-          let value : b ≡ p.1 = some_same b p.1 ((h p.1).1 (subst (λ (n : ℕ). Contains pairs (n, p.1)) f.1 f.0)) in
+          let f = found_pair_is_contained pairs a p e in
+          let value : b ≡ p.1 = some_is_injective b p.1 ((h p.1).1 (subst (λ (n : ℕ). Contains pairs (n, p.1)) f.1 f.0)) in
           ap (λ (n : ℕ). Some (n, p.1)) f.1 ∙ ap (λ (n : ℕ). Some (a, n)) (sym value)
     ]) refl
 
 -- The pairs read from the cells, cell by cell, are the pairs that `find` returns, address by
 -- address.
-in_turn : (pairs : List (ℕ × ℕ)) (cells : List (Option ℕ)) (at : ℕ) → ((k b : ℕ) → (get_or cells k None ≡ Some b) ↔ Contains pairs (at + k, b))
+pairs_in_address_order : (pairs : List (ℕ × ℕ)) (cells : List (Option ℕ)) (at : ℕ) → ((k b : ℕ) → (get_or cells k None ≡ Some b) ↔ Contains pairs (at + k, b))
     → pairs_from at cells ≡ filter_map (λ a. find (λ (q : ℕ × ℕ). eqb q.0 a) pairs) (range_with_len at (length cells))
-in_turn pairs [] at h = refl
-in_turn pairs (None ∷ cells) at h =
-    let here : find (λ (q : ℕ × ℕ). eqb q.0 at) pairs ≡ None = nowhere pairs at (λ b. subst (λ (n : ℕ). (None ≡ Some b) ↔ Contains pairs (n, b)) (omega arith) (h 0 b)) in
-    let more = in_turn pairs cells (at + 1) (λ k b. subst (λ (n : ℕ). (get_or cells k None ≡ Some b) ↔ Contains pairs (n, b)) (omega arith) (h (suc k) b)) in
+pairs_in_address_order pairs [] at h = refl
+pairs_in_address_order pairs (None ∷ cells) at h =
+    let here : find (λ (q : ℕ × ℕ). eqb q.0 at) pairs ≡ None = finds_none_if_empty pairs at (λ b. subst (λ (n : ℕ). (None ≡ Some b) ↔ Contains pairs (n, b)) (omega arith) (h 0 b)) in
+    let more = pairs_in_address_order pairs cells (at + 1) (λ k b. subst (λ (n : ℕ). (get_or cells k None ≡ Some b) ↔ Contains pairs (n, b)) (omega arith) (h (suc k) b)) in
     rw here more
-in_turn pairs (Some v ∷ cells) at h =
+pairs_in_address_order pairs (Some v ∷ cells) at h =
     let here : find (λ (q : ℕ × ℕ). eqb q.0 at) pairs ≡ Some (at, v) = there pairs at v (λ b. subst (λ (n : ℕ). (Some v ≡ Some b) ↔ Contains pairs (n, b)) (omega arith) (h 0 b)) in
-    let more = in_turn pairs cells (at + 1) (λ k b. subst (λ (n : ℕ). (get_or cells k None ≡ Some b) ↔ Contains pairs (n, b)) (omega arith) (h (suc k) b)) in
+    let more = pairs_in_address_order pairs cells (at + 1) (λ k b. subst (λ (n : ℕ). (get_or cells k None ≡ Some b) ↔ Contains pairs (n, b)) (omega arith) (h (suc k) b)) in
     rw here (ap (λ (l : List (ℕ × ℕ)). (at, v) ∷ l) more)
 
 -- the image read from the cells is the pairs by ascending address
-pub image_of_kept : (cells : List (Option ℕ)) (pairs : List (ℕ × ℕ)) → HoldsPairs cells pairs → pairs_from 0 cells ≡ by_address pairs
+pub image_is_by_address : (cells : List (Option ℕ)) (pairs : List (ℕ × ℕ)) → HoldsPairs cells pairs → pairs_from 0 cells ≡ by_address pairs
 unfolding by_address
-image_of_kept cells pairs kept =
-    in_turn pairs cells 0 (λ k b. subst (λ (n : ℕ). (get_or cells k None ≡ Some b) ↔ Contains pairs (n, b)) (omega arith) (kept.1 k b))
+image_is_by_address cells pairs kept =
+    pairs_in_address_order pairs cells 0 (λ k b. subst (λ (n : ℕ). (get_or cells k None ≡ Some b) ↔ Contains pairs (n, b)) (omega arith) (kept.1 k b))
     ∙ ap (λ (n : ℕ). filter_map (λ a. find (λ (q : ℕ × ℕ). eqb q.0 a) pairs) (range_with_len 0 n)) kept.0
 
 -- If cells contain exactly these pairs, no address has two different bytes.
-pub one_each : (cells : List (Option ℕ)) (pairs : List (ℕ × ℕ)) → HoldsPairs cells pairs → HaveOneByteEach pairs
-one_each cells pairs kept = record {
+pub has_one_byte_each : (cells : List (Option ℕ)) (pairs : List (ℕ × ℕ)) → HoldsPairs cells pairs → HaveOneByteEach pairs
+has_one_byte_each cells pairs kept = record {
   within = λ a b has. elim (cases_lt a 4096) [
     | inl lt ↦ lt
     | inr le ↦ absurd (none-some b (sym (get_or_past cells a None (omega (arith, le, kept.0))) ∙ (kept.1 a b).1 has))
   ];
-  once = λ a b c h k. some_same b c (sym ((kept.1 a b).1 h) ∙ (kept.1 a c).1 k);
+  once = λ a b c h k. some_is_injective b c (sym ((kept.1 a b).1 h) ∙ (kept.1 a c).1 k);
 }
 
 replicate_none : (n a b : ℕ) → get_or (replicate {A = Option ℕ} n None) a None ≡ Some b → ⊥
@@ -169,56 +169,56 @@ replicate_none n a b e = elim (cases_lt a n) [
   | inr le ↦ none-some b (sym (get_or_past (replicate n None) a None (omega (arith, le, length-replicate {A = Option ℕ} n None))) ∙ e)
 ]
 
-pub none_kept : HoldsPairs (replicate 4096 None) []
-none_kept = (length-replicate {A = Option ℕ} 4096 None, λ a b. ((λ e. absurd (replicate_none 4096 a b e)), (λ has. absurd (omega (arith, has.1)))))
+pub empty_cells_hold_no_pairs : HoldsPairs (replicate 4096 None) []
+empty_cells_hold_no_pairs = (length-replicate {A = Option ℕ} 4096 None, λ a b. ((λ e. absurd (replicate_none 4096 a b e)), (λ has. absurd (omega (arith, has.1)))))
 
 -- ---- The overlap test on the cells gives the same result as the overlap test on the pairs.
 
-has_taken : (cells : List (Option ℕ)) (n : ℕ) → list_any is_some (take n cells) ≡ true → (k : ℕ) × (b : ℕ) × (k < n) × (get_or cells k None ≡ Some b)
-has_taken [] zero e = absurd (false≢true e)
-has_taken [] (suc n) e = absurd (false≢true e)
-has_taken (c ∷ cells) zero e = absurd (false≢true e)
-has_taken (Some v ∷ cells) (suc n) e = (0, v, omega arith, refl)
-has_taken (None ∷ cells) (suc n) e =
-    let r = has_taken cells n e in
+first_taken_cell : (cells : List (Option ℕ)) (n : ℕ) → list_any is_some (take n cells) ≡ true → (k : ℕ) × (b : ℕ) × (k < n) × (get_or cells k None ≡ Some b)
+first_taken_cell [] zero e = absurd (false≢true e)
+first_taken_cell [] (suc n) e = absurd (false≢true e)
+first_taken_cell (c ∷ cells) zero e = absurd (false≢true e)
+first_taken_cell (Some v ∷ cells) (suc n) e = (0, v, omega arith, refl)
+first_taken_cell (None ∷ cells) (suc n) e =
+    let r = first_taken_cell cells n e in
     (suc r.0, r.1, omega (arith, r.2), r.3)
 
-is_taken : (cells : List (Option ℕ)) (n k b : ℕ) → k < n → get_or cells k None ≡ Some b → list_any is_some (take n cells) ≡ true
-is_taken [] n k b lt e = absurd (none-some b e)
-is_taken (c ∷ cells) zero k b lt e = absurd (omega (arith, lt))
-is_taken (Some v ∷ cells) (suc n) k b lt e = refl
-is_taken (None ∷ cells) (suc n) zero b lt e = absurd (none-some b e)
-is_taken (None ∷ cells) (suc n) (suc k) b lt e = is_taken cells n k b (omega (arith, lt)) e
+any_taken_if_one_is : (cells : List (Option ℕ)) (n k b : ℕ) → k < n → get_or cells k None ≡ Some b → list_any is_some (take n cells) ≡ true
+any_taken_if_one_is [] n k b lt e = absurd (none-some b e)
+any_taken_if_one_is (c ∷ cells) zero k b lt e = absurd (omega (arith, lt))
+any_taken_if_one_is (Some v ∷ cells) (suc n) k b lt e = refl
+any_taken_if_one_is (None ∷ cells) (suc n) zero b lt e = absurd (none-some b e)
+any_taken_if_one_is (None ∷ cells) (suc n) (suc k) b lt e = any_taken_if_one_is cells n k b (omega (arith, lt)) e
 
-has_pair : (p : ℕ × ℕ → Bool) (pairs : List (ℕ × ℕ)) → list_any p pairs ≡ true → (x : ℕ × ℕ) × Contains pairs x × (p x ≡ true)
-has_pair p [] e = absurd (false≢true e)
-has_pair p (x ∷ pairs) e =
+pair_that_satisfies : (p : ℕ × ℕ → Bool) (pairs : List (ℕ × ℕ)) → list_any p pairs ≡ true → (x : ℕ × ℕ) × Contains pairs x × (p x ≡ true)
+pair_that_satisfies p [] e = absurd (false≢true e)
+pair_that_satisfies p (x ∷ pairs) e =
     let Q : Bool → Type 0 = λ t. p x ≡ t → (t || list_any p pairs) ≡ true → (y : ℕ × ℕ) × Contains (x ∷ pairs) y × (p y ≡ true) in
     (elim (p x) as Q [
       | true ↦ λ yes h. (x, Contains-head x pairs, yes)
-      | false ↦ λ not_here h. let r = has_pair p pairs h in (r.0, Contains-append_right (x ∷ []) pairs r.0 r.1, r.2)
+      | false ↦ λ not_here h. let r = pair_that_satisfies p pairs h in (r.0, Contains-append_right (x ∷ []) pairs r.0 r.1, r.2)
     ]) refl e
 
-same_truth : (s t : Bool) → (s ≡ true → t ≡ true) → (t ≡ true → s ≡ true) → s ≡ t
-same_truth true t f g = sym (f refl)
-same_truth false true f g = g refl
-same_truth false false f g = refl
+equal_if_equivalent : (s t : Bool) → (s ≡ true → t ≡ true) → (t ≡ true → s ≡ true) → s ≡ t
+equal_if_equivalent true t f g = sym (f refl)
+equal_if_equivalent false true f g = g refl
+equal_if_equivalent false false f g = refl
 
-pub taken_is : (cells : List (Option ℕ)) (pairs : List (ℕ × ℕ)) (at n : ℕ) → HoldsPairs cells pairs → list_any is_some (take n (drop at cells)) ≡ overlaps pairs at n
-taken_is cells pairs at n kept = same_truth (list_any is_some (take n (drop at cells))) (overlaps pairs at n)
+pub taken_equals_overlaps : (cells : List (Option ℕ)) (pairs : List (ℕ × ℕ)) (at n : ℕ) → HoldsPairs cells pairs → list_any is_some (take n (drop at cells)) ≡ overlaps pairs at n
+taken_equals_overlaps cells pairs at n kept = equal_if_equivalent (list_any is_some (take n (drop at cells))) (overlaps pairs at n)
     (λ e.
-    let r = has_taken (drop at cells) n e in
+    let r = first_taken_cell (drop at cells) n e in
     let there : get_or cells (at + r.0) None ≡ Some r.1 = sym (get_or-drop at cells r.0 None) ∙ r.3 in
     let has = (kept.1 (at + r.0) r.1).0 there in
     list_any_at (within at n) pairs has.0 (at + r.0, r.1) has.1 (rw has.2 (rw (le-leb at (at + r.0) (omega arith), lt-ltb (at + r.0) (at + n) (omega (arith, r.2))) refl)))
     (λ e.
-    let r = has_pair (within at n) pairs e in
+    let r = pair_that_satisfies (within at n) pairs e in
     let parts = and_parts (leb at r.0.0) (ltb r.0.0 (at + n)) r.2 in
     let low : at ≤ r.0.0 = leb-true at r.0.0 parts.0 in
     let high : r.0.0 < at + n = ltb-true r.0.0 (at + n) parts.1 in
     let k : ℕ = r.0.0 - at in
     let there : get_or cells r.0.0 None ≡ Some r.0.1 = (kept.1 r.0.0 r.0.1).1 r.1 in
     let back : at + k ≡ r.0.0 = omega (arith, low) in
-    is_taken (drop at cells) n k r.0.1 (omega (arith, low, high)) (get_or-drop at cells k None ∙ rw back there))
+    any_taken_if_one_is (drop at cells) n k r.0.1 (omega (arith, low, high)) (get_or-drop at cells k None ∙ rw back there))
 
 pub ruleset new_rules = (replicate_more, length-replicate)

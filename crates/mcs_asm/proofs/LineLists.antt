@@ -4,44 +4,44 @@ use Rattle.std.specs.List.{position_or_len}
 use Rattle.std.proofs.lemmas.List.{append-nil, length-take, length-drop, take_all}
 use Rattle.std.specs.Str.Lines.{strip_carriage_return}
 use Rattle.mcs_model.specs.TextLines.{is_line_feed, last_line, lines, lines_of}
-use Rattle.mcs_model.proofs.LineLemmas.{byte_by_byte, lines_after, some_last}
+use Rattle.mcs_model.proofs.LineLemmas.{byte_by_byte, lines_after, last_line-nonempty}
 
 -- the lines of a text, given its first line and the bytes from the first line feed on
-abbrev pub ended : List ℕ → List ℕ → List (List ℕ)
-ended line [] = last_line true line
-ended line (b ∷ bytes) = strip_carriage_return line ∷ lines_of bytes
+abbrev pub lines_from_first : List ℕ → List ℕ → List (List ℕ)
+lines_from_first line [] = last_line true line
+lines_from_first line (b ∷ bytes) = strip_carriage_return line ∷ lines_of bytes
 
-line_goes_on : (line bytes : List ℕ) → lines_after true line bytes ≡ ended (line ++ take (position_or_len is_line_feed bytes) bytes) (drop (position_or_len is_line_feed bytes) bytes)
+line_continues : (line bytes : List ℕ) → lines_after true line bytes ≡ lines_from_first (line ++ take (position_or_len is_line_feed bytes) bytes) (drop (position_or_len is_line_feed bytes) bytes)
 unfolding lines_after
-line_goes_on line [] = ap (last_line true) (sym (append-nil line))
-line_goes_on line (b ∷ bytes) =
+line_continues line [] = ap (last_line true) (sym (append-nil line))
+line_continues line (b ∷ bytes) =
     let n : ℕ = position_or_len is_line_feed bytes in
     let up : 1 + n ≡ suc n = omega arith in
-    let Q : Bool → Type 0 = λ t. cond t (strip_carriage_return line ∷ lines_after true [] bytes) (lines_after true (line ++ b ∷ []) bytes) ≡ ended (line ++ take (cond (not t) (1 + n) 0) (b ∷ bytes)) (drop (cond (not t) (1 + n) 0) (b ∷ bytes)) in
+    let Q : Bool → Type 0 = λ t. cond t (strip_carriage_return line ∷ lines_after true [] bytes) (lines_after true (line ++ b ∷ []) bytes) ≡ lines_from_first (line ++ take (cond (not t) (1 + n) 0) (b ∷ bytes)) (drop (cond (not t) (1 + n) 0) (b ∷ bytes)) in
     elim (eqb b 10) as Q [
       | true ↦ ap (λ (l : List ℕ). strip_carriage_return l ∷ lines_after true [] bytes) (sym (append-nil line)) ∙ ap (λ (ls : List (List ℕ)). strip_carriage_return (line ++ []) ∷ ls) (sym (byte_by_byte bytes true))
-      | false ↦ line_goes_on (line ++ b ∷ []) bytes ∙ rw (up, append_assoc line (b ∷ []) (take n bytes)) refl
+      | false ↦ line_continues (line ++ b ∷ []) bytes ∙ rw (up, append_assoc line (b ∷ []) (take n bytes)) refl
     ]
 
-pub line_ends : (text : List ℕ) → lines_of text ≡ ended (take (position_or_len is_line_feed text) text) (drop (position_or_len is_line_feed text) text)
-line_ends text = byte_by_byte text true ∙ line_goes_on [] text
+pub line_ends : (text : List ℕ) → lines_of text ≡ lines_from_first (take (position_or_len is_line_feed text) text) (drop (position_or_len is_line_feed text) text)
+line_ends text = byte_by_byte text true ∙ line_continues [] text
 
 -- If no line feed follows the first line, it is the only line.
-pub last_front : (text line rest cut : List ℕ) (n : ℕ) → n ≡ position_or_len is_line_feed text → n ≤ length text → 0 < length text → line ≡ take n text → rest ≡ drop n text → length rest ≡ 0 → cut ≡ strip_carriage_return line
+pub only_line_first : (text line rest cut : List ℕ) (n : ℕ) → n ≡ position_or_len is_line_feed text → n ≤ length text → 0 < length text → line ≡ take n text → rest ≡ drop n text → length rest ≡ 0 → cut ≡ strip_carriage_return line
     → (lines_of text ≡ cut ∷ lines_of rest) × (length rest < length text)
 unfolding lines
-last_front text line [] cut n len within some front back none is =
+only_line_first text line [] cut n len within some front back none is =
     let short : 0 ≡ length text - n = ap length back ∙ length-drop n text in
     let full : 0 < length line = omega (arith, ap length front ∙ length-take n text, short, within, some) in
-    (line_ends text ∙ rw (← len, ← back, ← front) (some_last line full ∙ rw is refl), omega (arith, some))
-last_front text line (b ∷ rest) cut n len within some front back none is = absurd (omega (arith, none))
+    (line_ends text ∙ rw (← len, ← back, ← front) (last_line-nonempty line full ∙ rw is refl), omega (arith, some))
+only_line_first text line (b ∷ rest) cut n len within some front back none is = absurd (omega (arith, none))
 
 -- If a line feed follows the first line, the other lines are those of the bytes after the line
 -- feed.
-pub more_front : (text line rest cut : List ℕ) (n : ℕ) → n ≡ position_or_len is_line_feed text → n ≤ length text → line ≡ take n text → rest ≡ drop n text → 1 ≤ length rest → cut ≡ strip_carriage_return line
+pub first_of_more_lines : (text line rest cut : List ℕ) (n : ℕ) → n ≡ position_or_len is_line_feed text → n ≤ length text → line ≡ take n text → rest ≡ drop n text → 1 ≤ length rest → cut ≡ strip_carriage_return line
     → (lines_of text ≡ cut ∷ lines_of (take (length rest - 1) (drop 1 rest))) × (length (take (length rest - 1) (drop 1 rest)) < length text)
-more_front text line [] cut n len within front back some is = absurd (omega (arith, some))
-more_front text line (b ∷ rest) cut n len within front back some is =
+first_of_more_lines text line [] cut n len within front back some is = absurd (omega (arith, some))
+first_of_more_lines text line (b ∷ rest) cut n len within front back some is =
     let all : take (length (b ∷ rest) - 1) rest ≡ rest = take_all (length (b ∷ rest) - 1) rest (omega arith) in
     let long : length (b ∷ rest) ≡ length text - n = ap length back ∙ length-drop n text in
     (line_ends text ∙ rw (← len, ← back, ← front, is, all) refl, rw all (omega (arith, long)))

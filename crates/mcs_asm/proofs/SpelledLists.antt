@@ -10,34 +10,34 @@ use Rattle.mcs_model.specs.declared.op.Op.TheVariants as op
 use Rattle.mcs_source.specs.Lines as asm
 use Rattle.mcs_model.specs.Table.{word_count_of}
 use Rattle.mcs_source.specs.Spelling.{spelling}
-use Rattle.mcs_source.specs.Assembly.{Names, value_in, values_in, statement_bytes, size, if_known, if_in_range, if_on_page, is_near, line_bytes, passes_end}
+use Rattle.mcs_source.specs.Assembly.{Names, value_in, values_in, statement_bytes, size, with_known_value, if_in_range, if_on_page, is_on_reachable_page, line_bytes, passes_end}
 use Rattle.std.specs.Prelude.{is_some}
 use Rattle.std.specs.List.{list_any}
 use Rattle.mcs_source.specs.declared.fault.SourceFault.TheVariants.{Overlap}
 use Rattle.mcs_model.specs.Images.{from_address, overlaps}
 use Rattle.mcs_source.specs.Assembly.{next_at}
-use Rattle.mcs_asm.specs.Passes.{SpelledLines, spelled_with_bytes, spelled_with_line}
+use Rattle.mcs_asm.specs.Passes.{SecondPassState, second_pass_with_bytes, second_pass_with_line}
 use Rattle.mcs_asm.specs.ByteCells.{cells_after, HoldsPairs}
-use Rattle.mcs_asm.proofs.CellPairs.{taken_is, all_kept, free_from}
+use Rattle.mcs_asm.proofs.CellPairs.{taken_equals_overlaps, all_writes_hold_pairs, free_if_no_overlap}
 use Rattle.mcs_model.specs.Options.{◌>>=◌}
 
-pub taken_stops : (cells : List (Option ℕ)) (pairs : List (ℕ × ℕ)) (at next : ℕ) (bytes : List ℕ) → list_any is_some (take (length bytes) (drop at cells)) ≡ true → HoldsPairs cells pairs
-    → spelled_with_bytes (record { at = at; pairs = pairs }) next (Ok bytes) ≡ Err Overlap
-taken_stops cells pairs at next bytes taken kept =
-    let over : overlaps pairs at (length bytes) ≡ true = sym (taken_is cells pairs at (length bytes) kept) ∙ taken in
+pub overlap_is_rejected : (cells : List (Option ℕ)) (pairs : List (ℕ × ℕ)) (at next : ℕ) (bytes : List ℕ) → list_any is_some (take (length bytes) (drop at cells)) ≡ true → HoldsPairs cells pairs
+    → second_pass_with_bytes (record { at = at; pairs = pairs }) next (Ok bytes) ≡ Err Overlap
+overlap_is_rejected cells pairs at next bytes taken kept =
+    let over : overlaps pairs at (length bytes) ≡ true = sym (taken_equals_overlaps cells pairs at (length bytes) kept) ∙ taken in
     rw over refl
 
-pub free_goes : (cells : List (Option ℕ)) (pairs : List (ℕ × ℕ)) (at next : ℕ) (bytes : List ℕ) → at + length bytes ≤ 4096 → list_any is_some (take (length bytes) (drop at cells)) ≡ false → HoldsPairs cells pairs
-    → (s : SpelledLines) × (spelled_with_bytes (record { at = at; pairs = pairs }) next (Ok bytes) ≡ Ok s) × (s.at ≡ next) × HoldsPairs (cells_after at bytes cells) s.pairs
-free_goes cells pairs at next bytes within free kept =
-    let over : overlaps pairs at (length bytes) ≡ false = sym (taken_is cells pairs at (length bytes) kept) ∙ free in
-    (record { at = next; pairs = pairs ++ from_address at bytes }, rw over refl, refl, all_kept bytes at cells pairs within kept (free_from pairs at (length bytes) over))
+pub no_overlap_is_added : (cells : List (Option ℕ)) (pairs : List (ℕ × ℕ)) (at next : ℕ) (bytes : List ℕ) → at + length bytes ≤ 4096 → list_any is_some (take (length bytes) (drop at cells)) ≡ false → HoldsPairs cells pairs
+    → (s : SecondPassState) × (second_pass_with_bytes (record { at = at; pairs = pairs }) next (Ok bytes) ≡ Ok s) × (s.at ≡ next) × HoldsPairs (cells_after at bytes cells) s.pairs
+no_overlap_is_added cells pairs at next bytes within free kept =
+    let over : overlaps pairs at (length bytes) ≡ false = sym (taken_equals_overlaps cells pairs at (length bytes) kept) ∙ free in
+    (record { at = next; pairs = pairs ++ from_address at bytes }, rw over refl, refl, all_writes_hold_pairs bytes at cells pairs within kept (free_if_no_overlap pairs at (length bytes) over))
 
 -- The result of adding the bytes of a parsed line is the result of adding the line.
-pub second_is : (names : Names) (s : SpelledLines) (l : Option asm.SourceLine) (line : asm.SourceLine) (bytes : List ℕ) (next : ℕ) → Some line ≡ l → line_bytes s.at names (Some line) ≡ Ok bytes → next ≡ next_at (Some line) s.at
-    → spelled_with_bytes s next (Ok bytes) ≡ spelled_with_line names s l
-second_is names s l line bytes next form is at =
-    ap (λ (n : ℕ). spelled_with_bytes s n (Ok bytes)) at ∙ (ap (λ (r : Result (List ℕ) SourceFault). spelled_with_bytes s (next_at (Some line) s.at) r) (sym is) ∙ ap (λ (o : Option asm.SourceLine). spelled_with_line names s o) form)
+pub bytes_of_line_are_added : (names : Names) (s : SecondPassState) (l : Option asm.SourceLine) (line : asm.SourceLine) (bytes : List ℕ) (next : ℕ) → Some line ≡ l → line_bytes s.at names (Some line) ≡ Ok bytes → next ≡ next_at (Some line) s.at
+    → second_pass_with_bytes s next (Ok bytes) ≡ second_pass_with_line names s l
+bytes_of_line_are_added names s l line bytes next form is at =
+    ap (λ (n : ℕ). second_pass_with_bytes s n (Ok bytes)) at ∙ (ap (λ (r : Result (List ℕ) SourceFault). second_pass_with_bytes s (next_at (Some line) s.at) r) (sym is) ∙ ap (λ (o : Option asm.SourceLine). second_pass_with_line names s o) form)
 
 -- ---- If a line has no first-pass error, its bytes fit into the ROM.
 
@@ -58,7 +58,7 @@ page_has : (n : ℕ) (t : Bool) (r : Result (List ℕ) SourceFault) → HasLengt
 page_has n true r h = h
 page_has n false r h = tt
 
-known_has : (n : ℕ) (o : Option ℕ) (f : ℕ → Result (List ℕ) SourceFault) → ((x : ℕ) → HasLength n (f x)) → HasLength n (if_known o f)
+known_has : (n : ℕ) (o : Option ℕ) (f : ℕ → Result (List ℕ) SourceFault) → ((x : ℕ) → HasLength n (f x)) → HasLength n (with_known_value o f)
 known_has n None f h = tt
 known_has n (Some x) f h = h x
 
@@ -74,7 +74,7 @@ values_length : (names : Names) (vs : List asm.Operand) (ns : List ℕ) → valu
 values_length names [] ns e = ap length (sym (some_list ns [] (sym e)))
 values_length names (v ∷ vs) ns e = more_length (value_in names v) (values_in names vs) ns (length vs) (λ ms f. values_length names vs ms f) e
 
-values_has : (names : Names) (vs : List asm.Operand) (f : List ℕ → Bool) (o : Option (List ℕ)) → values_in names vs ≡ o → HasLength (length vs) (if_known o (λ ns. if_in_range (f ns) (Ok ns)))
+values_has : (names : Names) (vs : List asm.Operand) (f : List ℕ → Bool) (o : Option (List ℕ)) → values_in names vs ≡ o → HasLength (length vs) (with_known_value o (λ ns. if_in_range (f ns) (Ok ns)))
 values_has names vs f None e = tt
 values_has names vs f (Some ns) e = within_has (length vs) (f ns) (Ok ns) (values_length names vs ns e)
 
@@ -87,17 +87,17 @@ bytes_size at names (asm.Bbl v) = known_has 1 (value_in names v) _ (λ n. within
 bytes_size at names (asm.Jun v) = known_has 2 (value_in names v) _ (λ n. within_has 2 (ltb n 4096) _ refl)
 bytes_size at names (asm.Jms v) = known_has 2 (value_in names v) _ (λ n. within_has 2 (ltb n 4096) _ refl)
 bytes_size at names (asm.Fim p v) = known_has 2 (value_in names v) _ (λ n. within_has 2 (ltb n 256) _ refl)
-bytes_size at names (asm.Jcn v w) = known_has 2 (value_in names v) _ (λ n. known_has 2 (value_in names w) _ (λ t. within_has 2 (ltb n 16 && ltb t 4096) _ (page_has 2 (is_near at t) _ refl)))
-bytes_size at names (asm.Isz r w) = known_has 2 (value_in names w) _ (λ t. within_has 2 (ltb t 4096) _ (page_has 2 (is_near at t) _ refl))
+bytes_size at names (asm.Jcn v w) = known_has 2 (value_in names v) _ (λ n. known_has 2 (value_in names w) _ (λ t. within_has 2 (ltb n 16 && ltb t 4096) _ (page_has 2 (is_on_reachable_page at t) _ refl)))
+bytes_size at names (asm.Isz r w) = known_has 2 (value_in names w) _ (λ t. within_has 2 (ltb t 4096) _ (page_has 2 (is_on_reachable_page at t) _ refl))
 
-pub fits : (at : ℕ) (names : Names) (line : asm.SourceLine) (bytes : List ℕ) → line_bytes at names (Some line) ≡ Ok bytes → passes_end line at ≡ false → at ≤ 4096 → at + length bytes ≤ 4096
-fits at names (asm.Define w n) bytes e room le =
+pub line_fits_in_rom : (at : ℕ) (names : Names) (line : asm.SourceLine) (bytes : List ℕ) → line_bytes at names (Some line) ≡ Ok bytes → passes_end line at ≡ false → at ≤ 4096 → at + length bytes ≤ 4096
+line_fits_in_rom at names (asm.Define w n) bytes e room le =
     let none : HasLength 0 (Ok bytes) = subst (HasLength 0) e refl in
     omega (arith, none, le)
-fits at names (asm.Code label None) bytes e room le =
+line_fits_in_rom at names (asm.Code label None) bytes e room le =
     let none : HasLength 0 (Ok bytes) = subst (HasLength 0) e refl in
     omega (arith, none, le)
-fits at names (asm.Code label (Some s)) bytes e room le =
+line_fits_in_rom at names (asm.Code label (Some s)) bytes e room le =
     let len : HasLength (size s) (Ok bytes) = subst (HasLength (size s)) e (bytes_size at names s) in
     let end : at + size s ≤ 4096 = ltb-false 4096 (at + size s) (or_parts (is_some label && leb 4096 at) (ltb 4096 (at + size s)) room).1 in
     omega (arith, len, end)

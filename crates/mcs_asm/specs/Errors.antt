@@ -5,15 +5,15 @@ use Rattle.std.specs.Prelude.{◌≡◌, ℕ, zero, suc, ◌+◌, List, [], ◌�
 use Rattle.std.specs.List.{filter_map, range_with_len}
 use Rattle.std.specs.Fmt.{decimal}
 use Rattle.mcs_model.specs.TextLines.{as_line, lines_of, text_of}
-use Rattle.mcs_source.specs.Assembly.{Names, read, ith_line, address_of, all_names, fault_one, fault_two, line_bytes, line_pairs, bytes_or_none}
+use Rattle.mcs_source.specs.Assembly.{Names, read, ith_line, address_of, all_names, first_pass_line_fault, second_pass_line_fault, line_bytes, line_pairs, bytes_or_none}
 use Rattle.mcs_model.specs.Images.{from_address}
 use Rattle.mcs_asm.specs.ByteCells.{HoldsPairs}
 use Rattle.mcs_source.specs.Lines.{SourceLine}
 use Rattle.mcs_source.specs.RefusalNumbers.{source_fault_number}
 use Rattle.mcs_source.specs.declared.fault.SourceFault.{SourceFault}
 use Rattle.mcs_asm.specs.declared.all_errors.LineError.{LineError}
-use Rattle.mcs_asm.specs.declared.all_errors.TheConstants.{ERROR_ROWS}
-use Rattle.mcs_asm.specs.Passes.{Before, nothing_before, before_next}
+use Rattle.mcs_asm.specs.declared.all_errors.TheConstants.{MAX_REPORTED_ERRORS}
+use Rattle.mcs_asm.specs.Passes.{FirstPassState, first_pass_start, first_pass_next}
 
 -- ---- first-pass errors: a line with an error defines no name and does not change the address
 
@@ -23,31 +23,31 @@ unless_error None old new = new
 
 -- the next address and the defined names after the lines before line i; a line with an error is
 -- skipped
-unfoldable pub sound_before : List (Option SourceLine) → ℕ → Before
-sound_before lines zero = nothing_before
-sound_before lines (suc i) =
-    unless_error (fault_one (sound_before lines i).at (sound_before lines i).names (ith_line lines i))
-    (sound_before lines i) (before_next (sound_before lines i) (ith_line lines i))
+unfoldable pub first_pass_skipping_errors : List (Option SourceLine) → ℕ → FirstPassState
+first_pass_skipping_errors lines zero = first_pass_start
+first_pass_skipping_errors lines (suc i) =
+    unless_error (first_pass_line_fault (first_pass_skipping_errors lines i).at (first_pass_skipping_errors lines i).names (ith_line lines i))
+    (first_pass_skipping_errors lines i) (first_pass_next (first_pass_skipping_errors lines i) (ith_line lines i))
 
 -- the first-pass error of line i, if it has one
-unfoldable pub class_one_error : List (Option SourceLine) → ℕ → Option SourceFault
-class_one_error lines i =
-    fault_one (sound_before lines i).at (sound_before lines i).names (ith_line lines i)
+unfoldable pub first_pass_error : List (Option SourceLine) → ℕ → Option SourceFault
+first_pass_error lines i =
+    first_pass_line_fault (first_pass_skipping_errors lines i).at (first_pass_skipping_errors lines i).names (ith_line lines i)
 
 -- ---- second-pass errors: a line with an error emits no bytes; its address and its name remain
 
 -- the (address, byte) pairs that the lines before line i emit; a line with an error emits none
-unfoldable pub sound_pairs : List (Option SourceLine) → Names → ℕ → List (ℕ × ℕ)
-sound_pairs lines names zero = []
-sound_pairs lines names (suc i) =
-    unless_error (fault_two (address_of lines i) (sound_pairs lines names i)
+unfoldable pub pairs_skipping_errors : List (Option SourceLine) → Names → ℕ → List (ℕ × ℕ)
+pairs_skipping_errors lines names zero = []
+pairs_skipping_errors lines names (suc i) =
+    unless_error (second_pass_line_fault (address_of lines i) (pairs_skipping_errors lines names i)
     (line_bytes (address_of lines i) names (ith_line lines i)))
-    (sound_pairs lines names i) (sound_pairs lines names i ++ line_pairs lines names i)
+    (pairs_skipping_errors lines names i) (pairs_skipping_errors lines names i ++ line_pairs lines names i)
 
 -- the second-pass error of line i, if it has one
-unfoldable pub class_two_error : List (Option SourceLine) → Names → ℕ → Option SourceFault
-class_two_error lines names i =
-    fault_two (address_of lines i) (sound_pairs lines names i)
+unfoldable pub second_pass_error : List (Option SourceLine) → Names → ℕ → Option SourceFault
+second_pass_error lines names i =
+    second_pass_line_fault (address_of lines i) (pairs_skipping_errors lines names i)
     (line_bytes (address_of lines i) names (ith_line lines i))
 
 -- Holds if the result is the second-pass error of a line that emits the given bytes at address
@@ -58,7 +58,7 @@ abbrev pub ReportsError : {E : Type 0} → Result (Option SourceFault) E → ℕ
     → Result (List ℕ) SourceFault → List (Option ℕ) → Type 0
 ReportsError (Err e) at pairs bytes cells = Unit {0}
 ReportsError (Ok error) at pairs bytes cells =
-    (error ≡ fault_two at pairs bytes)
+    (error ≡ second_pass_line_fault at pairs bytes)
     × HoldsPairs cells (unless_error error pairs (pairs ++ from_address at (bytes_or_none bytes)))
 
 -- ---- the whole text
@@ -71,24 +71,24 @@ error_at i f = record { line = i + 1; fault = f }
 unfoldable pub errors_before : (ℕ → Option SourceFault) → ℕ → List LineError
 errors_before error i = filter_map (λ j. option_map (error_at j) (error j)) (range_with_len 0 i)
 
-abbrev pub errors_of_class_one : List (Option SourceLine) → List LineError
-errors_of_class_one lines = errors_before (class_one_error lines) (length lines)
+abbrev pub first_pass_errors : List (Option SourceLine) → List LineError
+first_pass_errors lines = errors_before (first_pass_error lines) (length lines)
 
-abbrev pub errors_of_class_two : List (Option SourceLine) → List LineError
-errors_of_class_two lines = errors_before (class_two_error lines (all_names lines)) (length lines)
+abbrev pub second_pass_errors : List (Option SourceLine) → List LineError
+second_pass_errors lines = errors_before (second_pass_error lines (all_names lines)) (length lines)
 
-abbrev pub or_errors : List LineError → List LineError → List LineError
-or_errors [] other = other
-or_errors (e ∷ es) other = e ∷ es
+abbrev pub errors_or_else : List LineError → List LineError → List LineError
+errors_or_else [] other = other
+errors_or_else (e ∷ es) other = e ∷ es
 
--- the errors that are reported: at most the first `ERROR_ROWS`
+-- the errors that are reported: at most the first `MAX_REPORTED_ERRORS`
 abbrev pub reported_errors : List LineError → List LineError
-reported_errors errors = take ERROR_ROWS errors
+reported_errors errors = take MAX_REPORTED_ERRORS errors
 
 -- the first-pass errors or, if there are none, the second-pass errors
 abbrev pub errors_of : List (Option SourceLine) → List LineError
 errors_of lines =
-    or_errors (reported_errors (errors_of_class_one lines)) (reported_errors (errors_of_class_two lines))
+    errors_or_else (reported_errors (first_pass_errors lines)) (reported_errors (second_pass_errors lines))
 
 abbrev pub errors_of_text : List ℕ → List LineError
 errors_of_text text = errors_of (read (lines_of text))
@@ -96,21 +96,21 @@ errors_of_text text = errors_of (read (lines_of text))
 -- ---- The law: the first error in the list is the error of the assembly. If the list is empty, the
 -- assembly has no error.
 
-abbrev pub first_of : List LineError → Option (ℕ × SourceFault)
-first_of [] = None
-first_of (e ∷ es) = Some (e.line, e.fault)
+abbrev pub first_listed_error : List LineError → Option (ℕ × SourceFault)
+first_listed_error [] = None
+first_listed_error (e ∷ es) = Some (e.line, e.fault)
 
-abbrev pub fault_of : {A : Type 0} → Result A (ℕ × SourceFault) → Option (ℕ × SourceFault)
-fault_of (Ok x) = None
-fault_of (Err at) = Some at
+abbrev pub assembly_error : {A : Type 0} → Result A (ℕ × SourceFault) → Option (ℕ × SourceFault)
+assembly_error (Ok x) = None
+assembly_error (Err at) = Some at
 
 -- ---- the report on the errors
 
 abbrev pub error_row : LineError → List ℕ
 error_row e = codes "error " ++ decimal e.line ++ codes " " ++ decimal (source_fault_number e.fault)
 
-abbrev pub errors_head : ℕ → List ℕ
-errors_head count = codes "errors " ++ decimal count
+abbrev pub errors_header : ℕ → List ℕ
+errors_header count = codes "errors " ++ decimal count
 
 unfoldable pub errors_text : List LineError → List ℕ
-errors_text errors = as_line (errors_head (length errors)) ++ text_of (map error_row errors)
+errors_text errors = as_line (errors_header (length errors)) ++ text_of (map error_row errors)

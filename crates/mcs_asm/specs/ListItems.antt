@@ -5,9 +5,9 @@ use Rattle.mcs_source.specs.Lines.{Operand, operand_of}
 use Rattle.mcs_model.specs.Options.{◌>>=◌}
 
 -- the remaining tokens if a comma precedes them, else nothing
-abbrev pub rest_if : Bool → List Token → Option (List Token)
-rest_if true ts = Some ts
-rest_if false ts = None
+abbrev pub tokens_if_comma : Bool → List Token → Option (List Token)
+tokens_if_comma true ts = Some ts
+tokens_if_comma false ts = None
 
 -- the first operand of a list, with the tokens after its comma if there is a comma
 abbrev pub list_item : List Token → Option (Operand × Option (List Token))

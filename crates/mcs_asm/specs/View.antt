@@ -88,45 +88,45 @@ abbrev pub line_view : SourceLine → lines.SourceLine
 line_view (line.Code label s) = lines.Code (option_copied label) (option_map statement_view s)
 line_view (line.Define w n) = lines.Define w.now n
 
--- `NoLabel` holds if the tokens parse as a line without a label. `NoDefinition` holds if a line
+-- `HasNoLabel` holds if the tokens parse as a line without a label. `HasNoDefinition` holds if a line
 -- without a label parses as one that is not a definition `NAME = NUMBER`.
-abbrev pub NoLabel : List spec.Token → Type 0
-NoLabel ts = lines.line_of ts ≡ lines.unlabelled ts
+abbrev pub HasNoLabel : List spec.Token → Type 0
+HasNoLabel ts = lines.line_of ts ≡ lines.unlabelled ts
 
-abbrev pub NoDefinition : List spec.Token → Type 0
-NoDefinition ts = lines.unlabelled ts ≡ lines.rest_of None ts
+abbrev pub HasNoDefinition : List spec.Token → Type 0
+HasNoDefinition ts = lines.unlabelled ts ≡ lines.code_line None ts
 
 abbrev pub words_view : Words → List ℕ
 words_view w = w.first ∷ option_to_list w.second
 
 -- Holds if the converted result is the wanted value, or the result is the wanted error. Also holds
 -- if allocation failed.
-abbrev pub GivesAs : {A B : Type 0} → (A → B) → Result A FaultKind → Result B SourceFault → Type 0
-GivesAs view (Ok x) wanted = wanted ≡ Ok (view x)
-GivesAs view (Err NoMemory) wanted = Unit {0}
-GivesAs view (Err (Refused f)) wanted = wanted ≡ Err f
+abbrev pub MatchesView : {A B : Type 0} → (A → B) → Result A FaultKind → Result B SourceFault → Type 0
+MatchesView view (Ok x) wanted = wanted ≡ Ok (view x)
+MatchesView view (Err NoMemory) wanted = Unit {0}
+MatchesView view (Err (Refused f)) wanted = wanted ≡ Err f
 
 -- Holds if the result is an instruction that is encoded as the wanted bytes, or the wanted error.
-abbrev pub GivesOp : Result Op SourceFault → Result (List ℕ) SourceFault → Type 0
-GivesOp (Ok o) wanted = wanted ≡ Ok (spelling o)
-GivesOp (Err f) wanted = wanted ≡ Err f
+abbrev pub MatchesEncoding : Result Op SourceFault → Result (List ℕ) SourceFault → Type 0
+MatchesEncoding (Ok o) wanted = wanted ≡ Ok (spelling o)
+MatchesEncoding (Err f) wanted = wanted ≡ Err f
 
 -- Holds if the result is an instruction that is encoded as the wanted bytes, nothing if no bytes
 -- are wanted, or the wanted error.
-abbrev pub SaysOp : Result (Option Op) SourceFault → Result (List ℕ) SourceFault → Type 0
-SaysOp (Ok None) wanted = wanted ≡ Ok []
-SaysOp (Ok (Some o)) wanted = wanted ≡ Ok (spelling o)
-SaysOp (Err f) wanted = wanted ≡ Err f
+abbrev pub MatchesOptionalEncoding : Result (Option Op) SourceFault → Result (List ℕ) SourceFault → Type 0
+MatchesOptionalEncoding (Ok None) wanted = wanted ≡ Ok []
+MatchesOptionalEncoding (Ok (Some o)) wanted = wanted ≡ Ok (spelling o)
+MatchesOptionalEncoding (Err f) wanted = wanted ≡ Err f
 
 abbrev pub IsNotDb : Mnemonic → Type 0
 IsNotDb m.Db = ⊥
 IsNotDb mnemonic = Unit {0}
 
-abbrev pub IsNoData : lines.Statement → Type 0
-IsNoData (lines.Data vs) = ⊥
-IsNoData s = Unit {0}
+abbrev pub IsNotData : lines.Statement → Type 0
+IsNotData (lines.Data vs) = ⊥
+IsNotData s = Unit {0}
 
 -- Holds if the map gives each name the same value as the list of names does.
-abbrev pub HasNames : BTreeMap (Bor (List ℕ)) ℕ → Names → Type 0
-HasNames values names =
+abbrev pub AgreesWithNames : BTreeMap (Bor (List ℕ)) ℕ → Names → Type 0
+AgreesWithNames values names =
     (w : List ℕ) → get_by (λ k. slice_cmp nat_cmp w k.now) values ≡ value_of w names

@@ -4,23 +4,23 @@ ghost use Rattle.std.specs.List.{cons_option};
 ghost use Rattle.mcs_model.specs.TextLines.{as_line, text_of};
 ghost use Rattle.mcs_source.specs.Lexical.{tokens};
 ghost use Rattle.mcs_source.specs.Lines.{line_of};
-ghost use Rattle.mcs_source.specs.Assembly.{read, first_of_class_one, all_names, fault_one, line_bytes, next_at, assembly_of_text};
+ghost use Rattle.mcs_source.specs.Assembly.{read, earliest_first_pass_fault, all_names, first_pass_line_fault, line_bytes, next_at, assembly_of_text};
 ghost use Rattle.mcs_asm.specs.ByteCells.{HoldsPairs};
-ghost use Rattle.mcs_asm.specs.Errors.{ReportsError, sound_before, unless_error, error_at, errors_of_class_one, errors_of_class_two, reported_errors, errors_of, errors_of_text, first_of, fault_of, error_row, errors_head, errors_text};
-ghost use Rattle.mcs_asm.specs.Passes.{HasNoFault, before_next};
+ghost use Rattle.mcs_asm.specs.Errors.{ReportsError, first_pass_skipping_errors, unless_error, error_at, first_pass_errors, second_pass_errors, reported_errors, errors_of, errors_of_text, first_listed_error, assembly_error, error_row, errors_header, errors_text};
+ghost use Rattle.mcs_asm.specs.Passes.{HasNoFault, first_pass_next};
 ghost use Rattle.mcs_asm.specs.View.{line_view};
 
 use crate::byte_cells::ByteCells;
 use crate::bytes::line_bytes;
 use crate::fault::{FaultKind, SourceFault};
 use crate::names::{Names, next_at};
-use crate::passes::{SpelledLines, add_line};
+use crate::passes::{SecondPassState, add_line};
 use crate::statements::{SourceLine, read_line};
 use crate::text::lines;
 use std::alloc::{AllocError, Global};
 
 /// The maximum number of errors that are reported for a text.
-pub const ERROR_ROWS: usize = 100;
+pub const MAX_REPORTED_ERRORS: usize = 100;
 
 /// An error with its line number.
 #[derive(Clone, Copy, Debug)]
@@ -31,18 +31,18 @@ pub struct LineError {
     pub fault: SourceFault,
 }
 
-/// Appends the error of the line at `index`, unless the list already has [`ERROR_ROWS`] errors.
+/// Appends the error of the line at `index`, unless the list already has [`MAX_REPORTED_ERRORS`] errors.
 /// Fails if allocation fails.
 fn push_error(
     errors: &mut Vec<LineError>,
     index: usize,
     fault: SourceFault,
 ) -> Result<(), AllocError>
-    requires room { length errors.old.items ≤ ERROR_ROWS }
+    requires room { length errors.old.items ≤ MAX_REPORTED_ERRORS }
     requires index { index < 2 ^ 63 }
     ensures { OnOk result (errors.new.items ≡ reported_errors (errors.old.items ++ error_at index fault ∷ [])) }
 {
-    if errors.len() < ERROR_ROWS {
+    if errors.len() < MAX_REPORTED_ERRORS {
         errors.push(LineError {
             line: index + 1,
             fault,
@@ -52,13 +52,13 @@ fn push_error(
 }
 
 /// Appends the error of the line at `index`, if it has one, unless the list already has
-/// [`ERROR_ROWS`] errors. Fails if allocation fails.
-fn report_error(
+/// [`MAX_REPORTED_ERRORS`] errors. Fails if allocation fails.
+fn push_error_if_any(
     errors: &mut Vec<LineError>,
     index: usize,
     fault: Option<SourceFault>,
 ) -> Result<(), AllocError>
-    requires room { length errors.old.items ≤ ERROR_ROWS }
+    requires room { length errors.old.items ≤ MAX_REPORTED_ERRORS }
     requires index { index < 2 ^ 63 }
     ensures { OnOk result (errors.new.items
         ≡ reported_errors (errors.old.items ++ cons_option (option_map (error_at index) fault) [])) }
@@ -71,14 +71,14 @@ fn report_error(
 
 /// Returns the first-pass error of the next line. If the line has none, adds its name and sets the
 /// address of the line after it. Fails if allocation fails.
-fn first_error<'a>(
+fn add_line_or_error<'a>(
     alloc: Global,
     names: &mut Names<'a>,
     line: &'a [u8],
 ) -> Result<Option<SourceFault>, AllocError>
     ensures { IfOk result (λ error.
-        (error ≡ fault_one names.old.at names.old.names (line_of (tokens line.now)))
-        × (names.new ≡ unless_error error names.old (before_next names.old (line_of (tokens line.now))))) }
+        (error ≡ first_pass_line_fault names.old.at names.old.names (line_of (tokens line.now)))
+        × (names.new ≡ unless_error error names.old (first_pass_next names.old (line_of (tokens line.now))))) }
 {
     match add_line(alloc, names, line) {
         Ok(()) => Ok(None),
@@ -87,29 +87,33 @@ fn first_error<'a>(
     }
 }
 
-/// Runs the first pass over all lines. Returns the names, and at most [`ERROR_ROWS`] errors. A line
+/// Runs the first pass over all lines. Returns the names, and at most [`MAX_REPORTED_ERRORS`] errors. A line
 /// with an error defines no name and does not change the address. Fails if allocation fails.
-fn errors_of_names<'a>(
+fn collect_first_pass_errors<'a>(
     alloc: Global,
     lines: &[&'a [u8]],
 ) -> Result<(Names<'a>, Vec<LineError>), AllocError>
-    ensures { IfOk result (λ found. (found.0 ≡ sound_before (read (map (λ l. l.now) lines.now)) (length lines.now))
-        × (found.1.items ≡ reported_errors (errors_of_class_one (read (map (λ l. l.now) lines.now))))) }
+    ensures { IfOk result (λ found. (found.0 ≡ first_pass_skipping_errors (read (map (λ l. l.now) lines.now)) (length lines.now))
+        × (found.1.items ≡ reported_errors (first_pass_errors (read (map (λ l. l.now) lines.now))))) }
 {
     let mut names = Names::new(alloc);
     let mut errors = Vec::new(alloc);
     for i in 0..lines.len() {
-        let fault = first_error(alloc, &mut names, lines[i])?;
-        report_error(&mut errors, i, fault)?;
+        let fault = add_line_or_error(alloc, &mut names, lines[i])?;
+        push_error_if_any(&mut errors, i, fault)?;
     }
     Ok((names, errors))
 }
 
-impl SpelledLines {
+impl SecondPassState {
     /// Adds the bytes of a line, or returns an overlap error if an earlier line fills one of the
     /// addresses. In both cases, sets the address of the next statement to `next`. Fails if
     /// allocation fails.
-    fn add_or_pass(&mut self, bytes: &[u8], next: u16) -> Result<Option<SourceFault>, AllocError>
+    fn emit_bytes_or_error(
+        &mut self,
+        bytes: &[u8],
+        next: u16,
+    ) -> Result<Option<SourceFault>, AllocError>
         requires room { self.old.at + length bytes.now ≤ 4096 }
         requires next { next ≤ 4096 }
         ensures error { (pairs : List (ℕ × ℕ)) → HoldsPairs self.old.cells pairs
@@ -129,7 +133,7 @@ impl SpelledLines {
     /// Adds the bytes of a parsed line, or returns its second-pass error. The line must not pass
     /// the end of the ROM, and the number in an `ORG` or `=` must be below 4096. Fails if
     /// allocation fails.
-    fn error_of_line<'a>(
+    fn emit_parsed_line_or_error<'a>(
         &mut self,
         alloc: Global,
         names: &Names<'a>,
@@ -143,7 +147,7 @@ impl SpelledLines {
     {
         let next = next_at(line, self.at);
         match line_bytes(alloc, self.at, names, line) {
-            Ok(bytes) => self.add_or_pass(&bytes, next),
+            Ok(bytes) => self.emit_bytes_or_error(&bytes, next),
             Err(FaultKind::NoMemory) => Err(AllocError),
             Err(FaultKind::Refused(fault)) => {
                 self.at = next;
@@ -155,7 +159,7 @@ impl SpelledLines {
     /// Parses the next line, and adds its bytes or returns its second-pass error. The line must be
     /// valid and must not pass the end of the ROM. The number in an `ORG` or `=` must be below
     /// 4096. Fails if allocation fails.
-    fn second_error<'a>(
+    fn emit_line_or_error<'a>(
         &mut self,
         alloc: Global,
         names: &Names<'a>,
@@ -168,38 +172,38 @@ impl SpelledLines {
         ensures next { OnOk result (self.new.at ≡ next_at (line_of (tokens line.now)) self.old.at) }
     {
         match read_line(alloc, line) {
-            Ok(Some(line)) => self.error_of_line(alloc, names, &line),
+            Ok(Some(line)) => self.emit_parsed_line_or_error(alloc, names, &line),
             Ok(None) => unreachable!(),
             Err(_) => Err(AllocError),
         }
     }
 }
 
-/// Runs the second pass over lines without first-pass errors. Returns at most [`ERROR_ROWS`]
+/// Runs the second pass over lines without first-pass errors. Returns at most [`MAX_REPORTED_ERRORS`]
 /// errors. Fails if allocation fails.
-fn errors_of_bytes<'a>(
+fn collect_second_pass_errors<'a>(
     alloc: Global,
     names: &Names<'a>,
     lines: &[&'a [u8]],
 ) -> Result<Vec<LineError>, AllocError>
-    requires no_fault { first_of_class_one (read (map (λ l. l.now) lines.now)) ≡ None }
+    requires no_fault { earliest_first_pass_fault (read (map (λ l. l.now) lines.now)) ≡ None }
     requires names { names.now.names ≡ all_names (read (map (λ l. l.now) lines.now)) }
-    ensures { IfOk result (λ found. found.items ≡ reported_errors (errors_of_class_two (read (map (λ l. l.now) lines.now)))) }
+    ensures { IfOk result (λ found. found.items ≡ reported_errors (second_pass_errors (read (map (λ l. l.now) lines.now)))) }
 {
-    let mut spelled = SpelledLines {
+    let mut pass_state = SecondPassState {
         at: 0,
         spans: Vec::new(alloc),
         cells: ByteCells::new(alloc)?,
     };
     let mut errors = Vec::new(alloc);
     for i in 0..lines.len() {
-        let fault = spelled.second_error(alloc, names, lines[i])?;
-        report_error(&mut errors, i, fault)?;
+        let fault = pass_state.emit_line_or_error(alloc, names, lines[i])?;
+        push_error_if_any(&mut errors, i, fault)?;
     }
     Ok(errors)
 }
 
-fn are_none(errors: &[LineError]) -> bool
+fn has_no_errors(errors: &[LineError]) -> bool
     ensures { result ≡ (length errors.now == 0) }
 {
     errors.is_empty()
@@ -210,15 +214,15 @@ fn are_none(errors: &[LineError]) -> bool
 fn errors_of_lines<'a>(alloc: Global, lines: &[&'a [u8]]) -> Result<Vec<LineError>, AllocError>
     ensures { IfOk result (λ found. found.items ≡ errors_of (read (map (λ l. l.now) lines.now))) }
 {
-    let (names, errors) = errors_of_names(alloc, lines)?;
-    if are_none(&errors) {
-        errors_of_bytes(alloc, &names, lines)
+    let (names, errors) = collect_first_pass_errors(alloc, lines)?;
+    if has_no_errors(&errors) {
+        collect_second_pass_errors(alloc, &names, lines)
     } else {
         Ok(errors)
     }
 }
 
-/// Returns the first error of each line of a source text, at most [`ERROR_ROWS`] errors. If the
+/// Returns the first error of each line of a source text, at most [`MAX_REPORTED_ERRORS`] errors. If the
 /// first pass finds errors (30, 31, 33, 36 or 37), only these are returned. Otherwise, the errors
 /// of the second pass (32 to 35) are returned.
 ///
@@ -233,8 +237,8 @@ pub fn errors(alloc: Global, source: &str) -> Result<Vec<LineError>, AllocError>
 
 /// Proves that the first error in the list for a source text is the error that its assembly
 /// reports, with the same line number. If the list is empty, the assembly succeeds.
-pub fn the_first_error_is_the_fault()
-    ensures { (text : List ℕ) → first_of (errors_of_text text) ≡ fault_of (assembly_of_text text) }
+pub fn first_error_is_assembly_error()
+    ensures { (text : List ℕ) → first_listed_error (errors_of_text text) ≡ assembly_error (assembly_of_text text) }
 {}
 
 /// Appends the row of an error: its line number and its refusal number.
@@ -258,7 +262,7 @@ fn push_errors(out: &mut String, errors: &[LineError]) -> Result<(), AllocError>
 
 /// Appends the header row, which has the number of errors.
 fn push_count(out: &mut String, count: usize) -> Result<(), AllocError>
-    ensures { OnOk result (string_bytes out.new ≡ string_bytes out.old ++ as_line (errors_head count)) }
+    ensures { OnOk result (string_bytes out.new ≡ string_bytes out.old ++ as_line (errors_header count)) }
 {
     write!(out, "errors {count}\n")
 }

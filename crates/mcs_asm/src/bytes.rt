@@ -3,8 +3,8 @@ ghost use Rattle.std.specs.Prelude.{◌≡◌, ◌<◌, ◌≤◌, ◌/◌, ◌%
 ghost use Rattle.std.specs.List.{list_all};
 ghost use Rattle.mcs_source.specs.Lines.{Data, Ldm, Bbl, Jun, Jms, Fim, Jcn, Isz};
 ghost use Rattle.mcs_source.specs.Spelling.{spelling};
-ghost use Rattle.mcs_source.specs.Assembly.{value_in, values_in, statement_bytes, line_bytes, is_near, if_known, if_in_range, if_on_page};
-ghost use Rattle.mcs_asm.specs.View.{operand_view, statement_view, line_view, words_view, GivesAs, GivesOp, SaysOp, IsNoData};
+ghost use Rattle.mcs_source.specs.Assembly.{value_in, values_in, statement_bytes, line_bytes, is_on_reachable_page, with_known_value, if_in_range, if_on_page};
+ghost use Rattle.mcs_asm.specs.View.{operand_view, statement_view, line_view, words_view, MatchesView, MatchesEncoding, MatchesOptionalEncoding, IsNotData};
 
 use crate::fault::{FaultKind, SourceFault};
 use crate::names::Names;
@@ -60,7 +60,7 @@ fn data_bytes<'a>(
     names: &Names<'a>,
     operands: &[Operand<'a>],
 ) -> Result<Vec<u8>, FaultKind>
-    ensures { GivesAs (λ v. v.items) result
+    ensures { MatchesView (λ v. v.items) result
         (statement_bytes 0 names.now.names (Data (map operand_view operands.now))) }
 {
     let Some(values) = values(alloc, names, operands)? else {
@@ -74,7 +74,7 @@ fn data_bytes<'a>(
 
 /// Returns the value of an operand. Fails if the operand is a name that no line defines.
 fn value<'a>(names: &Names<'a>, operand: &Operand<'a>) -> Result<u64, SourceFault>
-    ensures { result ≡ if_known (value_in names.now.names (operand_view operand.now)) (λ n. Ok n) }
+    ensures { result ≡ with_known_value (value_in names.now.names (operand_view operand.now)) (λ n. Ok n) }
 {
     names.value(operand).ok_or(SourceFault::UnknownName)
 }
@@ -108,9 +108,9 @@ fn target(value: u64) -> Result<Addr, SourceFault>
 
 /// Returns the low byte of the target of a JCN or ISZ at address `at`. Fails if the target is not
 /// on the page of the address after the instruction.
-fn near_byte(at: u16, target: Addr) -> Result<u8, SourceFault>
+fn low_byte_on_page(at: u16, target: Addr) -> Result<u8, SourceFault>
     requires { at ≤ 4096 }
-    ensures { result ≡ if_on_page (is_near at target) (Ok (target % 256)) }
+    ensures { result ≡ if_on_page (is_on_reachable_page at target) (Ok (target % 256)) }
 {
     if target.get() / 256 == (at + 2) % 4096 / 256 {
         Ok(target.low())
@@ -122,7 +122,7 @@ fn near_byte(at: u16, target: Addr) -> Result<u8, SourceFault>
 /// Returns the value of an operand as a nibble. Fails if the operand is an undefined name or its
 /// value is above 15.
 fn nibble_value<'a>(names: &Names<'a>, operand: &Operand<'a>) -> Result<Nibble, SourceFault>
-    ensures { result ≡ if_known (value_in names.now.names (operand_view operand.now))
+    ensures { result ≡ with_known_value (value_in names.now.names (operand_view operand.now))
         (λ n. if_in_range (nat_lt n 16) (Ok n)) }
 {
     nibble(value(names, operand)?)
@@ -131,47 +131,47 @@ fn nibble_value<'a>(names: &Names<'a>, operand: &Operand<'a>) -> Result<Nibble, 
 /// Returns the value of an operand as an address. Fails if the operand is an undefined name or its
 /// value is above 4095.
 fn target_value<'a>(names: &Names<'a>, operand: &Operand<'a>) -> Result<Addr, SourceFault>
-    ensures { result ≡ if_known (value_in names.now.names (operand_view operand.now))
+    ensures { result ≡ with_known_value (value_in names.now.names (operand_view operand.now))
         (λ t. if_in_range (nat_lt t 4096) (Ok t)) }
 {
     target(value(names, operand)?)
 }
 
 fn ldm<'a>(names: &Names<'a>, v: &Operand<'a>) -> Result<Op, SourceFault>
-    ensures { GivesOp result (statement_bytes 0 names.now.names (Ldm (operand_view v.now))) }
+    ensures { MatchesEncoding result (statement_bytes 0 names.now.names (Ldm (operand_view v.now))) }
 {
     Ok(Op::Ldm(nibble_value(names, v)?))
 }
 
 fn bbl<'a>(names: &Names<'a>, v: &Operand<'a>) -> Result<Op, SourceFault>
-    ensures { GivesOp result (statement_bytes 0 names.now.names (Bbl (operand_view v.now))) }
+    ensures { MatchesEncoding result (statement_bytes 0 names.now.names (Bbl (operand_view v.now))) }
 {
     Ok(Op::Bbl(nibble_value(names, v)?))
 }
 
 fn jun<'a>(names: &Names<'a>, t: &Operand<'a>) -> Result<Op, SourceFault>
-    ensures { GivesOp result (statement_bytes 0 names.now.names (Jun (operand_view t.now))) }
+    ensures { MatchesEncoding result (statement_bytes 0 names.now.names (Jun (operand_view t.now))) }
 {
     let t = target_value(names, t)?;
     Ok(Op::Jun(t.page(), t.low()))
 }
 
 fn jms<'a>(names: &Names<'a>, t: &Operand<'a>) -> Result<Op, SourceFault>
-    ensures { GivesOp result (statement_bytes 0 names.now.names (Jms (operand_view t.now))) }
+    ensures { MatchesEncoding result (statement_bytes 0 names.now.names (Jms (operand_view t.now))) }
 {
     let t = target_value(names, t)?;
     Ok(Op::Jms(t.page(), t.low()))
 }
 
 fn fim<'a>(names: &Names<'a>, pair: PairNo, v: &Operand<'a>) -> Result<Op, SourceFault>
-    ensures { GivesOp result (statement_bytes 0 names.now.names (Fim pair (operand_view v.now))) }
+    ensures { MatchesEncoding result (statement_bytes 0 names.now.names (Fim pair (operand_view v.now))) }
 {
     Ok(Op::Fim(pair, byte(value(names, v)?)?))
 }
 
 fn jcn<'a>(at: u16, names: &Names<'a>, v: &Operand<'a>, t: &Operand<'a>) -> Result<Op, SourceFault>
     requires { at ≤ 4096 }
-    ensures { GivesOp result
+    ensures { MatchesEncoding result
         (statement_bytes at names.now.names (Jcn (operand_view v.now) (operand_view t.now))) }
 {
     // Both operands are looked up first: an undefined name (error 32) takes precedence over a value
@@ -179,22 +179,22 @@ fn jcn<'a>(at: u16, names: &Names<'a>, v: &Operand<'a>, t: &Operand<'a>) -> Resu
     let v = value(names, v)?;
     let t = value(names, t)?;
     let v = nibble(v)?;
-    Ok(Op::Jcn(v, near_byte(at, target(t)?)?))
+    Ok(Op::Jcn(v, low_byte_on_page(at, target(t)?)?))
 }
 
 fn isz<'a>(at: u16, names: &Names<'a>, register: RegNo, t: &Operand<'a>) -> Result<Op, SourceFault>
     requires { at ≤ 4096 }
-    ensures { GivesOp result (statement_bytes at names.now.names (Isz register (operand_view t.now))) }
+    ensures { MatchesEncoding result (statement_bytes at names.now.names (Isz register (operand_view t.now))) }
 {
-    Ok(Op::Isz(register, near_byte(at, target_value(names, t)?)?))
+    Ok(Op::Isz(register, low_byte_on_page(at, target_value(names, t)?)?))
 }
 
 /// Returns the instruction of a statement at address `at`, or `None` for an `ORG`. The statement
 /// must not be a `DB`. Fails with error 32, 33 or 34 if an operand is invalid.
 fn op<'a>(at: u16, names: &Names<'a>, statement: &Statement<'a>) -> Result<Option<Op>, SourceFault>
     requires start { at ≤ 4096 }
-    requires statement { IsNoData (statement_view statement.now) }
-    ensures { SaysOp result (statement_bytes at names.now.names (statement_view statement.now)) }
+    requires statement { IsNotData (statement_view statement.now) }
+    ensures { MatchesOptionalEncoding result (statement_bytes at names.now.names (statement_view statement.now)) }
 {
     match statement {
         Statement::Origin(_) | Statement::Data(_) => Ok(None),
@@ -237,7 +237,7 @@ fn statement_bytes<'a>(
     statement: &Statement<'a>,
 ) -> Result<Vec<u8>, FaultKind>
     requires { at ≤ 4096 }
-    ensures { GivesAs (λ v. v.items) result
+    ensures { MatchesView (λ v. v.items) result
         (statement_bytes at names.now.names (statement_view statement.now)) }
 {
     match statement {
@@ -258,7 +258,7 @@ pub fn line_bytes<'a>(
     line: &SourceLine<'a>,
 ) -> Result<Vec<u8>, FaultKind>
     requires { at ≤ 4096 }
-    ensures { GivesAs (λ v. v.items) result
+    ensures { MatchesView (λ v. v.items) result
         (line_bytes at names.now.names (Some (line_view line.now))) }
 {
     match line {

@@ -15,7 +15,9 @@ mod text;
 mod tokens;
 mod words;
 
-pub use all_errors::{ERROR_ROWS, LineError, errors, errors_text, the_first_error_is_the_fault};
+pub use all_errors::{
+    LineError, MAX_REPORTED_ERRORS, errors, errors_text, first_error_is_assembly_error,
+};
 pub use fault::{AsmFault, FaultKind, SourceFault};
 pub use mcs_source::survey::Span;
 pub use passes::{assemble, survey};

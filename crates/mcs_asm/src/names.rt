@@ -7,8 +7,8 @@ ghost use Rattle.std.specs.Ordering.{nat_cmp};
 ghost use Rattle.std.specs.Cmp.Lexicographic.{slice_cmp};
 ghost use Rattle.std.specs.BTreeMap.{get_by};
 ghost use Rattle.mcs_asm.specs.View.{statement_view, line_view, operand_view};
-ghost use Rattle.mcs_source.specs.Assembly.{size, statement_size, is_known, is_known_name, defined_name, is_bad_origin, has_bad_number, next_statement, next_at, passes_end, fault_one, value_in};
-ghost use Rattle.mcs_asm.specs.Passes.{nothing_before, before_next};
+ghost use Rattle.mcs_source.specs.Assembly.{size, statement_size, is_defined, is_defined_name, defined_name, is_bad_origin, has_bad_number, next_statement, next_at, passes_end, first_pass_line_fault, value_in};
+ghost use Rattle.mcs_asm.specs.Passes.{first_pass_start, first_pass_next};
 
 use crate::fault::SourceFault;
 use crate::statements::{Operand, SourceLine, Statement};
@@ -31,15 +31,15 @@ pub struct Names<'a> {
 
 impl<'a> Model for Names<'a> {
     ghost use Rattle.std.specs.Prelude.{map, ◌≤◌};
-    ghost use Rattle.mcs_asm.specs.Passes.{Before};
-    ghost use Rattle.mcs_asm.specs.View.{HasNames};
+    ghost use Rattle.mcs_asm.specs.Passes.{FirstPassState};
+    ghost use Rattle.mcs_asm.specs.View.{AgreesWithNames};
 
-    ghost Value = { Before };
+    ghost Value = { FirstPassState };
 
     ghost view = { λ n. record { at = n.at; names = map (λ e. (e.0.now, e.1)) n.names.items } };
 
     ghost invariant = { λ n. (n.at ≤ 4096)
-        × HasNames n.values (map (λ e. (e.0.now, e.1)) n.names.items) };
+        × AgreesWithNames n.values (map (λ e. (e.0.now, e.1)) n.names.items) };
 }
 
 fn statement_size(statement: &Option<Statement<'_>>) -> usize
@@ -68,7 +68,7 @@ fn size(statement: &Statement<'_>) -> usize
 impl<'a> Names<'a> {
     /// Returns the state before the first line: no names, and the next statement at address 0.
     pub fn new(alloc: Global) -> Names<'a>
-        ensures { result ≡ nothing_before }
+        ensures { result ≡ first_pass_start }
     {
         Names {
             at: 0,
@@ -77,18 +77,18 @@ impl<'a> Names<'a> {
         }
     }
 
-    fn is_known(&self, name: &[u8]) -> bool
-        ensures { result ≡ is_known name.now self.now.names }
+    fn is_defined(&self, name: &[u8]) -> bool
+        ensures { result ≡ is_defined name.now self.now.names }
     {
-        knows(&self.names, name)
+        contains_name(&self.names, name)
     }
 
-    fn is_known_name(&self, name: Option<&[u8]>) -> bool
-        ensures { result ≡ is_known_name (option_copied name.entry) self.now.names }
+    fn is_defined_name(&self, name: Option<&[u8]>) -> bool
+        ensures { result ≡ is_defined_name (option_copied name.entry) self.now.names }
     {
         match name {
             None => false,
-            Some(name) => self.is_known(name),
+            Some(name) => self.is_defined(name),
         }
     }
 
@@ -116,12 +116,12 @@ impl<'a> Names<'a> {
     /// Returns the error that the first pass finds in a parsed line, or `None`. If several apply,
     /// it is the first of 33, 31, 37 and 36.
     pub fn fault(&self, line: &SourceLine<'a>) -> Option<SourceFault>
-        ensures { result ≡ fault_one self.now.at self.now.names (Some (line_view line.now)) }
+        ensures { result ≡ first_pass_line_fault self.now.at self.now.names (Some (line_view line.now)) }
     {
         let name = defined_name(line);
         if has_bad_number(line) {
             Some(SourceFault::OutOfRange)
-        } else if self.is_known_name(name) {
+        } else if self.is_defined_name(name) {
             Some(SourceFault::DoubleName)
         } else if name.is_some() && self.is_full() {
             Some(SourceFault::TooManyNames)
@@ -135,8 +135,8 @@ impl<'a> Names<'a> {
     /// Adds the name that a line defines, if any, and sets the address of the next statement. The
     /// line must have no first-pass error. If allocation fails, nothing changes.
     pub fn add(&mut self, line: &SourceLine<'a>) -> Result<(), AllocError>
-        requires { fault_one self.old.at self.old.names (Some (line_view line.now)) ≡ None }
-        ensures added { OnOk result (self.new ≡ before_next self.old (Some (line_view line.now))) }
+        requires { first_pass_line_fault self.old.at self.old.names (Some (line_view line.now)) ≡ None }
+        ensures added { OnOk result (self.new ≡ first_pass_next self.old (Some (line_view line.now))) }
         ensures unchanged { OnErr result (self.new ≡ self.old) }
     {
         match line {
@@ -151,7 +151,7 @@ impl<'a> Names<'a> {
     /// Adds a name with its value. The name must be new, and fewer than `NAMES` names must be
     /// defined. If allocation fails, nothing changes.
     fn define(&mut self, name: &'a [u8], value: u16) -> Result<(), AllocError>
-        requires unknown { is_known name.now self.old.names ≡ false }
+        requires unknown { is_defined name.now self.old.names ≡ false }
         requires room { length self.old.names < NAMES }
         ensures added { OnOk result (self.new
             ≡ record { at = self.old.at; names = self.old.names ++ (name.now, value) ∷ [] }) }
@@ -173,7 +173,7 @@ impl<'a> Names<'a> {
     }
 }
 
-fn knows(names: &[(&[u8], u16)], name: &[u8]) -> bool
+fn contains_name(names: &[(&[u8], u16)], name: &[u8]) -> bool
     ensures { result ≡ list_any (λ e. bytes_eq e.0.now name.now) names.now }
 {
     names.iter().any(|e| e.0 == name)

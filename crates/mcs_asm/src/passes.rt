@@ -3,10 +3,10 @@
 ghost use Rattle.std.specs.Prelude.{List, ℕ, ◌+◌, length, Ok, ◌≡◌, ◌<◌, ◌≤◌, ◌^◌, ◌++◌, ◌∷◌, [], map, None, OnErr, OnOk};
 ghost use Rattle.mcs_source.specs.Lexical.{tokens};
 ghost use Rattle.mcs_source.specs.Lines.{line_of};
-ghost use Rattle.mcs_source.specs.Assembly.{read, first_of_class_one, all_names, assembly_of_text, line_bytes};
+ghost use Rattle.mcs_source.specs.Assembly.{read, earliest_first_pass_fault, all_names, assembly_of_text, line_bytes};
 ghost use Rattle.mcs_source.specs.Survey.{survey_of_text};
 ghost use Rattle.mcs_asm.specs.View.{Assembles, Surveys};
-ghost use Rattle.mcs_asm.specs.Passes.{before_with_line, spelled_with_bytes, spelled_with_line, HasNoFault, GivesNew, PassesFirst, PassesSecond, PassesBoth, NumbersLine, ComesOf, Adds, span_at};
+ghost use Rattle.mcs_asm.specs.Passes.{first_pass_with_line, second_pass_with_bytes, second_pass_with_line, HasNoFault, MatchesNew, IsFirstPassResult, IsSecondPassResult, IsResultOfBothPasses, IsLineNumber, HasLineNumberAdded, MatchesAdded, span_at};
 ghost use Rattle.mcs_asm.specs.ByteCells.{HoldsPairs};
 
 use crate::byte_cells::ByteCells;
@@ -27,7 +27,7 @@ pub(crate) fn add_line<'a>(
     names: &mut Names<'a>,
     line: &'a [u8],
 ) -> Result<(), FaultKind>
-    ensures added { GivesNew result names.new (before_with_line names.old (line_of (tokens line.now))) }
+    ensures added { MatchesNew result names.new (first_pass_with_line names.old (line_of (tokens line.now))) }
     ensures unchanged { OnErr result (names.new ≡ names.old) }
 {
     let Some(line) = read_line(alloc, line)? else {
@@ -40,9 +40,9 @@ pub(crate) fn add_line<'a>(
 }
 
 /// Returns an error with its line number, which is `index` plus 1, or 0 if allocation failed.
-fn fault_at(index: usize, kind: FaultKind) -> AsmFault
+fn fault_with_line_number(index: usize, kind: FaultKind) -> AsmFault
     requires { index < 2 ^ 63 }
-    ensures { (result.kind ≡ kind) × NumbersLine kind index result.line }
+    ensures { (result.kind ≡ kind) × IsLineNumber kind index result.line }
 {
     match kind {
         FaultKind::NoMemory => AsmFault { line: 0, kind },
@@ -55,24 +55,24 @@ fn fault_at(index: usize, kind: FaultKind) -> AsmFault
 
 /// Returns the given result. Adds the line number if it is an error: `index` plus 1, or 0 if
 /// allocation failed.
-fn at_line(index: usize, came: Result<(), FaultKind>) -> Result<(), AsmFault>
+fn add_line_number(index: usize, line_result: Result<(), FaultKind>) -> Result<(), AsmFault>
     requires { index < 2 ^ 63 }
-    ensures { ComesOf index came result }
+    ensures { HasLineNumberAdded index line_result result }
 {
-    match came {
+    match line_result {
         Ok(()) => Ok(()),
-        Err(kind) => Err(fault_at(index, kind)),
+        Err(kind) => Err(fault_with_line_number(index, kind)),
     }
 }
 
 /// Runs the first pass. Returns the names of all lines and the address after the last line, or the
 /// first error that this pass finds (30, 31, 33, 36 or 37).
 fn first_pass<'a>(alloc: Global, lines: &[&'a [u8]]) -> Result<Names<'a>, AsmFault>
-    ensures { PassesFirst result (read (map (λ l. l.now) lines.now)) }
+    ensures { IsFirstPassResult result (read (map (λ l. l.now) lines.now)) }
 {
     let mut names = Names::new(alloc);
     for i in 0..lines.len() {
-        at_line(i, add_line(alloc, &mut names, lines[i]))?;
+        add_line_number(i, add_line(alloc, &mut names, lines[i]))?;
     }
     Ok(names)
 }
@@ -90,24 +90,24 @@ fn push_span(spans: &mut Vec<Span>, at: u16, bytes: &[u8]) -> Result<(), AllocEr
 
 /// The bytes and the spans of the lines so far, and the address of the next statement.
 #[derive(Drop)]
-pub(crate) struct SpelledLines {
+pub(crate) struct SecondPassState {
     pub(crate) at: u16,
     pub(crate) spans: Vec<Span>,
     pub(crate) cells: ByteCells,
     ghost in_range: { at ≤ 4096 },
 }
 
-impl SpelledLines {
+impl SecondPassState {
     /// Adds the bytes and the span of a line, and sets the address of the next statement to `next`.
     /// Fails with an overlap error if an earlier line fills one of the addresses, or if allocation
     /// fails. The bytes are then unchanged.
-    #[tactic(auto, using(crate::proofs::SpelledLists::taken_stops, crate::proofs::SpelledLists::free_goes))]
+    #[tactic(auto, using(crate::proofs::SpelledLists::overlap_is_rejected, crate::proofs::SpelledLists::no_overlap_is_added))]
     pub(crate) fn add(&mut self, bytes: &[u8], next: u16) -> Result<(), FaultKind>
         requires room { self.old.at + length bytes.now ≤ 4096 }
         requires next { next ≤ 4096 }
         ensures bytes { (pairs : List (ℕ × ℕ)) → HoldsPairs self.old.cells pairs
-            → Adds result self.new.at self.new.cells
-            (spelled_with_bytes (record { at = self.old.at; pairs = pairs }) next (Ok bytes.now)) }
+            → MatchesAdded result self.new.at self.new.cells
+            (second_pass_with_bytes (record { at = self.old.at; pairs = pairs }) next (Ok bytes.now)) }
         ensures span { OnOk result (self.new.spans.items
             ≡ self.old.spans.items ++ span_at self.old.at (Ok bytes.now) ∷ []) }
         ensures kept { OnErr result (self.new.cells ≡ self.old.cells) }
@@ -125,7 +125,7 @@ impl SpelledLines {
 
     /// Adds the bytes and the span of the next line, or returns its error. The line must parse and
     /// must not pass the end of the ROM. The number in an `ORG` or `=` must be below 4096.
-    fn spell<'a>(
+    fn emit_line<'a>(
         &mut self,
         alloc: Global,
         names: &Names<'a>,
@@ -133,7 +133,7 @@ impl SpelledLines {
     ) -> Result<(), FaultKind>
         requires { HasNoFault self.old.at (line_of (tokens line.now)) }
         ensures bytes { (pairs : List (ℕ × ℕ)) → HoldsPairs self.old.cells pairs
-            → Adds result self.new.at self.new.cells (spelled_with_line names.now.names
+            → MatchesAdded result self.new.at self.new.cells (second_pass_with_line names.now.names
             (record { at = self.old.at; pairs = pairs }) (line_of (tokens line.now))) }
         ensures span { OnOk result (self.new.spans.items ≡ self.old.spans.items
             ++ span_at self.old.at
@@ -155,25 +155,25 @@ fn second_pass<'a>(
     names: Names<'a>,
     lines: &[&'a [u8]],
 ) -> Result<(Survey<'a>, ByteCells), AsmFault>
-    requires no_fault { first_of_class_one (read (map (λ l. l.now) lines.now)) ≡ None }
+    requires no_fault { earliest_first_pass_fault (read (map (λ l. l.now) lines.now)) ≡ None }
     requires names { names.names ≡ all_names (read (map (λ l. l.now) lines.now)) }
-    ensures { PassesSecond result (read (map (λ l. l.now) lines.now)) names.entry.names }
+    ensures { IsSecondPassResult result (read (map (λ l. l.now) lines.now)) names.entry.names }
 {
-    let mut spelled = SpelledLines {
+    let mut pass_state = SecondPassState {
         at: 0,
         spans: Vec::with_capacity(alloc, lines.len())?,
         cells: ByteCells::new(alloc)?,
     };
     for i in 0..lines.len() {
-        at_line(i, spelled.spell(alloc, &names, lines[i]))?;
+        add_line_number(i, pass_state.emit_line(alloc, &names, lines[i]))?;
     }
-    Ok((Survey::new(spelled.spans, names), spelled.cells))
+    Ok((Survey::new(pass_state.spans, names), pass_state.cells))
 }
 
 /// Runs both passes. Returns the survey of a source text and the bytes that it emits, or its first
 /// error.
 fn both_passes<'a>(alloc: Global, source: &'a str) -> Result<(Survey<'a>, ByteCells), AsmFault>
-    ensures { PassesBoth result source.now }
+    ensures { IsResultOfBothPasses result source.now }
 {
     let lines = lines(alloc, source.as_bytes())?;
     let names = first_pass(alloc, &lines)?;

@@ -2,7 +2,7 @@
 ghost use Rattle.std.specs.Prelude.{◌≡◌, ◌<◌, ◌++◌, string_bytes, map, OnOk, IfOk};
 ghost use Rattle.mcs_model.specs.QueryText.{address_text, hex_digit};
 ghost use Rattle.mcs_model.specs.TextLines.{as_line, text_of};
-ghost use Rattle.mcs_source.specs.MapText.{head_row, line_row, line_rows, name_row, address_or_end_text, survey_text};
+ghost use Rattle.mcs_source.specs.MapText.{header_row, line_row, line_rows, name_row, address_or_end_text, survey_text};
 
 use crate::surveys::Survey;
 use mcs_source::survey::Span;
@@ -72,9 +72,9 @@ fn push_name(alloc: Global, out: &mut Vec<u8>, name: &[u8], value: u16) -> Resul
 }
 
 /// Appends the header row: the number of line rows and the number of name rows.
-fn push_head(out: &mut String, lines: usize, names: usize) -> Result<(), AllocError>
+fn push_header(out: &mut String, lines: usize, names: usize) -> Result<(), AllocError>
     ensures { OnOk result (string_bytes out.new
-        ≡ string_bytes out.old ++ as_line (head_row lines names)) }
+        ≡ string_bytes out.old ++ as_line (header_row lines names)) }
 {
     write!(out, "map lines {lines} names {names}\n")
 }
@@ -110,7 +110,7 @@ pub fn survey_text(alloc: Global, survey: &Survey<'_>) -> Result<Vec<u8>, AllocE
 {
     let (spans, names) = (survey.spans(), survey.names());
     let mut lines = String::new(alloc);
-    push_head(&mut lines, spans.len(), names.len())?;
+    push_header(&mut lines, spans.len(), names.len())?;
     push_lines(&mut lines, spans)?;
     let mut text = lines.into_bytes();
     push_names(alloc, &mut text, names)?;

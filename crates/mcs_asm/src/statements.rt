@@ -2,10 +2,10 @@
 ghost use Rattle.std.specs.Prelude.{◌≡◌, map, option_map, IfOk, MatchOption, ◌∷◌, Some, None};
 ghost use Rattle.std.specs.Option.{option_copied};
 ghost use Rattle.mcs_source.specs.Lexical.{Word, Colon, Equals, tokens, Token};
-ghost use Rattle.mcs_source.specs.Lines.{Whole, after_mnemonic, bare_statement, first_operand, first_pair, first_register, line_of, one_number, one_operand, one_pair, one_register, operand_of, operands_of, rest_of, statement_of, unlabelled, word_first, word_only};
-ghost use Rattle.mcs_asm.specs.ListItems.{rest_if, list_item};
+ghost use Rattle.mcs_source.specs.Lines.{Whole, statement_after_mnemonic, bare_statement, first_operand, first_pair, first_register, line_of, one_number, one_operand, one_pair, one_register, operand_of, operands_of, code_line, statement_of, unlabelled, word_first, word_only};
+ghost use Rattle.mcs_asm.specs.ListItems.{tokens_if_comma, list_item};
 ghost use Rattle.mcs_source.specs.declared.mnemonic.Mnemonic.TheVariants.{Org, Jcn, Fim, Isz};
-ghost use Rattle.mcs_asm.specs.View.{operand_view, statement_view, line_view, NoLabel, NoDefinition, IsNotDb};
+ghost use Rattle.mcs_asm.specs.View.{operand_view, statement_view, line_view, HasNoLabel, HasNoDefinition, IsNotDb};
 
 use crate::tokens::{Token, Tokens};
 use crate::words::{is_name, mnemonic_in, pair_named, register_named};
@@ -46,7 +46,7 @@ pub enum SourceLine<'a> {
 }
 
 /// Parses a word as a number or a name. Returns `None` if it is neither.
-fn operand_in(word: &[u8]) -> Option<Operand<'_>>
+fn parse_operand(word: &[u8]) -> Option<Operand<'_>>
     ensures { option_map operand_view result ≡ operand_of word.now }
 {
     match number(word) {
@@ -57,7 +57,7 @@ fn operand_in(word: &[u8]) -> Option<Operand<'_>>
 }
 
 /// Returns the next token if it is a word and no token follows. Otherwise returns `None`.
-fn only_word<'a>(tokens: &mut Tokens<'a>) -> Option<&'a [u8]>
+fn read_last_word<'a>(tokens: &mut Tokens<'a>) -> Option<&'a [u8]>
     ensures { option_copied result ≡ word_only tokens.old }
 {
     let Some(Token::Word(word)) = tokens.next() else {
@@ -86,31 +86,31 @@ fn word_before_comma<'a>(tokens: &mut Tokens<'a>) -> Option<&'a [u8]>
 fn one_operand<'a>(tokens: &mut Tokens<'a>) -> Option<Operand<'a>>
     ensures { option_map operand_view result ≡ one_operand tokens.old }
 {
-    operand_in(only_word(tokens)?)
+    parse_operand(read_last_word(tokens)?)
 }
 
 fn one_number(tokens: &mut Tokens<'_>) -> Option<u64>
     ensures { result ≡ one_number tokens.old }
 {
-    number(only_word(tokens)?)
+    number(read_last_word(tokens)?)
 }
 
 fn one_register(tokens: &mut Tokens<'_>) -> Option<RegNo>
     ensures { result ≡ one_register tokens.old }
 {
-    register_named(only_word(tokens)?)
+    register_named(read_last_word(tokens)?)
 }
 
 fn one_pair(tokens: &mut Tokens<'_>) -> Option<PairNo>
     ensures { result ≡ one_pair tokens.old }
 {
-    pair_named(only_word(tokens)?)
+    pair_named(read_last_word(tokens)?)
 }
 
 fn first_operand<'a>(tokens: &mut Tokens<'a>) -> Option<Operand<'a>>
     ensures { option_map (λ v. (operand_view v, tokens.new)) result ≡ first_operand tokens.old }
 {
-    operand_in(word_before_comma(tokens)?)
+    parse_operand(word_before_comma(tokens)?)
 }
 
 fn first_register(tokens: &mut Tokens<'_>) -> Option<RegNo>
@@ -127,7 +127,7 @@ fn first_pair(tokens: &mut Tokens<'_>) -> Option<PairNo>
 
 /// Returns the statement of an instruction without operands, or `None` if a token follows the
 /// mnemonic.
-fn without_operands<'a>(op: Op, tokens: &mut Tokens<'a>) -> Option<Statement<'a>>
+fn statement_without_operands<'a>(op: Op, tokens: &mut Tokens<'a>) -> Option<Statement<'a>>
     ensures { option_map statement_view result ≡ bare_statement op tokens.old }
 {
     if tokens.is_empty() {
@@ -140,13 +140,13 @@ fn without_operands<'a>(op: Op, tokens: &mut Tokens<'a>) -> Option<Statement<'a>
 /// Reads the next operand of a list. Also returns true if a comma follows it. Returns `None` if the
 /// operand is invalid, or if a token other than a comma follows it.
 fn list_item<'a>(tokens: &mut Tokens<'a>) -> Option<(Operand<'a>, bool)>
-    ensures { option_map (λ x. (operand_view x.0, rest_if x.1 tokens.new)) result
+    ensures { option_map (λ x. (operand_view x.0, tokens_if_comma x.1 tokens.new)) result
         ≡ list_item tokens.old }
 {
     let Some(Token::Word(word)) = tokens.next() else {
         return None;
     };
-    let value = operand_in(word)?;
+    let value = parse_operand(word)?;
     match tokens.next() {
         None => Some((value, false)),
         Some(Token::Comma) => Some((value, true)),
@@ -176,8 +176,8 @@ fn operands<'a>(
 }
 
 /// Reads the operands of JCN, a condition and a jump address. Returns `None` if they are invalid.
-fn jump_on_condition<'a>(tokens: &mut Tokens<'a>) -> Option<Statement<'a>>
-    ensures { option_map statement_view result ≡ after_mnemonic Jcn tokens.old }
+fn read_jcn<'a>(tokens: &mut Tokens<'a>) -> Option<Statement<'a>>
+    ensures { option_map statement_view result ≡ statement_after_mnemonic Jcn tokens.old }
 {
     let condition = first_operand(tokens)?;
     let target = one_operand(tokens)?;
@@ -185,8 +185,8 @@ fn jump_on_condition<'a>(tokens: &mut Tokens<'a>) -> Option<Statement<'a>>
 }
 
 /// Reads the operands of FIM, a pair and a value. Returns `None` if they are invalid.
-fn fetch_immediate<'a>(tokens: &mut Tokens<'a>) -> Option<Statement<'a>>
-    ensures { option_map statement_view result ≡ after_mnemonic Fim tokens.old }
+fn read_fim<'a>(tokens: &mut Tokens<'a>) -> Option<Statement<'a>>
+    ensures { option_map statement_view result ≡ statement_after_mnemonic Fim tokens.old }
 {
     let pair = first_pair(tokens)?;
     let value = one_operand(tokens)?;
@@ -194,8 +194,8 @@ fn fetch_immediate<'a>(tokens: &mut Tokens<'a>) -> Option<Statement<'a>>
 }
 
 /// Reads the operands of ISZ, a register and a jump address. Returns `None` if they are invalid.
-fn increment_and_skip<'a>(tokens: &mut Tokens<'a>) -> Option<Statement<'a>>
-    ensures { option_map statement_view result ≡ after_mnemonic Isz tokens.old }
+fn read_isz<'a>(tokens: &mut Tokens<'a>) -> Option<Statement<'a>>
+    ensures { option_map statement_view result ≡ statement_after_mnemonic Isz tokens.old }
 {
     let register = first_register(tokens)?;
     let target = one_operand(tokens)?;
@@ -203,14 +203,14 @@ fn increment_and_skip<'a>(tokens: &mut Tokens<'a>) -> Option<Statement<'a>>
 }
 
 /// Reads the operand of `ORG`, a number. Returns `None` if it is invalid.
-fn origin<'a>(tokens: &mut Tokens<'a>) -> Option<Statement<'a>>
-    ensures { option_map statement_view result ≡ after_mnemonic Org tokens.old }
+fn read_org<'a>(tokens: &mut Tokens<'a>) -> Option<Statement<'a>>
+    ensures { option_map statement_view result ≡ statement_after_mnemonic Org tokens.old }
 {
     let at = one_number(tokens)?;
     Some(Statement::Origin(at))
 }
 
-fn whole<'a>(op: Option<Op>) -> Option<Statement<'a>>
+fn whole_statement<'a>(op: Option<Op>) -> Option<Statement<'a>>
     ensures { option_map statement_view result ≡ option_map (λ o. Whole o) op }
 {
     let op = op?;
@@ -219,44 +219,44 @@ fn whole<'a>(op: Option<Op>) -> Option<Statement<'a>>
 
 /// Reads the operands of a mnemonic other than `DB` and returns the statement, or `None` if they
 /// are invalid.
-fn plain_statement<'a>(mnemonic: Mnemonic, tokens: &mut Tokens<'a>) -> Option<Statement<'a>>
+fn statement_except_db<'a>(mnemonic: Mnemonic, tokens: &mut Tokens<'a>) -> Option<Statement<'a>>
     requires { IsNotDb mnemonic }
-    ensures { option_map statement_view result ≡ after_mnemonic mnemonic tokens.old }
+    ensures { option_map statement_view result ≡ statement_after_mnemonic mnemonic tokens.old }
 {
     match mnemonic {
         Mnemonic::Db => None,
-        Mnemonic::Org => origin(tokens),
-        Mnemonic::Jcn => jump_on_condition(tokens),
-        Mnemonic::Fim => fetch_immediate(tokens),
-        Mnemonic::Isz => increment_and_skip(tokens),
+        Mnemonic::Org => read_org(tokens),
+        Mnemonic::Jcn => read_jcn(tokens),
+        Mnemonic::Fim => read_fim(tokens),
+        Mnemonic::Isz => read_isz(tokens),
         Mnemonic::Jun => one_operand(tokens).map(Statement::Jun),
         Mnemonic::Jms => one_operand(tokens).map(Statement::Jms),
         Mnemonic::Bbl => one_operand(tokens).map(Statement::Bbl),
         Mnemonic::Ldm => one_operand(tokens).map(Statement::Ldm),
-        Mnemonic::Src => whole(one_pair(tokens).map(Op::Src)),
-        Mnemonic::Fin => whole(one_pair(tokens).map(Op::Fin)),
-        Mnemonic::Jin => whole(one_pair(tokens).map(Op::Jin)),
-        Mnemonic::Inc => whole(one_register(tokens).map(Op::Inc)),
-        Mnemonic::Add => whole(one_register(tokens).map(Op::Add)),
-        Mnemonic::Sub => whole(one_register(tokens).map(Op::Sub)),
-        Mnemonic::Ld => whole(one_register(tokens).map(Op::Ld)),
-        Mnemonic::Xch => whole(one_register(tokens).map(Op::Xch)),
-        Mnemonic::Bare(op) => without_operands(op, tokens),
+        Mnemonic::Src => whole_statement(one_pair(tokens).map(Op::Src)),
+        Mnemonic::Fin => whole_statement(one_pair(tokens).map(Op::Fin)),
+        Mnemonic::Jin => whole_statement(one_pair(tokens).map(Op::Jin)),
+        Mnemonic::Inc => whole_statement(one_register(tokens).map(Op::Inc)),
+        Mnemonic::Add => whole_statement(one_register(tokens).map(Op::Add)),
+        Mnemonic::Sub => whole_statement(one_register(tokens).map(Op::Sub)),
+        Mnemonic::Ld => whole_statement(one_register(tokens).map(Op::Ld)),
+        Mnemonic::Xch => whole_statement(one_register(tokens).map(Op::Xch)),
+        Mnemonic::Bare(op) => statement_without_operands(op, tokens),
     }
 }
 
 /// Reads the operands of a mnemonic and returns the statement, or `None` if they are invalid. Fails
 /// if allocation fails.
-fn statement_after<'a>(
+fn statement_of_mnemonic<'a>(
     alloc: Global,
     mnemonic: Mnemonic,
     tokens: &mut Tokens<'a>,
 ) -> Result<Option<Statement<'a>>, AllocError>
-    ensures { IfOk result (λ s. option_map statement_view s ≡ after_mnemonic mnemonic tokens.old) }
+    ensures { IfOk result (λ s. option_map statement_view s ≡ statement_after_mnemonic mnemonic tokens.old) }
 {
     match mnemonic {
         Mnemonic::Db => Ok(operands(alloc, tokens)?.map(Statement::Data)),
-        _ => Ok(plain_statement(mnemonic, tokens)),
+        _ => Ok(statement_except_db(mnemonic, tokens)),
     }
 }
 
@@ -275,18 +275,18 @@ fn read_statement<'a>(
     let Some(mnemonic) = mnemonic_in(word) else {
         return Ok(None);
     };
-    statement_after(alloc, mnemonic, tokens)
+    statement_of_mnemonic(alloc, mnemonic, tokens)
 }
 
 /// Reads all remaining tokens as an optional statement, and returns the line with this statement
 /// and the given label. Returns `None` if the tokens are invalid. Fails if allocation fails.
-fn rest_of_line<'a>(
+fn read_after_label<'a>(
     alloc: Global,
     label: Option<&'a [u8]>,
     tokens: &mut Tokens<'a>,
 ) -> Result<Option<SourceLine<'a>>, AllocError>
     ensures { IfOk result (λ o. option_map line_view o
-        ≡ rest_of (option_copied label.entry) tokens.old) }
+        ≡ code_line (option_copied label.entry) tokens.old) }
 {
     if tokens.is_empty() {
         return Ok(Some(SourceLine::Code(label, None)));
@@ -299,8 +299,8 @@ fn rest_of_line<'a>(
 
 /// Returns the word and the tokens after the colon if a line begins with a word and a colon.
 /// Otherwise returns `None`.
-fn label_of<'a>(line: &'a [u8]) -> Option<(&'a [u8], Tokens<'a>)>
-    ensures { MatchOption result (NoLabel (tokens line.now))
+fn split_label<'a>(line: &'a [u8]) -> Option<(&'a [u8], Tokens<'a>)>
+    ensures { MatchOption result (HasNoLabel (tokens line.now))
         (λ x. tokens line.now ≡ Word x.0.now ∷ Colon ∷ x.1) }
 {
     let mut tokens = Tokens::new(line);
@@ -312,8 +312,8 @@ fn label_of<'a>(line: &'a [u8]) -> Option<(&'a [u8], Tokens<'a>)>
 
 /// Returns the word and the tokens after `=` if a line begins with a word and `=`. Otherwise
 /// returns `None`.
-fn definition_of<'a>(line: &'a [u8]) -> Option<(&'a [u8], Tokens<'a>)>
-    ensures { MatchOption result (NoDefinition (tokens line.now))
+fn split_definition<'a>(line: &'a [u8]) -> Option<(&'a [u8], Tokens<'a>)>
+    ensures { MatchOption result (HasNoDefinition (tokens line.now))
         (λ x. tokens line.now ≡ Word x.0.now ∷ Equals ∷ x.1) }
 {
     let mut tokens = Tokens::new(line);
@@ -325,11 +325,14 @@ fn definition_of<'a>(line: &'a [u8]) -> Option<(&'a [u8], Tokens<'a>)>
 
 /// Parses a line that does not begin with a label. Returns `None` if the line has no valid form.
 /// Fails if allocation fails.
-fn read_unlabelled<'a>(alloc: Global, line: &'a [u8]) -> Result<Option<SourceLine<'a>>, AllocError>
+fn read_line_without_label<'a>(
+    alloc: Global,
+    line: &'a [u8],
+) -> Result<Option<SourceLine<'a>>, AllocError>
     ensures { IfOk result (λ o. option_map line_view o ≡ unlabelled (tokens line.now)) }
 {
-    match definition_of(line) {
-        None => rest_of_line(alloc, None, &mut Tokens::new(line)),
+    match split_definition(line) {
+        None => read_after_label(alloc, None, &mut Tokens::new(line)),
         Some((name, mut tokens)) if is_name(name) => {
             Ok(one_number(&mut tokens).map(|n| SourceLine::Define(name, n)))
         }
@@ -341,9 +344,13 @@ fn read_unlabelled<'a>(alloc: Global, line: &'a [u8]) -> Result<Option<SourceLin
 pub fn read_line<'a>(alloc: Global, line: &'a [u8]) -> Result<Option<SourceLine<'a>>, AllocError>
     ensures { IfOk result (λ o. option_map line_view o ≡ line_of (tokens line.now)) }
 {
-    match label_of(line) {
-        None => read_unlabelled(alloc, line),
-        Some((name, mut tokens)) if is_name(name) => rest_of_line(alloc, Some(name), &mut tokens),
+    match split_label(line) {
+        None => read_line_without_label(alloc, line),
+        Some((name, mut tokens)) if is_name(name) => read_after_label(
+            alloc,
+            Some(name),
+            &mut tokens,
+        ),
         Some(_) => Ok(None),
     }
 }

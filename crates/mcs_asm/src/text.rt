@@ -3,7 +3,7 @@ ghost use Rattle.std.specs.Prelude.{◌≡◌, ◌≤◌, ◌<◌, map, length, 
 ghost use Rattle.std.specs.List.{position_or_len};
 ghost use Rattle.mcs_model.specs.TextLines.{is_line_feed, lines_of};
 
-use mcs_model::text_lines::without_return;
+use mcs_model::text_lines::without_carriage_return;
 use std::alloc::{AllocError, Global};
 
 /// Returns the number of bytes before the first line feed, or of all bytes if there is none.
@@ -16,7 +16,7 @@ fn line_len(bytes: &[u8]) -> usize
 
 /// Returns the first line, without its line ending, and the bytes after it, or `None` if there are
 /// no bytes.
-#[tactic(auto, using(crate::proofs::LineLists::no_lines, crate::proofs::LineLists::last_front, crate::proofs::LineLists::more_front))]
+#[tactic(auto, using(crate::proofs::LineLists::no_lines, crate::proofs::LineLists::only_line_first, crate::proofs::LineLists::first_of_more_lines))]
 fn first_line(bytes: &[u8]) -> Option<(&[u8], &[u8])>
     ensures { MatchOption result (lines_of bytes.now ≡ [])
         (λ x. (lines_of bytes.now ≡ x.0.now ∷ lines_of x.1.now)
@@ -27,8 +27,8 @@ fn first_line(bytes: &[u8]) -> Option<(&[u8], &[u8])>
     }
     let (line, rest) = bytes.split_at(line_len(bytes));
     match rest {
-        [] => Some((without_return(line), rest)),
-        [_, rest @ ..] => Some((without_return(line), rest)),
+        [] => Some((without_carriage_return(line), rest)),
+        [_, rest @ ..] => Some((without_carriage_return(line), rest)),
     }
 }
 

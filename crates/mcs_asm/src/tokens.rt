@@ -43,7 +43,7 @@ fn blank_len(bytes: &[u8]) -> usize
 
 /// Returns a line without its leading spaces and tabs.
 #[tactic(auto, using(crate::proofs::Lexing::trimmed_rules))]
-fn without_blanks(line: &[u8]) -> &[u8]
+fn skip_blanks(line: &[u8]) -> &[u8]
     ensures same { tokens result.now ≡ tokens line.now }
     ensures bare { prefix_len is_blank result.now ≡ 0 }
 {
@@ -87,7 +87,7 @@ fn first_token(line: &[u8]) -> Option<(Token<'_>, &[u8])>
     ensures { MatchOption result (tokens line.now ≡ [])
         (λ x. tokens line.now ≡ token_view x.0 ∷ tokens x.1.now) }
 {
-    let bytes = without_blanks(line);
+    let bytes = skip_blanks(line);
     let len = word_len(bytes);
     if len == 0 {
         return first_symbol(bytes);

@@ -1,8 +1,8 @@
 //! Recognises the words of a source text: mnemonics, numbers, registers, pairs and names.
 ghost use Rattle.std.specs.Prelude.{◌≡◌, ◌<◌, IfSome};
 ghost use Rattle.std.specs.Str.{str_eq_ignore_ascii_case};
-ghost use Rattle.mcs_source.specs.Mnemonics.{in_group1, in_group2, in_group3, in_group4, in_group5, in_group6, mnemonic_of};
-ghost use Rattle.mcs_source.specs.Lines.{begins_name, up_to_15, register_named, pair_named, is_reserved, is_name};
+ghost use Rattle.mcs_source.specs.Mnemonics.{mnemonic_in_group1, mnemonic_in_group2, mnemonic_in_group3, mnemonic_in_group4, mnemonic_in_group5, mnemonic_in_group6, mnemonic_of};
+ghost use Rattle.mcs_source.specs.Lines.{begins_name, number_up_to_15, register_named, pair_named, is_reserved, is_name};
 
 use mcs_code::instructions;
 use mcs_model::limits::NAME_BYTES;
@@ -18,7 +18,7 @@ fn equals_ignoring_case(word: &[u8], name: &str) -> bool
 }
 
 /// Expands to the mnemonic for a row of the instruction table.
-macro_rules! asked {
+macro_rules! mnemonic_of_row {
     ($name:ident none) => {
         Mnemonic::Bare(Op::$name)
     };
@@ -29,10 +29,10 @@ macro_rules! asked {
 
 /// Expands to code that returns a row's mnemonic from the enclosing function if the word equals the
 /// row's name.
-macro_rules! answered {
+macro_rules! return_if_equal {
     ($word:ident $name:ident $kind:ident $text:literal) => {
         if equals_ignoring_case($word, $text) {
-            return Some(asked!($name $kind));
+            return Some(mnemonic_of_row!($name $kind));
         }
     };
 }
@@ -41,24 +41,24 @@ macro_rules! answered {
 ///
 /// The instruction table is split into six groups for the proofs: one proof about 45 names takes
 /// far longer than six proofs about eight names each.
-macro_rules! tried {
+macro_rules! test_row_in_group {
     (group1 group1 $word:ident $name:ident $kind:ident $text:literal) => {
-        answered!($word $name $kind $text)
+        return_if_equal!($word $name $kind $text)
     };
     (group2 group2 $word:ident $name:ident $kind:ident $text:literal) => {
-        answered!($word $name $kind $text)
+        return_if_equal!($word $name $kind $text)
     };
     (group3 group3 $word:ident $name:ident $kind:ident $text:literal) => {
-        answered!($word $name $kind $text)
+        return_if_equal!($word $name $kind $text)
     };
     (group4 group4 $word:ident $name:ident $kind:ident $text:literal) => {
-        answered!($word $name $kind $text)
+        return_if_equal!($word $name $kind $text)
     };
     (group5 group5 $word:ident $name:ident $kind:ident $text:literal) => {
-        answered!($word $name $kind $text)
+        return_if_equal!($word $name $kind $text)
     };
     (group6 group6 $word:ident $name:ident $kind:ident $text:literal) => {
-        answered!($word $name $kind $text)
+        return_if_equal!($word $name $kind $text)
     };
     ($wanted:ident $group:ident $word:ident $name:ident $kind:ident $text:literal) => {};
 }
@@ -66,16 +66,16 @@ macro_rules! tried {
 /// Expands to a lookup of the word in the rows of a group, in table order.
 macro_rules! group_rows {
     (($wanted:ident, $word:ident) $($codes:pat, $name:ident $kind:ident $words:literal $cycles:literal $group:ident $text:literal;)*) => {{
-        $(tried!($wanted $group $word $name $kind $text);)*
+        $(test_row_in_group!($wanted $group $word $name $kind $text);)*
         None
     }};
 }
 
 /// Returns the mnemonic if the word is `ORG`, `DB` or an instruction with an opcode from 10 to 5F.
 /// Otherwise returns `None`.
-#[tactic(auto, unfolding(mcs_source::specs::Mnemonics::in_group1))]
-fn on_address(word: &[u8]) -> Option<Mnemonic>
-    ensures { result ≡ in_group1 word.now }
+#[tactic(auto, unfolding(mcs_source::specs::Mnemonics::mnemonic_in_group1))]
+fn mnemonic_in_group1(word: &[u8]) -> Option<Mnemonic>
+    ensures { result ≡ mnemonic_in_group1 word.now }
 {
     if equals_ignoring_case(word, "ORG") {
         return Some(Mnemonic::Org);
@@ -88,45 +88,45 @@ fn on_address(word: &[u8]) -> Option<Mnemonic>
 
 /// Returns the mnemonic if the word is `NOP` or an instruction with an opcode from 60 to DF.
 /// Otherwise returns `None`.
-#[tactic(auto, unfolding(mcs_source::specs::Mnemonics::in_group2))]
-fn on_register(word: &[u8]) -> Option<Mnemonic>
-    ensures { result ≡ in_group2 word.now }
+#[tactic(auto, unfolding(mcs_source::specs::Mnemonics::mnemonic_in_group2))]
+fn mnemonic_in_group2(word: &[u8]) -> Option<Mnemonic>
+    ensures { result ≡ mnemonic_in_group2 word.now }
 {
     instructions!(group_rows!(group2, word))
 }
 
 /// Returns the mnemonic if the word is an instruction with an opcode from E0 to E7. Otherwise
 /// returns `None`. These instructions write to RAM and ports.
-#[tactic(auto, unfolding(mcs_source::specs::Mnemonics::in_group3))]
-fn on_port(word: &[u8]) -> Option<Mnemonic>
-    ensures { result ≡ in_group3 word.now }
+#[tactic(auto, unfolding(mcs_source::specs::Mnemonics::mnemonic_in_group3))]
+fn mnemonic_in_group3(word: &[u8]) -> Option<Mnemonic>
+    ensures { result ≡ mnemonic_in_group3 word.now }
 {
     instructions!(group_rows!(group3, word))
 }
 
 /// Returns the mnemonic if the word is an instruction with an opcode from E8 to EF. Otherwise
 /// returns `None`. These instructions read from RAM and ports.
-#[tactic(auto, unfolding(mcs_source::specs::Mnemonics::in_group4))]
-fn on_memory_word(word: &[u8]) -> Option<Mnemonic>
-    ensures { result ≡ in_group4 word.now }
+#[tactic(auto, unfolding(mcs_source::specs::Mnemonics::mnemonic_in_group4))]
+fn mnemonic_in_group4(word: &[u8]) -> Option<Mnemonic>
+    ensures { result ≡ mnemonic_in_group4 word.now }
 {
     instructions!(group_rows!(group4, word))
 }
 
 /// Returns the mnemonic if the word is an instruction with an opcode from F0 to F6. Otherwise
 /// returns `None`.
-#[tactic(auto, unfolding(mcs_source::specs::Mnemonics::in_group5))]
-fn on_accumulator_word(word: &[u8]) -> Option<Mnemonic>
-    ensures { result ≡ in_group5 word.now }
+#[tactic(auto, unfolding(mcs_source::specs::Mnemonics::mnemonic_in_group5))]
+fn mnemonic_in_group5(word: &[u8]) -> Option<Mnemonic>
+    ensures { result ≡ mnemonic_in_group5 word.now }
 {
     instructions!(group_rows!(group5, word))
 }
 
 /// Returns the mnemonic if the word is an instruction with an opcode from F7 to FD. Otherwise
 /// returns `None`.
-#[tactic(auto, unfolding(mcs_source::specs::Mnemonics::in_group6))]
-fn on_carry_word(word: &[u8]) -> Option<Mnemonic>
-    ensures { result ≡ in_group6 word.now }
+#[tactic(auto, unfolding(mcs_source::specs::Mnemonics::mnemonic_in_group6))]
+fn mnemonic_in_group6(word: &[u8]) -> Option<Mnemonic>
+    ensures { result ≡ mnemonic_in_group6 word.now }
 {
     instructions!(group_rows!(group6, word))
 }
@@ -136,27 +136,27 @@ fn on_carry_word(word: &[u8]) -> Option<Mnemonic>
 pub fn mnemonic_in(word: &[u8]) -> Option<Mnemonic>
     ensures { result ≡ mnemonic_of word.now }
 {
-    if let Some(found) = on_address(word) {
+    if let Some(found) = mnemonic_in_group1(word) {
         return Some(found);
     }
-    if let Some(found) = on_register(word) {
+    if let Some(found) = mnemonic_in_group2(word) {
         return Some(found);
     }
-    if let Some(found) = on_port(word) {
+    if let Some(found) = mnemonic_in_group3(word) {
         return Some(found);
     }
-    if let Some(found) = on_memory_word(word) {
+    if let Some(found) = mnemonic_in_group4(word) {
         return Some(found);
     }
-    if let Some(found) = on_accumulator_word(word) {
+    if let Some(found) = mnemonic_in_group5(word) {
         return Some(found);
     }
-    on_carry_word(word)
+    mnemonic_in_group6(word)
 }
 
 /// Parses a decimal number from 0 to 15 without a leading zero. Returns `None` for any other text.
-fn small_decimal(digits: &[u8]) -> Option<u8>
-    ensures value { result ≡ up_to_15 digits.now }
+fn decimal_up_to_15(digits: &[u8]) -> Option<u8>
+    ensures value { result ≡ number_up_to_15 digits.now }
     ensures within { IfSome result (λ n. n < 16) }
 {
     match digits {
@@ -172,7 +172,7 @@ pub fn register_named(word: &[u8]) -> Option<RegNo>
     ensures { result ≡ register_named word.now }
 {
     match word {
-        [b'R' | b'r', digits @ ..] => RegNo::of(small_decimal(digits)?),
+        [b'R' | b'r', digits @ ..] => RegNo::of(decimal_up_to_15(digits)?),
         _ => None,
     }
 }

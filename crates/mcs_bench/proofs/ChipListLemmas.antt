@@ -4,7 +4,7 @@ use Rattle.std.specs.Prelude.{MatchOption}
 use Rattle.std.proofs.lemmas.Bool.{cases_lt, le-leb, leb-true}
 use Rattle.std.proofs.lemmas.Bool.Decides.{nat_tests}
 use Rattle.mcs_nibble.specs.declared.lines.LineMask.{LineMask}
-use Rattle.mcs_model.specs.Boards.{masks_on}
+use Rattle.mcs_model.specs.Boards.{rom_masks}
 use Rattle.mcs_model.specs.Bus.{BusState, with_ram, with_status}
 use Rattle.mcs_model.specs.declared.board.BoardParts.{BoardParts}
 use Rattle.mcs_model.specs.Levels.{with_rom_ports_at}
@@ -12,10 +12,10 @@ use Rattle.mcs_nibble.specs.Ports.{latch_value}
 use Rattle.mcs_nibble.proofs.PortLemmas.{latch_value-zero}
 use Rattle.std.proofs.lemmas.List.{get_or_past}
 use Rattle.mcs_model.specs.ChipWrites.{with_rom_latch, with_rom_byte, with_ram_latch, with_ram_src}
-use Rattle.mcs_model.specs.Validity.{IsInRange, IsAbsentZero}
+use Rattle.mcs_model.specs.Validity.{IsInRange, AbsentPartsAreZero}
 use Rattle.mcs_bench.specs.declared.chip_list.ChipList.{ChipList}
-use Rattle.mcs_bench.specs.declared.chip_list.ChipList.TheVariants.{RomBytes, Characters, StatusCharacters, RamPorts, BankSrcs}
-use Rattle.mcs_bench.specs.ChipLists.{list_of, with_list, count_of, is_absent, with_cell, IsZeroWhereAbsent}
+use Rattle.mcs_bench.specs.declared.chip_list.ChipList.TheVariants.{RomBytes, RamCharacters, StatusCharacters, RamPorts, BankSrcBytes}
+use Rattle.mcs_bench.specs.ChipLists.{chip_list_in, with_chip_list, chip_list_length, is_chip_absent, with_chip_value, IsZeroWhereAbsent}
 use Rattle.mcs_bench.proofs.Filling.{IsFilled, filled-none, filled-set, filled-kept, filled-all}
 
 -- ---- setting one element of a list
@@ -27,84 +27,84 @@ ran a b x y =
       | inr g ↦ (let lt : nat_lt a b ≡ false = grind (arith, nat_tests) in let le : nat_le b a ≡ true = grind (arith, nat_tests) in rw (lt, le) refl)
     ]
 
-missing : {X A : Type 0} (o : Option X) (x y : A) → cond (is_some o) x y ≡ cond (is_none o) y x
-missing (Some _) x y = refl
-missing None x y = refl
+if-none : {X A : Type 0} (o : Option X) (x y : A) → cond (is_some o) x y ≡ cond (is_none o) y x
+if-none (Some _) x y = refl
+if-none None x y = refl
 
-pub set-rom : (s : BusState) (i at n : ℕ) → at ≡ i → with_rom_byte s at n ≡ with_cell s RomBytes i n
+pub set-rom : (s : BusState) (i at n : ℕ) → at ≡ i → with_rom_byte s at n ≡ with_chip_value s RomBytes i n
 unfolding with_rom_byte
-set-rom s i at n e = rw e (missing (masks_on s.board (i / 256)) (record s { rom = slice_set s.rom i n }) s)
+set-rom s i at n e = rw e (if-none (rom_masks s.board (i / 256)) (record s { rom = slice_set s.rom i n }) s)
 
-pub set-ram : (s : BusState) (i bank src m n : ℕ) → bank ≡ i / 256 → src ≡ i % 256 → m ≡ n → with_ram s bank src m ≡ with_cell s Characters i n
+pub set-ram : (s : BusState) (i bank src m n : ℕ) → bank ≡ i / 256 → src ≡ i % 256 → m ≡ n → with_ram s bank src m ≡ with_chip_value s RamCharacters i n
 unfolding with_ram
 set-ram s i bank src m n b c e =
     let place : i / 256 * 256 + i % 256 ≡ i = omega arith in
     rw (b, c, e, place) (ran (i % 256 / 64) (slice_index s.board.banks (i / 256)) (record s { ram = slice_set s.ram i n }) s)
 
-pub set-status : (s : BusState) (i bank high k m n : ℕ) → bank ≡ i / 64 → high ≡ i % 64 / 4 → k ≡ i % 4 → m ≡ n → with_status s bank high k m ≡ with_cell s StatusCharacters i n
+pub set-status : (s : BusState) (i bank high k m n : ℕ) → bank ≡ i / 64 → high ≡ i % 64 / 4 → k ≡ i % 4 → m ≡ n → with_status s bank high k m ≡ with_chip_value s StatusCharacters i n
 unfolding with_status
 set-status s i bank high k m n b h c e =
     let place : i / 64 * 64 + (i % 64 / 4 * 4 + i % 4) ≡ i = omega arith in
     let chip : i % 64 / 4 / 4 ≡ i % 64 / 16 = omega arith in
     rw (b, h, c, e, place, chip) (ran (i % 64 / 16) (slice_index s.board.banks (i / 64)) (record s { status = slice_set s.status i n }) s)
 
-pub set-port : (s : BusState) (i bank chip m n : ℕ) → bank ≡ i / 4 → chip ≡ i % 4 → m ≡ n → with_ram_latch s bank chip m ≡ with_cell s RamPorts i n
+pub set-port : (s : BusState) (i bank chip m n : ℕ) → bank ≡ i / 4 → chip ≡ i % 4 → m ≡ n → with_ram_latch s bank chip m ≡ with_chip_value s RamPorts i n
 unfolding with_ram_latch
 set-port s i bank chip m n b c e =
     let place : i / 4 * 4 + i % 4 ≡ i = omega arith in
     rw (b, c, e, place) (ran (i % 4) (slice_index s.board.banks (i / 4)) (record s { ram_ports = slice_set s.ram_ports i n }) s)
 
-pub set-src : (s : BusState) (i bank n : ℕ) → bank ≡ i → with_ram_src s bank n ≡ with_cell s BankSrcs i n
+pub set-src : (s : BusState) (i bank n : ℕ) → bank ≡ i → with_ram_src s bank n ≡ with_chip_value s BankSrcBytes i n
 unfolding with_ram_src
 set-src s i bank n b = rw b (ran 0 (slice_index s.board.banks i) (record s { ram_src = slice_set s.ram_src i n }) s)
 
 -- ---- replacing a list of a state
 
-pub list-of : (s : BusState) (h : ChipList) (xs : List ℕ) → list_of (with_list s h xs) h ≡ xs
+pub list-of : (s : BusState) (h : ChipList) (xs : List ℕ) → chip_list_in (with_chip_list s h xs) h ≡ xs
 list-of s RomBytes xs = refl
-list-of s Characters xs = refl
+list-of s RamCharacters xs = refl
 list-of s StatusCharacters xs = refl
 list-of s RamPorts xs = refl
-list-of s BankSrcs xs = refl
+list-of s BankSrcBytes xs = refl
 
-pub list-again : (s : BusState) (h : ChipList) (xs ys : List ℕ) → with_list (with_list s h xs) h ys ≡ with_list s h ys
+pub list-again : (s : BusState) (h : ChipList) (xs ys : List ℕ) → with_chip_list (with_chip_list s h xs) h ys ≡ with_chip_list s h ys
 list-again s RomBytes xs ys = refl
-list-again s Characters xs ys = refl
+list-again s RamCharacters xs ys = refl
 list-again s StatusCharacters xs ys = refl
 list-again s RamPorts xs ys = refl
-list-again s BankSrcs xs ys = refl
+list-again s BankSrcBytes xs ys = refl
 
-pub list-same : (s : BusState) (h : ChipList) → with_list s h (list_of s h) ≡ s
+pub list-same : (s : BusState) (h : ChipList) → with_chip_list s h (chip_list_in s h) ≡ s
 list-same s RomBytes = refl
-list-same s Characters = refl
+list-same s RamCharacters = refl
 list-same s StatusCharacters = refl
 list-same s RamPorts = refl
-list-same s BankSrcs = refl
+list-same s BankSrcBytes = refl
 
-pub list-board : (s : BusState) (h : ChipList) (xs : List ℕ) → (with_list s h xs).board ≡ s.board
+pub list-board : (s : BusState) (h : ChipList) (xs : List ℕ) → (with_chip_list s h xs).board ≡ s.board
 list-board s RomBytes xs = refl
-list-board s Characters xs = refl
+list-board s RamCharacters xs = refl
 list-board s StatusCharacters xs = refl
 list-board s RamPorts xs = refl
-list-board s BankSrcs xs = refl
+list-board s BankSrcBytes xs = refl
 
 -- ---- the lists of a valid state
 
-pub count-of : (s : BusState) → IsInRange s → (h : ChipList) → length (list_of s h) ≡ count_of h
-count-of s v RomBytes = v.rom.count_is
-count-of s v Characters = v.ram.count_is
-count-of s v StatusCharacters = v.status.count_is
-count-of s v RamPorts = v.ram_ports.count_is
-count-of s v BankSrcs = v.ram_src.count_is
+pub count-of : (s : BusState) → IsInRange s → (h : ChipList) → length (chip_list_in s h) ≡ chip_list_length h
+count-of s v RomBytes = v.rom.has_count
+count-of s v RamCharacters = v.ram.has_count
+count-of s v StatusCharacters = v.status.has_count
+count-of s v RamPorts = v.ram_ports.has_count
+count-of s v BankSrcBytes = v.ram_src.has_count
 
 none-from : {X : Type 0} (o : Option X) → is_none o ≡ true → o ≡ None
 none-from (Some _) e = absurd (cc)
 none-from None e = refl
 
 -- in each list of a valid state, the elements of absent chips are 0
-pub absent-of : (s : BusState) → IsAbsentZero s → (h : ChipList) → IsZeroWhereAbsent s h
-absent-of s v RomBytes i l e = v.rom i (none-from (masks_on s.board (i / 256)) e)
-absent-of s v Characters i l e =
+pub absent-of : (s : BusState) → AbsentPartsAreZero s → (h : ChipList) → IsZeroWhereAbsent s h
+absent-of s v RomBytes i l e = v.rom i (none-from (rom_masks s.board (i / 256)) e)
+absent-of s v RamCharacters i l e =
     let place : i / 256 * 256 + i % 256 ≡ i = omega arith in
     rw place at (v.ram (i / 256) (i % 256) (omega arith) (leb-true _ _ e))
 absent-of s v StatusCharacters i below e =
@@ -114,82 +114,82 @@ absent-of s v StatusCharacters i below e =
 absent-of s v RamPorts i l e =
     let place : i / 4 * 4 + i % 4 ≡ i = omega arith in
     rw place at (v.ram_ports (i / 4) (i % 4) (omega arith) (leb-true _ _ e))
-absent-of s v BankSrcs i below e = v.ram_src i (let l = leb-true _ _ e in omega arith)
+absent-of s v BankSrcBytes i below e = v.ram_src i (let l = leb-true _ _ e in omega arith)
 
-past : (xs : List ℕ) (i : ℕ) → length xs ≤ i → slice_index xs i ≡ 0
-past xs i l = get_or_past xs i 0 l
+index-past-end : (xs : List ℕ) (i : ℕ) → length xs ≤ i → slice_index xs i ≡ 0
+index-past-end xs i l = get_or_past xs i 0 l
 
-pub absent-from : (s : BusState) → IsInRange s → ((h : ChipList) → IsZeroWhereAbsent s h) → ((chip : ℕ) → MatchOption (masks_on s.board chip) (slice_index s.rom_ports chip ≡ 0) (λ mask. latch_value mask (slice_index s.rom_ports chip) ≡ slice_index s.rom_ports chip)) → IsAbsentZero s
+pub absent-from : (s : BusState) → IsInRange s → ((h : ChipList) → IsZeroWhereAbsent s h) → ((chip : ℕ) → MatchOption (rom_masks s.board chip) (slice_index s.rom_ports chip ≡ 0) (λ mask. latch_value mask (slice_index s.rom_ports chip) ≡ slice_index s.rom_ports chip)) → AbsentPartsAreZero s
 absent-from s v zero ports = record {
   rom = λ at none.
       elim (cases_lt at 4096) [
         | inl l ↦ zero RomBytes at l (ap is_none none)
-        | inr g ↦ past s.rom at (let e = v.rom.count_is in omega arith)
+        | inr g ↦ index-past-end s.rom at (let e = v.rom.has_count in omega arith)
       ];
   ram = λ bank src l gone.
       elim (cases_lt (bank * 256 + src) 2048) [
-        | inl h ↦ zero Characters (bank * 256 + src) h (let b : (bank * 256 + src) / 256 ≡ bank = omega arith in let c : (bank * 256 + src) % 256 ≡ src = omega arith in rw (b, c) (le-leb (slice_index s.board.banks bank) (src / 64) gone))
-        | inr g ↦ past s.ram (bank * 256 + src) (let e = v.ram.count_is in omega arith)
+        | inl h ↦ zero RamCharacters (bank * 256 + src) h (let b : (bank * 256 + src) / 256 ≡ bank = omega arith in let c : (bank * 256 + src) % 256 ≡ src = omega arith in rw (b, c) (le-leb (slice_index s.board.banks bank) (src / 64) gone))
+        | inr g ↦ index-past-end s.ram (bank * 256 + src) (let e = v.ram.has_count in omega arith)
       ];
   status = λ bank high k h16 k4 gone.
       elim (cases_lt (bank * 64 + (high * 4 + k)) 512) [
         | inl h ↦ zero StatusCharacters (bank * 64 + (high * 4 + k)) h (let b : (bank * 64 + (high * 4 + k)) / 64 ≡ bank = omega arith in let c : (bank * 64 + (high * 4 + k)) % 64 / 16 ≡ high / 4 = omega arith in rw (b, c) (le-leb (slice_index s.board.banks bank) (high / 4) gone))
-        | inr g ↦ past s.status (bank * 64 + (high * 4 + k)) (let e = v.status.count_is in omega arith)
+        | inr g ↦ index-past-end s.status (bank * 64 + (high * 4 + k)) (let e = v.status.has_count in omega arith)
       ];
   ram_ports = λ bank chip l gone.
       elim (cases_lt (bank * 4 + chip) 32) [
         | inl h ↦ zero RamPorts (bank * 4 + chip) h (let b : (bank * 4 + chip) / 4 ≡ bank = omega arith in let c : (bank * 4 + chip) % 4 ≡ chip = omega arith in rw (b, c) (le-leb (slice_index s.board.banks bank) chip gone))
-        | inr g ↦ past s.ram_ports (bank * 4 + chip) (let e = v.ram_ports.count_is in omega arith)
+        | inr g ↦ index-past-end s.ram_ports (bank * 4 + chip) (let e = v.ram_ports.has_count in omega arith)
       ];
   rom_ports = ports;
   ram_src = λ bank none.
       elim (cases_lt bank 8) [
-        | inl h ↦ zero BankSrcs bank h (le-leb (slice_index s.board.banks bank) 0 (omega arith))
-        | inr g ↦ past s.ram_src bank (let e = v.ram_src.count_is in omega arith)
+        | inl h ↦ zero BankSrcBytes bank h (le-leb (slice_index s.board.banks bank) 0 (omega arith))
+        | inr g ↦ index-past-end s.ram_src bank (let e = v.ram_src.has_count in omega arith)
       ];
 }
 
 -- a list of any kind has 0 for absent chips if each of the five lists has
-pub each-held : (s : BusState) → IsZeroWhereAbsent s RomBytes → IsZeroWhereAbsent s Characters → IsZeroWhereAbsent s StatusCharacters → IsZeroWhereAbsent s RamPorts → IsZeroWhereAbsent s BankSrcs → (h : ChipList) → IsZeroWhereAbsent s h
-each-held s a b c d e RomBytes = a
-each-held s a b c d e Characters = b
-each-held s a b c d e StatusCharacters = c
-each-held s a b c d e RamPorts = d
-each-held s a b c d e BankSrcs = e
+pub each-list-is-zero : (s : BusState) → IsZeroWhereAbsent s RomBytes → IsZeroWhereAbsent s RamCharacters → IsZeroWhereAbsent s StatusCharacters → IsZeroWhereAbsent s RamPorts → IsZeroWhereAbsent s BankSrcBytes → (h : ChipList) → IsZeroWhereAbsent s h
+each-list-is-zero s a b c d e RomBytes = a
+each-list-is-zero s a b c d e RamCharacters = b
+each-list-is-zero s a b c d e StatusCharacters = c
+each-list-is-zero s a b c d e RamPorts = d
+each-list-is-zero s a b c d e BankSrcBytes = e
 
 -- ---- filling a list
 
 -- Holds if s is `start` except for one list. The first i elements of that list are those of `goal`, and the others
 -- are unchanged.
 pub record Fills (start s : BusState) (h : ChipList) (goal : List ℕ) (i : ℕ) : Type 0 where
-  pub others : s ≡ with_list start h (list_of s h)
-  pub filled : IsFilled (list_of start h) goal i (list_of s h)
+  pub others : s ≡ with_chip_list start h (chip_list_in s h)
+  pub filled : IsFilled (chip_list_in start h) goal i (chip_list_in s h)
 
-pub fills-none : (start : BusState) (h : ChipList) (goal : List ℕ) → length (list_of start h) ≡ length goal → Fills start start h goal 0
-fills-none start h goal l = record { others = sym (list-same start h); filled = filled-none (list_of start h) goal l }
+pub fills-none : (start : BusState) (h : ChipList) (goal : List ℕ) → length (chip_list_in start h) ≡ length goal → Fills start start h goal 0
+fills-none start h goal l = record { others = sym (list-same start h); filled = filled-none (chip_list_in start h) goal l }
 
-set-next : (start s t : BusState) (h : ChipList) (goal : List ℕ) (i n : ℕ) → i < length goal → n ≡ get_or goal i 0 → Fills start s h goal i → t ≡ with_list s h (slice_set (list_of s h) i n) → Fills start t h goal (i + 1)
+set-next : (start s t : BusState) (h : ChipList) (goal : List ℕ) (i n : ℕ) → i < length goal → n ≡ get_or goal i 0 → Fills start s h goal i → t ≡ with_chip_list s h (slice_set (chip_list_in s h) i n) → Fills start t h goal (i + 1)
 set-next start s t h goal i n l is f to =
-    let ys = slice_set (list_of s h) i n in
-    let now : list_of t h ≡ ys = ap (λ (u : BusState). list_of u h) to ∙ list-of s h ys in
+    let ys = slice_set (chip_list_in s h) i n in
+    let now : chip_list_in t h ≡ ys = ap (λ (u : BusState). chip_list_in u h) to ∙ list-of s h ys in
     record {
-      others = to ∙ ap (λ (u : BusState). with_list u h ys) f.others ∙ list-again start h (list_of s h) ys ∙ ap (with_list start h) (sym now);
-      filled = subst (IsFilled (list_of start h) goal (i + 1)) (sym now) (filled-set (list_of start h) goal (list_of s h) i i n l refl is f.filled);
+      others = to ∙ ap (λ (u : BusState). with_chip_list u h ys) f.others ∙ list-again start h (chip_list_in s h) ys ∙ ap (with_chip_list start h) (sym now);
+      filled = subst (IsFilled (chip_list_in start h) goal (i + 1)) (sym now) (filled-set (chip_list_in start h) goal (chip_list_in s h) i i n l refl is f.filled);
     }
 
-kept-next : (start s t : BusState) (h : ChipList) (goal : List ℕ) (i : ℕ) → get_or (list_of start h) i 0 ≡ get_or goal i 0 → Fills start s h goal i → t ≡ s → Fills start t h goal (i + 1)
-kept-next start s t h goal i same f to = subst (λ (u : BusState). Fills start u h goal (i + 1)) (sym to) (record { others = f.others; filled = filled-kept (list_of start h) goal (list_of s h) i same f.filled })
+kept-next : (start s t : BusState) (h : ChipList) (goal : List ℕ) (i : ℕ) → get_or (chip_list_in start h) i 0 ≡ get_or goal i 0 → Fills start s h goal i → t ≡ s → Fills start t h goal (i + 1)
+kept-next start s t h goal i same f to = subst (λ (u : BusState). Fills start u h goal (i + 1)) (sym to) (record { others = f.others; filled = filled-kept (chip_list_in start h) goal (chip_list_in s h) i same f.filled })
 
-pub fills-next : (start s t : BusState) (h : ChipList) (goal : List ℕ) (i n : ℕ) → i < length goal → n ≡ get_or goal i 0 → (is_absent start.board h i ≡ true → get_or (list_of start h) i 0 ≡ get_or goal i 0) → Fills start s h goal i → t ≡ with_cell s h i n → Fills start t h goal (i + 1)
+pub fills-next : (start s t : BusState) (h : ChipList) (goal : List ℕ) (i n : ℕ) → i < length goal → n ≡ get_or goal i 0 → (is_chip_absent start.board h i ≡ true → get_or (chip_list_in start h) i 0 ≡ get_or goal i 0) → Fills start s h goal i → t ≡ with_chip_value s h i n → Fills start t h goal (i + 1)
 fills-next start s t h goal i n l is gone f to =
-    let board : s.board ≡ start.board = ap (λ (u : BusState). u.board) f.others ∙ list-board start h (list_of s h) in
-    elim (is_absent s.board h i) as (λ v. is_absent s.board h i ≡ v → t ≡ cond v s (with_list s h (slice_set (list_of s h) i n)) → Fills start t h goal (i + 1)) [
-      | true ↦ λ e to. kept-next start s t h goal i (gone (subst (λ (b : BoardParts). is_absent b h i ≡ true) board e)) f to
+    let board : s.board ≡ start.board = ap (λ (u : BusState). u.board) f.others ∙ list-board start h (chip_list_in s h) in
+    elim (is_chip_absent s.board h i) as (λ v. is_chip_absent s.board h i ≡ v → t ≡ cond v s (with_chip_list s h (slice_set (chip_list_in s h) i n)) → Fills start t h goal (i + 1)) [
+      | true ↦ λ e to. kept-next start s t h goal i (gone (subst (λ (b : BoardParts). is_chip_absent b h i ≡ true) board e)) f to
       | false ↦ λ e to. set-next start s t h goal i n l is f to
     ] refl to
 
-pub fills-all : (start s : BusState) (h : ChipList) (goal : List ℕ) (i : ℕ) → length goal ≤ i → Fills start s h goal i → s ≡ with_list start h goal
-fills-all start s h goal i l f = f.others ∙ ap (with_list start h) (filled-all (list_of start h) goal (list_of s h) i l f.filled)
+pub fills-all : (start s : BusState) (h : ChipList) (goal : List ℕ) (i : ℕ) → length goal ≤ i → Fills start s h goal i → s ≡ with_chip_list start h goal
+fills-all start s h goal i l f = f.others ∙ ap (with_chip_list start h) (filled-all (chip_list_in start h) goal (chip_list_in s h) i l f.filled)
 
 -- ---- filling the port latches of the ROMs
 
@@ -198,10 +198,10 @@ pub record FillsPorts (start s : BusState) (goal : List ℕ) (i : ℕ) : Type 0 
   pub filled : IsFilled start.rom_ports goal i s.rom_ports
 
 -- holds if a ROM's port latch can hold n; the latch of an absent ROM can hold only 0
-abbrev pub can_hold : Option (List LineMask) → ℕ → Type 0
-can_hold masks n = MatchOption masks (n ≡ 0) (λ mask. latch_value mask n ≡ n)
+abbrev pub latch_can_hold : Option (List LineMask) → ℕ → Type 0
+latch_can_hold masks n = MatchOption masks (n ≡ 0) (λ mask. latch_value mask n ≡ n)
 
-port-next : (masks : Option (List LineMask)) (start s t : BusState) (goal : List ℕ) (i n : ℕ) → i < length goal → n ≡ get_or goal i 0 → can_hold masks (get_or goal i 0) → can_hold masks (get_or start.rom_ports i 0) → FillsPorts start s goal i → t ≡ elim masks [ Some mask ↦ with_rom_ports_at s i (latch_value mask n) | None ↦ s ] → FillsPorts start t goal (i + 1)
+port-next : (masks : Option (List LineMask)) (start s t : BusState) (goal : List ℕ) (i n : ℕ) → i < length goal → n ≡ get_or goal i 0 → latch_can_hold masks (get_or goal i 0) → latch_can_hold masks (get_or start.rom_ports i 0) → FillsPorts start s goal i → t ≡ elim masks [ Some mask ↦ with_rom_ports_at s i (latch_value mask n) | None ↦ s ] → FillsPorts start t goal (i + 1)
 port-next (Some mask) start s t goal i n l is new old f to =
     let now : t.rom_ports ≡ slice_set s.rom_ports i (latch_value mask n) = ap (λ (u : BusState). u.rom_ports) to in
     record {
@@ -211,13 +211,13 @@ port-next (Some mask) start s t goal i n l is new old f to =
 port-next None start s t goal i n l is new old f to =
     subst (λ (u : BusState). FillsPorts start u goal (i + 1)) (sym to) (record { others = f.others; filled = filled-kept start.rom_ports goal s.rom_ports i (old ∙ sym new) f.filled })
 
-pub ports-next : (start s t : BusState) (goal : List ℕ) (i n : ℕ) → i < length goal → n ≡ get_or goal i 0 → can_hold (masks_on start.board i) (get_or goal i 0) → can_hold (masks_on start.board i) (get_or start.rom_ports i 0) → FillsPorts start s goal i → t ≡ with_rom_latch s i n → FillsPorts start t goal (i + 1)
+pub ports-next : (start s t : BusState) (goal : List ℕ) (i n : ℕ) → i < length goal → n ≡ get_or goal i 0 → latch_can_hold (rom_masks start.board i) (get_or goal i 0) → latch_can_hold (rom_masks start.board i) (get_or start.rom_ports i 0) → FillsPorts start s goal i → t ≡ with_rom_latch s i n → FillsPorts start t goal (i + 1)
 unfolding with_rom_latch
 ports-next start s t goal i n l is new old f to =
     let board : start.board ≡ s.board = sym (ap (λ (u : BusState). u.board) f.others) in
-    let hold = λ (x : ℕ) (h : can_hold (masks_on start.board i) x). subst (λ (b : BoardParts). can_hold (masks_on b i) x) board h in
-    port-next (masks_on s.board i) start s t goal i n l is (hold (get_or goal i 0) new) (hold (get_or start.rom_ports i 0) old) f to
+    let hold = λ (x : ℕ) (h : latch_can_hold (rom_masks start.board i) x). subst (λ (b : BoardParts). latch_can_hold (rom_masks b i) x) board h in
+    port-next (rom_masks s.board i) start s t goal i n l is (hold (get_or goal i 0) new) (hold (get_or start.rom_ports i 0) old) f to
 
-pub no-mask : (masks : Option (List LineMask)) (n : ℕ) → n ≡ 0 → can_hold masks n
+pub no-mask : (masks : Option (List LineMask)) (n : ℕ) → n ≡ 0 → latch_can_hold masks n
 no-mask (Some mask) n e = ap (latch_value mask) e ∙ latch_value-zero mask ∙ sym e
 no-mask None n e = e

@@ -7,9 +7,9 @@ use Rattle.mcs_model.specs.declared.regs.Regs.{Regs}
 use Rattle.mcs_model.specs.declared.op.Op.{Op}
 use Rattle.mcs_model.specs.declared.op.Op.TheVariants.{Nop, Jcn, Fim, Src, Fin, Jin, Jun, Jms, Inc, Isz, Add, Sub, Ld, Xch, Bbl, Ldm, Wrm, Wmp, Wrr, Wr0, Wr1, Wr2, Wr3, Sbm, Rdm, Rdr, Adm, Rd0, Rd1, Rd2, Rd3, Clb, Clc, Iac, Cmc, Cma, Ral, Rar, Tcc, Dac, Tcs, Stc, Daa, Kbp, Dcl}
 use Rattle.mcs_nibble.specs.declared.lines.LineMask.{LineMask}
-use Rattle.mcs_model.specs.Boards.{masks_on}
+use Rattle.mcs_model.specs.Boards.{rom_masks}
 use Rattle.mcs_model.specs.Bus.{BusState, after_src, after_ram, after_status, src_of, chips_of, has_chip, with_ram, with_status}
-use Rattle.mcs_model.specs.Levels.{after_ram_port, after_rom_port, chains_clocked}
+use Rattle.mcs_model.specs.Levels.{after_ram_port, after_rom_port, after_chain_clocks}
 use Rattle.mcs_model.specs.Effect.{cycle_of, effect, bus_after, instruction_at}
 use Rattle.mcs_model.specs.Running.{Machine, after_cycles, has_changed}
 use Rattle.mcs_model.specs.Listed.{is_listed}
@@ -27,7 +27,7 @@ unfolding after_status with_status
 status-keeps m bank k n = either-ram (nat_lt (src_of m bank / 16 / 4) (chips_of m bank)) _ _ m.ram refl refl
 
 ram-port-keeps : (m : BusState) (bank n : ℕ) → (after_ram_port m bank n).ram ≡ m.ram
-unfolding after_ram_port chains_clocked
+unfolding after_ram_port after_chain_clocks
 ram-port-keeps m bank n = either-ram (has_chip m bank (src_of m bank)) _ _ m.ram refl refl
 
 chosen : (o : Option (List LineMask)) (m : BusState) (f : List LineMask → BusState) → ((mask : List LineMask) → (f mask).ram ≡ m.ram) → (elim o as (λ _. BusState) [ Some mask ↦ f mask | None ↦ m ]).ram ≡ m.ram
@@ -35,8 +35,8 @@ chosen None m f h = refl
 chosen (Some mask) m f h = h mask
 
 rom-port-keeps : (m : BusState) (n : ℕ) → (after_rom_port m n).ram ≡ m.ram
-unfolding after_rom_port chains_clocked
-rom-port-keeps m n = chosen (masks_on m.board (m.rom_src / 16)) m _ (λ mask. refl)
+unfolding after_rom_port after_chain_clocks
+rom-port-keeps m n = chosen (rom_masks m.board (m.rom_src / 16)) m _ (λ mask. refl)
 
 -- an instruction other than WRM changes no RAM character
 op-keeps : (op : Op) (s : Regs) (m : BusState) → op ≢ Wrm → (bus_after op s m).ram ≡ m.ram

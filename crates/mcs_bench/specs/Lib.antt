@@ -1,4 +1,4 @@
-pub mod Breaks
+pub mod BreakpointSet
 pub mod ChipLists
 pub mod Runs
 pub mod States

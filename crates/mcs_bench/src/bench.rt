@@ -2,7 +2,7 @@
 ghost use Rattle.std.specs.Prelude.{◌≡◌, IfOk};
 ghost use Rattle.mcs_model.specs.BenchState.{new_bench_state};
 
-use crate::breaks::Breaks;
+use crate::breaks::BreakpointSet;
 use crate::watches::Watches;
 use mcs_board::BenchRig;
 use mcs_cpu4004::Cpu;
@@ -15,7 +15,7 @@ use std::marker::Model;
 pub struct Bench {
     pub(crate) rig: BenchRig,
     pub(crate) cpu: Cpu,
-    pub(crate) breaks: Breaks,
+    pub(crate) breaks: BreakpointSet,
     pub(crate) watches: Watches,
     pub(crate) seq: u32,
 }
@@ -40,7 +40,7 @@ impl Bench {
         Ok(Bench {
             rig: BenchRig::new(alloc)?,
             cpu: Cpu::new(),
-            breaks: Breaks::new(),
+            breaks: BreakpointSet::new(),
             watches: Watches::new(),
             seq: 0,
         })

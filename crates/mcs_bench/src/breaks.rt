@@ -5,7 +5,7 @@ ghost use Rattle.std.specs.List.Sorted.{IsStrictlyIncreasing};
 ghost use Rattle.mcs_model.specs.Validity.{AreBreakpoints};
 ghost use Rattle.mcs_model.specs.Listed.{is_listed, insert_in_order, with_listed, without_listed};
 
-use crate::laws::are_addresses;
+use crate::laws::show_addresses_are_in_range;
 use arrayvec::ArrayVec;
 use mcs_model::limits::BREAKPOINTS;
 use mcs_nibble::Addr;
@@ -14,24 +14,24 @@ use std::marker::Model;
 /// The breakpoint addresses in ascending order, with a flag for each of the 4,096 addresses. With the flags, a run
 /// checks an address in constant time.
 #[derive(Drop)]
-pub(crate) struct Breaks {
+pub(crate) struct BreakpointSet {
     list: ArrayVec<Addr, BREAKPOINTS>,
-    marks: [bool; 4096],
+    flags: [bool; 4096],
 }
 
-impl Model for Breaks {
+impl Model for BreakpointSet {
     ghost use Rattle.std.specs.Prelude.{List, ℕ};
-    ghost use Rattle.mcs_bench.specs.Breaks.{IsMarked};
+    ghost use Rattle.mcs_bench.specs.BreakpointSet.{HasFlags};
 
     ghost Value = { List ℕ };
 
     ghost view = { λ b. b.list.items };
 
-    ghost invariant = { λ b. IsMarked b.marks b.list.items };
+    ghost invariant = { λ b. HasFlags b.flags b.list.items };
 }
 
 /// Returns the index of the first address above `at`, or the length of the list if there is none.
-fn index_of(list: &[Addr], at: Addr) -> usize
+fn insertion_index(list: &[Addr], at: Addr) -> usize
     ensures index { insert list.now result at ≡ insert_in_order list.now at }
     ensures within { result ≤ length list.now }
 {
@@ -44,7 +44,7 @@ fn index_of(list: &[Addr], at: Addr) -> usize
 }
 
 /// Returns the list without the address `at`.
-fn others(list: &ArrayVec<Addr, BREAKPOINTS>, at: Addr) -> ArrayVec<Addr, BREAKPOINTS>
+fn list_without(list: &ArrayVec<Addr, BREAKPOINTS>, at: Addr) -> ArrayVec<Addr, BREAKPOINTS>
     ensures { result.items ≡ without_listed list.now.items at }
 {
     let mut kept = ArrayVec::new();
@@ -57,7 +57,7 @@ fn others(list: &ArrayVec<Addr, BREAKPOINTS>, at: Addr) -> ArrayVec<Addr, BREAKP
 }
 
 /// Returns a copy of the list.
-fn copied(list: &ArrayVec<Addr, BREAKPOINTS>) -> ArrayVec<Addr, BREAKPOINTS>
+fn copy_of_list(list: &ArrayVec<Addr, BREAKPOINTS>) -> ArrayVec<Addr, BREAKPOINTS>
     ensures { result.items ≡ list.now.items }
 {
     let mut copy = ArrayVec::new();
@@ -67,24 +67,24 @@ fn copied(list: &ArrayVec<Addr, BREAKPOINTS>) -> ArrayVec<Addr, BREAKPOINTS>
     copy
 }
 
-impl Breaks {
+impl BreakpointSet {
     /// Returns an empty set of breakpoints.
-    pub(crate) fn new() -> Breaks
+    pub(crate) fn new() -> BreakpointSet
         ensures { result ≡ [] }
     {
-        Breaks {
+        BreakpointSet {
             list: ArrayVec::new(),
-            marks: [false; 4096],
+            flags: [false; 4096],
         }
     }
 
     /// Returns a copy of the breakpoints.
-    pub(crate) fn copy(&self) -> Breaks
+    pub(crate) fn copy(&self) -> BreakpointSet
         ensures { result ≡ self.now }
     {
-        Breaks {
-            list: copied(&self.list),
-            marks: self.marks,
+        BreakpointSet {
+            list: copy_of_list(&self.list),
+            flags: self.flags,
         }
     }
 
@@ -101,7 +101,7 @@ impl Breaks {
     pub(crate) fn contains(&self, at: Addr) -> bool
         ensures { result ≡ is_listed self.now at }
     {
-        self.marks[usize::from(at.get())]
+        self.flags[usize::from(at.get())]
     }
 
     /// Returns whether a breakpoint can be set at an address: one is set there already, or fewer than `BREAKPOINTS`
@@ -118,9 +118,9 @@ impl Breaks {
         ensures { self.new ≡ with_listed self.old at }
     {
         if !self.contains(at) {
-            let index = index_of(self.list.as_slice(), at);
+            let index = insertion_index(self.list.as_slice(), at);
             self.list.insert(index, at);
-            self.marks[usize::from(at.get())] = true;
+            self.flags[usize::from(at.get())] = true;
         }
     }
 
@@ -128,14 +128,14 @@ impl Breaks {
     pub(crate) fn clear(&mut self, at: Addr)
         ensures { self.new ≡ without_listed self.old at }
     {
-        self.list = others(&self.list, at);
-        self.marks[usize::from(at.get())] = false;
+        self.list = list_without(&self.list, at);
+        self.flags[usize::from(at.get())] = false;
     }
 
     /// Proves that there are at most `BREAKPOINTS` breakpoints, and that they are addresses in ascending order.
     pub(crate) fn show_state_is_valid(&self)
         ensures { AreBreakpoints self.now }
     {
-        are_addresses(self.list());
+        show_addresses_are_in_range(self.list());
     }
 }

@@ -15,18 +15,18 @@ use mcs_model::limits::{ACCEPTED_COMMANDS, BREAKPOINTS, RUN_CYCLES};
 use mcs_model::refusals::BenchFault;
 use mcs_nibble::{Addr, BankNo};
 
-/// Returns `None` if `well` is true, else `fault`.
-fn unless(well: bool, fault: BenchFault) -> Option<BenchFault>
-    ensures { result ≡ (if well then None else Some fault) }
+/// Returns `None` if `is_allowed` is true, else `fault`.
+fn fault_unless(is_allowed: bool, fault: BenchFault) -> Option<BenchFault>
+    ensures { result ≡ (if is_allowed then None else Some fault) }
 {
-    if well { None } else { Some(fault) }
+    if is_allowed { None } else { Some(fault) }
 }
 
-/// Returns `fault` if `ill` is true, else `None`.
-fn when(ill: bool, fault: BenchFault) -> Option<BenchFault>
-    ensures { result ≡ (if ill then Some fault else None) }
+/// Returns `fault` if `is_forbidden` is true, else `None`.
+fn fault_if(is_forbidden: bool, fault: BenchFault) -> Option<BenchFault>
+    ensures { result ≡ (if is_forbidden then Some fault else None) }
 {
-    if ill { Some(fault) } else { None }
+    if is_forbidden { Some(fault) } else { None }
 }
 
 /// Returns whether the board lacks the ROM of an address.
@@ -37,7 +37,7 @@ fn lacks_rom(board: &Board, at: Addr) -> bool
 }
 
 /// Returns whether an image has a byte at an address whose ROM the board lacks.
-fn lacks_a_rom(board: &Board, image: &Image) -> bool
+fn image_lacks_rom(board: &Board, image: &Image) -> bool
     ensures { result ≡ list_any (λ p. lacks_rom board.now p.0) image.now }
 {
     image.pairs().iter().any(|pair| lacks_rom(board, pair.0))
@@ -61,14 +61,14 @@ impl Bench {
     {
         let board = self.rig.board();
         match place {
-            Place::Rom(at, _) => when(lacks_rom(board, at), BenchFault::NoRom),
+            Place::Rom(at, _) => fault_if(lacks_rom(board, at), BenchFault::NoRom),
             Place::Ram(bank, src, _) => {
-                unless(
+                fault_unless(
                     src / 64 < board.bank_chips(bank.get()),
                     BenchFault::NoSuchPlace,
                 )
             }
-            Place::Status(bank, high, _, _) => unless(
+            Place::Status(bank, high, _, _) => fault_unless(
                 high.get() / 4 < board.bank_chips(bank.get()),
                 BenchFault::NoSuchPlace,
             ),
@@ -84,15 +84,18 @@ impl Bench {
     {
         let board = self.rig.board();
         match command {
-            Command::Load(image) => when(lacks_a_rom(board, image), BenchFault::NoRom),
+            Command::Load(image) => fault_if(image_lacks_rom(board, image), BenchFault::NoRom),
             Command::Press(row, column) | Command::Release(row, column) => {
-                unless(board.has_key(*row, *column), BenchFault::NoKey)
+                fault_unless(board.has_key(*row, *column), BenchFault::NoKey)
             }
-            Command::Run(n) => unless(1 <= *n && *n <= RUN_CYCLES, BenchFault::BadCount),
+            Command::Run(n) => fault_unless(1 <= *n && *n <= RUN_CYCLES, BenchFault::BadCount),
             Command::Poke(place) => self.place_refusal(*place),
-            Command::Break(at) => unless(self.breaks.has_room_for(*at), BenchFault::BreaksFull),
+            Command::Break(at) => fault_unless(
+                self.breaks.has_room_for(*at),
+                BenchFault::BreaksFull,
+            ),
             Command::Watch(bank, src) => {
-                unless(
+                fault_unless(
                     self.watches.has_room_for(bank.get(), *src),
                     BenchFault::WatchesFull,
                 )
@@ -147,7 +150,7 @@ impl Bench {
     }
 
     /// Writes the value in `place` to its location. Does nothing if the chip of that location is absent.
-    fn put(&mut self, place: Place)
+    fn write_place(&mut self, place: Place)
         ensures { self.new ≡ with_place self.old place }
     {
         match place {
@@ -192,7 +195,7 @@ impl Bench {
     }
 
     /// Executes a command that the bench accepts, and returns the reply. Does not count the command.
-    fn change(&mut self, command: &Command) -> Reply
+    fn execute(&mut self, command: &Command) -> Reply
         requires { refusal_of_command self.old command.now ≡ None }
         ensures state { self.new ≡ after_change self.old command.now }
         ensures reply { result ≡ reply self.old command.now }
@@ -204,7 +207,7 @@ impl Bench {
             Command::Release(row, column) => self.rig.release(*row, *column),
             Command::Run(n) => return self.run(*n),
             Command::Step => return self.step(),
-            Command::Poke(place) => self.put(*place),
+            Command::Poke(place) => self.write_place(*place),
             Command::Test(bit) => self.rig.set_test(*bit),
             Command::Reset => self.reset(),
             Command::Break(at) => self.breaks.set(*at),
@@ -222,7 +225,7 @@ impl Bench {
         ensures reply { result ≡ reply self.old command.now }
     {
         let accepted = self.seq + 1;
-        let reply = self.change(command);
+        let reply = self.execute(command);
         self.seq = accepted;
         reply
     }

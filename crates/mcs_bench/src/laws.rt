@@ -16,7 +16,7 @@ pub fn runs_add_up()
 }
 
 /// Proves that each nibble in a list is below 16.
-fn are_nibbles(list: &[Nibble])
+fn show_nibbles_are_in_range(list: &[Nibble])
     ensures { All (λ n. n < 16) list.now }
 {
     for i in 0..list.len() {
@@ -25,7 +25,7 @@ fn are_nibbles(list: &[Nibble])
 }
 
 /// Proves that each address in a list is below 4096.
-pub(crate) fn are_addresses(list: &[Addr])
+pub(crate) fn show_addresses_are_in_range(list: &[Addr])
     ensures { All (λ a. a < 4096) list.now }
 {
     for i in 0..list.len() {
@@ -34,14 +34,14 @@ pub(crate) fn are_addresses(list: &[Addr])
 }
 
 /// Proves that all registers are in range if `dcl` and `owed` are.
-fn registers_are_valid(regs: Regs)
+fn show_registers_are_valid(regs: Regs)
     requires dcl { regs.dcl < 8 }
     requires owed { regs.owed < 2 }
     ensures { IsValidRegs regs }
 {
     let _flags = (regs.acc.get(), regs.cy.get(), regs.pc.get());
-    are_nibbles(&regs.r);
-    are_addresses(&regs.ret);
+    show_nibbles_are_in_range(&regs.r);
+    show_addresses_are_in_range(&regs.ret);
 }
 
 impl Bench {
@@ -50,7 +50,7 @@ impl Bench {
         ensures { IsValid self.now }
     {
         let _seq = self.seq;
-        registers_are_valid(self.cpu.regs());
+        show_registers_are_valid(self.cpu.regs());
         self.rig.show_state_is_valid();
         self.breaks.show_state_is_valid();
         self.watches.show_state_is_valid();

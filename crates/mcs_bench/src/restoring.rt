@@ -1,13 +1,13 @@
 //! Functions that create a bench from a flat state.
 ghost use Rattle.std.specs.Prelude.{◌≡◌, ◌<◌, ◌≤◌, ℕ, All, IfOk, MatchOption, length, slice_index, slice_index_or, slice_set, []};
 ghost use Rattle.mcs_nibble.specs.Ports.{latch_value};
-ghost use Rattle.mcs_model.specs.Boards.{masks_on, chain_count, chain_bits, key_count};
+ghost use Rattle.mcs_model.specs.Boards.{rom_masks, chain_count, chain_bits, key_count};
 ghost use Rattle.mcs_model.specs.Validity.{AreBelow, AreBreakpoints, AreWatches, IsValid, IsValidBus, IsValidRegs};
 ghost use Rattle.mcs_bench.specs.ChipLists.{IsKeyAt};
 ghost use Rattle.mcs_bench.specs.States.{state_of, bits_of_chains};
 
 use crate::bench::Bench;
-use crate::breaks::Breaks;
+use crate::breaks::BreakpointSet;
 use crate::chip_list::{ChipList, fill};
 use crate::flat::Flat;
 use crate::watches::Watches;
@@ -62,8 +62,8 @@ fn processor(flat: &Flat) -> Cpu
 /// Sets the port latches of all ROMs. Each latch must be able to hold its value in `ports`.
 fn fill_rom_ports(rig: &mut BenchRig, ports: &[u8])
     requires fit { AreBelow 16 16 ports.now }
-    requires kept { (chip : ℕ) →
-        MatchOption (masks_on rig.old.board chip) (slice_index ports.now chip ≡ 0)
+    requires fits_latch { (chip : ℕ) →
+        MatchOption (rom_masks rig.old.board chip) (slice_index ports.now chip ≡ 0)
         (λ mask. latch_value mask (slice_index ports.now chip) ≡ slice_index ports.now chip) }
     ensures { rig.new ≡ record rig.old { rom_ports = ports.now } }
 {
@@ -100,7 +100,7 @@ fn fill_chains(rig: &mut BenchRig, chains: &[ArrayVec<u8, CHAIN_SOCKETS>])
 
 /// Returns the number of columns in a board's key matrix, or 1 if it has no keys. A key's index divided by this
 /// number gives the key's row; the remainder is its column.
-fn columns_of(board: &Board) -> usize
+fn key_column_count(board: &Board) -> usize
     ensures { (i : ℕ) → i < key_count board.now → IsKeyAt board.now result i }
 {
     match &board.parts().keys {
@@ -116,7 +116,7 @@ fn fill_keys(rig: &mut BenchRig, keys: &[u8])
     ensures { rig.new ≡ record rig.old { keys = keys.now } }
 {
     rig.show_state_is_valid();
-    let columns = columns_of(rig.board());
+    let columns = key_column_count(rig.board());
     for i in 0..keys.len() {
         rig.set_key(
             (i / columns) as u8,
@@ -127,11 +127,11 @@ fn fill_keys(rig: &mut BenchRig, keys: &[u8])
 }
 
 /// Converts a list of addresses to breakpoints.
-fn breakpoints(list: &[u16]) -> Breaks
+fn breakpoints(list: &[u16]) -> BreakpointSet
     requires { AreBreakpoints list.now }
     ensures { result ≡ list.now }
 {
-    let mut breaks = Breaks::new();
+    let mut breaks = BreakpointSet::new();
     for at in list {
         breaks.set(Addr::ZERO.plus(*at));
     }
@@ -158,10 +158,10 @@ fn restore_rig(rig: &mut BenchRig, flat: &Flat)
     every_board_fits_the_bench(&flat.board);
     rig.wire(&flat.board);
     fill(rig, ChipList::RomBytes, flat.rom.bytes());
-    fill(rig, ChipList::Characters, flat.ram.bytes());
+    fill(rig, ChipList::RamCharacters, flat.ram.bytes());
     fill(rig, ChipList::StatusCharacters, flat.status.bytes());
     fill(rig, ChipList::RamPorts, flat.ram_ports.bytes());
-    fill(rig, ChipList::BankSrcs, &flat.ram_src);
+    fill(rig, ChipList::BankSrcBytes, &flat.ram_src);
     fill_rom_ports(rig, flat.rom_ports.bytes());
     rig.set_rom_src(flat.rom_src);
     fill_chains(rig, flat.chains.as_slice());

@@ -1,12 +1,12 @@
 //! Runs and single steps of a processor on the bench's rig.
 ghost use Rattle.std.specs.Prelude.{◌≡◌, ◌<◌, ◌*◌, ◌+◌, ◌&&◌, ◌==◌, not, unwrap_or, true, false, [], Some, None, MatchOption, ◌↔◌};
 ghost use Rattle.mcs_model.specs.Effect.{cycle_of, instruction_at};
-ghost use Rattle.mcs_model.specs.Running.{is_outside};
+ghost use Rattle.mcs_model.specs.Running.{is_outside_table};
 ghost use Rattle.mcs_model.specs.declared.op.Op.TheVariants.{Wrm};
 ghost use Rattle.mcs_model.specs.Listed.{is_listed};
-ghost use Rattle.mcs_bench.specs.Runs.{CameTo, RanTo, SteppedTo, WentTo, WillChange, debug_stop_of, stop_by};
+ghost use Rattle.mcs_bench.specs.Runs.{RunReaches, IsRunResult, IsStepResult, IsInstructionResult, PredictsWatchChange, debug_stop_of, stop_reason};
 
-use crate::breaks::Breaks;
+use crate::breaks::BreakpointSet;
 use crate::watches::Watches;
 use mcs_board::BenchRig;
 use mcs_cpu4004::{Cpu, Cycle};
@@ -16,16 +16,16 @@ use mcs_nibble::Addr;
 
 /// Returns whether the processor cannot continue: no second cycle is pending, and the opcode at the program counter
 /// is not in the instruction table.
-fn is_outside(cpu: &Cpu, rig: &BenchRig) -> bool
-    ensures { result ≡ is_outside (cpu.now, rig.now) }
+fn is_outside_table(cpu: &Cpu, rig: &BenchRig) -> bool
+    ensures { result ≡ is_outside_table (cpu.now, rig.now) }
 {
-    cpu.is_outside(rig)
+    cpu.is_outside_table(rig)
 }
 
 /// Returns the reason to stop a run after a cycle, if the program counter is then `at`. The reason is a breakpoint at
 /// `at` if no second cycle is pending, else a changed watch if `changed` is true, else `None`.
 #[inline(always)]
-fn debug_stop_at(cpu: &Cpu, at: Addr, breaks: &Breaks, changed: bool) -> Option<Stop>
+fn debug_stop_at(cpu: &Cpu, at: Addr, breaks: &BreakpointSet, changed: bool) -> Option<Stop>
     ensures mark { result ≡ debug_stop_of (cpu.now.owed == 0 && is_listed breaks.now at) changed }
     ensures owed { cpu.now.owed < 2 }
 {
@@ -49,9 +49,9 @@ fn is_wrm(op: &Op) -> bool
 
 /// Returns whether `op`, the instruction at the address `at`, will change the value of a watched RAM character.
 #[inline(always)]
-fn will_change(cpu: &Cpu, rig: &BenchRig, watches: &Watches, op: &Op, at: Addr) -> bool
+fn op_changes_watch(cpu: &Cpu, rig: &BenchRig, watches: &Watches, op: &Op, at: Addr) -> bool
     requires { instruction_at (record cpu.now { pc = at }) rig.now ≡ Some op.now }
-    ensures { WillChange watches.now (record cpu.now { pc = at }, rig.now) result }
+    ensures { PredictsWatchChange watches.now (record cpu.now { pc = at }, rig.now) result }
 {
     rig.show_state_is_valid();
     if !is_wrm(op) {
@@ -72,41 +72,41 @@ fn will_change(cpu: &Cpu, rig: &BenchRig, watches: &Watches, op: &Op, at: Addr) 
 /// Returns whether `op`, the instruction at the address `at`, will change the value of a watched RAM character. If
 /// `WATCHED` is false, no RAM character may be watched, and the function returns false at once.
 #[inline(always)]
-fn foresees_change<const WATCHED: bool>(
+fn op_changes_watch_if<const WATCHED: bool>(
     cpu: &Cpu,
     rig: &BenchRig,
     watches: &Watches,
     op: &Op,
     at: Addr,
 ) -> bool
-    requires looks { WATCHED ≡ false → watches.now ≡ [] }
+    requires none_watched { WATCHED ≡ false → watches.now ≡ [] }
     requires decoded { instruction_at (record cpu.now { pc = at }) rig.now ≡ Some op.now }
-    ensures { WillChange watches.now (record cpu.now { pc = at }, rig.now) result }
+    ensures { PredictsWatchChange watches.now (record cpu.now { pc = at }, rig.now) result }
 {
     if !WATCHED {
         return false;
     }
-    will_change(cpu, rig, watches, op, at)
+    op_changes_watch(cpu, rig, watches, op, at)
 }
 
 /// Returns whether `op`, the instruction at the address `at`, will change the value of a watched RAM character.
 /// Returns false at once if no RAM character is watched.
 #[inline(always)]
-fn foresees(cpu: &Cpu, rig: &BenchRig, watches: &Watches, op: &Op, at: Addr) -> bool
+fn op_changes_any_watch(cpu: &Cpu, rig: &BenchRig, watches: &Watches, op: &Op, at: Addr) -> bool
     requires { instruction_at (record cpu.now { pc = at }) rig.now ≡ Some op.now }
-    ensures { WillChange watches.now (record cpu.now { pc = at }, rig.now) result }
+    ensures { PredictsWatchChange watches.now (record cpu.now { pc = at }, rig.now) result }
 {
     if watches.is_empty() {
         return false;
     }
-    will_change(cpu, rig, watches, op, at)
+    op_changes_watch(cpu, rig, watches, op, at)
 }
 
 /// Returns the reason that a run stops: an opcode outside the instruction table, else `mark`, else the end of the run.
-pub(crate) fn stop_by(cpu: &Cpu, rig: &BenchRig, mark: Option<Stop>) -> Stop
-    ensures { result ≡ stop_by (cpu.now, rig.now) mark }
+pub(crate) fn stop_reason(cpu: &Cpu, rig: &BenchRig, mark: Option<Stop>) -> Stop
+    ensures { result ≡ stop_reason (cpu.now, rig.now) mark }
 {
-    if is_outside(cpu, rig) {
+    if is_outside_table(cpu, rig) {
         return Stop::Outside;
     }
     match mark {
@@ -117,7 +117,7 @@ pub(crate) fn stop_by(cpu: &Cpu, rig: &BenchRig, mark: Option<Stop>) -> Stop
 
 /// The result of one instruction of a run, or of the pending second cycle of one.
 #[derive(Clone, Copy)]
-pub struct Went {
+pub struct InstructionResult {
     /// The number of cycles done, at least 1.
     pub cycles: u32,
     /// The reason to stop the run after these cycles, if any: a breakpoint or a change of a watched RAM character.
@@ -127,7 +127,7 @@ pub struct Went {
 }
 
 /// Executes the pending second cycle of an instruction.
-fn finish(cpu: &mut Cpu, breaks: &Breaks) -> Went
+fn run_second_cycle(cpu: &mut Cpu, breaks: &BreakpointSet) -> InstructionResult
     requires { cpu.old.owed ≡ 1 }
     ensures state { cpu.new ≡ record cpu.old { owed = 0 } }
     ensures cycles { result.cycles ≡ 1 }
@@ -136,7 +136,7 @@ fn finish(cpu: &mut Cpu, breaks: &Breaks) -> Went
 {
     cpu.set_owed(0);
     let at = cpu.regs().pc;
-    Went {
+    InstructionResult {
         cycles: 1,
         mark: debug_stop_at(cpu, at, breaks, false),
         op: None,
@@ -144,33 +144,33 @@ fn finish(cpu: &mut Cpu, breaks: &Breaks) -> Went
 }
 
 /// Executes the pending second cycle if there is one, else the instruction at the program counter, for at most `left`
-/// cycles. Returns `None` and changes nothing if no cycle can follow (`is_outside`).
+/// cycles. Returns `None` and changes nothing if no cycle can follow (`is_outside_table`).
 #[inline(always)]
-pub(crate) fn go_on(
+pub(crate) fn continue_run(
     cpu: &mut Cpu,
     rig: &mut BenchRig,
-    breaks: &Breaks,
+    breaks: &BreakpointSet,
     watches: &Watches,
     left: u32,
-) -> Option<Went>
+) -> Option<InstructionResult>
     requires { 0 < left }
     ensures { MatchOption result
-        ((is_outside (cpu.old, rig.old) ≡ true) × (cpu.new ≡ cpu.old) × (rig.new ≡ rig.old))
-        (WentTo (record { breaks = breaks.now; watches = watches.now }) left (cpu.old, rig.old)
+        ((is_outside_table (cpu.old, rig.old) ≡ true) × (cpu.new ≡ cpu.old) × (rig.new ≡ rig.old))
+        (IsInstructionResult (record { breaks = breaks.now; watches = watches.now }) left (cpu.old, rig.old)
         (cpu.new, rig.new)) }
 {
     let regs = cpu.regs();
     if regs.owed == 1 {
-        return Some(finish(cpu, breaks));
+        return Some(run_second_cycle(cpu, breaks));
     }
     let at = regs.pc;
     match mcs_board::instruction(cpu, rig, at) {
         None => None,
         Some(op) => {
-            let changes = foresees(cpu, rig, watches, &op, at);
+            let changes = op_changes_any_watch(cpu, rig, watches, &op, at);
             let (next, cycles) = mcs_board::run_instruction(cpu, rig, op, at, left);
             cpu.set_pc(next);
-            Some(Went {
+            Some(InstructionResult {
                 cycles,
                 mark: debug_stop_at(cpu, next, breaks, changes),
                 op: Some(op),
@@ -186,12 +186,12 @@ pub(crate) fn go_on(
 fn fast_loop<const WATCHED: bool>(
     cpu: &mut Cpu,
     rig: &mut BenchRig,
-    breaks: &Breaks,
+    breaks: &BreakpointSet,
     watches: &Watches,
     n: u32,
 ) -> (u32, Addr, Option<Stop>)
     requires { WATCHED ≡ false → watches.now ≡ [] }
-    ensures { CameTo (record { breaks = breaks.now; watches = watches.now }) n (cpu.old, rig.old)
+    ensures { RunReaches (record { breaks = breaks.now; watches = watches.now }) n (cpu.old, rig.old)
         (record cpu.new { pc = result.1 }, rig.new) result.0 result.2 }
 {
     let mut at = cpu.regs().pc;
@@ -199,7 +199,7 @@ fn fast_loop<const WATCHED: bool>(
     // Executes a pending second cycle first, so that none is pending when the loop body starts.
     if n > 0 && cpu.regs().owed == 1 {
         left = n - 1;
-        if let Some(why) = finish(cpu, breaks).mark {
+        if let Some(why) = run_second_cycle(cpu, breaks).mark {
             return (1, at, Some(why));
         }
     }
@@ -207,7 +207,7 @@ fn fast_loop<const WATCHED: bool>(
         match mcs_board::instruction(cpu, rig, at) {
             None => return (n - left, at, None),
             Some(op) => {
-                if foresees_change::<WATCHED>(cpu, rig, watches, &op, at) {
+                if op_changes_watch_if::<WATCHED>(cpu, rig, watches, &op, at) {
                     return (n - left, at, None);
                 }
                 let (next, cycles) = mcs_board::run_instruction(cpu, rig, op, at, left);
@@ -227,11 +227,11 @@ fn fast_loop<const WATCHED: bool>(
 fn run_fast(
     cpu: &mut Cpu,
     rig: &mut BenchRig,
-    breaks: &Breaks,
+    breaks: &BreakpointSet,
     watches: &Watches,
     n: u32,
 ) -> (u32, Option<Stop>)
-    ensures { CameTo (record { breaks = breaks.now; watches = watches.now }) n (cpu.old, rig.old)
+    ensures { RunReaches (record { breaks = breaks.now; watches = watches.now }) n (cpu.old, rig.old)
         (cpu.new, rig.new) result.0 result.1 }
 {
     // No reference to this copy exists outside the loop, so its registers need not go through memory at each cycle.
@@ -250,18 +250,18 @@ fn run_fast(
 pub(crate) fn run(
     cpu: &mut Cpu,
     rig: &mut BenchRig,
-    breaks: &Breaks,
+    breaks: &BreakpointSet,
     watches: &Watches,
     n: u32,
 ) -> (u32, Stop)
-    ensures { RanTo (record { breaks = breaks.now; watches = watches.now }) n (cpu.old, rig.old)
+    ensures { IsRunResult (record { breaks = breaks.now; watches = watches.now }) n (cpu.old, rig.old)
         (cpu.new, rig.new) result.0 result.1 }
 {
     let (mut done, mut mark) = run_fast(cpu, rig, breaks, watches, n);
     // The next instruction can end the run: it is the last one, it changes a watched RAM character, or its opcode is
     // not in the instruction table.
     while done < n && mark.is_none() {
-        match go_on(cpu, rig, breaks, watches, n - done) {
+        match continue_run(cpu, rig, breaks, watches, n - done) {
             None => return (done, Stop::Outside),
             Some(went) => {
                 done += went.cycles;
@@ -269,14 +269,14 @@ pub(crate) fn run(
             }
         }
     }
-    (done, stop_by(cpu, rig, mark))
+    (done, stop_reason(cpu, rig, mark))
 }
 
 /// Executes one instruction cycle and returns true. Returns false and changes nothing if no cycle can follow
-/// (`is_outside`).
+/// (`is_outside_table`).
 #[inline(never)]
-fn advance(cpu: &mut Cpu, rig: &mut BenchRig) -> bool
-    ensures went { result ≡ not (is_outside (cpu.old, rig.old)) }
+fn run_cycle(cpu: &mut Cpu, rig: &mut BenchRig) -> bool
+    ensures went { result ≡ not (is_outside_table (cpu.old, rig.old)) }
     ensures machine { (cpu.new, rig.new) ≡ unwrap_or (cycle_of cpu.old rig.old) (cpu.old, rig.old) }
 {
     match mcs_board::cycle(cpu, rig) {
@@ -288,14 +288,14 @@ fn advance(cpu: &mut Cpu, rig: &mut BenchRig) -> bool
 /// Executes the pending second cycle if there is one, else one instruction. Returns the number of cycles done and the
 /// reason that the step stopped.
 pub(crate) fn step(cpu: &mut Cpu, rig: &mut BenchRig) -> (u32, Stop)
-    ensures { SteppedTo (cpu.old, rig.old) (cpu.new, rig.new) result.0 result.1 }
+    ensures { IsStepResult (cpu.old, rig.old) (cpu.new, rig.new) result.0 result.1 }
 {
-    if !advance(cpu, rig) {
+    if !run_cycle(cpu, rig) {
         return (0, Stop::Outside);
     }
     if cpu.regs().owed == 0 {
         return (1, Stop::Ended);
     }
-    let _ = advance(cpu, rig);
+    let _ = run_cycle(cpu, rig);
     (2, Stop::Ended)
 }

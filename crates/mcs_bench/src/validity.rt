@@ -2,18 +2,18 @@
 ghost use Rattle.std.specs.Prelude.{◌≡◌, ◌<◌, ◌≤◌, ◌↔◌, ℕ, All, IsTrue, MatchOption, None, length, slice_index, slice_index_or, []};
 ghost use Rattle.std.specs.List.Sorted.{IsStrictlyIncreasing};
 ghost use Rattle.mcs_nibble.specs.Ports.{latch_value};
-ghost use Rattle.mcs_model.specs.Boards.{masks_on, chain_count, chain_bits, key_count};
-ghost use Rattle.mcs_model.specs.Validity.{AreBelow, AreBreakpoints, AreWatches, IsAbsentZero, IsInRange, IsValid, IsValidBus, IsValidRegs};
+ghost use Rattle.mcs_model.specs.Boards.{rom_masks, chain_count, chain_bits, key_count};
+ghost use Rattle.mcs_model.specs.Validity.{AreBelow, AreBreakpoints, AreWatches, AbsentPartsAreZero, IsInRange, IsValid, IsValidBus, IsValidRegs};
 ghost use Rattle.mcs_bench.specs.ChipLists.{IsZeroWhereAbsent};
 ghost use Rattle.mcs_bench.specs.States.{state_of, bits_of_chains};
 
-use crate::chip_list::{ChipList, is_absent_zero};
+use crate::chip_list::{ChipList, are_absent_values_zero};
 use crate::flat::Flat;
 use arrayvec::ArrayVec;
 use mcs_model::board::Board;
 use mcs_model::limits::CHAIN_SOCKETS;
 use mcs_nibble::Nibble;
-use mcs_rom4001::held_port;
+use mcs_rom4001::latched_port;
 
 /// Returns whether a list has `count` numbers, each below `limit`.
 fn are_below(numbers: &[u8], count: usize, limit: u8) -> bool
@@ -31,7 +31,7 @@ fn are_below(numbers: &[u8], count: usize, limit: u8) -> bool
 }
 
 /// Returns whether a list has `count` bytes.
-fn are_bytes(numbers: &[u8], count: usize) -> bool
+fn has_byte_count(numbers: &[u8], count: usize) -> bool
     ensures { IsTrue result ↔ AreBelow count 256 numbers.now }
 {
     numbers.len() == count
@@ -39,7 +39,7 @@ fn are_bytes(numbers: &[u8], count: usize) -> bool
 
 /// Proves that an array of eight bytes has eight elements, each below 256. The type implies this, but proofs need it
 /// as a fact.
-fn are_eight(numbers: &[u8; 8])
+fn show_bytes_are_in_range(numbers: &[u8; 8])
     ensures { AreBelow 8 256 numbers.now }
 {
     let _numbers = numbers.as_slice();
@@ -58,7 +58,7 @@ fn are_numbers_below(numbers: &[u16], limit: u16) -> bool
 }
 
 /// Returns whether the numbers are strictly increasing.
-fn is_rising(numbers: &[u16]) -> bool
+fn is_strictly_increasing(numbers: &[u16]) -> bool
     requires { length numbers.now ≤ 32 }
     ensures { IsTrue result ↔ IsStrictlyIncreasing numbers.now }
 {
@@ -72,7 +72,7 @@ fn is_rising(numbers: &[u16]) -> bool
 
 /// Returns whether `chains` fits the board: one list for each chain of the board, with the chain's number of bits,
 /// each 0 or 1.
-fn are_chains(board: &Board, chains: &[ArrayVec<u8, CHAIN_SOCKETS>]) -> bool
+fn chains_fit_board(board: &Board, chains: &[ArrayVec<u8, CHAIN_SOCKETS>]) -> bool
     ensures { IsTrue result
         ↔ ((length chains.now ≡ chain_count board.now) ×
         ((i : ℕ) → i < chain_count board.now →
@@ -91,27 +91,27 @@ fn are_chains(board: &Board, chains: &[ArrayVec<u8, CHAIN_SOCKETS>]) -> bool
 
 /// Returns whether the port latch of a ROM, 0 to 15, can hold the nibble `n`. Bits of input lines must be 0, and so
 /// must the whole latch of an absent ROM.
-fn can_hold(board: &Board, chip: u8, n: u8) -> bool
+fn latch_can_hold(board: &Board, chip: u8, n: u8) -> bool
     requires { n < 16 }
     ensures { IsTrue result
-        ↔ MatchOption (masks_on board.now chip) (n ≡ 0) (λ mask. latch_value mask n ≡ n) }
+        ↔ MatchOption (rom_masks board.now chip) (n ≡ 0) (λ mask. latch_value mask n ≡ n) }
 {
     match board.mask(chip) {
-        Some(mask) => held_port(&mask, Nibble::low_of(n)).get() == n,
+        Some(mask) => latched_port(&mask, Nibble::low_of(n)).get() == n,
         None => n == 0,
     }
 }
 
 /// Returns whether the port latch of each ROM can hold its nibble in `ports`.
-fn can_all_hold(board: &Board, ports: &[u8]) -> bool
+fn latches_can_hold(board: &Board, ports: &[u8]) -> bool
     requires { AreBelow 16 16 ports.now }
     ensures { IsTrue result
         ↔ ((chip : ℕ) →
-        MatchOption (masks_on board.now chip) (slice_index ports.now chip ≡ 0)
+        MatchOption (rom_masks board.now chip) (slice_index ports.now chip ≡ 0)
         (λ mask. latch_value mask (slice_index ports.now chip) ≡ slice_index ports.now chip)) }
 {
     for chip in 0..16u8 {
-        if !can_hold(board, chip, ports[usize::from(chip)]) {
+        if !latch_can_hold(board, chip, ports[usize::from(chip)]) {
             return false;
         }
     }
@@ -137,13 +137,13 @@ impl Flat {
 
     /// Returns whether the lists of ROM bytes, RAM characters, status characters and port latches have their fixed
     /// lengths, with each value in its range.
-    fn has_valid_cells(&self) -> bool
+    fn has_valid_chip_values(&self) -> bool
         ensures { IsTrue result
             ↔ (AreBelow 4096 256 self.now.rom × AreBelow 2048 16 self.now.ram ×
             AreBelow 512 16 self.now.status × AreBelow 32 16 self.now.ram_ports ×
             AreBelow 16 16 self.now.rom_ports) }
     {
-        if !are_bytes(self.rom.bytes(), 4096) {
+        if !has_byte_count(self.rom.bytes(), 4096) {
             return false;
         }
         if !are_below(self.ram.bytes(), 2048, 16) {
@@ -163,56 +163,56 @@ impl Flat {
     fn is_in_range(&self) -> bool
         ensures { IsTrue result ↔ IsInRange (state_of self.now).bus }
     {
-        are_eight(&self.ram_src);
+        show_bytes_are_in_range(&self.ram_src);
         let _src = self.rom_src;
         if self.test >= 2 {
             return false;
         }
-        if !self.has_valid_cells() {
+        if !self.has_valid_chip_values() {
             return false;
         }
-        if !are_chains(&self.board, self.chains.as_slice()) {
+        if !chains_fit_board(&self.board, self.chains.as_slice()) {
             return false;
         }
         are_below(self.keys.as_slice(), self.board.key_count(), 2)
     }
 
     /// Returns whether all elements of a list that belong to absent chips are 0.
-    fn is_zero_where_absent(&self, list: ChipList) -> bool
+    fn is_list_zero_where_absent(&self, list: ChipList) -> bool
         requires { IsInRange (state_of self.now).bus }
         ensures { IsTrue result ↔ IsZeroWhereAbsent (state_of self.now).bus list }
     {
         let board = &self.board;
         match list {
-            ChipList::RomBytes => is_absent_zero(board, list, self.rom.bytes()),
-            ChipList::Characters => is_absent_zero(board, list, self.ram.bytes()),
-            ChipList::StatusCharacters => is_absent_zero(board, list, self.status.bytes()),
-            ChipList::RamPorts => is_absent_zero(board, list, self.ram_ports.bytes()),
-            ChipList::BankSrcs => is_absent_zero(board, list, &self.ram_src),
+            ChipList::RomBytes => are_absent_values_zero(board, list, self.rom.bytes()),
+            ChipList::RamCharacters => are_absent_values_zero(board, list, self.ram.bytes()),
+            ChipList::StatusCharacters => are_absent_values_zero(board, list, self.status.bytes()),
+            ChipList::RamPorts => are_absent_values_zero(board, list, self.ram_ports.bytes()),
+            ChipList::BankSrcBytes => are_absent_values_zero(board, list, &self.ram_src),
         }
     }
 
     /// Returns whether the values of absent chips and the latch bits of input lines are 0.
-    fn is_absent_zero(&self) -> bool
+    fn are_absent_values_zero(&self) -> bool
         requires { IsInRange (state_of self.now).bus }
-        ensures { IsTrue result ↔ IsAbsentZero (state_of self.now).bus }
+        ensures { IsTrue result ↔ AbsentPartsAreZero (state_of self.now).bus }
     {
-        if !self.is_zero_where_absent(ChipList::RomBytes) {
+        if !self.is_list_zero_where_absent(ChipList::RomBytes) {
             return false;
         }
-        if !self.is_zero_where_absent(ChipList::Characters) {
+        if !self.is_list_zero_where_absent(ChipList::RamCharacters) {
             return false;
         }
-        if !self.is_zero_where_absent(ChipList::StatusCharacters) {
+        if !self.is_list_zero_where_absent(ChipList::StatusCharacters) {
             return false;
         }
-        if !self.is_zero_where_absent(ChipList::RamPorts) {
+        if !self.is_list_zero_where_absent(ChipList::RamPorts) {
             return false;
         }
-        if !self.is_zero_where_absent(ChipList::BankSrcs) {
+        if !self.is_list_zero_where_absent(ChipList::BankSrcBytes) {
             return false;
         }
-        can_all_hold(&self.board, self.rom_ports.bytes())
+        latches_can_hold(&self.board, self.rom_ports.bytes())
     }
 
     /// Returns whether the board and the values of its chips are valid.
@@ -223,7 +223,7 @@ impl Flat {
         if !self.is_in_range() {
             return false;
         }
-        self.is_absent_zero()
+        self.are_absent_values_zero()
     }
 
     /// Returns whether the breakpoints are addresses in ascending order.
@@ -234,7 +234,7 @@ impl Flat {
         if !are_numbers_below(breakpoints, 4096) {
             return false;
         }
-        is_rising(breakpoints)
+        is_strictly_increasing(breakpoints)
     }
 
     /// Returns whether the watches are indices of RAM characters in ascending order.
@@ -245,7 +245,7 @@ impl Flat {
         if !are_numbers_below(watches, 2048) {
             return false;
         }
-        is_rising(watches)
+        is_strictly_increasing(watches)
     }
 
     /// Returns whether a bench can be in this state.

@@ -4,7 +4,7 @@ ghost use Rattle.mcs_model.specs.Listed.{is_listed, with_listed, without_listed}
 ghost use Rattle.mcs_model.specs.Bus.{ram_index};
 ghost use Rattle.mcs_model.specs.Validity.{AreWatches};
 
-use crate::breaks::Breaks;
+use crate::breaks::BreakpointSet;
 use mcs_model::limits::WATCHES;
 use mcs_nibble::Addr;
 use std::marker::Model;
@@ -13,23 +13,23 @@ use std::marker::Model;
 /// a run checks a RAM character in constant time.
 #[derive(Drop)]
 pub(crate) struct Watches {
-    indices: Breaks,
+    indices: BreakpointSet,
 }
 
 impl Model for Watches {
     ghost use Rattle.std.specs.Prelude.{List, ℕ};
-    ghost use Rattle.mcs_bench.specs.Breaks.{AreFew};
+    ghost use Rattle.mcs_bench.specs.BreakpointSet.{AreRamIndices};
 
     ghost Value = { List ℕ };
 
     ghost view = { λ w. w.indices };
 
-    ghost invariant = { λ w. AreFew w.indices };
+    ghost invariant = { λ w. AreRamIndices w.indices };
 }
 
 /// Returns the index of the RAM character that an SRC byte selects in a bank.
 #[inline(always)]
-fn index_of(bank: u8, src: u8) -> Addr
+fn ram_character_index(bank: u8, src: u8) -> Addr
     requires { bank < 8 }
     ensures { result ≡ ram_index bank src }
 {
@@ -42,7 +42,7 @@ impl Watches {
         ensures { result ≡ [] }
     {
         Watches {
-            indices: Breaks::new(),
+            indices: BreakpointSet::new(),
         }
     }
 
@@ -76,7 +76,7 @@ impl Watches {
         requires { bank < 8 }
         ensures { result ≡ is_listed self.now (ram_index bank src) }
     {
-        self.indices.contains(index_of(bank, src))
+        self.indices.contains(ram_character_index(bank, src))
     }
 
     /// Returns whether a RAM character can be watched: it is watched already, or fewer than `WATCHES` are.
@@ -96,7 +96,7 @@ impl Watches {
             || nat_lt (length self.old) WATCHES) ≡ true }
         ensures { self.new ≡ with_listed self.old (ram_index bank src) }
     {
-        self.indices.set(index_of(bank, src));
+        self.indices.set(ram_character_index(bank, src));
     }
 
     /// Stops watching a RAM character. Does nothing if it is not watched.
@@ -104,7 +104,7 @@ impl Watches {
         requires { bank < 8 }
         ensures { self.new ≡ without_listed self.old (ram_index bank src) }
     {
-        self.indices.clear(index_of(bank, src));
+        self.indices.clear(ram_character_index(bank, src));
     }
 
     /// Proves that there are at most `WATCHES` indices, each of a RAM character, in ascending order.

@@ -4,42 +4,42 @@ use Rattle.mcs_nibble.specs.declared.lines.LineMask.{LineMask}
 use Rattle.mcs_nibble.specs.declared.lines.LineMask.TheVariants.{Input, Zero, One}
 use Rattle.mcs_nibble.specs.Bits.{bit_of, nibble_of}
 use Rattle.mcs_nibble.specs.Ports.{read_lines, mask_at}
-use Rattle.mcs_keypad.specs.Keys.{matrix_on, no_matrix}
+use Rattle.mcs_keypad.specs.Keys.{matrix_of_board, empty_matrix}
 use Rattle.mcs_model.specs.declared.board.BoardParts.{BoardParts}
 use Rattle.mcs_model.specs.declared.board.KeyMatrix.{KeyMatrix}
-use Rattle.mcs_model.specs.Boards.{board_fault_of, masks_on, chain_count, chain_bits}
+use Rattle.mcs_model.specs.Boards.{board_fault_of, rom_masks, chain_count, chain_bits}
 use Rattle.mcs_model.specs.Bus.{BusState}
 use Rattle.mcs_model.specs.Levels.{is_pulled, is_pulled_by, bit_when, port_at}
-use Rattle.mcs_board.specs.RigState.{RigParts, rig_of}
-use Rattle.mcs_board.proofs.BoardLemmas.{keys-chain, keys-rows}
-use Rattle.mcs_board.proofs.ClockLemmas.{chain-read}
+use Rattle.mcs_board.specs.RigState.{RigParts, state_of_rig}
+use Rattle.mcs_board.proofs.BoardLemmas.{key_chain-exists, key_rows-fit}
+use Rattle.mcs_board.proofs.ClockLemmas.{get_chain-state}
 
-pub matrix-some : (b : BoardParts) (m : KeyMatrix) → b.keys ≡ Some m → matrix_on b ≡ m
-matrix-some b m e = ap (λ (o : Option KeyMatrix). elim o [ Some k ↦ k | None ↦ no_matrix ]) e
+pub matrix-some : (b : BoardParts) (m : KeyMatrix) → b.keys ≡ Some m → matrix_of_board b ≡ m
+matrix-some b m e = ap (λ (o : Option KeyMatrix). elim o [ Some k ↦ k | None ↦ empty_matrix ]) e
 
 -- The chain that drives the key rows has a bit for each row.
 pub rows-fit : (b : BoardParts) (chains : List (List ℕ)) (m : KeyMatrix) → board_fault_of b ≡ None → b.keys ≡ Some m → ((i : ℕ) → i < chain_count b → length (get_or chains i []) ≡ chain_bits b i) → m.first + m.rows ≤ length (get_or chains m.chain [])
 rows-fit b chains m v is bits =
-    let fit = keys-rows b m v is in
-    let len = bits m.chain (keys-chain b m v is) in
+    let fit = key_rows-fit b m v is in
+    let len = bits m.chain (key_chain-exists b m v is) in
     omega arith
 
-keyed-some : (s : BusState) (m : KeyMatrix) (chip k : ℕ) → s.board.keys ≡ Some m → is_pulled_by (get_or s.chains m.chain []) s.keys m chip k ≡ is_pulled s chip k
+is_pulled-with_keys : (s : BusState) (m : KeyMatrix) (chip k : ℕ) → s.board.keys ≡ Some m → is_pulled_by (get_or s.chains m.chain []) s.keys m chip k ≡ is_pulled s chip k
 unfolding is_pulled
-keyed-some s m chip k is = rw (is, is_pulled) refl
+is_pulled-with_keys s m chip k is = rw (is, is_pulled) refl
 
-pub keyed-none : (s : BusState) (chip k : ℕ) → s.board.keys ≡ None → false ≡ is_pulled s chip k
+pub is_pulled-no_keys : (s : BusState) (chip k : ℕ) → s.board.keys ≡ None → false ≡ is_pulled s chip k
 unfolding is_pulled
-keyed-none s chip k is = rw (is, is_pulled) refl
+is_pulled-no_keys s chip k is = rw (is, is_pulled) refl
 
 -- The lines that a rig's keys pull to 1 are those that are pulled in its flat state.
-pub keyed-by : (p : RigParts) (m : KeyMatrix) (chip k : ℕ) → board_fault_of p.board ≡ None → p.board.keys ≡ Some m → is_pulled_by (get_or p.chains m.chain []) p.keys m chip k ≡ is_pulled (rig_of p) chip k
-keyed-by p m chip k v is =
-    ap (λ row. is_pulled_by row p.keys m chip k) (sym (chain-read p.board p.chains m.chain (keys-chain p.board m v is)))
-    ∙ keyed-some (rig_of p) m chip k is
+pub is_pulled-rig : (p : RigParts) (m : KeyMatrix) (chip k : ℕ) → board_fault_of p.board ≡ None → p.board.keys ≡ Some m → is_pulled_by (get_or p.chains m.chain []) p.keys m chip k ≡ is_pulled (state_of_rig p) chip k
+is_pulled-rig p m chip k v is =
+    ap (λ row. is_pulled_by row p.keys m chip k) (sym (get_chain-state p.board p.chains m.chain (key_chain-exists p.board m v is)))
+    ∙ is_pulled-with_keys (state_of_rig p) m chip k is
 
-pub nibble-same : (f g : ℕ → ℕ) → ((k : ℕ) → f k ≡ g k) → nibble_of f ≡ nibble_of g
-nibble-same f g h = rw (h 0, h 1, h 2, h 3) refl
+pub nibble_of-equal : (f g : ℕ → ℕ) → ((k : ℕ) → f k ≡ g k) → nibble_of f ≡ nibble_of g
+nibble_of-equal f g h = rw (h 0, h 1, h 2, h 3) refl
 
 pub bit-small : (b : Bool) → bit_when b < 2
 bit-small true = omega arith
@@ -56,26 +56,26 @@ bit-nibble f (suc (suc zero)) l h = let a = h 0 in let b = h 1 in let d = h 2 in
 bit-nibble f (suc (suc (suc zero))) l h = let a = h 0 in let b = h 1 in let d = h 2 in let e = h 3 in omega arith
 bit-nibble f (suc (suc (suc (suc k)))) l h = absurd (omega arith)
 
-picked : (l : LineMask) (a b : ℕ) → a ≡ b → elim l as (λ _. ℕ) [ Input ↦ a | Zero ↦ 0 | One ↦ 1 ] ≡ elim l as (λ _. ℕ) [ Input ↦ b | Zero ↦ 0 | One ↦ 1 ]
-picked Input a b e = e
-picked Zero a b e = refl
-picked One a b e = refl
+line_value-equal : (l : LineMask) (a b : ℕ) → a ≡ b → elim l as (λ _. ℕ) [ Input ↦ a | Zero ↦ 0 | One ↦ 1 ] ≡ elim l as (λ _. ℕ) [ Input ↦ b | Zero ↦ 0 | One ↦ 1 ]
+line_value-equal Input a b e = e
+line_value-equal Zero a b e = refl
+line_value-equal One a b e = refl
 
 -- A port reads the same value if the levels of its input lines are first packed into a nibble.
-pub read-inputs : (f : ℕ → ℕ) (mask : List LineMask) → ((j : ℕ) → f j < 2) → read_lines (bit_of (nibble_of f)) mask ≡ read_lines f mask
+pub read_lines-nibble : (f : ℕ → ℕ) (mask : List LineMask) → ((j : ℕ) → f j < 2) → read_lines (bit_of (nibble_of f)) mask ≡ read_lines f mask
 unfolding read_lines
-read-inputs f mask h =
+read_lines-nibble f mask h =
     rw (
-      picked (mask_at mask 0) (bit_of (nibble_of f) 0) (f 0) (bit-nibble f 0 (omega arith) h),
-      picked (mask_at mask 1) (bit_of (nibble_of f) 1) (f 1) (bit-nibble f 1 (omega arith) h),
-      picked (mask_at mask 2) (bit_of (nibble_of f) 2) (f 2) (bit-nibble f 2 (omega arith) h),
-      picked (mask_at mask 3) (bit_of (nibble_of f) 3) (f 3) (bit-nibble f 3 (omega arith) h),
+      line_value-equal (mask_at mask 0) (bit_of (nibble_of f) 0) (f 0) (bit-nibble f 0 (omega arith) h),
+      line_value-equal (mask_at mask 1) (bit_of (nibble_of f) 1) (f 1) (bit-nibble f 1 (omega arith) h),
+      line_value-equal (mask_at mask 2) (bit_of (nibble_of f) 2) (f 2) (bit-nibble f 2 (omega arith) h),
+      line_value-equal (mask_at mask 3) (bit_of (nibble_of f) 3) (f 3) (bit-nibble f 3 (omega arith) h),
     ) refl
 
-pub port-some : (s : BusState) (chip : ℕ) (mask : List LineMask) → masks_on s.board chip ≡ Some mask → read_lines (λ k. bit_when (is_pulled s chip k)) mask ≡ port_at s chip
+pub port_at-present : (s : BusState) (chip : ℕ) (mask : List LineMask) → rom_masks s.board chip ≡ Some mask → read_lines (λ k. bit_when (is_pulled s chip k)) mask ≡ port_at s chip
 unfolding port_at
-port-some s chip mask is = rw (is, port_at) refl
+port_at-present s chip mask is = rw (is, port_at) refl
 
-pub port-none : (s : BusState) (chip : ℕ) → masks_on s.board chip ≡ None → 0 ≡ port_at s chip
+pub port_at-absent : (s : BusState) (chip : ℕ) → rom_masks s.board chip ≡ None → 0 ≡ port_at s chip
 unfolding port_at
-port-none s chip is = rw (is, port_at) refl
+port_at-absent s chip is = rw (is, port_at) refl

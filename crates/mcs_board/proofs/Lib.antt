@@ -1,8 +1,8 @@
 pub mod BoardLemmas
 pub mod ClockLemmas
-pub mod FittedLemmas
+pub mod BoardMatchLemmas
 pub mod KeyLemmas
-mod MakingLemmas
-mod PlaceLemmas
+mod LifecycleLemmas
+mod LocationLemmas
 pub mod RigLemmas
 mod ValidLemmas

@@ -10,12 +10,12 @@ use Rattle.mcs_nibble.proofs.TabledLemmas.{length-tabled}
 use Rattle.mcs_nibble.proofs.FlatRowsLemmas.{length-flat, length-column}
 use Rattle.mcs_nibble.proofs.PortLemmas.{latch_value-zero}
 use Rattle.mcs_ram4002.specs.RamBank.{BankState, IsValidBank}
-use Rattle.mcs_ram4002.proofs.Below.{below-at, flat-below, column-below}
+use Rattle.mcs_ram4002.proofs.BelowLimit.{below-at, flat-below, column-below}
 use Rattle.mcs_rom4001.specs.Roms.{PortState, IsValidPort}
-use Rattle.mcs_model.specs.Boards.{masks_on, chain_count}
+use Rattle.mcs_model.specs.Boards.{rom_masks, chain_count}
 use Rattle.mcs_model.specs.Validity.{IsValidBoard, IsValidBus}
-use Rattle.mcs_board.specs.RigState.{RigParts, no_bank, port_of_rom, masks_of_rom, wired_chains, rig_of, Fitted}
-use Rattle.mcs_board.proofs.ClockLemmas.{chain-read}
+use Rattle.mcs_board.specs.RigState.{RigParts, absent_bank, latch_of_rom, masks_of_rom, wired_chains, state_of_rig, MatchesBoard}
+use Rattle.mcs_board.proofs.ClockLemmas.{get_chain-state}
 use Rattle.mcs_board.proofs.RigLemmas.{src-of, main-of, status-of, port-of, rom_port-of}
 
 -- holds if each chip on a rig is valid: the ROM bytes are below 256, and each ROM port and each
@@ -23,7 +23,7 @@ use Rattle.mcs_board.proofs.RigLemmas.{src-of, main-of, status-of, port-of, rom_
 pub record AreValidChips (p : RigParts) : Type 0 where
   pub program : All (λ byte. byte < 256) p.program
   pub roms : (k : ℕ) → k < length p.roms → IfSome (get_or p.roms k None) IsValidPort
-  pub banks : (k : ℕ) → k < length p.banks → IsValidBank (get_or p.banks k no_bank)
+  pub banks : (k : ℕ) → k < length p.banks → IsValidBank (get_or p.banks k absent_bank)
 
 -- ---- ROMs
 
@@ -34,80 +34,80 @@ rom_valid roms valid k =
       | inr beyond ↦ subst (λ (r : Option PortState). IfSome r IsValidPort) (sym (get_or_past roms k None beyond)) tt
     ]
 
-latch-below : (rom : Option PortState) → IfSome rom IsValidPort → port_of_rom rom < 16
+latch-below : (rom : Option PortState) → IfSome rom IsValidPort → latch_of_rom rom < 16
 latch-below (Some r) valid = valid.latch
 latch-below None valid = omega arith
 
 -- holds if the latch n has a 0 bit for each input line of the ROM, or is 0 if the ROM is absent
-abbrev kept_0 : ℕ → Option (List LineMask) → Type 0
-kept_0 n masks = MatchOption masks (n ≡ 0) (λ mask. latch_value mask n ≡ n)
+abbrev is_masked_latch : ℕ → Option (List LineMask) → Type 0
+is_masked_latch n masks = MatchOption masks (n ≡ 0) (λ mask. latch_value mask n ≡ n)
 
-latch-kept : (rom : Option PortState) (n : ℕ) → IfSome rom IsValidPort → n ≡ port_of_rom rom → kept_0 n (masks_of_rom rom)
+latch-kept : (rom : Option PortState) (n : ℕ) → IfSome rom IsValidPort → n ≡ latch_of_rom rom → is_masked_latch n (masks_of_rom rom)
 latch-kept (Some r) n valid is = ap (latch_value r.mask) is ∙ valid.inputs ∙ sym is
 latch-kept None n valid is = is
 
-zero-kept : (masks : Option (List LineMask)) (n : ℕ) → n ≡ 0 → kept_0 n masks
+zero-kept : (masks : Option (List LineMask)) (n : ℕ) → n ≡ 0 → is_masked_latch n masks
 zero-kept (Some mask) n is = ap (latch_value mask) is ∙ latch_value-zero mask ∙ sym is
 zero-kept None n is = is
 
 -- ---- banks
 
-module _ (banks : List BankState) (valid : (k : ℕ) → k < length banks → IsValidBank (get_or banks k no_bank)) where
+module _ (banks : List BankState) (valid : (k : ℕ) → k < length banks → IsValidBank (get_or banks k absent_bank)) where
   -- A property of the absent bank and of every valid bank holds for each bank of the list.
-  at_bank : (P : BankState → Type 0) → P no_bank → ((b : BankState) → IsValidBank b → P b) → (k : ℕ) → P (get_or banks k no_bank)
+  at_bank : (P : BankState → Type 0) → P absent_bank → ((b : BankState) → IsValidBank b → P b) → (k : ℕ) → P (get_or banks k absent_bank)
   at_bank P none each k =
       elim (cases_lt k (length banks)) [
-        | inl l ↦ each (get_or banks k no_bank) (valid k l)
-        | inr beyond ↦ subst P (sym (get_or_past banks k no_bank beyond)) none
+        | inl l ↦ each (get_or banks k absent_bank) (valid k l)
+        | inr beyond ↦ subst P (sym (get_or_past banks k absent_bank beyond)) none
       ]
 
 -- ---- the flat state of the rig
 
-pub valid-state : (p : RigParts) (rom_sockets bank_sockets chain_sockets : ℕ) → IsValidBoard p.board → Fitted p rom_sockets bank_sockets chain_sockets → AreValidChips p → ((i : ℕ) → i < chain_count p.board → All (λ bit. bit < 2) (get_or (wired_chains p.board p.chains) i [])) → All (λ key. key < 2) p.keys → p.test < 2 → IsValidBus (rig_of p)
+pub valid-state : (p : RigParts) (rom_sockets bank_sockets chain_sockets : ℕ) → IsValidBoard p.board → MatchesBoard p rom_sockets bank_sockets chain_sockets → AreValidChips p → ((i : ℕ) → i < chain_count p.board → All (λ bit. bit < 2) (get_or (wired_chains p.board p.chains) i [])) → All (λ key. key < 2) p.keys → p.test < 2 → IsValidBus (state_of_rig p)
 valid-state p rom_sockets bank_sockets chain_sockets board v chips bits keys test =
     let roms = rom_valid p.roms chips.roms in
     let bank = at_bank p.banks chips.banks in
     record {
       board = board;
       in_range = record {
-        rom = record { count_is = v.program_len; below = chips.program };
-        ram = record { count_is = length-flat 8 256 (λ (x : BankState). x.main) no_bank p.banks; below = flat-below 8 256 16 (λ (x : BankState). x.main) no_bank p.banks (λ i k. bank (λ b. slice_index b.main k < 16) (omega arith) (λ b w. below-at 16 b.main k (omega arith) w.main) i) };
-        status = record { count_is = length-flat 8 64 (λ (x : BankState). x.status) no_bank p.banks; below = flat-below 8 64 16 (λ (x : BankState). x.status) no_bank p.banks (λ i k. bank (λ b. slice_index b.status k < 16) (omega arith) (λ b w. below-at 16 b.status k (omega arith) w.status) i) };
-        ram_ports = record { count_is = length-flat 8 4 (λ (x : BankState). x.ports) no_bank p.banks; below = flat-below 8 4 16 (λ (x : BankState). x.ports) no_bank p.banks (λ i k. bank (λ b. slice_index b.ports k < 16) (omega arith) (λ b w. below-at 16 b.ports k (omega arith) w.ports) i) };
-        rom_ports = record { count_is = length-column 16 port_of_rom None p.roms; below = column-below 16 16 port_of_rom None p.roms (λ i. latch-below (get_or p.roms i None) (roms i)) };
+        rom = record { has_count = v.program_len; below = chips.program };
+        ram = record { has_count = length-flat 8 256 (λ (x : BankState). x.main) absent_bank p.banks; below = flat-below 8 256 16 (λ (x : BankState). x.main) absent_bank p.banks (λ i k. bank (λ b. slice_index b.main k < 16) (omega arith) (λ b w. below-at 16 b.main k (omega arith) w.main) i) };
+        status = record { has_count = length-flat 8 64 (λ (x : BankState). x.status) absent_bank p.banks; below = flat-below 8 64 16 (λ (x : BankState). x.status) absent_bank p.banks (λ i k. bank (λ b. slice_index b.status k < 16) (omega arith) (λ b w. below-at 16 b.status k (omega arith) w.status) i) };
+        ram_ports = record { has_count = length-flat 8 4 (λ (x : BankState). x.ports) absent_bank p.banks; below = flat-below 8 4 16 (λ (x : BankState). x.ports) absent_bank p.banks (λ i k. bank (λ b. slice_index b.ports k < 16) (omega arith) (λ b w. below-at 16 b.ports k (omega arith) w.ports) i) };
+        rom_ports = record { has_count = length-column 16 latch_of_rom None p.roms; below = column-below 16 16 latch_of_rom None p.roms (λ i. latch-below (get_or p.roms i None) (roms i)) };
         rom_src = v.src;
-        ram_src = record { count_is = length-column 8 (λ (x : BankState). x.src) no_bank p.banks; below = column-below 8 256 (λ (x : BankState). x.src) no_bank p.banks (λ i. bank (λ b. b.src < 256) (omega arith) (λ b w. w.src) i) };
+        ram_src = record { has_count = length-column 8 (λ (x : BankState). x.src) absent_bank p.banks; below = column-below 8 256 (λ (x : BankState). x.src) absent_bank p.banks (λ i. bank (λ b. b.src < 256) (omega arith) (λ b w. w.src) i) };
         chains = length-tabled (chain_count p.board) _;
-        chain_bits = λ i h. record { count_is = ap length (chain-read p.board p.chains i h) ∙ v.bits i h; below = bits i h };
-        keys = record { count_is = v.keys_len; below = keys };
+        chain_bits = λ i h. record { has_count = ap length (get_chain-state p.board p.chains i h) ∙ v.bits i h; below = bits i h };
+        keys = record { has_count = v.keys_len; below = keys };
         test = test;
       };
       absent = record {
         rom = v.absent;
         ram = λ n src l gone.
             elim (cases_lt n 8) [
-              | inl h ↦ main-of p.banks n src (get_or p.banks n no_bank) h l refl ∙ bank (λ b. b.wired ≤ src / 64 → slice_index b.main src ≡ 0) (λ _. refl) (λ b w. w.absent_main src l) n (let e = v.wired n in omega arith)
-              | inr h ↦ let len = length-flat 8 256 (λ (x : BankState). x.main) no_bank p.banks in get_or_past (flat_rows 8 256 (λ (x : BankState). x.main) no_bank p.banks) (n * 256 + src) 0 (omega arith)
+              | inl h ↦ main-of p.banks n src (get_or p.banks n absent_bank) h l refl ∙ bank (λ b. b.chip_count ≤ src / 64 → slice_index b.main src ≡ 0) (λ _. refl) (λ b w. w.absent_main src l) n (let e = v.chip_count n in omega arith)
+              | inr h ↦ let len = length-flat 8 256 (λ (x : BankState). x.main) absent_bank p.banks in get_or_past (flat_rows 8 256 (λ (x : BankState). x.main) absent_bank p.banks) (n * 256 + src) 0 (omega arith)
             ];
         status = λ n high k h4 k4 gone.
             elim (cases_lt n 8) [
-              | inl h ↦ status-of p.banks n (high * 4 + k) (get_or p.banks n no_bank) h (omega arith) refl ∙ bank (λ b. b.wired ≤ high / 4 → slice_index b.status (high * 4 + k) ≡ 0) (λ _. refl) (λ b w. w.absent_status high k h4 k4) n (let e = v.wired n in omega arith)
-              | inr h ↦ let len = length-flat 8 64 (λ (x : BankState). x.status) no_bank p.banks in get_or_past (flat_rows 8 64 (λ (x : BankState). x.status) no_bank p.banks) (n * 64 + (high * 4 + k)) 0 (omega arith)
+              | inl h ↦ status-of p.banks n (high * 4 + k) (get_or p.banks n absent_bank) h (omega arith) refl ∙ bank (λ b. b.chip_count ≤ high / 4 → slice_index b.status (high * 4 + k) ≡ 0) (λ _. refl) (λ b w. w.absent_status high k h4 k4) n (let e = v.chip_count n in omega arith)
+              | inr h ↦ let len = length-flat 8 64 (λ (x : BankState). x.status) absent_bank p.banks in get_or_past (flat_rows 8 64 (λ (x : BankState). x.status) absent_bank p.banks) (n * 64 + (high * 4 + k)) 0 (omega arith)
             ];
         ram_ports = λ n chip l gone.
             elim (cases_lt n 8) [
-              | inl h ↦ port-of p.banks n chip (get_or p.banks n no_bank) h l refl ∙ bank (λ b. b.wired ≤ chip → slice_index b.ports chip ≡ 0) (λ _. refl) (λ b w. w.absent_port chip l) n (let e = v.wired n in omega arith)
-              | inr h ↦ let len = length-flat 8 4 (λ (x : BankState). x.ports) no_bank p.banks in get_or_past (flat_rows 8 4 (λ (x : BankState). x.ports) no_bank p.banks) (n * 4 + chip) 0 (omega arith)
+              | inl h ↦ port-of p.banks n chip (get_or p.banks n absent_bank) h l refl ∙ bank (λ b. b.chip_count ≤ chip → slice_index b.ports chip ≡ 0) (λ _. refl) (λ b w. w.absent_port chip l) n (let e = v.chip_count n in omega arith)
+              | inr h ↦ let len = length-flat 8 4 (λ (x : BankState). x.ports) absent_bank p.banks in get_or_past (flat_rows 8 4 (λ (x : BankState). x.ports) absent_bank p.banks) (n * 4 + chip) 0 (omega arith)
             ];
         rom_ports = λ chip.
             elim (cases_lt chip 16) [
-              | inl h ↦ subst (kept_0 (slice_index (column 16 port_of_rom None p.roms) chip)) (v.masks chip) (latch-kept (get_or p.roms chip None) _ (roms chip) (rom_port-of p.roms chip (get_or p.roms chip None) h refl))
-              | inr h ↦ zero-kept (masks_on p.board chip) _ (let l = length-column 16 port_of_rom None p.roms in get_or_past (column 16 port_of_rom None p.roms) chip 0 (omega arith))
+              | inl h ↦ subst (is_masked_latch (slice_index (column 16 latch_of_rom None p.roms) chip)) (v.masks chip) (latch-kept (get_or p.roms chip None) _ (roms chip) (rom_port-of p.roms chip (get_or p.roms chip None) h refl))
+              | inr h ↦ zero-kept (rom_masks p.board chip) _ (let l = length-column 16 latch_of_rom None p.roms in get_or_past (column 16 latch_of_rom None p.roms) chip 0 (omega arith))
             ];
         ram_src = λ n none.
             elim (cases_lt n 8) [
-              | inl h ↦ src-of p.banks n (get_or p.banks n no_bank) h refl ∙ bank (λ b. b.wired ≡ 0 → b.src ≡ 0) (λ _. refl) (λ b w. w.absent_src) n (v.wired n ∙ none)
-              | inr h ↦ let l = length-column 8 (λ (x : BankState). x.src) no_bank p.banks in get_or_past (column 8 (λ (x : BankState). x.src) no_bank p.banks) n 0 (omega arith)
+              | inl h ↦ src-of p.banks n (get_or p.banks n absent_bank) h refl ∙ bank (λ b. b.chip_count ≡ 0 → b.src ≡ 0) (λ _. refl) (λ b w. w.absent_src) n (v.chip_count n ∙ none)
+              | inr h ↦ let l = length-column 8 (λ (x : BankState). x.src) absent_bank p.banks in get_or_past (column 8 (λ (x : BankState). x.src) absent_bank p.banks) n 0 (omega arith)
             ];
       };
     }

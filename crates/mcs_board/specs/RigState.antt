@@ -8,18 +8,18 @@ use Rattle.mcs_ram4002.specs.declared.BankWrite.TheVariants.{Character, Status, 
 use Rattle.mcs_ram4002.specs.RamBank.{BankState}
 use Rattle.mcs_rom4001.specs.Roms.{PortState}
 use Rattle.mcs_model.specs.declared.board.BoardParts.{BoardParts}
-use Rattle.mcs_model.specs.Boards.{masks_on, chain_count, chain_bits, key_count}
+use Rattle.mcs_model.specs.Boards.{rom_masks, chain_count, chain_bits, key_count}
 use Rattle.mcs_model.specs.Bus.{BusState, with_ram, with_status}
 use Rattle.mcs_model.specs.ChipWrites.{with_ram_latch, with_ram_src}
 
 -- an absent bank, in which every value reads as 0
-abbrev pub no_bank : BankState
-no_bank = record { wired = 0; src = 0; main = []; status = []; ports = [] }
+abbrev pub absent_bank : BankState
+absent_bank = record { chip_count = 0; src = 0; main = []; status = []; ports = [] }
 
 -- the port latch of a ROM; 0 if the ROM is absent
-abbrev pub port_of_rom : Option PortState → ℕ
-port_of_rom (Some r) = r.port
-port_of_rom None = 0
+abbrev pub latch_of_rom : Option PortState → ℕ
+latch_of_rom (Some r) = r.port
+latch_of_rom None = 0
 
 -- the line masks of a ROM; none if the ROM is absent
 abbrev pub masks_of_rom : Option PortState → Option (List LineMask)
@@ -43,16 +43,16 @@ pub record RigParts : Type 0 where
   pub test : ℕ
 
 -- the flat state that a rig's contents represent
-abbrev pub rig_of : RigParts → BusState
-rig_of p = record {
+abbrev pub state_of_rig : RigParts → BusState
+state_of_rig p = record {
   board = p.board;
   rom = p.program;
-  ram = flat_rows 8 256 (λ b. b.main) no_bank p.banks;
-  status = flat_rows 8 64 (λ b. b.status) no_bank p.banks;
-  ram_ports = flat_rows 8 4 (λ b. b.ports) no_bank p.banks;
-  rom_ports = column 16 port_of_rom None p.roms;
+  ram = flat_rows 8 256 (λ b. b.main) absent_bank p.banks;
+  status = flat_rows 8 64 (λ b. b.status) absent_bank p.banks;
+  ram_ports = flat_rows 8 4 (λ b. b.ports) absent_bank p.banks;
+  rom_ports = column 16 latch_of_rom None p.roms;
   rom_src = p.rom_src;
-  ram_src = column 8 (λ b. b.src) no_bank p.banks;
+  ram_src = column 8 (λ b. b.src) absent_bank p.banks;
   chains = wired_chains p.board p.chains;
   keys = p.keys;
   test = p.test;
@@ -61,16 +61,16 @@ rig_of p = record {
 -- Holds if a rig's chips match its board. Each list of sockets has the given length. Each ROM has
 -- the board's line masks, each bank the board's number of chips, and each chain the board's number
 -- of bits. Each key has one bit. The bytes of absent ROMs are 0.
-pub record Fitted (p : RigParts) (rom_sockets bank_sockets chain_sockets : ℕ) : Type 0 where
+pub record MatchesBoard (p : RigParts) (rom_sockets bank_sockets chain_sockets : ℕ) : Type 0 where
   pub roms_len : length p.roms ≡ rom_sockets
   pub banks_len : length p.banks ≡ bank_sockets
   pub chains_len : length p.chains ≡ chain_sockets
   pub keys_len : length p.keys ≡ key_count p.board
   pub chains_fit : chain_count p.board ≤ chain_sockets
   pub program_len : length p.program ≡ 4096
-  pub absent : (at : ℕ) → masks_on p.board (at / 256) ≡ None → slice_index p.program at ≡ 0
-  pub masks : (k : ℕ) → masks_of_rom (slice_index_or p.roms k None) ≡ masks_on p.board k
-  pub wired : (k : ℕ) → (slice_index_or p.banks k no_bank).wired ≡ slice_index p.board.banks k
+  pub absent : (at : ℕ) → rom_masks p.board (at / 256) ≡ None → slice_index p.program at ≡ 0
+  pub masks : (k : ℕ) → masks_of_rom (slice_index_or p.roms k None) ≡ rom_masks p.board k
+  pub chip_count : (k : ℕ) → (slice_index_or p.banks k absent_bank).chip_count ≡ slice_index p.board.banks k
   pub bits : (i : ℕ) → i < chain_count p.board → length (slice_index_or p.chains i []) ≡ chain_bits p.board i
   pub src : p.rom_src < 256
 

@@ -4,7 +4,7 @@ ghost use Rattle.std.specs.Prelude.{◌≡◌, ℕ, ◌+◌, ◌*◌, ◌<◌, �
 ghost use Rattle.mcs_ram4002.specs.RamBank.{IsInBank, IsValidBank, blank_bank};
 ghost use Rattle.mcs_model.specs.Bus.{ram_index, ram_port_index, status_index, with_ram, with_status};
 ghost use Rattle.mcs_model.specs.ChipWrites.{with_ram_latch, with_ram_src};
-ghost use Rattle.mcs_board.specs.RigState.{after_bank_write, no_bank};
+ghost use Rattle.mcs_board.specs.RigState.{after_bank_write, absent_bank};
 
 use crate::rig::Rig;
 use mcs_model::board::Board;
@@ -14,7 +14,7 @@ use mcs_ram4002::{Bank, BankWrite};
 use std::alloc::{AllocError, Global};
 
 /// Returns `count` banks without chips. Fails if memory cannot be allocated.
-pub(crate) fn no_banks(alloc: Global, count: usize) -> Result<Vec<Bank<4>>, AllocError>
+pub(crate) fn empty_banks(alloc: Global, count: usize) -> Result<Vec<Bank<4>>, AllocError>
     ensures { IfOk result (λ banks. banks.items ≡ replicate count (blank_bank 0)) }
 {
     let mut banks = Vec::new(alloc);
@@ -25,7 +25,7 @@ pub(crate) fn no_banks(alloc: Global, count: usize) -> Result<Vec<Bank<4>>, Allo
 }
 
 /// Returns the number of chips in bank `i`, or 0 if `i` is 8 or more.
-fn chips_of(board: &Board, i: usize) -> usize
+fn chips_in_bank(board: &Board, i: usize) -> usize
     ensures chips { result ≡ slice_index board.now.banks i }
     ensures few { result ≤ 4 }
 {
@@ -43,7 +43,7 @@ pub(crate) fn banks_fit(board: &Board, sockets: usize) -> bool
 {
     let _parts = board.parts();
     for i in sockets..limits::BANKS {
-        if chips_of(board, i) > 0 {
+        if chips_in_bank(board, i) > 0 {
             return false;
         }
     }
@@ -53,19 +53,19 @@ pub(crate) fn banks_fit(board: &Board, sockets: usize) -> bool
 /// Replaces the banks with those of a new board, and sets all their values to 0.
 pub(crate) fn rewire_banks(banks: &mut Vec<Bank<4>>, board: &Board)
     ensures count { length banks.new.items ≡ length banks.old.items }
-    ensures banks { (k : ℕ) → k < length banks.old.items → slice_index_or banks.new.items k no_bank
+    ensures banks { (k : ℕ) → k < length banks.old.items → slice_index_or banks.new.items k absent_bank
         ≡ blank_bank (slice_index board.now.banks k) }
 {
     for i in 0..banks.len() {
-        banks[i] = Bank::new(chips_of(board, i));
+        banks[i] = Bank::new(chips_in_bank(board, i));
     }
 }
 
 /// Clears the banks: RAM characters, status characters, port latches and SRC bytes become 0.
 pub(crate) fn clear_banks(banks: &mut Vec<Bank<4>>)
     ensures count { length banks.new.items ≡ length banks.old.items }
-    ensures banks { (k : ℕ) → k < length banks.old.items → slice_index_or banks.new.items k no_bank
-        ≡ blank_bank (slice_index_or banks.old.items k no_bank).wired }
+    ensures banks { (k : ℕ) → k < length banks.old.items → slice_index_or banks.new.items k absent_bank
+        ≡ blank_bank (slice_index_or banks.old.items k absent_bank).chip_count }
 {
     for i in 0..banks.len() {
         banks[i].clear();
@@ -73,7 +73,7 @@ pub(crate) fn clear_banks(banks: &mut Vec<Bank<4>>)
 }
 
 /// Returns a copy of the banks. Fails if memory cannot be allocated.
-pub(crate) fn copied_banks(alloc: Global, banks: &Vec<Bank<4>>) -> Result<Vec<Bank<4>>, AllocError>
+pub(crate) fn copy_banks(alloc: Global, banks: &Vec<Bank<4>>) -> Result<Vec<Bank<4>>, AllocError>
     ensures { IfOk result (λ copy. copy.items ≡ banks.now.items) }
 {
     let mut copy = Vec::with_capacity(alloc, banks.len())?;
@@ -84,9 +84,9 @@ pub(crate) fn copied_banks(alloc: Global, banks: &Vec<Bank<4>>) -> Result<Vec<Ba
 }
 
 /// Proves that each bank is valid.
-pub(crate) fn banks_are_valid(banks: &Vec<Bank<4>>)
+pub(crate) fn show_banks_are_valid(banks: &Vec<Bank<4>>)
     ensures { (k : ℕ) → k < length banks.now.items →
-        IsValidBank (slice_index_or banks.now.items k no_bank) }
+        IsValidBank (slice_index_or banks.now.items k absent_bank) }
 {
     for i in 0..banks.len() {
         banks[i].show_state_is_valid();

@@ -1,8 +1,8 @@
 //! The bench's rig, which is large enough for every board, and functions that execute instructions on it.
 ghost use Rattle.std.specs.Prelude.{◌≡◌, ◌≢◌, ◌<◌, ◌↔◌, IsNone, Some, unwrap_or};
 ghost use Rattle.mcs_model.specs.Effect.{cycle_of, instruction_at};
-ghost use Rattle.mcs_cpu4004.specs.InstructionRan.{InstructionRan};
-ghost use Rattle.mcs_board.specs.Fitting.{FitsCounts};
+ghost use Rattle.mcs_cpu4004.specs.IsInstructionRun.{IsInstructionRun};
+ghost use Rattle.mcs_board.specs.Fitting.{FitsSockets};
 
 use crate::rig::Rig;
 use mcs_cpu4004::{Cpu, Cycle};
@@ -16,7 +16,7 @@ pub type BenchRig = Rig<ROMS, BANKS, CHAINS, CHAIN_SOCKETS>;
 
 /// Proves that every board fits the bench's rig.
 pub fn every_board_fits_the_bench(board: &Board)
-    ensures { FitsCounts board.now ROMS BANKS CHAINS CHAIN_SOCKETS }
+    ensures { FitsSockets board.now ROMS BANKS CHAINS CHAIN_SOCKETS }
 {
     let _parts = board.parts();
 }
@@ -41,8 +41,8 @@ pub fn instruction(cpu: &Cpu, rig: &BenchRig, at: Addr) -> Option<Op>
     cpu.instruction(rig, at)
 }
 
-/// Executes `op`, the instruction at address `at`, for at most `left` cycles. Returns the address at which execution
-/// continues and the number of cycles done, at least 1. Requires that `left` is not 0 and that no second cycle is
+/// Executes `op`, the instruction at address `at`, for at most `max_cycles` cycles. Returns the address at which execution
+/// continues and the number of cycles done, at least 1. Requires that `max_cycles` is not 0 and that no second cycle is
 /// pending. The program counter itself does not change.
 #[inline(always)]
 pub fn run_instruction(
@@ -50,16 +50,16 @@ pub fn run_instruction(
     rig: &mut BenchRig,
     op: Op,
     at: Addr,
-    left: u32,
+    max_cycles: u32,
 ) -> (Addr, u32)
     requires free { cpu.old.owed ≢ 1 }
-    requires some { 0 < left }
+    requires some { 0 < max_cycles }
     requires decoded { instruction_at (record cpu.old { pc = at }) rig.old ≡ Some op }
-    ensures ran { InstructionRan left (record cpu.old { pc = at }, rig.old)
+    ensures ran { IsInstructionRun max_cycles (record cpu.old { pc = at }, rig.old)
         (record cpu.new { pc = result.0 }, rig.new) result.1 }
     ensures goes { 0 < result.1 }
-    ensures owes { cpu.new.owed ≡ 1 → result.1 ≡ left }
+    ensures owes { cpu.new.owed ≡ 1 → result.1 ≡ max_cycles }
     ensures counter { cpu.new.pc ≡ cpu.old.pc }
 {
-    cpu.run_instruction(rig, op, at, left)
+    cpu.run_instruction(rig, op, at, max_cycles)
 }

@@ -12,7 +12,7 @@ use mcs_shift4003::Chain;
 use std::alloc::{AllocError, Global};
 
 /// Returns `count` chains of 0 bits. Fails if memory cannot be allocated.
-pub(crate) fn no_chains<const MAX: usize>(
+pub(crate) fn empty_chains<const MAX: usize>(
     alloc: Global,
     count: usize,
 ) -> Result<Vec<Chain<MAX>>, AllocError>
@@ -26,7 +26,7 @@ pub(crate) fn no_chains<const MAX: usize>(
 }
 
 /// Returns the number of bits in chain `i`, or 0 if the board has no chain `i`.
-fn bits_of(board: &Board, i: usize) -> usize
+fn bits_in_chain(board: &Board, i: usize) -> usize
     ensures { result ≡ chain_bits board.now i }
 {
     if i < board.chain_count() {
@@ -41,7 +41,7 @@ pub(crate) fn chains_fit(board: &Board, size: usize) -> bool
     ensures { IsTrue result ↔ ((k : ℕ) → chain_bits board.now k ≤ size) }
 {
     for i in 0..board.chain_count() {
-        if bits_of(board, i) > size {
+        if bits_in_chain(board, i) > size {
             return false;
         }
     }
@@ -57,7 +57,7 @@ pub(crate) fn rewire_chains<const MAX: usize>(chains: &mut Vec<Chain<MAX>>, boar
         ≡ replicate (chain_bits board.now k) 0 }
 {
     for i in 0..chains.len() {
-        chains[i] = Chain::new(bits_of(board, i));
+        chains[i] = Chain::new(bits_in_chain(board, i));
     }
 }
 
@@ -73,7 +73,7 @@ pub(crate) fn clear_chains<const MAX: usize>(chains: &mut Vec<Chain<MAX>>)
 }
 
 /// Returns a copy of the chains. Fails if memory cannot be allocated.
-pub(crate) fn copied_chains<const MAX: usize>(
+pub(crate) fn copy_chains<const MAX: usize>(
     alloc: Global,
     chains: &Vec<Chain<MAX>>,
 ) -> Result<Vec<Chain<MAX>>, AllocError>
@@ -103,7 +103,7 @@ impl<const ROMS: usize, const BANKS: usize, const CHAINS: usize, const MAX: usiz
     }
 
     /// Returns bit `i` of chain `n`, or 0 if the chain has no bit `i`.
-    pub(crate) fn bit_of_chain(&self, n: usize, i: usize) -> Bit
+    pub(crate) fn bit_of_present_chain(&self, n: usize, i: usize) -> Bit
         requires { n < chain_count self.now.board }
         ensures { result ≡ chain_bit self.now n i }
     {
@@ -123,7 +123,7 @@ impl<const ROMS: usize, const BANKS: usize, const CHAINS: usize, const MAX: usiz
         if n >= self.chain_count() {
             return Bit::ZERO;
         }
-        self.bit_of_chain(n, usize::from(i))
+        self.bit_of_present_chain(n, usize::from(i))
     }
 
     /// Sets bit `i` of chain `chain`, and shifts nothing. Chains and bits are numbered from 0. Has no effect if the
@@ -147,7 +147,7 @@ impl<const ROMS: usize, const BANKS: usize, const CHAINS: usize, const MAX: usiz
     }
 
     /// Proves that each bit of the board's chains is 0 or 1.
-    pub(crate) fn chains_are_valid(&self)
+    pub(crate) fn show_chains_are_valid(&self)
         ensures { (i : ℕ) → i < chain_count self.now.board →
             All (λ bit. bit < 2) (slice_index_or self.now.chains i []) }
     {

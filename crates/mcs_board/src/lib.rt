@@ -12,7 +12,7 @@ mod chains;
 mod clocks;
 mod keys;
 mod lamps;
-mod making;
+mod lifecycle;
 mod rig;
 mod roms;
 

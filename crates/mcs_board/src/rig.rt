@@ -1,6 +1,6 @@
 //! The `Rig` type: a board, its chips and the level of the TEST pin. Each kind of chip has its own module.
 ghost use Rattle.std.specs.Prelude.{◌≡◌, None};
-ghost use Rattle.mcs_model.specs.Boards.{board_fault_of, IsSized};
+ghost use Rattle.mcs_model.specs.Boards.{board_fault_of, HasDeclaredLengths};
 
 use mcs_keypad::KeyPad;
 use mcs_model::board::{Board, BoardParts};
@@ -31,12 +31,12 @@ impl<const ROMS: usize, const BANKS: usize, const CHAINS: usize, const MAX: usiz
 
     ghost Value = { BusState };
 
-    ghost use Rattle.mcs_board.specs.RigState.{rig_of, Fitted};
+    ghost use Rattle.mcs_board.specs.RigState.{state_of_rig, MatchesBoard};
     ghost use Rattle.mcs_board.specs.RigFields.{rig_parts};
 
-    ghost view = { λ r. rig_of (rig_parts r) };
+    ghost view = { λ r. state_of_rig (rig_parts r) };
 
-    ghost invariant = { λ r. Fitted (rig_parts r) ROMS BANKS CHAINS };
+    ghost invariant = { λ r. MatchesBoard (rig_parts r) ROMS BANKS CHAINS };
 }
 
 impl<const ROMS: usize, const BANKS: usize, const CHAINS: usize, const MAX: usize> Rig<
@@ -49,7 +49,7 @@ impl<const ROMS: usize, const BANKS: usize, const CHAINS: usize, const MAX: usiz
     pub(crate) fn parts(&self) -> &BoardParts
         ensures same { result.now ≡ self.now.board }
         ensures valid { board_fault_of self.now.board ≡ None }
-        ensures sized { IsSized self.now.board }
+        ensures sized { HasDeclaredLengths self.now.board }
     {
         let _chains = &self.chains;
         self.keys.board().parts()

@@ -2,10 +2,10 @@
 //! its own value and clocks no shift register.
 ghost use Rattle.std.specs.Prelude.{◌≡◌, ℕ, ◌<◌, ◌≤◌, ◌↔◌, IsTrue, All, length, replicate, None, IfOk, IfSome, slice_index, slice_index_or};
 ghost use Rattle.mcs_rom4001.specs.Roms.{IsValidPort};
-ghost use Rattle.mcs_model.specs.Boards.{masks_on};
-ghost use Rattle.mcs_model.specs.ChipWrites.{kept_rom, with_rom_byte, with_rom_latch};
-ghost use Rattle.mcs_board.specs.Fitting.{port_on, port_after_reset};
-ghost use Rattle.mcs_board.specs.RigState.{port_of_rom};
+ghost use Rattle.mcs_model.specs.Boards.{rom_masks};
+ghost use Rattle.mcs_model.specs.ChipWrites.{rom_of_board, with_rom_byte, with_rom_latch};
+ghost use Rattle.mcs_board.specs.Fitting.{port_after_wiring, port_after_reset};
+ghost use Rattle.mcs_board.specs.RigState.{latch_of_rom};
 
 use crate::rig::Rig;
 use mcs_model::board::Board;
@@ -15,7 +15,10 @@ use mcs_rom4001::RomPort;
 use std::alloc::{AllocError, Global};
 
 /// Returns `count` empty ROM sockets. Fails if memory cannot be allocated.
-pub(crate) fn no_roms(alloc: Global, count: usize) -> Result<Vec<Option<RomPort>>, AllocError>
+pub(crate) fn empty_rom_sockets(
+    alloc: Global,
+    count: usize,
+) -> Result<Vec<Option<RomPort>>, AllocError>
     ensures { IfOk result (λ roms. roms.items ≡ replicate count None) }
 {
     let mut roms = Vec::new(alloc);
@@ -26,7 +29,7 @@ pub(crate) fn no_roms(alloc: Global, count: usize) -> Result<Vec<Option<RomPort>
 }
 
 /// Returns `count` bytes of value 0. Fails if memory cannot be allocated.
-pub(crate) fn no_program(alloc: Global, count: usize) -> Result<Vec<u8>, AllocError>
+pub(crate) fn zeroed_program(alloc: Global, count: usize) -> Result<Vec<u8>, AllocError>
     ensures { IfOk result (λ program. program.items ≡ replicate count 0) }
 {
     let mut program = Vec::new(alloc);
@@ -37,8 +40,8 @@ pub(crate) fn no_program(alloc: Global, count: usize) -> Result<Vec<u8>, AllocEr
 }
 
 /// Returns the line masks of ROM `i`, or `None` if the board has no ROM `i`.
-fn mask_of(board: &Board, i: usize) -> Option<[LineMask; 4]>
-    ensures { result ≡ masks_on board.now i }
+fn line_masks_of(board: &Board, i: usize) -> Option<[LineMask; 4]>
+    ensures { result ≡ rom_masks board.now i }
 {
     let parts = board.parts();
     if i < limits::ROMS {
@@ -50,11 +53,11 @@ fn mask_of(board: &Board, i: usize) -> Option<[LineMask; 4]>
 
 /// Returns whether the numbers of all ROMs on the board are below `sockets`.
 pub(crate) fn roms_fit(board: &Board, sockets: usize) -> bool
-    ensures { IsTrue result ↔ ((k : ℕ) → sockets ≤ k → masks_on board.now k ≡ None) }
+    ensures { IsTrue result ↔ ((k : ℕ) → sockets ≤ k → rom_masks board.now k ≡ None) }
 {
     let _parts = board.parts();
     for i in sockets..limits::ROMS {
-        if mask_of(board, i).is_some() {
+        if line_masks_of(board, i).is_some() {
             return false;
         }
     }
@@ -62,8 +65,8 @@ pub(crate) fn roms_fit(board: &Board, sockets: usize) -> bool
 }
 
 /// Returns a ROM port with the given line masks and a latch of 0, or `None` if the ROM is absent.
-fn port_with(mask: Option<[LineMask; 4]>) -> Option<RomPort>
-    ensures { result ≡ port_on mask }
+fn port_for_masks(mask: Option<[LineMask; 4]>) -> Option<RomPort>
+    ensures { result ≡ port_after_wiring mask }
 {
     match mask {
         Some(mask) => Some(RomPort::new(mask)),
@@ -75,20 +78,20 @@ fn port_with(mask: Option<[LineMask; 4]>) -> Option<RomPort>
 pub(crate) fn rewire_roms(roms: &mut Vec<Option<RomPort>>, board: &Board)
     ensures count { length roms.new.items ≡ length roms.old.items }
     ensures roms { (k : ℕ) → k < length roms.old.items → slice_index_or roms.new.items k None
-        ≡ port_on (masks_on board.now k) }
+        ≡ port_after_wiring (rom_masks board.now k) }
 {
     for i in 0..roms.len() {
-        roms[i] = port_with(mask_of(board, i));
+        roms[i] = port_for_masks(line_masks_of(board, i));
     }
 }
 
 /// Sets all bytes of each ROM that the board lacks to 0. `program` must have 4096 bytes.
-pub(crate) fn clear_absent(program: &mut Vec<u8>, board: &Board)
+pub(crate) fn clear_absent_roms(program: &mut Vec<u8>, board: &Board)
     requires { length program.old.items ≡ 4096 }
-    ensures { program.new.items ≡ kept_rom board.now program.old.items }
+    ensures { program.new.items ≡ rom_of_board board.now program.old.items }
 {
     for at in 0..program.len() {
-        if mask_of(board, at / 256).is_some() {
+        if line_masks_of(board, at / 256).is_some() {
             continue;
         }
         program[at] = 0;
@@ -116,7 +119,7 @@ pub(crate) fn clear_ports(roms: &mut Vec<Option<RomPort>>)
 }
 
 /// Returns a copy of a ROM socket.
-fn copied_rom(rom: &Option<RomPort>) -> Option<RomPort>
+fn copy_rom(rom: &Option<RomPort>) -> Option<RomPort>
     ensures { result ≡ rom.now }
 {
     match rom {
@@ -126,7 +129,7 @@ fn copied_rom(rom: &Option<RomPort>) -> Option<RomPort>
 }
 
 /// Returns a copy of the ROM sockets. Fails if memory cannot be allocated.
-pub(crate) fn copied_roms(
+pub(crate) fn copy_roms(
     alloc: Global,
     roms: &Vec<Option<RomPort>>,
 ) -> Result<Vec<Option<RomPort>>, AllocError>
@@ -134,13 +137,13 @@ pub(crate) fn copied_roms(
 {
     let mut copy = Vec::with_capacity(alloc, roms.len())?;
     for rom in roms {
-        copy.push(copied_rom(rom))?;
+        copy.push(copy_rom(rom))?;
     }
     Ok(copy)
 }
 
 /// Proves that a ROM socket is empty or holds a valid ROM port.
-fn rom_is_valid(rom: &Option<RomPort>)
+fn show_rom_is_valid(rom: &Option<RomPort>)
     ensures { IfSome rom.now IsValidPort }
 {
     if let Some(rom) = rom {
@@ -149,25 +152,25 @@ fn rom_is_valid(rom: &Option<RomPort>)
 }
 
 /// Proves that each ROM socket is empty or holds a valid ROM port.
-pub(crate) fn roms_are_valid(roms: &Vec<Option<RomPort>>)
+pub(crate) fn show_roms_are_valid(roms: &Vec<Option<RomPort>>)
     ensures { (k : ℕ) → k < length roms.now.items →
         IfSome (slice_index_or roms.now.items k None) IsValidPort }
 {
     for i in 0..roms.len() {
-        rom_is_valid(&roms[i]);
+        show_rom_is_valid(&roms[i]);
     }
 }
 
 /// Proves that each byte of the program is below 256.
-pub(crate) fn are_bytes(program: &Vec<u8>)
+pub(crate) fn show_bytes_are_valid(program: &Vec<u8>)
     ensures { All (λ byte. byte < 256) program.now.items }
 {
     let _bytes = program.as_slice();
 }
 
 /// Returns a ROM's port latch, or 0 if the ROM is absent.
-fn latch_in(rom: &Option<RomPort>) -> Nibble
-    ensures { result ≡ port_of_rom rom.now }
+fn latch_of_socket(rom: &Option<RomPort>) -> Nibble
+    ensures { result ≡ latch_of_rom rom.now }
 {
     match rom {
         Some(rom) => rom.port(),
@@ -205,7 +208,7 @@ impl<const ROMS: usize, const BANKS: usize, const CHAINS: usize, const MAX: usiz
     {
         let at = usize::from(chip);
         if at < self.roms.len() {
-            latch_in(&self.roms[at])
+            latch_of_socket(&self.roms[at])
         } else {
             Nibble::ZERO
         }

@@ -1,4 +1,4 @@
--- Two valid buses are equal if they agree in every present chip. This is the main step of `keys_decide`.
+-- Two valid buses are equal if they agree in every present chip. This is the main step of `keys_determine_machines`.
 use Rattle.std.proofs.Common.{◌≡◌, ◌<◌, ◌/◌, ◌%◌, ℕ, inl, inr, List, Option, Some, None, MatchOption, length, get_or, slice_index, refl, sym, ap, ◌∙◌, arith}
 use Rattle.std.proofs.lemmas.Bool.{cases_lt}
 use Rattle.std.proofs.lemmas.List.{same_lists}
@@ -6,10 +6,10 @@ use Rattle.std.proofs.lemmas.Grind.{get_or_default_zero}
 use Rattle.mcs_nibble.specs.declared.lines.LineMask.{LineMask}
 use Rattle.mcs_nibble.specs.Ports.{latch_value}
 use Rattle.mcs_model.specs.declared.board.BoardParts.{BoardParts}
-use Rattle.mcs_model.specs.Boards.{masks_on}
+use Rattle.mcs_model.specs.Boards.{rom_masks}
 use Rattle.mcs_model.specs.Bus.{BusState, chips_of, ram_index, status_index, ram_port_index}
 use Rattle.mcs_model.specs.Validity.{IsValidBus}
-use Rattle.mcs_check.specs.Agreed.{AgreesInChips}
+use Rattle.mcs_check.specs.BusAgreement.{AgreesInChips}
 
 same-numbers : (xs ys : List ℕ) (n : ℕ) → length xs ≡ n → length ys ≡ n → ((k : ℕ) → k < n → get_or xs k 0 ≡ get_or ys k 0) → xs ≡ ys
 same-numbers xs ys n lx ly h =
@@ -68,7 +68,7 @@ rom_ports-when s t k None None e h v w = v ∙ sym w
 rom_ports-when s t k None (Some mask) e h v w = absurd (cc)
 
 rom_ports-at : (s t : BusState) → IsValidBus s → IsValidBus t → AgreesInChips s t → (k : ℕ) → get_or s.rom_ports k 0 ≡ get_or t.rom_ports k 0
-rom_ports-at s t v w a k = rom_ports-when s t k (masks_on s.board k) (masks_on t.board k) (ap (λ (b : BoardParts). masks_on b k) a.board) (a.rom_ports k) (v.absent.rom_ports k) (w.absent.rom_ports k)
+rom_ports-at s t v w a k = rom_ports-when s t k (rom_masks s.board k) (rom_masks t.board k) (ap (λ (b : BoardParts). rom_masks b k) a.board) (a.rom_ports k) (v.absent.rom_ports k) (w.absent.rom_ports k)
 
 same-bus : (s t : BusState) → s.board ≡ t.board → s.rom ≡ t.rom → s.ram ≡ t.ram → s.status ≡ t.status → s.ram_ports ≡ t.ram_ports → s.rom_ports ≡ t.rom_ports → s.rom_src ≡ t.rom_src → s.ram_src ≡ t.ram_src → s.chains ≡ t.chains → s.keys ≡ t.keys → s.test ≡ t.test → s ≡ t
 same-bus s t a b c d e f g h i j k =
@@ -87,10 +87,10 @@ same-bus s t a b c d e f g h i j k =
 pub agreeing-same : (s t : BusState) → IsValidBus s → IsValidBus t → AgreesInChips s t → s ≡ t
 agreeing-same s t v w a =
     same-bus s t a.board a.rom
-    (same-numbers s.ram t.ram 2048 v.in_range.ram.count_is w.in_range.ram.count_is (λ k l. ram-at s t v w a k))
-    (same-numbers s.status t.status 512 v.in_range.status.count_is w.in_range.status.count_is (λ k l. status-at s t v w a k))
-    (same-numbers s.ram_ports t.ram_ports 32 v.in_range.ram_ports.count_is w.in_range.ram_ports.count_is (λ k l. ram_ports-at s t v w a k))
-    (same-numbers s.rom_ports t.rom_ports 16 v.in_range.rom_ports.count_is w.in_range.rom_ports.count_is (λ k l. rom_ports-at s t v w a k))
+    (same-numbers s.ram t.ram 2048 v.in_range.ram.has_count w.in_range.ram.has_count (λ k l. ram-at s t v w a k))
+    (same-numbers s.status t.status 512 v.in_range.status.has_count w.in_range.status.has_count (λ k l. status-at s t v w a k))
+    (same-numbers s.ram_ports t.ram_ports 32 v.in_range.ram_ports.has_count w.in_range.ram_ports.has_count (λ k l. ram_ports-at s t v w a k))
+    (same-numbers s.rom_ports t.rom_ports 16 v.in_range.rom_ports.has_count w.in_range.rom_ports.has_count (λ k l. rom_ports-at s t v w a k))
     a.rom_src
-    (same-numbers s.ram_src t.ram_src 8 v.in_range.ram_src.count_is w.in_range.ram_src.count_is (λ k l. ram_src-at s t v w a k))
+    (same-numbers s.ram_src t.ram_src 8 v.in_range.ram_src.has_count w.in_range.ram_src.has_count (λ k l. ram_src-at s t v w a k))
     a.chains a.keys a.test

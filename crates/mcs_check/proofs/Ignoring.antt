@@ -1,49 +1,49 @@
 -- Conditions do not depend on the levels of the keys and of TEST.
 use Rattle.std.proofs.Common.{◌≡◌, ◌%◌, ℕ, not, cond, ◌&&◌, List, [], ◌∷◌, slice_index, nat_le, refl, ap, ◌∙◌}
 use Rattle.mcs_model.specs.Bus.{fetch_of}
-use Rattle.mcs_drive.specs.Tracked.{Tracked, plain}
-use Rattle.mcs_drive.specs.Leading.{Ignores}
+use Rattle.mcs_drive.specs.TrackedMachine.{TrackedMachine, without_levels}
+use Rattle.mcs_drive.specs.RunsBetweenReads.{IgnoresLevels}
 use Rattle.mcs_check.specs.declared.cells.Cell.{Cell}
 use Rattle.mcs_check.specs.declared.cells.CellList.{CellList}
-use Rattle.mcs_check.specs.declared.cells.CellList.TheVariants.{Characters, StatusCharacters, RamPorts, RomPorts, BankSrcs, Registers, Counters, Chain}
+use Rattle.mcs_check.specs.declared.cells.CellList.TheVariants.{RamCharacters, StatusCharacters, RamPorts, RomPorts, BankSrcBytes, Registers, Counters, Chain}
 use Rattle.mcs_check.specs.declared.conditions.Comparison.{Comparison}
 use Rattle.mcs_check.specs.declared.conditions.Condition.{Condition}
 use Rattle.mcs_check.specs.declared.conditions.Condition.TheVariants.{Compare, Mistaken}
 use Rattle.mcs_check.specs.declared.common_mistakes.Mistakes.{Mistakes}
-use Rattle.mcs_check.specs.Cells.{count_of, list_of, value_at}
-use Rattle.mcs_check.specs.Conditions.{are_met, compares, is_met, keeps_to, part_of}
-use Rattle.mcs_check.specs.Mistaken.{is_mistaken}
+use Rattle.mcs_check.specs.Cells.{max_cell_count, values_in_list, value_at}
+use Rattle.mcs_check.specs.Conditions.{are_met, comparison_is_met, is_met, meets_none, part_of}
+use Rattle.mcs_check.specs.Mistaken.{cycle_makes_mistake}
 
-list-plain : (t : Tracked) (list : CellList) → list_of t list ≡ list_of (plain t) list
-list-plain t Characters = refl
-list-plain t StatusCharacters = refl
-list-plain t RamPorts = refl
-list-plain t RomPorts = refl
-list-plain t BankSrcs = refl
-list-plain t Registers = refl
-list-plain t Counters = refl
-list-plain t (Chain n) = refl
+list-without_levels : (t : TrackedMachine) (list : CellList) → values_in_list t list ≡ values_in_list (without_levels t) list
+list-without_levels t RamCharacters = refl
+list-without_levels t StatusCharacters = refl
+list-without_levels t RamPorts = refl
+list-without_levels t RomPorts = refl
+list-without_levels t BankSrcBytes = refl
+list-without_levels t Registers = refl
+list-without_levels t Counters = refl
+list-without_levels t (Chain n) = refl
 
-pub value-plain : (t : Tracked) (c : Cell) → value_at t c ≡ value_at (plain t) c
-value-plain t c = ap (λ (xs : List ℕ). slice_index xs (c.index % count_of c.list)) (list-plain t c.list)
+pub value-without_levels : (t : TrackedMachine) (c : Cell) → value_at t c ≡ value_at (without_levels t) c
+value-without_levels t c = ap (λ (xs : List ℕ). slice_index xs (c.index % max_cell_count c.list)) (list-without_levels t c.list)
 
-compares-plain : (t : Tracked) (c : Comparison) → compares t c ≡ compares (plain t) c
-compares-plain t c =
+comparison_is_met-without_levels : (t : TrackedMachine) (c : Comparison) → comparison_is_met t c ≡ comparison_is_met (without_levels t) c
+comparison_is_met-without_levels t c =
     ap (λ (n : ℕ). cond c.inside (nat_le c.low (part_of n c.part) && nat_le (part_of n c.part) c.high) (not (nat_le c.low (part_of n c.part) && nat_le (part_of n c.part) c.high)))
-    (value-plain t c.cell)
+    (value-without_levels t c.cell)
 
-mistaken-plain : (asked : Mistakes) (t : Tracked) → is_mistaken asked t ≡ is_mistaken asked (plain t)
+mistaken-without_levels : (kinds : Mistakes) (t : TrackedMachine) → cycle_makes_mistake kinds t ≡ cycle_makes_mistake kinds (without_levels t)
 unfolding fetch_of
-mistaken-plain asked t = refl
+mistaken-without_levels kinds t = refl
 
-met-plain : (t : Tracked) (c : Condition) → is_met t c ≡ is_met (plain t) c
-met-plain t (Compare c) = compares-plain t c
-met-plain t (Mistaken asked) = mistaken-plain asked t
+met-without_levels : (t : TrackedMachine) (c : Condition) → is_met t c ≡ is_met (without_levels t) c
+met-without_levels t (Compare c) = comparison_is_met-without_levels t c
+met-without_levels t (Mistaken kinds) = mistaken-without_levels kinds t
 
-are_met-plain : (t : Tracked) (cs : List Condition) → are_met t cs ≡ are_met (plain t) cs
-are_met-plain t [] = refl
-are_met-plain t (c ∷ cs) = ap (λ b. b && are_met t cs) (met-plain t c) ∙ ap (λ b. is_met (plain t) c && b) (are_met-plain t cs)
+are_met-without_levels : (t : TrackedMachine) (cs : List Condition) → are_met t cs ≡ are_met (without_levels t) cs
+are_met-without_levels t [] = refl
+are_met-without_levels t (c ∷ cs) = ap (λ b. b && are_met t cs) (met-without_levels t c) ∙ ap (λ b. is_met (without_levels t) c && b) (are_met-without_levels t cs)
 
-pub conditions-ignore : (nevers : List (List Condition)) → Ignores (keeps_to nevers)
+pub conditions-ignore : (never_lists : List (List Condition)) → IgnoresLevels (meets_none never_lists)
 conditions-ignore [] t = refl
-conditions-ignore (cs ∷ nevers) t = ap (λ b. not b && keeps_to nevers t) (are_met-plain t cs) ∙ ap (λ b. not (are_met (plain t) cs) && b) (conditions-ignore nevers t)
+conditions-ignore (cs ∷ never_lists) t = ap (λ b. not b && meets_none never_lists t) (are_met-without_levels t cs) ∙ ap (λ b. not (are_met (without_levels t) cs) && b) (conditions-ignore never_lists t)

@@ -3,7 +3,7 @@ pub mod Agreeing
 pub mod Packed
 pub mod ValuesRead
 pub mod Keeping
-pub mod Laying
+pub mod LayoutFilling
 pub mod Saving
 pub mod Pulling
 pub mod Going

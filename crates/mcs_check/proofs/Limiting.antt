@@ -1,31 +1,31 @@
 -- The limit of a stopwatch, as conditions on the three bytes of its cycles.
 use Rattle.std.proofs.Common.{◌≡◌, ◌<◌, ◌/◌, ◌%◌, ◌++◌, ℕ, inl, inr, Bool, true, false, not, ◌&&◌, List, [], ◌∷◌, nat_le, refl, sym, ap, ◌∙◌, arith}
 use Rattle.std.proofs.lemmas.Bool.{cases_order, le-leb, lt-leb}
-use Rattle.mcs_drive.specs.Tracked.{Tracked}
+use Rattle.mcs_drive.specs.TrackedMachine.{TrackedMachine}
 use Rattle.mcs_check.specs.declared.conditions.Condition.{Condition}
 use Rattle.mcs_check.specs.declared.conditions.Condition.TheVariants.{Compare}
-use Rattle.mcs_check.specs.Conditions.{are_met, elapsed_byte, keeps_to}
+use Rattle.mcs_check.specs.Conditions.{are_met, compare_elapsed_byte, meets_none}
 
 pub and-assoc : (a b c : Bool) → ((a && b) && c) ≡ (a && (b && c))
 and-assoc true b c = refl
 and-assoc false b c = refl
 
 -- no list of `xs ++ ys` is met if and only if no list of xs and no list of ys is met
-pub keeps-both : (xs ys : List (List Condition)) (s : Tracked) → keeps_to (xs ++ ys) s ≡ (keeps_to xs s && keeps_to ys s)
-keeps-both [] ys s = refl
-keeps-both (x ∷ xs) ys s = ap (λ b. not (are_met s x) && b) (keeps-both xs ys s) ∙ sym (and-assoc (not (are_met s x)) (keeps_to xs s) (keeps_to ys s))
+pub meets_none-append : (xs ys : List (List Condition)) (s : TrackedMachine) → meets_none (xs ++ ys) s ≡ (meets_none xs s && meets_none ys s)
+meets_none-append [] ys s = refl
+meets_none-append (x ∷ xs) ys s = ap (λ b. not (are_met s x) && b) (meets_none-append xs ys s) ∙ sym (and-assoc (not (are_met s x)) (meets_none xs s) (meets_none ys s))
 
 -- appending three lists one at a time gives the same as appending them at once
-pub three-more : (xs : List (List Condition)) (a b c : List Condition) → ((xs ++ a ∷ []) ++ b ∷ []) ++ c ∷ [] ≡ xs ++ a ∷ b ∷ c ∷ []
-three-more [] a b c = refl
-three-more (x ∷ xs) a b c = ap (λ (ys : List (List Condition)). x ∷ ys) (three-more xs a b c)
+pub append-three : (xs : List (List Condition)) (a b c : List Condition) → ((xs ++ a ∷ []) ++ b ∷ []) ++ c ∷ [] ≡ xs ++ a ∷ b ∷ c ∷ []
+append-three [] a b c = refl
+append-three (x ∷ xs) a b c = ap (λ (ys : List (List Condition)). x ∷ ys) (append-three xs a b c)
 
 -- ---- the bytes
 
 -- true if the number with the bytes a, b and c is not above the limit with the bytes x, y and z, as the
 -- conditions compare them
-abbrev in_bytes : ℕ → ℕ → ℕ → ℕ → ℕ → ℕ → Bool
-in_bytes a b c x y z =
+abbrev is_within_limit_by_bytes : ℕ → ℕ → ℕ → ℕ → ℕ → ℕ → Bool
+is_within_limit_by_bytes a b c x y z =
     not (not (nat_le 0 a && nat_le a x) && true)
     && (not ((nat_le x a && nat_le a x) && (not (nat_le 0 b && nat_le b y) && true))
     && (not ((nat_le x a && nat_le a x) && ((nat_le y b && nat_le b y) && (not (nat_le 0 c && nat_le c z) && true))) && true))
@@ -44,25 +44,25 @@ order-eq a x h = record { below = le-leb a x (omega arith); above = le-leb x a (
 order-gt : (a x : ℕ) → x < a → Order a x false true
 order-gt a x h = record { below = lt-leb a x h; above = le-leb x a (omega arith) }
 
-first-lt : (a b c x y z : ℕ) → Order a x true false → in_bytes a b c x y z ≡ true
+first-lt : (a b c x y z : ℕ) → Order a x true false → is_within_limit_by_bytes a b c x y z ≡ true
 first-lt a b c x y z o = (let z0 = le-leb 0 a (omega arith) in rw (z0, o.below, o.above) refl)
 
-first-gt : (a b c x y z : ℕ) → Order a x false true → in_bytes a b c x y z ≡ false
+first-gt : (a b c x y z : ℕ) → Order a x false true → is_within_limit_by_bytes a b c x y z ≡ false
 first-gt a b c x y z o = (let z0 = le-leb 0 a (omega arith) in rw (z0, o.below) refl)
 
-second-lt : (a b c x y z : ℕ) → Order a x true true → Order b y true false → in_bytes a b c x y z ≡ true
+second-lt : (a b c x y z : ℕ) → Order a x true true → Order b y true false → is_within_limit_by_bytes a b c x y z ≡ true
 second-lt a b c x y z o p = (let z0 = le-leb 0 a (omega arith) in let z1 = le-leb 0 b (omega arith) in rw (z0, z1, o.below, o.above, p.below, p.above) refl)
 
-second-gt : (a b c x y z : ℕ) → Order a x true true → Order b y false true → in_bytes a b c x y z ≡ false
+second-gt : (a b c x y z : ℕ) → Order a x true true → Order b y false true → is_within_limit_by_bytes a b c x y z ≡ false
 second-gt a b c x y z o p = (let z0 = le-leb 0 a (omega arith) in let z1 = le-leb 0 b (omega arith) in rw (z0, z1, o.below, o.above, p.below) refl)
 
-third-le : (a b c x y z : ℕ) (more : Bool) → Order a x true true → Order b y true true → Order c z true more → in_bytes a b c x y z ≡ true
+third-le : (a b c x y z : ℕ) (more : Bool) → Order a x true true → Order b y true true → Order c z true more → is_within_limit_by_bytes a b c x y z ≡ true
 third-le a b c x y z more o p q = (let z0 = le-leb 0 a (omega arith) in let z1 = le-leb 0 b (omega arith) in let z2 = le-leb 0 c (omega arith) in rw (z0, z1, z2, o.below, o.above, p.below, p.above, q.below) refl)
 
-third-gt : (a b c x y z : ℕ) → Order a x true true → Order b y true true → Order c z false true → in_bytes a b c x y z ≡ false
+third-gt : (a b c x y z : ℕ) → Order a x true true → Order b y true true → Order c z false true → is_within_limit_by_bytes a b c x y z ≡ false
 third-gt a b c x y z o p q = (let z0 = le-leb 0 a (omega arith) in let z1 = le-leb 0 b (omega arith) in let z2 = le-leb 0 c (omega arith) in rw (z0, z1, z2, o.below, o.above, p.below, p.above, q.below) refl)
 
-bytes-say : (n m : ℕ) → in_bytes (n / 65536) (n / 256 % 256) (n % 256) (m / 65536) (m / 256 % 256) (m % 256) ≡ nat_le n m
+bytes-say : (n m : ℕ) → is_within_limit_by_bytes (n / 65536) (n / 256 % 256) (n % 256) (m / 65536) (m / 256 % 256) (m % 256) ≡ nat_le n m
 bytes-say n m =
     let a = n / 65536 in
     let b = n / 256 % 256 in
@@ -87,17 +87,17 @@ bytes-say n m =
 -- ---- the conditions
 
 -- the lists of conditions that are met if the stopwatch shows more than the limit with these three bytes
-abbrev pub beyond : ℕ → ℕ → ℕ → List (List Condition)
-beyond x y z =
-    (Compare (elapsed_byte 0 0 x false) ∷ [])
-    ∷ (Compare (elapsed_byte 0 x x true) ∷ Compare (elapsed_byte 1 0 y false) ∷ [])
-    ∷ (Compare (elapsed_byte 0 x x true) ∷ Compare (elapsed_byte 1 y y true) ∷ Compare (elapsed_byte 2 0 z false) ∷ []) ∷ []
+abbrev pub lists_beyond_limit : ℕ → ℕ → ℕ → List (List Condition)
+lists_beyond_limit x y z =
+    (Compare (compare_elapsed_byte 0 0 x false) ∷ [])
+    ∷ (Compare (compare_elapsed_byte 0 x x true) ∷ Compare (compare_elapsed_byte 1 0 y false) ∷ [])
+    ∷ (Compare (compare_elapsed_byte 0 x x true) ∷ Compare (compare_elapsed_byte 1 y y true) ∷ Compare (compare_elapsed_byte 2 0 z false) ∷ []) ∷ []
 
-beyond-says : (limit : ℕ) (s : Tracked) → keeps_to (beyond (limit / 65536) (limit / 256 % 256) (limit % 256)) s ≡ nat_le s.2.elapsed limit
-beyond-says limit s = bytes-say s.2.elapsed limit
+lists_beyond_limit-says : (limit : ℕ) (s : TrackedMachine) → meets_none (lists_beyond_limit (limit / 65536) (limit / 256 % 256) (limit % 256)) s ≡ nat_le s.2.elapsed limit
+lists_beyond_limit-says limit s = bytes-say s.2.elapsed limit
 
-pub limited : (limit : ℕ) (nevers more : List (List Condition)) (s : Tracked) → more ≡ nevers ++ beyond (limit / 65536) (limit / 256 % 256) (limit % 256) →
-    keeps_to more s ≡ (keeps_to nevers s && nat_le s.2.elapsed limit)
-limited limit nevers more s e =
-    let last = beyond (limit / 65536) (limit / 256 % 256) (limit % 256) in
-    ap (λ (xs : List (List Condition)). keeps_to xs s) e ∙ keeps-both nevers last s ∙ ap (λ b. keeps_to nevers s && b) (beyond-says limit s)
+pub limited : (limit : ℕ) (never_lists more : List (List Condition)) (s : TrackedMachine) → more ≡ never_lists ++ lists_beyond_limit (limit / 65536) (limit / 256 % 256) (limit % 256) →
+    meets_none more s ≡ (meets_none never_lists s && nat_le s.2.elapsed limit)
+limited limit never_lists more s e =
+    let last = lists_beyond_limit (limit / 65536) (limit / 256 % 256) (limit % 256) in
+    ap (λ (xs : List (List Condition)). meets_none xs s) e ∙ meets_none-append never_lists last s ∙ ap (λ b. meets_none never_lists s && b) (lists_beyond_limit-says limit s)

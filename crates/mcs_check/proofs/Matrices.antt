@@ -6,7 +6,7 @@ use Rattle.mcs_nibble.specs.Bits.{bit_of}
 use Rattle.mcs_model.specs.declared.board.BoardParts.{BoardParts}
 use Rattle.mcs_model.specs.declared.board.KeyMatrix.{KeyMatrix}
 use Rattle.mcs_model.specs.Boards.{board_fault_of, is_matrix_size}
-use Rattle.mcs_model.proofs.SoundBoards.{sound}
+use Rattle.mcs_model.proofs.ValidBoardLemmas.{sound}
 
 pub matrix-size : (b : BoardParts) (m : KeyMatrix) → board_fault_of b ≡ None → b.keys ≡ Some m → is_matrix_size m ≡ true
 matrix-size b m v e =
@@ -25,8 +25,8 @@ rows-fit m is =
     omega arith
 
 -- the bits of a nibble above bit 3 are 0
-pub no-bit : (n k : ℕ) → n < 16 → 4 ≤ k → bit_of n k ≡ 0
-no-bit n k small high =
+pub high-bit-zero : (n k : ℕ) → n < 16 → 4 ≤ k → bit_of n k ≡ 0
+high-bit-zero n k small high =
     let power : 2 ^ 4 ≤ 2 ^ k = pow-le-pow_right (lit< tt) high in
     let beyond : n < 2 ^ k = omega arith in
     ap (λ (q : ℕ). q % 2) (div-eq_of_lt beyond)

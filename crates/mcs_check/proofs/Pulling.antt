@@ -9,12 +9,12 @@ use Rattle.mcs_nibble.specs.Bits.{bit_of}
 use Rattle.mcs_nibble.specs.Ports.{mask_at, read_bit, read_lines}
 use Rattle.mcs_model.specs.declared.board.KeyMatrix.{KeyMatrix}
 use Rattle.mcs_model.specs.declared.board.Line.TheVariants.{Rom}
-use Rattle.mcs_model.specs.Boards.{key_count, masks_on}
+use Rattle.mcs_model.specs.Boards.{key_count, rom_masks}
 use Rattle.mcs_model.specs.Bus.{BusState}
-use Rattle.mcs_model.specs.Levels.{bit_when, drives, is_pulled, is_rom_line, port_at, port_of}
-use Rattle.mcs_drive.specs.Driven.{Levels, FitBoard}
-use Rattle.mcs_drive.proofs.Commuting.{at_levels}
-use Rattle.mcs_check.specs.Stations.{has_no_more, port_unpressed}
+use Rattle.mcs_model.specs.Levels.{bit_when, row_drives_column, is_pulled, is_rom_line, port_at, port_of}
+use Rattle.mcs_drive.specs.DrivenRuns.{Levels, FitsBoard}
+use Rattle.mcs_drive.proofs.LevelLemmas.{at_levels}
+use Rattle.mcs_check.specs.ReadPoints.{is_bit_subset, port_unpressed}
 
 or-weaker : (a b x y : Bool) → (a ≡ true → x ≡ true) → (b ≡ true → y ≡ true) → (a || b) ≡ true → (x || y) ≡ true
 or-weaker true b x y h k e = ap (λ z. z || y) (h refl)
@@ -39,22 +39,22 @@ down keys n i len e =
     ]
 
 pulled-on : (l : Levels) (s : BusState) (o : Option KeyMatrix) (n chip k : ℕ) → length l.keys ≡ n →
-    elim o as (λ _. Bool) [ None ↦ false | Some m ↦ list_any (λ j. is_rom_line chip k (slice_index_or m.columns.items j (Rom 0 0)) && list_any (drives (slice_index_or s.chains m.chain []) l.keys m j) (range_with_len 0 m.rows)) (range_with_len 0 (length m.columns.items)) ] ≡ true →
-    elim o as (λ _. Bool) [ None ↦ false | Some m ↦ list_any (λ j. is_rom_line chip k (slice_index_or m.columns.items j (Rom 0 0)) && list_any (drives (slice_index_or s.chains m.chain []) (replicate n 1) m j) (range_with_len 0 m.rows)) (range_with_len 0 (length m.columns.items)) ] ≡ true
+    elim o as (λ _. Bool) [ None ↦ false | Some m ↦ list_any (λ j. is_rom_line chip k (slice_index_or m.columns.items j (Rom 0 0)) && list_any (row_drives_column (slice_index_or s.chains m.chain []) l.keys m j) (range_with_len 0 m.rows)) (range_with_len 0 (length m.columns.items)) ] ≡ true →
+    elim o as (λ _. Bool) [ None ↦ false | Some m ↦ list_any (λ j. is_rom_line chip k (slice_index_or m.columns.items j (Rom 0 0)) && list_any (row_drives_column (slice_index_or s.chains m.chain []) (replicate n 1) m j) (range_with_len 0 m.rows)) (range_with_len 0 (length m.columns.items)) ] ≡ true
 pulled-on l s None n chip k len e = e
 pulled-on l s (Some m) n chip k len e =
     any-weaker _ _
     (λ j h. and-weaker (is_rom_line chip k (slice_index_or m.columns.items j (Rom 0 0))) _ _ _ (λ a. a)
-    (any-weaker (drives (slice_index_or s.chains m.chain []) l.keys m j) (drives (slice_index_or s.chains m.chain []) (replicate n 1) m j)
+    (any-weaker (row_drives_column (slice_index_or s.chains m.chain []) l.keys m j) (row_drives_column (slice_index_or s.chains m.chain []) (replicate n 1) m j)
     (λ r g. and-weaker (eqb (slice_index (slice_index_or s.chains m.chain []) (m.first + r)) 1) _ _ _ (λ a. a) (down l.keys n (r * length m.columns.items + j) len) g)
     (range_with_len 0 m.rows))
     h)
     (range_with_len 0 (length m.columns.items)) e
 
-pulled-more : (l : Levels) (s : BusState) (chip k : ℕ) → FitBoard s.board l → s.keys ≡ replicate (key_count s.board) 1 → is_pulled (at_levels l s) chip k ≡ true → is_pulled s chip k ≡ true
+pulled-more : (l : Levels) (s : BusState) (chip k : ℕ) → FitsBoard s.board l → s.keys ≡ replicate (key_count s.board) 1 → is_pulled (at_levels l s) chip k ≡ true → is_pulled s chip k ≡ true
 unfolding is_pulled
 pulled-more l s chip k fit all e =
-    rw all (pulled-on l s s.board.keys (key_count s.board) chip k fit.keys.count_is e)
+    rw all (pulled-on l s s.board.keys (key_count s.board) chip k fit.keys.has_count e)
 
 -- ---- lines of a port
 
@@ -83,11 +83,11 @@ record Bits (n a b c d : ℕ) : Type 0 where
 bits : (a b c d : ℕ) → a < 2 → b < 2 → c < 2 → d < 2 → Bits (a + 2 * b + 4 * c + 8 * d) a b c d
 bits a b c d ha hb hc hd = record { at_0 = omega arith; at_1 = omega arith; at_2 = omega arith; at_3 = omega arith }
 
-no-more : (n m a b c d x y z w : ℕ) → Bits n a b c d → Bits m x y z w → a ≤ x → b ≤ y → c ≤ z → d ≤ w → has_no_more n m ≡ true
+no-more : (n m a b c d x y z w : ℕ) → Bits n a b c d → Bits m x y z w → a ≤ x → b ≤ y → c ≤ z → d ≤ w → is_bit_subset n m ≡ true
 no-more n m a b c d x y z w p q ha hb hc hd =
     rw (p.at_0, p.at_1, p.at_2, p.at_3, q.at_0, q.at_1, q.at_2, q.at_3, le-leb a x ha, le-leb b y hb, le-leb c z hc, le-leb d w hd) refl
 
-lines-more : (f g : ℕ → Bool) (mask : List LineMask) → ((k : ℕ) → f k ≡ true → g k ≡ true) → has_no_more (read_lines (λ k. bit_when (f k)) mask) (read_lines (λ k. bit_when (g k)) mask) ≡ true
+lines-more : (f g : ℕ → Bool) (mask : List LineMask) → ((k : ℕ) → f k ≡ true → g k ≡ true) → is_bit_subset (read_lines (λ k. bit_when (f k)) mask) (read_lines (λ k. bit_when (g k)) mask) ≡ true
 unfolding read_lines
 lines-more f g mask h =
     let a : ℕ → ℕ = λ k. bit_when (f k) in
@@ -101,23 +101,23 @@ lines-more f g mask h =
     (more 0) (more 1) (more 2) (more 3)
 
 port-when : (f g : ℕ → Bool) (o : Option (List LineMask)) → ((k : ℕ) → f k ≡ true → g k ≡ true) →
-    has_no_more (elim o as (λ _. ℕ) [ Some mask ↦ read_lines (λ k. bit_when (f k)) mask | None ↦ 0 ]) (elim o as (λ _. ℕ) [ Some mask ↦ read_lines (λ k. bit_when (g k)) mask | None ↦ 0 ]) ≡ true
+    is_bit_subset (elim o as (λ _. ℕ) [ Some mask ↦ read_lines (λ k. bit_when (f k)) mask | None ↦ 0 ]) (elim o as (λ _. ℕ) [ Some mask ↦ read_lines (λ k. bit_when (g k)) mask | None ↦ 0 ]) ≡ true
 port-when f g (Some mask) h = lines-more f g mask h
 port-when f g None h = refl
 
 -- at any input levels, the selected ROM's port reads 1 only on lines that read 1 with all keys pressed
-pub port-no-more : (l : Levels) (s : BusState) → FitBoard s.board l → s.keys ≡ replicate (key_count s.board) 1 → has_no_more (port_of (at_levels l s)) (port_of s) ≡ true
+pub port-no-more : (l : Levels) (s : BusState) → FitsBoard s.board l → s.keys ≡ replicate (key_count s.board) 1 → is_bit_subset (port_of (at_levels l s)) (port_of s) ≡ true
 unfolding port_at
 port-no-more l s fit all =
     let chip = s.rom_src / 16 in
-    port-when (λ k. is_pulled (at_levels l s) chip k) (λ k. is_pulled s chip k) (masks_on s.board chip) (λ k h. pulled-more l s chip k fit all h)
+    port-when (λ k. is_pulled (at_levels l s) chip k) (λ k. is_pulled s chip k) (rom_masks s.board chip) (λ k h. pulled-more l s chip k fit all h)
 
 -- at any input levels, the selected ROM's port reads 1 on every line that reads 1 with no key pressed
-pub port-no-less : (l : Levels) (s : BusState) → has_no_more (port_unpressed s) (port_of (at_levels l s)) ≡ true
+pub port-no-less : (l : Levels) (s : BusState) → is_bit_subset (port_unpressed s) (port_of (at_levels l s)) ≡ true
 unfolding port_at
 port-no-less l s =
     let chip = s.rom_src / 16 in
-    port-when (λ k. false) (λ k. is_pulled (at_levels l s) chip k) (masks_on s.board chip) (λ k e. absurd (cc))
+    port-when (λ k. false) (λ k. is_pulled (at_levels l s) chip k) (rom_masks s.board chip) (λ k e. absurd (cc))
 
 -- the bits of 0, read through a mask, give the same value as level 0 on every line
 pub unpressed-read : (mask : List LineMask) → read_lines (bit_of 0) mask ≡ read_lines (λ k. 0) mask
@@ -140,4 +140,4 @@ port-lt-when f None = omega arith
 
 pub port-lt : (s : BusState) → port_of s < 16
 unfolding port_at
-port-lt s = port-lt-when (λ k. is_pulled s (s.rom_src / 16) k) (masks_on s.board (s.rom_src / 16))
+port-lt s = port-lt-when (λ k. is_pulled s (s.rom_src / 16) k) (rom_masks s.board (s.rom_src / 16))

@@ -5,13 +5,13 @@ use Rattle.std.specs.Prelude.{◌≡◌, ◌<◌, ◌+◌, ◌*◌, ◌/◌, ◌
 use Rattle.std.specs.List.{Contains}
 use Rattle.mcs_model.specs.declared.board.BoardParts.{BoardParts}
 use Rattle.mcs_model.specs.declared.regs.Regs.{Regs}
-use Rattle.mcs_model.specs.Boards.{chain_bits, masks_on}
-use Rattle.mcs_drive.specs.Tracked.{Counts, Tracked}
+use Rattle.mcs_model.specs.Boards.{chain_bits, rom_masks}
+use Rattle.mcs_drive.specs.TrackedMachine.{Counts, TrackedMachine}
 use Rattle.mcs_check.specs.declared.cells.Cell.{Cell}
 use Rattle.mcs_check.specs.declared.cells.CellList.{CellList}
 use Rattle.mcs_check.specs.declared.cells.KeyByte.{KeyByte}
 use Rattle.mcs_check.specs.declared.cells.KeyByte.TheVariants.{One, Pair}
-use Rattle.mcs_check.specs.declared.cells.CellList.TheVariants.{Characters, StatusCharacters, RamPorts, RomPorts, BankSrcs, Registers, Counters, Chain}
+use Rattle.mcs_check.specs.declared.cells.CellList.TheVariants.{RamCharacters, StatusCharacters, RamPorts, RomPorts, BankSrcBytes, Registers, Counters, Chain}
 
 -- the counters of a machine. First come the registers other than the index registers, then the SRC byte
 -- that the ROMs store, the number of open calls, the stopwatch's cycles and the number of marks seen. An
@@ -25,77 +25,77 @@ counters_of s src t =
     ∷ t.elapsed / 65536 ∷ t.elapsed / 256 % 256 ∷ t.elapsed % 256 ∷ t.seen ∷ []
 
 -- the values of all cells in a list
-abbrev pub list_of : Tracked → CellList → List ℕ
-list_of t Characters = t.1.ram
-list_of t StatusCharacters = t.1.status
-list_of t RamPorts = t.1.ram_ports
-list_of t RomPorts = t.1.rom_ports
-list_of t BankSrcs = t.1.ram_src
-list_of t Registers = t.0.r
-list_of t Counters = counters_of t.0 t.1.rom_src t.2
-list_of t (Chain n) = slice_index_or t.1.chains n []
+abbrev pub values_in_list : TrackedMachine → CellList → List ℕ
+values_in_list t RamCharacters = t.1.ram
+values_in_list t StatusCharacters = t.1.status
+values_in_list t RamPorts = t.1.ram_ports
+values_in_list t RomPorts = t.1.rom_ports
+values_in_list t BankSrcBytes = t.1.ram_src
+values_in_list t Registers = t.0.r
+values_in_list t Counters = counters_of t.0 t.1.rom_src t.2
+values_in_list t (Chain n) = slice_index_or t.1.chains n []
 
 -- the maximum number of cells in a list
-abbrev pub count_of : CellList → ℕ
-count_of Characters = 2048
-count_of StatusCharacters = 512
-count_of RamPorts = 32
-count_of RomPorts = 16
-count_of BankSrcs = 8
-count_of Registers = 16
-count_of Counters = 18
-count_of (Chain n) = 256
+abbrev pub max_cell_count : CellList → ℕ
+max_cell_count RamCharacters = 2048
+max_cell_count StatusCharacters = 512
+max_cell_count RamPorts = 32
+max_cell_count RomPorts = 16
+max_cell_count BankSrcBytes = 8
+max_cell_count Registers = 16
+max_cell_count Counters = 18
+max_cell_count (Chain n) = 256
 
 -- true if the board has the chip that contains cell i of a list. Every board has the processor.
-abbrev pub is_there : BoardParts → CellList → ℕ → Bool
-is_there b Characters i = nat_lt (i % 256 / 64) (slice_index b.banks (i / 256))
-is_there b StatusCharacters i = nat_lt (i % 64 / 16) (slice_index b.banks (i / 64))
-is_there b RamPorts i = nat_lt (i % 4) (slice_index b.banks (i / 4))
-is_there b RomPorts i = is_some (masks_on b i)
-is_there b BankSrcs i = nat_lt 0 (slice_index b.banks i)
-is_there b Registers i = true
-is_there b Counters i = true
-is_there b (Chain n) i = nat_lt i (chain_bits b n)
+abbrev pub board_has_cell : BoardParts → CellList → ℕ → Bool
+board_has_cell b RamCharacters i = nat_lt (i % 256 / 64) (slice_index b.banks (i / 256))
+board_has_cell b StatusCharacters i = nat_lt (i % 64 / 16) (slice_index b.banks (i / 64))
+board_has_cell b RamPorts i = nat_lt (i % 4) (slice_index b.banks (i / 4))
+board_has_cell b RomPorts i = is_some (rom_masks b i)
+board_has_cell b BankSrcBytes i = nat_lt 0 (slice_index b.banks i)
+board_has_cell b Registers i = true
+board_has_cell b Counters i = true
+board_has_cell b (Chain n) i = nat_lt i (chain_bits b n)
 
 -- the value of a cell; its index is reduced modulo the maximum number of cells in the list
-abbrev pub value_at : Tracked → Cell → ℕ
-value_at t c = slice_index (list_of t c.list) (c.index % count_of c.list)
+abbrev pub value_at : TrackedMachine → Cell → ℕ
+value_at t c = slice_index (values_in_list t c.list) (c.index % max_cell_count c.list)
 
 -- true if each cell of a list has a value below 16. One byte of a key then holds two of these cells.
 abbrev pub is_narrow : CellList → Bool
-is_narrow BankSrcs = false
+is_narrow BankSrcBytes = false
 is_narrow Counters = false
 is_narrow _ = true
 
 -- the first cell (below: the second cell) of pair h in a list, with h reduced modulo 1024
-abbrev pub first_of : CellList → ℕ → Cell
-first_of list h = record { list = list; index = 2 * (h % 1024) }
+abbrev pub first_cell_of : CellList → ℕ → Cell
+first_cell_of list h = record { list = list; index = 2 * (h % 1024) }
 
-abbrev pub second_of : CellList → ℕ → Cell
-second_of list h = record { list = list; index = 2 * (h % 1024) + 1 }
+abbrev pub second_cell_of : CellList → ℕ → Cell
+second_cell_of list h = record { list = list; index = 2 * (h % 1024) + 1 }
 
 -- the value of a key's byte. The first cell of a pair is the upper nibble.
-abbrev pub byte_at : Tracked → KeyByte → ℕ
-byte_at t (One c) = value_at t c
-byte_at t (Pair list h) = value_at t (first_of list h) % 16 * 16 + value_at t (second_of list h) % 16
+abbrev pub key_byte_value : TrackedMachine → KeyByte → ℕ
+key_byte_value t (One c) = value_at t c
+key_byte_value t (Pair list h) = value_at t (first_cell_of list h) % 16 * 16 + value_at t (second_cell_of list h) % 16
 
 -- a machine's key: the values of the bytes in a layout
-abbrev pub key_of : List KeyByte → Tracked → List ℕ
-key_of layout t = map (byte_at t) layout
+abbrev pub key_of : List KeyByte → TrackedMachine → List ℕ
+key_of layout t = map (key_byte_value t) layout
 
 -- the byte of a key that holds cell i of a list
-abbrev pub byte_of : CellList → ℕ → KeyByte
-byte_of list i = if is_narrow list then Pair list (i / 2) else One (record { list = list; index = i })
+abbrev pub key_byte_of : CellList → ℕ → KeyByte
+key_byte_of list i = if is_narrow list then Pair list (i / 2) else One (record { list = list; index = i })
 
 -- holds if `layout` contains every byte of the layout `others`
-abbrev pub HasAll : List KeyByte → List KeyByte → Type 0
-HasAll others layout = (c : KeyByte) → Contains others c → Contains layout c
+abbrev pub ContainsBytesOf : List KeyByte → List KeyByte → Type 0
+ContainsBytesOf others layout = (c : KeyByte) → Contains others c → Contains layout c
 
 -- holds if a layout contains every cell of a list that exists on the board
-abbrev pub HasList : BoardParts → List KeyByte → CellList → Type 0
-HasList b layout list =
-    (i : ℕ) → i < count_of list → is_there b list i ≡ true → Contains layout (byte_of list i)
+abbrev pub ContainsCellsOf : BoardParts → List KeyByte → CellList → Type 0
+ContainsCellsOf b layout list =
+    (i : ℕ) → i < max_cell_count list → board_has_cell b list i ≡ true → Contains layout (key_byte_of list i)
 
 -- holds if a layout contains every cell that exists on the board
 abbrev pub IsComplete : BoardParts → List KeyByte → Type 0
-IsComplete b layout = (list : CellList) → HasList b layout list
+IsComplete b layout = (list : CellList) → ContainsCellsOf b layout list

@@ -3,14 +3,14 @@
 use Rattle.std.specs.Prelude.{ℕ, ◌+◌, ◌*◌, ◌%◌, ◌==◌, List, [], ◌∷◌, Bool, true, false, ◌&&◌, ◌||◌, Option, Some, None, slice_index_or}
 use Rattle.mcs_model.specs.declared.op.Op.{Op}
 use Rattle.mcs_model.specs.declared.op.Op.TheVariants.{Fim, Src, Fin, Inc, Isz, Xch, Wrm, Wmp, Wrr, Wr0, Wr1, Wr2, Wr3}
-use Rattle.mcs_drive.specs.Tracked.{Tracked}
+use Rattle.mcs_drive.specs.TrackedMachine.{TrackedMachine}
 use Rattle.mcs_check.specs.declared.cells.CellList.{CellList}
 use Rattle.mcs_check.specs.declared.cells.CellList.TheVariants.{Registers, Counters}
 use Rattle.mcs_check.specs.declared.common_mistakes.Mistakes.{Mistakes}
 use Rattle.mcs_check.specs.declared.conditions.Condition.{Condition}
 use Rattle.mcs_check.specs.declared.conditions.Condition.TheVariants.{Compare, Mistaken}
 use Rattle.mcs_check.specs.declared.scope.Scope.{Scope}
-use Rattle.mcs_check.specs.Mistaken.{is_mistaken}
+use Rattle.mcs_check.specs.Mistaken.{cycle_makes_mistake}
 
 -- true if an index register is in a scope
 abbrev pub has_register : Scope → ℕ → Bool
@@ -26,17 +26,17 @@ has_cell c _ i = c.chips
 -- true if a scope covers everything that a condition depends on
 abbrev pub has_condition : Scope → Condition → Bool
 has_condition c (Compare x) = has_cell c x.cell.list x.cell.index
-has_condition c (Mistaken asked) = c.mistakes
+has_condition c (Mistaken kinds) = c.mistakes
 
 -- true if a scope covers everything that the conditions of a list depend on
-abbrev pub has_all : Scope → List Condition → Bool
-has_all c [] = true
-has_all c (x ∷ xs) = has_condition c x && has_all c xs
+abbrev pub has_all_conditions : Scope → List Condition → Bool
+has_all_conditions c [] = true
+has_all_conditions c (x ∷ xs) = has_condition c x && has_all_conditions c xs
 
 -- true if a scope covers everything that the conditions of several lists depend on
-abbrev pub has_each : Scope → List (List Condition) → Bool
-has_each c [] = true
-has_each c (xs ∷ nevers) = has_all c xs && has_each c nevers
+abbrev pub has_all_lists : Scope → List (List Condition) → Bool
+has_all_lists c [] = true
+has_all_lists c (xs ∷ never_lists) = has_all_conditions c xs && has_all_lists c never_lists
 
 -- true if an instruction may change a register or a chip in a scope
 abbrev pub changes : Scope → Op → Bool
@@ -64,15 +64,15 @@ cycle_changes c None = false
 -- all kinds of mistake
 abbrev pub all_mistakes : Mistakes
 all_mistakes = record {
-  no_code = true;
+  invalid_opcode = true;
   fourth_call = true;
-  lone_return = true;
+  unmatched_return = true;
   absent_ram = true;
   absent_rom = true;
-  no_inputs = true;
-  no_outputs = true;
+  port_without_inputs = true;
+  port_without_outputs = true;
 }
 
 -- true if a scope includes mistakes and the next cycle makes one
-abbrev pub errs : Scope → Tracked → Bool
-errs c s = c.mistakes && is_mistaken all_mistakes s
+abbrev pub makes_mistake_in_scope : Scope → TrackedMachine → Bool
+makes_mistake_in_scope c s = c.mistakes && cycle_makes_mistake all_mistakes s

@@ -1,7 +1,7 @@
 //! The cells of a machine, and a board's layout. The layout lists the bytes of a key, which together hold every cell
 //! of a machine on the board.
 ghost use Rattle.std.specs.Prelude.{◌≡◌, ◌<◌, ◌+◌, ◌*◌, ◌%◌, ◌||◌, true, false, IfOk, OnOk};
-ghost use Rattle.mcs_check.specs.Cells.{count_of, first_of, is_narrow, is_there, second_of, HasAll, HasList, IsComplete};
+ghost use Rattle.mcs_check.specs.Cells.{max_cell_count, first_cell_of, is_narrow, board_has_cell, second_cell_of, ContainsBytesOf, ContainsCellsOf, IsComplete};
 
 use mcs_model::board::{Board, Line};
 use mcs_model::limits::CHAINS;
@@ -11,7 +11,7 @@ use std::alloc::{AllocError, Global};
 #[derive(Clone, Copy, Debug)]
 pub enum CellList {
     /// The nibbles of RAM (Intel's "RAM characters"), indexed by bank * 256 + SRC byte.
-    Characters,
+    RamCharacters,
     /// The status characters, indexed by (bank * 16 + upper nibble of the SRC byte) * 4 + number of the character (0
     /// to 3).
     StatusCharacters,
@@ -20,7 +20,7 @@ pub enum CellList {
     /// The port latches of the ROMs, indexed by chip.
     RomPorts,
     /// The SRC byte that each RAM bank stores, indexed by bank.
-    BankSrcs,
+    BankSrcBytes,
     /// The index registers.
     Registers,
     /// All other registers (an address as two bytes), the SRC byte that the ROMs store, the number of open calls,
@@ -49,14 +49,14 @@ impl Default for Cell {
 impl CellList {
     /// Returns the maximum number of cells in the list.
     pub fn count(self) -> u16
-        ensures { result ≡ count_of self }
+        ensures { result ≡ max_cell_count self }
     {
         match self {
-            CellList::Characters => 2048,
+            CellList::RamCharacters => 2048,
             CellList::StatusCharacters => 512,
             CellList::RamPorts => 32,
             CellList::RomPorts => 16,
-            CellList::BankSrcs => 8,
+            CellList::BankSrcBytes => 8,
             CellList::Registers => 16,
             CellList::Counters => 18,
             CellList::Chain(_) => 256,
@@ -68,7 +68,7 @@ impl CellList {
         ensures { result ≡ is_narrow self }
     {
         match self {
-            CellList::BankSrcs | CellList::Counters => false,
+            CellList::BankSrcBytes | CellList::Counters => false,
             _ => true,
         }
     }
@@ -91,8 +91,8 @@ impl Default for KeyByte {
 }
 
 /// Returns the first cell of pair `pair` in a list, with `pair` reduced modulo 1024.
-pub(crate) fn first_of(list: CellList, pair: u16) -> Cell
-    ensures { result ≡ first_of list pair }
+pub(crate) fn first_cell_of(list: CellList, pair: u16) -> Cell
+    ensures { result ≡ first_cell_of list pair }
 {
     Cell {
         list,
@@ -101,8 +101,8 @@ pub(crate) fn first_of(list: CellList, pair: u16) -> Cell
 }
 
 /// Returns the second cell of pair `pair` in a list, with `pair` reduced modulo 1024.
-pub(crate) fn second_of(list: CellList, pair: u16) -> Cell
-    ensures { result ≡ second_of list pair }
+pub(crate) fn second_cell_of(list: CellList, pair: u16) -> Cell
+    ensures { result ≡ second_cell_of list pair }
 {
     Cell {
         list,
@@ -112,45 +112,45 @@ pub(crate) fn second_of(list: CellList, pair: u16) -> Cell
 
 impl Cell {
     /// Returns the cell's index, reduced modulo the maximum number of cells in its list.
-    pub(crate) fn place(self) -> u16
-        ensures { result ≡ self.index % count_of self.list }
+    pub(crate) fn reduced_index(self) -> u16
+        ensures { result ≡ self.index % max_cell_count self.list }
     {
         self.index % self.list.count()
     }
 }
 
 /// Returns whether a board has the chip that contains cell `i` of a list. Registers and counters are always present.
-fn is_there(board: &Board, list: CellList, i: u16) -> bool
-    requires { i < count_of list }
-    ensures { result ≡ is_there board.now list i }
+fn board_has_cell(board: &Board, list: CellList, i: u16) -> bool
+    requires { i < max_cell_count list }
+    ensures { result ≡ board_has_cell board.now list i }
 {
     match list {
-        CellList::Characters => ((i % 256 / 64) as u8) < board.bank_chips((i / 256) as u8),
+        CellList::RamCharacters => ((i % 256 / 64) as u8) < board.bank_chips((i / 256) as u8),
         CellList::StatusCharacters => ((i % 64 / 16) as u8) < board.bank_chips((i / 64) as u8),
         CellList::RamPorts => ((i % 4) as u8) < board.bank_chips((i / 4) as u8),
         CellList::RomPorts => board.mask(i as u8).is_some(),
-        CellList::BankSrcs => 0 < board.bank_chips(i as u8),
+        CellList::BankSrcBytes => 0 < board.bank_chips(i as u8),
         CellList::Registers | CellList::Counters => true,
         CellList::Chain(n) => board.has_line(Line::Chain(n, i as u8)),
     }
 }
 
 /// Returns whether at least one of the two cells of a pair exists on a board.
-fn is_pair_there(board: &Board, list: CellList, pair: u16) -> bool
-    requires { 2 * pair + 1 < count_of list }
-    ensures { result ≡ (is_there board.now list (2 * pair) || is_there board.now list (2 * pair + 1)) }
+fn board_has_pair(board: &Board, list: CellList, pair: u16) -> bool
+    requires { 2 * pair + 1 < max_cell_count list }
+    ensures { result ≡ (board_has_cell board.now list (2 * pair) || board_has_cell board.now list (2 * pair + 1)) }
 {
-    is_there(board, list, 2 * pair) || is_there(board, list, 2 * pair + 1)
+    board_has_cell(board, list, 2 * pair) || board_has_cell(board, list, 2 * pair + 1)
 }
 
 /// Appends to the layout every cell of a list that exists on the board, one cell per byte. Fails if memory runs out.
 fn add_cells(layout: &mut Vec<KeyByte>, board: &Board, list: CellList) -> Result<(), AllocError>
     requires { is_narrow list ≡ false }
-    ensures keeps { OnOk result (HasAll layout.old.items layout.new.items) }
-    ensures has { OnOk result (HasList board.now layout.new.items list) }
+    ensures keeps { OnOk result (ContainsBytesOf layout.old.items layout.new.items) }
+    ensures has { OnOk result (ContainsCellsOf board.now layout.new.items list) }
 {
     for index in 0..list.count() {
-        if is_there(board, list, index) {
+        if board_has_cell(board, list, index) {
             layout.push(KeyByte::One(Cell { list, index }))?;
         }
     }
@@ -160,11 +160,11 @@ fn add_cells(layout: &mut Vec<KeyByte>, board: &Board, list: CellList) -> Result
 /// Appends to the layout every cell of a list that exists on the board, two cells per byte. Fails if memory runs out.
 fn add_pairs(layout: &mut Vec<KeyByte>, board: &Board, list: CellList) -> Result<(), AllocError>
     requires { is_narrow list ≡ true }
-    ensures keeps { OnOk result (HasAll layout.old.items layout.new.items) }
-    ensures has { OnOk result (HasList board.now layout.new.items list) }
+    ensures keeps { OnOk result (ContainsBytesOf layout.old.items layout.new.items) }
+    ensures has { OnOk result (ContainsCellsOf board.now layout.new.items list) }
 {
     for pair in 0..list.count() / 2 {
-        if is_pair_there(board, list, pair) {
+        if board_has_pair(board, list, pair) {
             layout.push(KeyByte::Pair(list, pair))?;
         }
     }
@@ -173,8 +173,8 @@ fn add_pairs(layout: &mut Vec<KeyByte>, board: &Board, list: CellList) -> Result
 
 /// Appends to the layout every cell of a list that exists on the board. Fails if memory runs out.
 fn add_list(layout: &mut Vec<KeyByte>, board: &Board, list: CellList) -> Result<(), AllocError>
-    ensures keeps { OnOk result (HasAll layout.old.items layout.new.items) }
-    ensures has { OnOk result (HasList board.now layout.new.items list) }
+    ensures keeps { OnOk result (ContainsBytesOf layout.old.items layout.new.items) }
+    ensures has { OnOk result (ContainsCellsOf board.now layout.new.items list) }
 {
     if list.is_narrow() {
         add_pairs(layout, board, list)?;
@@ -196,10 +196,10 @@ pub fn layout_of(alloc: Global, board: &Board) -> Result<Vec<KeyByte>, AllocErro
     }
     add_list(&mut layout, board, CellList::Counters)?;
     add_list(&mut layout, board, CellList::Registers)?;
-    add_list(&mut layout, board, CellList::BankSrcs)?;
+    add_list(&mut layout, board, CellList::BankSrcBytes)?;
     add_list(&mut layout, board, CellList::RomPorts)?;
     add_list(&mut layout, board, CellList::RamPorts)?;
     add_list(&mut layout, board, CellList::StatusCharacters)?;
-    add_list(&mut layout, board, CellList::Characters)?;
+    add_list(&mut layout, board, CellList::RamCharacters)?;
     Ok(layout)
 }

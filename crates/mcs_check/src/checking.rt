@@ -1,14 +1,14 @@
 //! Checks that a machine never meets given conditions, for all levels of its keys and its TEST pin.
 ghost use Rattle.std.specs.Prelude.{◌≤◌, IfOk};
-ghost use Rattle.mcs_search.specs.declared.searching.TheConstants.{MOST};
-ghost use Rattle.mcs_check.specs.Conditions.{keeps_to, observer_in};
-ghost use Rattle.mcs_check.specs.Promised.{IsProved};
+ghost use Rattle.mcs_search.specs.declared.searching.TheConstants.{MAX_STATES};
+ghost use Rattle.mcs_check.specs.Conditions.{meets_none, observer_of_property};
+ghost use Rattle.mcs_check.specs.OutcomeMeaning.{IsProved};
 
-use crate::aim::Aim;
 use crate::cells::layout_of;
-use crate::replica::Replica;
-use crate::walker::Walker;
-use mcs_search::{MOST, Verdict, search_all};
+use crate::machine_search::MachineSearch;
+use crate::property::Property;
+use crate::replica::SearchMachine;
+use mcs_search::{MAX_STATES, Verdict, search_all};
 use std::alloc::{AllocError, Global};
 
 /// The result of a search through all inputs.
@@ -31,7 +31,7 @@ pub enum Outcome {
 const STATE_BYTES: usize = 24;
 
 /// Returns the number of states with keys of `key_len` bytes that fit into `memory` bytes.
-fn room_in(memory: usize, key_len: usize) -> usize {
+fn states_that_fit(memory: usize, key_len: usize) -> usize {
     memory / key_len.saturating_add(STATE_BYTES)
 }
 
@@ -40,33 +40,33 @@ fn room_in(memory: usize, key_len: usize) -> usize {
 /// reads into steps of `pause` cycles. Fails if memory for the layout or for the first state cannot be allocated.
 pub fn check_all(
     alloc: Global,
-    mut replica: Replica,
-    aim: Aim,
+    mut replica: SearchMachine,
+    property: Property,
     most: usize,
     memory: usize,
     pause: u32,
 ) -> Result<Outcome, AllocError>
-    requires { most ≤ MOST }
-    ensures { IfOk result (IsProved (observer_in aim) (keeps_to aim.nevers) replica) }
+    requires { most ≤ MAX_STATES }
+    ensures { IfOk result (IsProved (observer_of_property property) (meets_none property.never_lists) replica) }
 {
-    replica.hold();
+    replica.press_all_keys();
     let layout = layout_of(alloc, replica.board())?;
     let mut key = vec![in alloc; 0u8; layout.len()]?;
     replica.save(&layout, &mut key);
     let last = vec![in alloc; 0u8; layout.len()]?;
     replica.show_state_is_valid();
-    if !aim.keeps(&replica) {
+    if !property.keeps(&replica) {
         return Ok(Outcome::MayFail(Vec::new(alloc)));
     }
-    let mut walker = Walker {
+    let mut machine_search = MachineSearch {
         replica,
         layout,
         last,
-        aim,
+        property,
         most: pause,
     };
-    let limit = most.min(room_in(memory, key.len()));
-    match search_all(alloc, &mut walker, &key, limit)? {
+    let limit = most.min(states_that_fit(memory, key.len()));
+    match search_all(alloc, &mut machine_search, &key, limit)? {
         Verdict::Holds(states) => Ok(Outcome::Holds(states)),
         Verdict::Broken(values) => Ok(Outcome::MayFail(values)),
         Verdict::TooMany if limit < most => Ok(Outcome::NoMemory(limit)),

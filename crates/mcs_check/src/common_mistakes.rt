@@ -1,9 +1,9 @@
 //! Common programming mistakes, detected in the cycle that begins an instruction.
 ghost use Rattle.std.specs.Prelude.{◌≡◌};
 ghost use Rattle.mcs_model.specs.Command.{lacks_rom};
-ghost use Rattle.mcs_check.specs.Mistaken.{errs_in_calls, errs_in_chips, errs_in_lines, has_input, has_output, is_fourth_call, is_lone_return, is_mistaken, is_rdr, is_wrr, lacks_ram, lacks_word, last_read, makes, uses_ram};
+ghost use Rattle.mcs_check.specs.Mistaken.{makes_call_mistake, makes_chip_mistake, makes_port_mistake, has_input, has_output, is_fourth_call, is_unmatched_return, cycle_makes_mistake, is_rdr, is_wrr, lacks_selected_ram, reads_absent_rom, last_address_read, op_makes_mistake, uses_ram};
 
-use crate::replica::Replica;
+use crate::replica::SearchMachine;
 use mcs_model::board::Board;
 use mcs_model::op::Op;
 use mcs_model::regs::Regs;
@@ -13,42 +13,42 @@ use mcs_nibble::{Addr, PairNo};
 #[derive(Clone, Copy, Debug)]
 pub struct Mistakes {
     /// An opcode outside the instruction table.
-    pub no_code: bool,
+    pub invalid_opcode: bool,
     /// A fourth nested call.
     pub fourth_call: bool,
     /// A BBL while no call is open.
-    pub lone_return: bool,
+    pub unmatched_return: bool,
     /// A read or write of an absent RAM chip.
     pub absent_ram: bool,
     /// A read of a word from an absent ROM.
     pub absent_rom: bool,
     /// An RDR from a port without input lines.
-    pub no_inputs: bool,
+    pub port_without_inputs: bool,
     /// A WRR to a port without output lines.
-    pub no_outputs: bool,
+    pub port_without_outputs: bool,
 }
 
 impl Mistakes {
     /// No kind of mistake.
     pub const NONE: Mistakes = Mistakes {
-        no_code: false,
+        invalid_opcode: false,
         fourth_call: false,
-        lone_return: false,
+        unmatched_return: false,
         absent_ram: false,
         absent_rom: false,
-        no_inputs: false,
-        no_outputs: false,
+        port_without_inputs: false,
+        port_without_outputs: false,
     };
 
     /// All kinds of mistake.
     pub(crate) const ALL: Mistakes = Mistakes {
-        no_code: true,
+        invalid_opcode: true,
         fourth_call: true,
-        lone_return: true,
+        unmatched_return: true,
         absent_ram: true,
         absent_rom: true,
-        no_inputs: true,
-        no_outputs: true,
+        port_without_inputs: true,
+        port_without_outputs: true,
     };
 }
 
@@ -63,8 +63,8 @@ fn is_fourth_call(op: &Op, calls: u8) -> bool
 }
 
 /// Returns whether an instruction is a BBL while no call is open.
-fn is_lone_return(op: &Op, calls: u8) -> bool
-    ensures { result ≡ is_lone_return op.now calls }
+fn is_unmatched_return(op: &Op, calls: u8) -> bool
+    ensures { result ≡ is_unmatched_return op.now calls }
 {
     match op {
         Op::Bbl(_) => calls == 0,
@@ -84,8 +84,8 @@ fn uses_ram(op: &Op) -> bool
 }
 
 /// Returns the address of the last word that an instruction reads from ROM.
-fn last_read(op: &Op, regs: &Regs) -> Addr
-    ensures { result ≡ last_read op.now regs.now }
+fn last_address_read(op: &Op, regs: &Regs) -> Addr
+    ensures { result ≡ last_address_read op.now regs.now }
 {
     let next = regs.pc.plus(1);
     match op {
@@ -107,10 +107,10 @@ fn lacks_rom(board: &Board, at: Addr) -> bool
 }
 
 /// Returns whether an instruction reads a word from a ROM that the board does not have.
-fn lacks_word(op: &Op, regs: &Regs, board: &Board) -> bool
-    ensures { result ≡ lacks_word op.now regs.now board.now }
+fn reads_absent_rom(op: &Op, regs: &Regs, board: &Board) -> bool
+    ensures { result ≡ reads_absent_rom op.now regs.now board.now }
 {
-    lacks_rom(board, regs.pc) || lacks_rom(board, last_read(op, regs))
+    lacks_rom(board, regs.pc) || lacks_rom(board, last_address_read(op, regs))
 }
 
 /// Returns whether a ROM's port has an input line.
@@ -154,65 +154,65 @@ fn is_wrr(op: &Op) -> bool
     }
 }
 
-impl Replica {
+impl SearchMachine {
     /// Returns whether the selected RAM chip is absent from the board.
-    fn lacks_ram(&self) -> bool
-        ensures { result ≡ lacks_ram self.now.0 self.now.1 }
+    fn lacks_selected_ram(&self) -> bool
+        ensures { result ≡ lacks_selected_ram self.now.0 self.now.1 }
     {
         let bank = self.cpu.regs().dcl;
         let has_chip = self.rig.ram_src(bank) / 64 < self.rig.board().bank_chips(bank);
         !has_chip
     }
 
-    /// Returns whether an instruction makes a call mistake that `asked` includes: a fourth nested call, or a BBL
+    /// Returns whether an instruction makes a call mistake that `kinds` includes: a fourth nested call, or a BBL
     /// while no call is open.
-    fn errs_in_calls(&self, asked: &Mistakes, op: &Op) -> bool
-        ensures { result ≡ errs_in_calls asked.now op.now self.now }
+    fn makes_call_mistake(&self, kinds: &Mistakes, op: &Op) -> bool
+        ensures { result ≡ makes_call_mistake kinds.now op.now self.now }
     {
-        asked.fourth_call && is_fourth_call(op, self.calls)
-            || asked.lone_return && is_lone_return(op, self.calls)
+        kinds.fourth_call && is_fourth_call(op, self.calls)
+            || kinds.unmatched_return && is_unmatched_return(op, self.calls)
     }
 
-    /// Returns whether an instruction makes a chip mistake that `asked` includes: it uses an absent RAM chip or an
+    /// Returns whether an instruction makes a chip mistake that `kinds` includes: it uses an absent RAM chip or an
     /// absent ROM.
-    fn errs_in_chips(&self, asked: &Mistakes, op: &Op) -> bool
-        ensures { result ≡ errs_in_chips asked.now op.now self.now }
+    fn makes_chip_mistake(&self, kinds: &Mistakes, op: &Op) -> bool
+        ensures { result ≡ makes_chip_mistake kinds.now op.now self.now }
     {
-        asked.absent_ram && uses_ram(op) && self.lacks_ram()
-            || asked.absent_rom && lacks_word(op, &self.cpu.regs(), self.rig.board())
+        kinds.absent_ram && uses_ram(op) && self.lacks_selected_ram()
+            || kinds.absent_rom && reads_absent_rom(op, &self.cpu.regs(), self.rig.board())
     }
 
-    /// Returns whether an instruction makes a port mistake that `asked` includes: an RDR without input lines, or a
+    /// Returns whether an instruction makes a port mistake that `kinds` includes: an RDR without input lines, or a
     /// WRR without output lines.
-    fn errs_in_lines(&self, asked: &Mistakes, op: &Op) -> bool
-        ensures { result ≡ errs_in_lines asked.now op.now self.now }
+    fn makes_port_mistake(&self, kinds: &Mistakes, op: &Op) -> bool
+        ensures { result ≡ makes_port_mistake kinds.now op.now self.now }
     {
         let board = self.rig.board();
         let chip = self.rig.rom_src() / 16;
-        asked.no_inputs && is_rdr(op) && !has_input(board, chip)
-            || asked.no_outputs && is_wrr(op) && !has_output(board, chip)
+        kinds.port_without_inputs && is_rdr(op) && !has_input(board, chip)
+            || kinds.port_without_outputs && is_wrr(op) && !has_output(board, chip)
     }
 
-    /// Returns whether an instruction makes a mistake that `asked` includes.
-    pub(crate) fn makes(&self, asked: &Mistakes, op: &Op) -> bool
-        ensures { result ≡ makes asked.now op.now self.now }
+    /// Returns whether an instruction makes a mistake that `kinds` includes.
+    pub(crate) fn op_makes_mistake(&self, kinds: &Mistakes, op: &Op) -> bool
+        ensures { result ≡ op_makes_mistake kinds.now op.now self.now }
     {
-        self.errs_in_calls(asked, op)
-            || self.errs_in_chips(asked, op)
-            || self.errs_in_lines(asked, op)
+        self.makes_call_mistake(kinds, op)
+            || self.makes_chip_mistake(kinds, op)
+            || self.makes_port_mistake(kinds, op)
     }
 
-    /// Returns whether the next cycle makes a mistake that `asked` includes.
-    pub fn is_mistaken(&self, asked: &Mistakes) -> bool
-        ensures { result ≡ is_mistaken asked.now self.now }
+    /// Returns whether the next cycle makes a mistake that `kinds` includes.
+    pub fn cycle_makes_mistake(&self, kinds: &Mistakes) -> bool
+        ensures { result ≡ cycle_makes_mistake kinds.now self.now }
     {
         let regs = self.cpu.regs();
         if regs.owed == 1 {
             return false;
         }
         match mcs_board::instruction(&self.cpu, &self.rig, regs.pc) {
-            Some(op) => self.makes(asked, &op),
-            None => asked.no_code,
+            Some(op) => self.op_makes_mistake(kinds, &op),
+            None => kinds.invalid_opcode,
         }
     }
 }

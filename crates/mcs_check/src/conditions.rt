@@ -1,10 +1,10 @@
 //! Conditions on the state of a machine at one moment.
 ghost use Rattle.std.specs.Prelude.{◌≡◌};
-ghost use Rattle.mcs_check.specs.Conditions.{are_met, compares, is_inside, is_met, keeps_to, part_of};
+ghost use Rattle.mcs_check.specs.Conditions.{are_met, comparison_is_met, is_inside, is_met, meets_none, part_of};
 
 use crate::cells::Cell;
 use crate::common_mistakes::Mistakes;
-use crate::replica::Replica;
+use crate::replica::SearchMachine;
 use mcs_nibble::Nibble;
 use std::marker::Model;
 
@@ -51,7 +51,7 @@ fn part_of(n: u8, part: Part) -> u8
 }
 
 /// Returns whether the compared part of the cell's value is in `low..=high`.
-fn is_inside(replica: &Replica, comparison: &Comparison) -> bool
+fn is_inside(replica: &SearchMachine, comparison: &Comparison) -> bool
     ensures { result ≡ is_inside replica.now comparison.now }
 {
     let n = part_of(replica.value(comparison.cell), comparison.part);
@@ -59,8 +59,8 @@ fn is_inside(replica: &Replica, comparison: &Comparison) -> bool
 }
 
 /// Returns whether a comparison is met.
-fn compares(replica: &Replica, comparison: &Comparison) -> bool
-    ensures { result ≡ compares replica.now comparison.now }
+fn comparison_is_met(replica: &SearchMachine, comparison: &Comparison) -> bool
+    ensures { result ≡ comparison_is_met replica.now comparison.now }
 {
     let is_inside = is_inside(replica, comparison);
     if comparison.inside {
@@ -86,17 +86,17 @@ impl Default for Condition {
 }
 
 /// Returns whether a condition is met.
-fn is_met(replica: &Replica, condition: &Condition) -> bool
+fn is_met(replica: &SearchMachine, condition: &Condition) -> bool
     ensures { result ≡ is_met replica.now condition.now }
 {
     match condition {
-        Condition::Compare(comparison) => compares(replica, comparison),
-        Condition::Mistaken(asked) => replica.is_mistaken(asked),
+        Condition::Compare(comparison) => comparison_is_met(replica, comparison),
+        Condition::Mistaken(kinds) => replica.cycle_makes_mistake(kinds),
     }
 }
 
 /// Returns whether all conditions are met.
-fn are_met(replica: &Replica, conditions: &[Condition]) -> bool
+fn are_met(replica: &SearchMachine, conditions: &[Condition]) -> bool
     ensures { result ≡ are_met replica.now conditions.now }
 {
     for i in 0..conditions.len() {
@@ -138,7 +138,7 @@ impl Conjunction {
     }
 
     /// Returns whether all conditions are met.
-    fn is_met(&self, replica: &Replica) -> bool
+    fn is_met(&self, replica: &SearchMachine) -> bool
         ensures { result ≡ are_met replica.now self.now }
     {
         are_met(replica, &self.conditions)
@@ -146,11 +146,11 @@ impl Conjunction {
 }
 
 /// Returns whether none of the conjunctions is met.
-pub fn keeps_to(replica: &Replica, nevers: &[Conjunction]) -> bool
-    ensures { result ≡ keeps_to nevers.now replica.now }
+pub fn meets_none(replica: &SearchMachine, never_lists: &[Conjunction]) -> bool
+    ensures { result ≡ meets_none never_lists.now replica.now }
 {
-    for i in 0..nevers.len() {
-        if nevers[i].is_met(replica) {
+    for i in 0..never_lists.len() {
+        if never_lists[i].is_met(replica) {
             return false;
         }
     }

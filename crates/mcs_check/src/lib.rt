@@ -1,37 +1,37 @@
 //! Checks properties of a machine for all inputs, by a search over keys.
 //!
-//! A key is a list of bytes that identifies one machine of a board. `Replica` loads a machine from a key, saves it
+//! A key is a list of bytes that identifies one machine of a board. `SearchMachine` loads a machine from a key, saves it
 //! into a key, and runs it from one read of an input to the next. Contracts see a replica as a machine of `mcs_model`
 //! with three counts: its open calls, the cycles on a stopwatch, and the number of marks seen.
 #![tactic(auto)]
 
-mod aim;
 mod cells;
 mod checking;
 mod common_mistakes;
 mod conditions;
-mod holding;
 mod laws;
+mod machine_search;
+mod mark_detection;
 mod marks;
 mod packing;
+mod pressing;
+mod property;
+mod read_point;
 mod reading;
 mod replica;
 mod scope;
-mod seeing;
-mod station;
+mod search_step;
 mod stopwatch;
-mod walker;
-mod walking;
 
-pub use aim::Aim;
 pub use cells::{Cell, CellList, KeyByte, layout_of};
 pub use checking::{Outcome, check_all};
 pub use common_mistakes::Mistakes;
-pub use conditions::{Comparison, Condition, Conjunction, Part, keeps_to};
-pub use laws::agreeing_same;
-pub use marks::{Marks, add_opening};
+pub use conditions::{Comparison, Condition, Conjunction, Part, meets_none};
+pub use laws::agreeing_buses_are_equal;
+pub use marks::{Marks, add_mark_requirement};
 pub use mcs_drive::Mark;
-pub use packing::keys_decide;
-pub use reading::Source;
-pub use replica::Replica;
-pub use stopwatch::{Cycles, add_limit};
+pub use packing::keys_determine_machines;
+pub use property::Property;
+pub use reading::InputSource;
+pub use replica::SearchMachine;
+pub use stopwatch::{StopwatchCycles, add_limit};

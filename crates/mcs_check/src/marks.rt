@@ -1,7 +1,7 @@
 //! The marks that a run must see, and the requirement that it sees all of them before it meets some conjunctions.
 ghost use Rattle.std.specs.Prelude.{◌≡◌, ◌<◌, ◌≤◌, ◌&&◌, ◌↔◌, [], ◌∷◌, ◌++◌, length, nat_lt, not, slice_get, true, IsSome, IfSome, IfOk, OnOk};
-ghost use Rattle.mcs_drive.specs.Tracked.{Tracked};
-ghost use Rattle.mcs_check.specs.Conditions.{keeps_to, sees_fewer};
+ghost use Rattle.mcs_drive.specs.TrackedMachine.{TrackedMachine};
+ghost use Rattle.mcs_check.specs.Conditions.{meets_none, fewer_marks_seen};
 ghost use Rattle.mcs_check.specs.declared.conditions.Condition.TheVariants.{Compare};
 
 use crate::cells::{Cell, CellList};
@@ -11,7 +11,7 @@ use std::alloc::{AllocError, Global};
 use std::marker::Model;
 
 /// The maximum number of marks.
-const MOST: usize = 200;
+const MAX_MARKS: usize = 200;
 
 /// A list of at most 200 marks, which a run must see in this order. Contracts see the list.
 #[derive(Drop)]
@@ -45,7 +45,7 @@ impl Marks {
         ensures in_range { IsSome result ↔ (length marks.items ≤ 200) }
         ensures value { IfSome result (λ m. m ≡ marks.items) }
     {
-        if marks.len() <= MOST {
+        if marks.len() <= MAX_MARKS {
             Some(Marks { marks })
         } else {
             None
@@ -81,9 +81,9 @@ impl Marks {
 }
 
 /// Returns the condition that the count of marks seen is less than `count`, which must be above 0.
-fn sees_fewer(count: u8) -> Condition
+fn fewer_marks_seen(count: u8) -> Condition
     requires { 0 < count }
-    ensures { result ≡ Compare (sees_fewer count) }
+    ensures { result ≡ Compare (fewer_marks_seen count) }
 {
     Condition::Compare(Comparison {
         cell: Cell {
@@ -110,23 +110,23 @@ fn with_condition(
     Ok(Conjunction::of(all))
 }
 
-/// Appends conjunctions to `nevers` that are met if a conjunction in `opens` is met before all marks were seen. Fails
+/// Appends conjunctions to `never_lists` that are met if a conjunction in `opens` is met before all marks were seen. Fails
 /// if memory runs out.
-pub fn add_opening(
+pub fn add_mark_requirement(
     alloc: Global,
-    nevers: &mut Vec<Conjunction>,
+    never_lists: &mut Vec<Conjunction>,
     opens: &[Conjunction],
     marks: &Marks,
 ) -> Result<(), AllocError>
-    ensures { OnOk result ((s : Tracked) → keeps_to nevers.new.items s
-        ≡ (keeps_to nevers.old.items s && not (not (keeps_to opens.now s) && nat_lt s.2.seen (length marks.now)))) }
+    ensures { OnOk result ((s : TrackedMachine) → meets_none never_lists.new.items s
+        ≡ (meets_none never_lists.old.items s && not (not (meets_none opens.now s) && nat_lt s.2.seen (length marks.now)))) }
 {
     let count = marks.count();
     if count == 0 {
         return Ok(());
     }
     for i in 0..opens.len() {
-        nevers.push(with_condition(alloc, opens[i].conditions(), sees_fewer(count))?)?;
+        never_lists.push(with_condition(alloc, opens[i].conditions(), fewer_marks_seen(count))?)?;
     }
     Ok(())
 }

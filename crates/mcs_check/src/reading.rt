@@ -1,14 +1,14 @@
 //! The input that a machine's next cycle reads.
 ghost use Rattle.std.specs.Prelude.{◌≡◌};
-ghost use Rattle.mcs_check.specs.Stations.{OpReads};
+ghost use Rattle.mcs_check.specs.ReadPoints.{OpReads};
 
 use mcs_model::op::Op;
 
 /// The input that an instruction cycle reads.
 #[derive(Clone, Copy, Debug, PartialEq, Eq)]
-pub enum Source {
+pub enum InputSource {
     /// No input.
-    Nothing,
+    NoInput,
     /// The port of the selected ROM, read by RDR.
     Port,
     /// The TEST pin, read by JCN.
@@ -16,18 +16,18 @@ pub enum Source {
 }
 
 /// Returns the input that an instruction reads.
-pub(crate) fn source_of(op: Op) -> Source
+pub(crate) fn input_source_of(op: Op) -> InputSource
     ensures { OpReads op result }
 {
     match op {
-        Op::Rdr => Source::Port,
+        Op::Rdr => InputSource::Port,
         Op::Jcn(condition, _) => {
             if condition.get() % 2 == 1 {
-                Source::Test
+                InputSource::Test
             } else {
-                Source::Nothing
+                InputSource::NoInput
             }
         }
-        _ => Source::Nothing,
+        _ => InputSource::NoInput,
     }
 }

@@ -1,14 +1,14 @@
 //! A processor on a rig, whose cells are loaded from a key and saved into a key.
 ghost use Rattle.std.specs.Prelude.{◌≡◌, ◌<◌, All, length, slice_index, IsTrue};
 ghost use Rattle.mcs_model.specs.Validity.{IsValidBus, IsValidRegs};
-ghost use Rattle.mcs_drive.specs.Tracked.{without_calls};
-ghost use Rattle.mcs_check.specs.declared.cells.CellList.TheVariants.{Characters, Counters};
+ghost use Rattle.mcs_drive.specs.TrackedMachine.{with_zero_counts};
+ghost use Rattle.mcs_check.specs.declared.cells.CellList.TheVariants.{RamCharacters, Counters};
 ghost use Rattle.mcs_check.specs.declared.cells.KeyByte.TheVariants.{Pair};
-ghost use Rattle.mcs_check.specs.Cells.{byte_at, list_of, value_at, key_of};
-ghost use Rattle.mcs_check.specs.Keys.{Keeps};
+ghost use Rattle.mcs_check.specs.Cells.{key_byte_value, values_in_list, value_at, key_of};
+ghost use Rattle.mcs_check.specs.Keys.{KeepsBoardAndInputs};
 
-use crate::cells::{Cell, CellList, KeyByte, first_of, second_of};
-use crate::stopwatch::Cycles;
+use crate::cells::{Cell, CellList, KeyByte, first_cell_of, second_cell_of};
+use crate::stopwatch::StopwatchCycles;
 use mcs_board::BenchRig;
 use mcs_cpu4004::Cpu;
 use mcs_model::board::Board;
@@ -19,18 +19,18 @@ use std::marker::Model;
 /// A processor on a rig, with the number of open calls, the cycles on a stopwatch and the number of marks seen.
 /// Contracts see a machine with its counts.
 #[derive(Drop)]
-pub struct Replica {
+pub struct SearchMachine {
     pub(crate) cpu: Cpu,
     pub(crate) rig: BenchRig,
     pub(crate) calls: u8,
-    pub(crate) elapsed: Cycles,
+    pub(crate) elapsed: StopwatchCycles,
     pub(crate) seen: u8,
 }
 
-impl Model for Replica {
-    ghost use Rattle.mcs_drive.specs.Tracked.{Tracked};
+impl Model for SearchMachine {
+    ghost use Rattle.mcs_drive.specs.TrackedMachine.{TrackedMachine};
 
-    ghost Value = { Tracked };
+    ghost Value = { TrackedMachine };
 
     ghost view = { λ r. (r.cpu, r.rig, record { calls = r.calls; elapsed = r.elapsed; seen = r.seen }) };
 }
@@ -89,16 +89,16 @@ fn registers_are_valid(cpu: &Cpu)
     are_addresses(&regs.ret);
 }
 
-impl Replica {
+impl SearchMachine {
     /// Creates a replica from a processor and a rig, with no open calls, the stopwatch at 0 and no marks seen.
-    pub fn of(cpu: Cpu, rig: BenchRig) -> Replica
-        ensures { result ≡ without_calls (cpu, rig) }
+    pub fn of(cpu: Cpu, rig: BenchRig) -> SearchMachine
+        ensures { result ≡ with_zero_counts (cpu, rig) }
     {
-        Replica {
+        SearchMachine {
             cpu,
             rig,
             calls: 0,
-            elapsed: Cycles::ZERO,
+            elapsed: StopwatchCycles::ZERO,
             seen: 0,
         }
     }
@@ -113,7 +113,7 @@ impl Replica {
     /// Returns cell `i` of the list `Counters`.
     fn counter_at(&self, i: u16) -> u8
         requires { i < 18 }
-        ensures { result ≡ slice_index (list_of self.now Counters) i }
+        ensures { result ≡ slice_index (values_in_list self.now Counters) i }
     {
         let regs = self.cpu.regs();
         let [first, second, third] = regs.ret;
@@ -146,41 +146,43 @@ impl Replica {
         ensures { result ≡ value_at self.now cell }
     {
         match cell.list {
-            CellList::Characters => {
-                let i = cell.place();
+            CellList::RamCharacters => {
+                let i = cell.reduced_index();
                 self.rig.ram((i / 256) as u8, (i % 256) as u8).get()
             }
             CellList::StatusCharacters => {
-                let i = cell.place();
+                let i = cell.reduced_index();
                 let high = Nibble::low_of((i / 4 % 16) as u8);
                 self.rig.status((i / 64) as u8, high, (i % 4) as u8).get()
             }
             CellList::RamPorts => {
-                let i = cell.place();
+                let i = cell.reduced_index();
                 self.rig.ram_latch((i / 4) as u8, (i % 4) as u8).get()
             }
-            CellList::RomPorts => self.rig.rom_latch(cell.place() as u8).get(),
-            CellList::BankSrcs => self.rig.ram_src(cell.place() as u8),
-            CellList::Registers => self.cpu.index_registers()[usize::from(cell.place())].get(),
-            CellList::Counters => self.counter_at(cell.place()),
-            CellList::Chain(n) => self.rig.chain_bit(n, cell.place() as u8).get(),
+            CellList::RomPorts => self.rig.rom_latch(cell.reduced_index() as u8).get(),
+            CellList::BankSrcBytes => self.rig.ram_src(cell.reduced_index() as u8),
+            CellList::Registers => self.cpu.index_registers()[usize::from(
+                cell.reduced_index(),
+            )].get(),
+            CellList::Counters => self.counter_at(cell.reduced_index()),
+            CellList::Chain(n) => self.rig.chain_bit(n, cell.reduced_index() as u8).get(),
         }
     }
 
     /// Returns the byte of a key that holds both cells of a pair.
     #[inline(always)]
     fn join_cells(&self, list: CellList, pair: u16) -> u8
-        ensures { result ≡ byte_at self.now (Pair list pair) }
+        ensures { result ≡ key_byte_value self.now (Pair list pair) }
     {
-        let first = self.value(first_of(list, pair)) % 16;
-        let second = self.value(second_of(list, pair)) % 16;
+        let first = self.value(first_cell_of(list, pair)) % 16;
+        let second = self.value(second_cell_of(list, pair)) % 16;
         first * 16 + second
     }
 
     /// Returns the byte of a key that holds both RAM characters of a pair. This is faster than `join_cells`, because
     /// it computes the bank only once.
     fn join_characters(&self, pair: u16) -> u8
-        ensures { result ≡ byte_at self.now (Pair Characters pair) }
+        ensures { result ≡ key_byte_value self.now (Pair RamCharacters pair) }
     {
         let pair = pair % 1024;
         let bank = (pair / 128) as u8;
@@ -194,11 +196,11 @@ impl Replica {
     /// constant, so the compiled program does not test it for each of the two cells.
     #[inline(always)]
     fn byte(&self, byte: KeyByte) -> u8
-        ensures { result ≡ byte_at self.now byte }
+        ensures { result ≡ key_byte_value self.now byte }
     {
         match byte {
             KeyByte::One(cell) => self.value(cell),
-            KeyByte::Pair(CellList::Characters, pair) => self.join_characters(pair),
+            KeyByte::Pair(CellList::RamCharacters, pair) => self.join_characters(pair),
             KeyByte::Pair(CellList::StatusCharacters, pair) => {
                 self.join_cells(CellList::StatusCharacters, pair)
             }
@@ -209,35 +211,35 @@ impl Replica {
     }
 
     /// Sets the value of a cell. Writes a register to `regs` and any other cell to this machine. The contract does
-    /// not promise the value, so `load` checks it with `is_at`.
+    /// not promise the value, so `load` checks it with `matches_key`.
     #[inline(always)]
     fn set(&mut self, regs: &mut Regs, cell: Cell, n: u8)
-        ensures { Keeps self.old.1 self.new.1 }
+        ensures { KeepsBoardAndInputs self.old.1 self.new.1 }
     {
         match cell.list {
-            CellList::Characters => {
-                let i = cell.place();
+            CellList::RamCharacters => {
+                let i = cell.reduced_index();
                 self.rig
                     .set_ram((i / 256) as u8, (i % 256) as u8, Nibble::low_of(n));
             }
             CellList::StatusCharacters => {
-                let i = cell.place();
+                let i = cell.reduced_index();
                 let high = Nibble::low_of((i / 4 % 16) as u8);
                 self.rig
                     .set_status((i / 64) as u8, high, (i % 4) as u8, Nibble::low_of(n));
             }
             CellList::RamPorts => {
-                let i = cell.place();
+                let i = cell.reduced_index();
                 self.rig
                     .set_ram_latch((i / 4) as u8, (i % 4) as u8, Nibble::low_of(n));
             }
             CellList::RomPorts => self
                 .rig
-                .set_rom_latch(cell.place() as u8, Nibble::low_of(n)),
-            CellList::BankSrcs => self.rig.set_ram_src(cell.place() as u8, n),
-            CellList::Registers => regs.r[usize::from(cell.place())] = Nibble::low_of(n),
+                .set_rom_latch(cell.reduced_index() as u8, Nibble::low_of(n)),
+            CellList::BankSrcBytes => self.rig.set_ram_src(cell.reduced_index() as u8, n),
+            CellList::Registers => regs.r[usize::from(cell.reduced_index())] = Nibble::low_of(n),
             CellList::Counters => {
-                let i = cell.place();
+                let i = cell.reduced_index();
                 if i == 12 {
                     self.rig.set_rom_src(n);
                 } else if i == 13 {
@@ -252,7 +254,7 @@ impl Replica {
             }
             CellList::Chain(chain) => {
                 self.rig
-                    .set_chain_bit(chain, cell.place() as u8, Bit::low_of(n));
+                    .set_chain_bit(chain, cell.reduced_index() as u8, Bit::low_of(n));
             }
         }
     }
@@ -260,22 +262,22 @@ impl Replica {
     /// Sets both cells of a pair from a key's byte `n`. Calls `set` for each cell.
     #[inline(always)]
     fn split_into_cells(&mut self, regs: &mut Regs, list: CellList, pair: u16, n: u8)
-        ensures { Keeps self.old.1 self.new.1 }
+        ensures { KeepsBoardAndInputs self.old.1 self.new.1 }
     {
-        self.set(regs, first_of(list, pair), n / 16);
-        self.set(regs, second_of(list, pair), n % 16);
+        self.set(regs, first_cell_of(list, pair), n / 16);
+        self.set(regs, second_cell_of(list, pair), n % 16);
     }
 
     /// Sets the cells of a key's byte to the value `n`. Calls `set` for each cell. The match arms are the same as in
     /// `byte`, for the same reason.
     #[inline(always)]
     fn set_byte(&mut self, regs: &mut Regs, byte: KeyByte, n: u8)
-        ensures { Keeps self.old.1 self.new.1 }
+        ensures { KeepsBoardAndInputs self.old.1 self.new.1 }
     {
         match byte {
             KeyByte::One(cell) => self.set(regs, cell, n),
-            KeyByte::Pair(CellList::Characters, pair) => {
-                self.split_into_cells(regs, CellList::Characters, pair, n);
+            KeyByte::Pair(CellList::RamCharacters, pair) => {
+                self.split_into_cells(regs, CellList::RamCharacters, pair, n);
             }
             KeyByte::Pair(CellList::StatusCharacters, pair) => {
                 self.split_into_cells(regs, CellList::StatusCharacters, pair, n);
@@ -314,7 +316,7 @@ impl Replica {
     }
 
     /// Returns true only if `key` is the machine's key for this layout.
-    pub(crate) fn is_at(&self, layout: &[KeyByte], key: &[u8]) -> bool
+    pub(crate) fn matches_key(&self, layout: &[KeyByte], key: &[u8]) -> bool
         requires { length key.now ≡ length layout.now }
         ensures { IsTrue result → key.now ≡ key_of layout.now self.now }
     {
@@ -330,7 +332,7 @@ impl Replica {
     /// machine then has this key.
     pub fn load(&mut self, layout: &[KeyByte], key: &[u8]) -> bool
         requires { length key.now ≡ length layout.now }
-        ensures keeps { Keeps self.old.1 self.new.1 }
+        ensures keeps { KeepsBoardAndInputs self.old.1 self.new.1 }
         ensures loaded { IsTrue result → key.now ≡ key_of layout.now self.new }
     {
         let mut regs = self.cpu.regs();
@@ -338,15 +340,15 @@ impl Replica {
             self.set_byte(&mut regs, layout[i], key[i]);
         }
         self.set_registers(&regs);
-        self.is_at(layout, key)
+        self.matches_key(layout, key)
     }
 
     /// Sets the cells whose bytes differ between the keys `last` and `key`. Returns true only if the machine then has
     /// the key `key`.
-    fn set_changed(&mut self, layout: &[KeyByte], last: &[u8], key: &[u8]) -> bool
+    fn set_changed_cells(&mut self, layout: &[KeyByte], last: &[u8], key: &[u8]) -> bool
         requires last { length last.now ≡ length layout.now }
         requires key { length key.now ≡ length layout.now }
-        ensures keeps { Keeps self.old.1 self.new.1 }
+        ensures keeps { KeepsBoardAndInputs self.old.1 self.new.1 }
         ensures loaded { IsTrue result → key.now ≡ key_of layout.now self.new }
     {
         let mut regs = self.cpu.regs();
@@ -356,20 +358,20 @@ impl Replica {
             }
         }
         self.set_registers(&regs);
-        self.is_at(layout, key)
+        self.matches_key(layout, key)
     }
 
     /// Sets the cells of a layout from a key, as `load` does. This is faster if `last` is the machine's present key.
     /// Copies `key` into `last` if their lengths are equal.
     pub(crate) fn reload(&mut self, layout: &[KeyByte], last: &mut [u8], key: &[u8]) -> bool
         requires { length key.now ≡ length layout.now }
-        ensures keeps { Keeps self.old.1 self.new.1 }
+        ensures keeps { KeepsBoardAndInputs self.old.1 self.new.1 }
         ensures loaded { IsTrue result → key.now ≡ key_of layout.now self.new }
     {
         if last.len() != key.len() {
             return self.load(layout, key);
         }
-        let is_set = self.set_changed(layout, last, key);
+        let is_set = self.set_changed_cells(layout, last, key);
         last.copy_from_slice(key);
         if is_set {
             return true;

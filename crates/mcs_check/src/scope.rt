@@ -1,6 +1,6 @@
 //! The scope of conditions. A run uses it to recognise cycles that cannot change whether the conditions are met.
 ghost use Rattle.std.specs.Prelude.{◌≡◌, ◌<◌, ◌+◌, ◌*◌, ◌||◌};
-ghost use Rattle.mcs_check.specs.Scopes.{changes, has_all, has_cell, has_condition, has_each, has_register};
+ghost use Rattle.mcs_check.specs.Scopes.{changes, has_all_conditions, has_cell, has_condition, has_all_lists, has_register};
 
 use crate::cells::{Cell, CellList};
 use crate::conditions::{Condition, Conjunction};
@@ -19,14 +19,14 @@ pub(crate) struct Scope {
 }
 
 /// Returns the scope of all conditions in the conjunctions.
-pub(crate) fn scope_of(nevers: &[Conjunction]) -> Scope {
+pub(crate) fn scope_of(never_lists: &[Conjunction]) -> Scope {
     let mut scope = Scope {
         registers: [false; 16],
         chips: false,
         mistakes: false,
     };
-    for i in 0..nevers.len() {
-        scope.add_all(nevers[i].conditions());
+    for i in 0..never_lists.len() {
+        scope.add_all(never_lists[i].conditions());
     }
     scope
 }
@@ -35,7 +35,7 @@ impl Scope {
     /// Adds a cell to the scope. A cell of a chip adds all chips, and a counter adds nothing.
     fn add_cell(&mut self, cell: Cell) {
         match cell.list {
-            CellList::Registers => self.registers[usize::from(cell.place())] = true,
+            CellList::Registers => self.registers[usize::from(cell.reduced_index())] = true,
             CellList::Counters => {}
             _ => self.chips = true,
         }
@@ -73,8 +73,8 @@ impl Scope {
         ensures { result ≡ has_cell self.now cell.list cell.index }
     {
         match cell.list {
-            CellList::Registers => self.has_register(cell.place() as u8),
-            CellList::Counters => cell.place() == 17,
+            CellList::Registers => self.has_register(cell.reduced_index() as u8),
+            CellList::Counters => cell.reduced_index() == 17,
             _ => self.chips,
         }
     }
@@ -90,8 +90,8 @@ impl Scope {
     }
 
     /// Returns whether the scope covers everything that these conditions depend on.
-    fn has_all(&self, conditions: &[Condition]) -> bool
-        ensures { result ≡ has_all self.now conditions.now }
+    fn has_all_conditions(&self, conditions: &[Condition]) -> bool
+        ensures { result ≡ has_all_conditions self.now conditions.now }
     {
         for i in 0..conditions.len() {
             if !self.has_condition(&conditions[i]) {
@@ -102,11 +102,11 @@ impl Scope {
     }
 
     /// Returns whether the scope covers everything that the conjunctions depend on.
-    pub(crate) fn has_each(&self, nevers: &[Conjunction]) -> bool
-        ensures { result ≡ has_each self.now nevers.now }
+    pub(crate) fn has_all_lists(&self, never_lists: &[Conjunction]) -> bool
+        ensures { result ≡ has_all_lists self.now never_lists.now }
     {
-        for i in 0..nevers.len() {
-            if !self.has_all(nevers[i].conditions()) {
+        for i in 0..never_lists.len() {
+            if !self.has_all_conditions(never_lists[i].conditions()) {
                 return false;
             }
         }

@@ -1,27 +1,27 @@
 //! The number of cycles that a stopwatch shows, and a limit on this number.
 ghost use Rattle.std.specs.Prelude.{◌≡◌, ◌==◌, ◌<◌, ◌/◌, ◌%◌, ◌∷◌, ◌&&◌, ◌↔◌, [], false, true, nat_le, IsSome, IfSome, OnOk};
-ghost use Rattle.mcs_drive.specs.Tracked.{Tracked, elapsed_after, shown_after};
-ghost use Rattle.mcs_check.specs.Conditions.{elapsed_byte, keeps_to, observer_in};
+ghost use Rattle.mcs_drive.specs.TrackedMachine.{TrackedMachine, elapsed_after, stopwatch_after};
+ghost use Rattle.mcs_check.specs.Conditions.{compare_elapsed_byte, meets_none, observer_of_property};
 ghost use Rattle.mcs_check.specs.declared.conditions.Condition.TheVariants.{Compare};
-ghost use Rattle.mcs_check.specs.Stations.{IsStill};
+ghost use Rattle.mcs_check.specs.ReadPoints.{IsObserverIdle};
 
-use crate::aim::Aim;
 use crate::cells::{Cell, CellList};
 use crate::conditions::{Comparison, Condition, Conjunction, Part};
-use crate::replica::Replica;
+use crate::property::Property;
+use crate::replica::SearchMachine;
 use std::alloc::{AllocError, Global};
 use std::marker::Model;
 
 /// The largest number of cycles that a stopwatch shows: 2^24 - 1.
-const LONGEST: u32 = 16_777_215;
+const STOPWATCH_MAX: u32 = 16_777_215;
 
 /// A number of cycles that a stopwatch can show, at most 2^24 - 1. Contracts see the number.
 #[derive(Clone, Copy, Debug)]
-pub struct Cycles {
+pub struct StopwatchCycles {
     cycles: u32,
 }
 
-impl Model for Cycles {
+impl Model for StopwatchCycles {
     ghost use Rattle.std.specs.Prelude.{ℕ, ◌<◌};
 
     ghost Value = { ℕ };
@@ -33,17 +33,17 @@ impl Model for Cycles {
     ghost inverse = { λ v. record { cycles = v } };
 }
 
-impl Cycles {
+impl StopwatchCycles {
     /// Zero cycles.
-    pub(crate) const ZERO: Cycles = Cycles { cycles: 0 };
+    pub(crate) const ZERO: StopwatchCycles = StopwatchCycles { cycles: 0 };
 
     /// Returns this number of cycles, or `None` if it is above 2^24 - 1, the most that a stopwatch can show.
-    pub fn of(cycles: u32) -> Option<Cycles>
+    pub fn of(cycles: u32) -> Option<StopwatchCycles>
         ensures in_range { IsSome result ↔ (cycles < 16777216) }
         ensures value { IfSome result (λ n. n ≡ cycles) }
     {
-        if cycles <= LONGEST {
-            Some(Cycles { cycles })
+        if cycles <= STOPWATCH_MAX {
+            Some(StopwatchCycles { cycles })
         } else {
             None
         }
@@ -68,29 +68,29 @@ impl Cycles {
     }
 
     /// Returns the number with byte `i` replaced. Byte 0 is the most significant.
-    pub(crate) fn with_byte(self, i: u16, byte: u8) -> Cycles {
+    pub(crate) fn with_byte(self, i: u16, byte: u8) -> StopwatchCycles {
         let mut bytes = self.bytes();
         bytes[usize::from(i % 3)] = byte;
         let [high, middle, low] = bytes;
-        Cycles {
+        StopwatchCycles {
             cycles: u32::from(high) * 65536 + u32::from(middle) * 256 + u32::from(low),
         }
     }
 
     /// Returns the number that the stopwatch shows after one more cycle. `begins` and `ends` are true if the
     /// stopwatch begins or ends in the state before that cycle.
-    fn after(self, begins: bool, ends: bool) -> Cycles
-        ensures { result ≡ shown_after self begins ends }
+    fn after(self, begins: bool, ends: bool) -> StopwatchCycles
+        ensures { result ≡ stopwatch_after self begins ends }
     {
         if self.cycles == 0 || ends {
             return if begins {
-                Cycles { cycles: 1 }
+                StopwatchCycles { cycles: 1 }
             } else {
-                Cycles::ZERO
+                StopwatchCycles::ZERO
             };
         }
-        if self.cycles < LONGEST {
-            Cycles {
+        if self.cycles < STOPWATCH_MAX {
+            StopwatchCycles {
                 cycles: self.cycles + 1,
             }
         } else {
@@ -100,9 +100,9 @@ impl Cycles {
 }
 
 /// Returns the condition that byte `i` of the stopwatch's cycles is greater than `n`. Byte 0 is the most significant.
-fn is_above(i: u16, n: u8) -> Condition
+fn byte_is_above(i: u16, n: u8) -> Condition
     requires { i < 3 }
-    ensures { result ≡ Compare (elapsed_byte i 0 n false) }
+    ensures { result ≡ Compare (compare_elapsed_byte i 0 n false) }
 {
     Condition::Compare(Comparison {
         cell: Cell {
@@ -117,9 +117,9 @@ fn is_above(i: u16, n: u8) -> Condition
 }
 
 /// Returns the condition that byte `i` of the stopwatch's cycles equals `n`. Byte 0 is the most significant.
-fn is_same(i: u16, n: u8) -> Condition
+fn byte_equals(i: u16, n: u8) -> Condition
     requires { i < 3 }
-    ensures { result ≡ Compare (elapsed_byte i n n true) }
+    ensures { result ≡ Compare (compare_elapsed_byte i n n true) }
 {
     Condition::Compare(Comparison {
         cell: Cell {
@@ -133,49 +133,54 @@ fn is_same(i: u16, n: u8) -> Condition
     })
 }
 
-/// Appends conjunctions to `nevers` that are met if the stopwatch shows more than `limit` cycles. Fails if memory
+/// Appends conjunctions to `never_lists` that are met if the stopwatch shows more than `limit` cycles. Fails if memory
 /// runs out.
 pub fn add_limit(
     alloc: Global,
-    nevers: &mut Vec<Conjunction>,
-    limit: Cycles,
+    never_lists: &mut Vec<Conjunction>,
+    limit: StopwatchCycles,
 ) -> Result<(), AllocError>
-    ensures { OnOk result ((s : Tracked) →
-        keeps_to nevers.new.items s ≡ (keeps_to nevers.old.items s && nat_le s.2.elapsed limit)) }
+    ensures { OnOk result ((s : TrackedMachine) →
+        meets_none never_lists.new.items s ≡ (meets_none never_lists.old.items s && nat_le s.2.elapsed limit)) }
 {
     let [high, middle, low] = limit.bytes();
-    let above = vec![in alloc; is_above(0, high)]?;
-    nevers.push(Conjunction::of(above))?;
-    let above = vec![in alloc; is_same(0, high), is_above(1, middle)]?;
-    nevers.push(Conjunction::of(above))?;
-    let above = vec![in alloc; is_same(0, high), is_same(1, middle), is_above(2, low)]?;
-    nevers.push(Conjunction::of(above))?;
+    let above = vec![in alloc; byte_is_above(0, high)]?;
+    never_lists.push(Conjunction::of(above))?;
+    let above = vec![in alloc; byte_equals(0, high), byte_is_above(1, middle)]?;
+    never_lists.push(Conjunction::of(above))?;
+    let above = vec![in alloc;
+        byte_equals(0, high),
+        byte_equals(1, middle),
+        byte_is_above(2, low),
+    ]?;
+    never_lists.push(Conjunction::of(above))?;
     Ok(())
 }
 
-impl Replica {
+impl SearchMachine {
     /// Returns true only if the stopwatch is at 0 and never begins.
-    fn is_stopped(&self, aim: &Aim) -> bool
+    fn is_stopped(&self, property: &Property) -> bool
         ensures zero { result ≡ true → self.now.2.elapsed ≡ 0 }
-        ensures never { result ≡ true → (t : Tracked) → (observer_in aim.now).begins t ≡ false }
+        ensures never { result ≡ true → (t : TrackedMachine) → (observer_of_property property.now).begins t ≡ false }
     {
-        self.elapsed.is_zero() && aim.never_begins()
+        self.elapsed.is_zero() && property.never_begins()
     }
 
     /// Returns true only if the stopwatch and the count of marks seen never change.
-    pub(crate) fn is_still(&self, aim: &Aim) -> bool
-        ensures { result ≡ true → IsStill (observer_in aim.now) self.now.2 }
+    pub(crate) fn is_observer_idle(&self, property: &Property) -> bool
+        ensures { result ≡ true → IsObserverIdle (observer_of_property property.now) self.now.2 }
     {
-        self.is_stopped(aim) && self.seen == 0 && aim.is_unmarked()
+        self.is_stopped(property) && self.seen == 0 && property.has_no_marks()
     }
 
     /// Returns the cycles that the stopwatch shows after the machine's next cycle.
-    pub(crate) fn elapsed_after(&self, aim: &Aim) -> Cycles
-        ensures { result ≡ elapsed_after (observer_in aim.now) self.now }
+    pub(crate) fn elapsed_after(&self, property: &Property) -> StopwatchCycles
+        ensures { result ≡ elapsed_after (observer_of_property property.now) self.now }
     {
-        if self.is_stopped(aim) {
+        if self.is_stopped(property) {
             return self.elapsed;
         }
-        self.elapsed.after(aim.begins(self), aim.ends(self))
+        self.elapsed
+            .after(property.begins(self), property.ends(self))
     }
 }

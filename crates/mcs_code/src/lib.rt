@@ -11,7 +11,9 @@ ghost use Rattle.mcs_model.specs.Table.{instruction_of, word_count_of, cycles_of
 
 pub use mcs_model::op::Op;
 use mcs_nibble::{Nibble, PairNo, RegNo};
-use rows::{built, cycles_rows, decode_rows, encode_rows, spelled, word_count_rows, words_rows};
+use rows::{
+    build_op, cycles_rows, decode_rows, encode_op, encode_rows, word_count_rows, words_rows,
+};
 pub use spelling::Words;
 
 mod rows;

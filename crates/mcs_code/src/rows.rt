@@ -63,7 +63,7 @@ macro_rules! instructions {
 /// Expands to a pattern that matches the instruction of a row and binds its operands to `$a` and `$b`. The caller
 /// must have `Op` in scope.
 #[macro_export]
-macro_rules! taken {
+macro_rules! operand_pattern {
     ($a:ident $b:ident $name:ident none) => {
         Op::$name
     };
@@ -82,7 +82,7 @@ macro_rules! taken {
 }
 
 /// Expands to the instruction of a row, with the operands from the words `$first` and `$second`.
-macro_rules! built {
+macro_rules! build_op {
     ($first:ident $second:ident $name:ident none) => {
         Op::$name
     };
@@ -93,22 +93,22 @@ macro_rules! built {
         Op::$name(Nibble::low_of($first), $second)
     };
     ($first:ident $second:ident $name:ident pair) => {
-        Op::$name(PairNo::of_code($first))
+        Op::$name(PairNo::from_opcode($first))
     };
     ($first:ident $second:ident $name:ident pair_byte) => {
-        Op::$name(PairNo::of_code($first), $second)
+        Op::$name(PairNo::from_opcode($first), $second)
     };
     ($first:ident $second:ident $name:ident register) => {
-        Op::$name(RegNo::of_code($first))
+        Op::$name(RegNo::from_opcode($first))
     };
     ($first:ident $second:ident $name:ident register_byte) => {
-        Op::$name(RegNo::of_code($first), $second)
+        Op::$name(RegNo::from_opcode($first), $second)
     };
 }
 
 /// Expands to the words that encode the instruction of a row with the operands `$a` and `$b`. `$upper` and `$lower`
 /// are the nibbles of the row's lowest opcode.
-macro_rules! spelled {
+macro_rules! encode_op {
     ($a:ident $b:ident $upper:literal $lower:literal none) => {
         Words { first: $upper * 16 + $lower, second: None }
     };
@@ -134,7 +134,7 @@ macro_rules! spelled {
 macro_rules! decode_rows {
     (($first:ident, $second:ident) $($codes:pat, $name:ident $kind:ident $words:literal $cycles:literal $group:ident $text:literal;)*) => {
         match ($first / 16, $first % 16) {
-            $($codes => Some(built!($first $second $name $kind)),)*
+            $($codes => Some(build_op!($first $second $name $kind)),)*
             _ => None,
         }
     };
@@ -144,7 +144,7 @@ macro_rules! decode_rows {
 macro_rules! encode_rows {
     (($op:ident) $(($upper:literal, $lower:literal $($more:tt)*), $name:ident $kind:ident $words:literal $cycles:literal $group:ident $text:literal;)*) => {
         match $op {
-            $(taken!(a b $name $kind) => spelled!(a b $upper $lower $kind),)*
+            $(operand_pattern!(a b $name $kind) => encode_op!(a b $upper $lower $kind),)*
         }
     };
 }
@@ -163,7 +163,7 @@ macro_rules! words_rows {
 macro_rules! word_count_rows {
     (($op:ident) $($codes:pat, $name:ident $kind:ident $words:literal $cycles:literal $group:ident $text:literal;)*) => {
         match $op {
-            $(taken!(_a _b $name $kind) => $words,)*
+            $(operand_pattern!(_a _b $name $kind) => $words,)*
         }
     };
 }
@@ -172,15 +172,15 @@ macro_rules! word_count_rows {
 macro_rules! cycles_rows {
     (($op:ident) $($codes:pat, $name:ident $kind:ident $words:literal $cycles:literal $group:ident $text:literal;)*) => {
         match $op {
-            $(taken!(_a _b $name $kind) => $cycles,)*
+            $(operand_pattern!(_a _b $name $kind) => $cycles,)*
         }
     };
 }
 
-pub(crate) use built;
+pub(crate) use build_op;
 pub(crate) use cycles_rows;
 pub(crate) use decode_rows;
+pub(crate) use encode_op;
 pub(crate) use encode_rows;
-pub(crate) use spelled;
 pub(crate) use word_count_rows;
 pub(crate) use words_rows;

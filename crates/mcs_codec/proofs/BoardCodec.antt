@@ -10,43 +10,43 @@ use Rattle.mcs_model.specs.declared.board.Line.TheVariants.{Rom, Ram, Chain}
 use Rattle.mcs_model.specs.declared.board.BoardFault.{BoardFault}
 use Rattle.mcs_model.specs.declared.limits.TheConstants.{CHAINS}
 use Rattle.mcs_model.specs.Boards.{board_fault_of}
-use Rattle.mcs_codec.specs.Reading.{◌>>=◌, Reading, giving, giving_some, byte_at}
+use Rattle.mcs_codec.specs.Reading.{◌>>=◌, Reading, give, give_some, byte_at}
 use Rattle.mcs_model.specs.Validity.{IsValidBoard}
 use Rattle.mcs_nibble.specs.Ports.{mask_character, mask_of}
 use Rattle.mcs_codec.specs.BoardBytes.{rom_bytes, board_line_bytes, chain_bytes, counted_bytes, keys_bytes, board_bytes}
 use Rattle.mcs_codec.specs.BoardReading.{rom_of, rom_at, masks_of, board_line_of, board_line_at, chain_at, keys_at, matrix_at, parts_at, board_at}
 use Rattle.mcs_codec.proofs.BoardLengths.{IsMask, IsKeys, HasLengths, lengths_of, valid_of}
 use Rattle.mcs_codec.proofs.Codecs.{IsCodec, IsBytes, IsBytes-rest, Steps, then_some, any_codec, bytes_codec, many_codec, any_counted_codec, last, next, no_step, block_codec, giving_codec, only_codec, refit_codec, row}
-use Rattle.mcs_nibble.proofs.PortLemmas.{mask_again}
+use Rattle.mcs_nibble.proofs.PortLemmas.{mask_of-mask_character}
 
 -- four bytes
-abbrev pub Four : Type 0
-Four = ℕ × (ℕ × (ℕ × ℕ))
+abbrev pub FourBytes : Type 0
+FourBytes = ℕ × (ℕ × (ℕ × ℕ))
 
-abbrev pub four_text : Four → List ℕ
-four_text x = x.0 ∷ x.1.0 ∷ x.1.1.0 ∷ x.1.1.1 ∷ []
+abbrev pub four_bytes : FourBytes → List ℕ
+four_bytes x = x.0 ∷ x.1.0 ∷ x.1.1.0 ∷ x.1.1.1 ∷ []
 
-abbrev pub AreFour : Four → Type 0
-AreFour x = Unit {0} × (Unit {0} × (Unit {0} × Unit {0}))
+abbrev pub AreFourBytes : FourBytes → Type 0
+AreFourBytes x = Unit {0} × (Unit {0} × (Unit {0} × Unit {0}))
 
-are_four : Unit {0} × (Unit {0} × (Unit {0} × Unit {0}))
-are_four = (tt, (tt, (tt, tt)))
+are_four_bytes : Unit {0} × (Unit {0} × (Unit {0} × Unit {0}))
+are_four_bytes = (tt, (tt, (tt, tt)))
 
-four_steps : {B : Type 0} (end : Four → Reading B) → Steps four_text AreFour end (do a ← byte_at; b ← byte_at; c ← byte_at; d ← byte_at; end (a, (b, (c, d))))
+four_steps : {B : Type 0} (end : FourBytes → Reading B) → Steps four_bytes AreFourBytes end (do a ← byte_at; b ← byte_at; c ← byte_at; d ← byte_at; end (a, (b, (c, d))))
 four_steps end = next end any_codec (λ a _. next _ any_codec (λ b _. next _ any_codec (λ c _. last _ any_codec)))
 
 -- ---- lines
 
-abbrev line_end : Four → Reading Line
+abbrev line_end : FourBytes → Reading Line
 line_end x = board_line_of x.0 x.1.0 x.1.1.0 x.1.1.1
 
-line_made : (x : Four) (rest : List ℕ) (y : Line × List ℕ) → AreFour x → line_end x rest ≡ Some y → (board_line_bytes y.0 ≡ four_text x) × (rest ≡ y.1) × Unit {0}
+line_made : (x : FourBytes) (rest : List ℕ) (y : Line × List ℕ) → AreFourBytes x → line_end x rest ≡ Some y → (board_line_bytes y.0 ≡ four_bytes x) × (rest ≡ y.1) × Unit {0}
 line_made (kind, (a, (b, c))) rest (l, after) h e = (grind (arith, nat_tests), grind (arith, nat_tests), tt)
 
-line_unmade : (l : Line) → Unit {0} → (x : Four) × (board_line_bytes l ≡ four_text x) × AreFour x × ((rest : List ℕ) → line_end x rest ≡ Some (l, rest))
-line_unmade (Rom chip k) h = ((0, (chip, (k, 0))), refl, are_four, λ rest. refl)
-line_unmade (Ram bank chip k) h = ((1, (bank, (chip, k))), refl, are_four, λ rest. refl)
-line_unmade (Chain n i) h = ((2, (n, (i, 0))), refl, are_four, λ rest. refl)
+line_unmade : (l : Line) → Unit {0} → (x : FourBytes) × (board_line_bytes l ≡ four_bytes x) × AreFourBytes x × ((rest : List ℕ) → line_end x rest ≡ Some (l, rest))
+line_unmade (Rom chip k) h = ((0, (chip, (k, 0))), refl, are_four_bytes, λ rest. refl)
+line_unmade (Ram bank chip k) h = ((1, (bank, (chip, k))), refl, are_four_bytes, λ rest. refl)
+line_unmade (Chain n i) h = ((2, (n, (i, 0))), refl, are_four_bytes, λ rest. refl)
 
 pub line_codec : IsCodec board_line_bytes (λ _. Unit {0}) board_line_at
 unfolding board_line_at
@@ -62,13 +62,13 @@ no_dash Input = refl
 no_dash Zero = refl
 no_dash One = refl
 
-abbrev rom_end : Four → Reading (Option (List LineMask))
+abbrev rom_end : FourBytes → Reading (Option (List LineMask))
 rom_end x = rom_of x.0 x.1.0 x.1.1.0 x.1.1.1
 
 -- if a port line is read from a byte, the byte is the character of that line
-line_read : {B : Type 0} (b : ℕ) (next : LineMask → Reading B) (rest : List ℕ) (y : B × List ℕ) → (giving_some (mask_of b) >>= next) rest ≡ Some y → (m : LineMask) × (mask_character m ≡ b) × (next m rest ≡ Some y)
+line_read : {B : Type 0} (b : ℕ) (next : LineMask → Reading B) (rest : List ℕ) (y : B × List ℕ) → (give_some (mask_of b) >>= next) rest ≡ Some y → (m : LineMask) × (mask_character m ≡ b) × (next m rest ≡ Some y)
 line_read {B} b next rest y =
-    elim (mask_of b) as (λ o. ((m : LineMask) → o ≡ Some m → mask_character m ≡ b) → (giving_some o >>= next) rest ≡ Some y → (m : LineMask) × (mask_character m ≡ b) × (next m rest ≡ Some y)) [
+    elim (mask_of b) as (λ o. ((m : LineMask) → o ≡ Some m → mask_character m ≡ b) → (give_some o >>= next) rest ≡ Some y → (m : LineMask) × (mask_character m ≡ b) × (next m rest ≡ Some y)) [
       | Some m ↦ λ is e. (m, is m refl, e)
       | None ↦ λ is e. absurd cc
     ] (mask_is b)
@@ -76,31 +76,31 @@ line_read {B} b next rest y =
 both_given : (lines : List LineMask) (rest : List ℕ) (x : List LineMask × List ℕ) (y : Option (List LineMask) × List ℕ) → Some (lines, rest) ≡ Some x → Some (Some x.0, x.1) ≡ Some y → (Some lines, rest) ≡ y
 both_given lines rest x y e f = cc
 
-lines_made : (a b c d : ℕ) (rest : List ℕ) (y : Option (List LineMask) × List ℕ) → (masks_of a b c d >>= λ lines. giving (Some lines)) rest ≡ Some y
+lines_made : (a b c d : ℕ) (rest : List ℕ) (y : Option (List LineMask) × List ℕ) → (masks_of a b c d >>= λ lines. give (Some lines)) rest ≡ Some y
     → (rom_bytes y.0 ≡ a ∷ b ∷ c ∷ d ∷ []) × (rest ≡ y.1) × IsMask y.0
 lines_made a b c d rest y e =
-    let all = then_some (masks_of a b c d rest) (λ lines. giving (Some lines)) y e in
+    let all = then_some (masks_of a b c d rest) (λ lines. give (Some lines)) y e in
     let l3 = line_read a _ rest all.0 all.1 in
     let l2 = line_read b _ rest all.0 l3.2 in
     let l1 = line_read c _ rest all.0 l2.2 in
     let l0 = line_read d _ rest all.0 l1.2 in
     subst (λ (z : Option (List LineMask) × List ℕ). (rom_bytes z.0 ≡ a ∷ b ∷ c ∷ d ∷ []) × (rest ≡ z.1) × IsMask z.0) (both_given (l0.0 ∷ l1.0 ∷ l2.0 ∷ l3.0 ∷ []) rest all.0 y l0.2 all.2) (rw (l3.1, l2.1, l1.1, l0.1) refl, refl, refl)
 
-rom_made : (x : Four) (rest : List ℕ) (y : Option (List LineMask) × List ℕ) → AreFour x → rom_end x rest ≡ Some y → (rom_bytes y.0 ≡ four_text x) × (rest ≡ y.1) × IsMask y.0
+rom_made : (x : FourBytes) (rest : List ℕ) (y : Option (List LineMask) × List ℕ) → AreFourBytes x → rom_end x rest ≡ Some y → (rom_bytes y.0 ≡ four_bytes x) × (rest ≡ y.1) × IsMask y.0
 rom_made (a, (b, (c, d))) rest y h e =
-    elim (eqb a 45 && eqb b 45 && eqb c 45 && eqb d 45) as (λ t. ((eqb a 45 && eqb b 45 && eqb c 45 && eqb d 45) ≡ t) → cond t (giving None) (masks_of a b c d >>= λ lines. giving (Some lines)) rest ≡ Some y → (rom_bytes y.0 ≡ a ∷ b ∷ c ∷ d ∷ []) × (rest ≡ y.1) × IsMask y.0) [
+    elim (eqb a 45 && eqb b 45 && eqb c 45 && eqb d 45) as (λ t. ((eqb a 45 && eqb b 45 && eqb c 45 && eqb d 45) ≡ t) → cond t (give None) (masks_of a b c d >>= λ lines. give (Some lines)) rest ≡ Some y → (rom_bytes y.0 ≡ a ∷ b ∷ c ∷ d ∷ []) × (rest ≡ y.1) × IsMask y.0) [
       | true ↦ λ dashes g. let same : (None, rest) ≡ y = cc in subst (λ (z : Option (List LineMask) × List ℕ). (rom_bytes z.0 ≡ a ∷ b ∷ c ∷ d ∷ []) × (rest ≡ z.1) × IsMask z.0) same (grind (arith, nat_tests), refl, tt)
       | false ↦ λ _ g. lines_made a b c d rest y g
     ] refl e
 
-rom_unmade : (r : Option (List LineMask)) → IsMask r → (x : Four) × (rom_bytes r ≡ four_text x) × AreFour x × ((rest : List ℕ) → rom_end x rest ≡ Some (r, rest))
-rom_unmade None h = ((45, (45, (45, 45))), refl, are_four, λ rest. refl)
+rom_unmade : (r : Option (List LineMask)) → IsMask r → (x : FourBytes) × (rom_bytes r ≡ four_bytes x) × AreFourBytes x × ((rest : List ℕ) → rom_end x rest ≡ Some (r, rest))
+rom_unmade None h = ((45, (45, (45, 45))), refl, are_four_bytes, λ rest. refl)
 rom_unmade (Some []) h = absurd cc
 rom_unmade (Some (a ∷ [])) h = absurd cc
 rom_unmade (Some (a ∷ b ∷ [])) h = absurd cc
 rom_unmade (Some (a ∷ b ∷ c ∷ [])) h = absurd cc
 rom_unmade (Some (a ∷ b ∷ c ∷ d ∷ [])) h =
-    ((mask_character d, (mask_character c, (mask_character b, mask_character a))), refl, are_four, λ rest. rw (no_dash d, mask_again d, mask_again c, mask_again b, mask_again a) refl)
+    ((mask_character d, (mask_character c, (mask_character b, mask_character a))), refl, are_four_bytes, λ rest. rw (no_dash d, mask_of-mask_character d, mask_of-mask_character c, mask_of-mask_character b, mask_of-mask_character a) refl)
 rom_unmade (Some (a ∷ b ∷ c ∷ d ∷ e ∷ l)) h = absurd cc
 
 pub rom_codec : IsCodec rom_bytes IsMask rom_at
@@ -135,10 +135,10 @@ keys_takes (tag ∷ bytes) x all e =
 keys_again : (k : Option KeyMatrix) (rest : List ℕ) → IsKeys k → keys_at (keys_bytes k ++ rest) ≡ Some (k, rest)
 unfolding keys_at
 keys_again None rest h = refl
-keys_again (Some m) rest h = (last (λ m. giving (Some m)) matrix_codec).again m rest h
+keys_again (Some m) rest h = (last (λ m. give (Some m)) matrix_codec).reads_back m rest h
 
 pub keys_codec : IsCodec keys_bytes IsKeys keys_at
-keys_codec = record { takes = keys_takes; again = keys_again }
+keys_codec = record { reads_encoding = keys_takes; reads_back = keys_again }
 
 pub parts_codec : IsCodec board_bytes HasLengths parts_at
 unfolding parts_at

@@ -11,7 +11,7 @@ use Rattle.mcs_model.specs.declared.board.KeyMatrix.{KeyMatrix}
 use Rattle.mcs_model.specs.Boards.{board_fault_of, no_chain, chain_bits, is_chain_size, is_matrix_size, key_count}
 use Rattle.mcs_model.specs.declared.limits.TheConstants.{CHAINS, CHAIN_CHIPS, CHAIN_BITS, KEY_ROWS, KEYS}
 use Rattle.mcs_model.specs.Validity.{IsValidBoard}
-use Rattle.mcs_model.proofs.SoundBoards.{sound}
+use Rattle.mcs_model.proofs.ValidBoardLemmas.{sound}
 
 abbrev pub IsMask : Option (List LineMask) → Type 0
 IsMask (Some mask) = length mask ≡ 4

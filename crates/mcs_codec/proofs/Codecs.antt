@@ -9,7 +9,7 @@ use Rattle.std.proofs.lemmas.Nat.{be_bytes_2, be_bytes_4, from_be_bytes-to_be_by
 use Rattle.std.proofs.lemmas.Option.{cond_some}
 use Rattle.mcs_codec.specs.BoardBytes.{counted_bytes}
 use Rattle.mcs_codec.specs.CommandBytes.{address_bytes}
-use Rattle.mcs_codec.specs.Reading.{◌>>=◌, and_then, Read, Reading, giving, byte_at, wide_number_at, address_at, bytes_at, only, many, small_at, whole_value, whole, counted_at}
+use Rattle.mcs_codec.specs.Reading.{◌>>=◌, and_then, Read, Reading, give, byte_at, wide_number_at, address_at, bytes_at, read_if, read_times, number_below_at, whole_value, read_all_of, counted_at}
 
 -- ---- bytes
 
@@ -47,8 +47,8 @@ guarded false x y e = (refl, cc)
 -- before the rest are its encoding. A value that fits its range is read from its encoding, whatever
 -- bytes follow.
 pub record IsCodec {A : Type 0} (spell : A → List ℕ) (fits : A → Type 0) (read : Reading A) : Type 0 where
-  pub takes : (bytes : List ℕ) (x : A × List ℕ) → IsBytes bytes → read bytes ≡ Some x → (bytes ≡ spell x.0 ++ x.1) × fits x.0
-  pub again : (a : A) (rest : List ℕ) → fits a → read (spell a ++ rest) ≡ Some (a, rest)
+  pub reads_encoding : (bytes : List ℕ) (x : A × List ℕ) → IsBytes bytes → read bytes ≡ Some x → (bytes ≡ spell x.0 ++ x.1) × fits x.0
+  pub reads_back : (a : A) (rest : List ℕ) → fits a → read (spell a ++ rest) ≡ Some (a, rest)
 
 -- ---- numbers
 
@@ -57,23 +57,23 @@ byte_takes [] x fits e = absurd cc
 byte_takes (b ∷ bytes) x fits e = let same : (b, bytes) ≡ x = cc in subst (λ (y : ℕ × List ℕ). (b ∷ bytes ≡ y.0 ∷ y.1) × (y.0 < 256)) same (refl, fits 0)
 
 pub byte_codec : IsCodec (λ b. b ∷ []) (λ b. b < 256) byte_at
-byte_codec = record { takes = byte_takes; again = λ a rest h. refl }
+byte_codec = record { reads_encoding = byte_takes; reads_back = λ a rest h. refl }
 
 -- reads any byte, with no condition on its value
 pub any_codec : IsCodec (λ b. b ∷ []) (λ _. Unit {0}) byte_at
-any_codec = record { takes = λ bytes x all e. ((byte_takes bytes x all e).0, tt); again = λ a rest h. refl }
+any_codec = record { reads_encoding = λ bytes x all e. ((byte_takes bytes x all e).0, tt); reads_back = λ a rest h. refl }
 
 pub record IsWide (w : Width) (limit : ℕ) : Type 0 where
   pub len : (n : ℕ) → length (to_be_bytes w n) ≡ byte_len w
   pub back : (bytes : List ℕ) → length bytes ≡ byte_len w → IsBytes bytes → to_be_bytes w (from_be_bytes w bytes) ≡ bytes
-  pub again : (n : ℕ) → n < limit → from_be_bytes w (to_be_bytes w n) ≡ n
+  pub reads_back : (n : ℕ) → n < limit → from_be_bytes w (to_be_bytes w n) ≡ n
   pub below : (bytes : List ℕ) → IsBytes bytes → from_be_bytes w bytes < limit
 
 wide16 : IsWide w16 (2 ^ 16)
 wide16 = record {
   len = λ n. refl;
   back = λ bytes len fits. be_bytes_2 bytes _ len fits refl;
-  again = λ n lt. from_be_bytes-to_be_bytes_2 n lt;
+  reads_back = λ n lt. from_be_bytes-to_be_bytes_2 n lt;
   below = λ bytes fits. omega (arith, fits 0, fits 1);
 }
 
@@ -81,7 +81,7 @@ wide32 : IsWide w32 (2 ^ 32)
 wide32 = record {
   len = λ n. refl;
   back = λ bytes len fits. be_bytes_4 bytes _ len fits refl;
-  again = λ n lt. from_be_bytes-to_be_bytes_4 n lt;
+  reads_back = λ n lt. from_be_bytes-to_be_bytes_4 n lt;
   below = λ bytes fits. omega (arith, fits 0, fits 1, fits 2, fits 3);
 }
 
@@ -98,28 +98,28 @@ number_again : (w : Width) (limit : ℕ) (wide : IsWide w limit) (n : ℕ) (rest
 number_again w limit wide n rest lt =
     let len = wide.len n in
     let long : ltb (length (to_be_bytes w n ++ rest)) (byte_len w) ≡ false = le-ltb _ _ (omega (arith, length-append (to_be_bytes w n) rest)) in
-    rw (long, take_at (to_be_bytes w n) rest (byte_len w) len, drop_at (to_be_bytes w n) rest (byte_len w) len, wide.again n lt) refl
+    rw (long, take_at (to_be_bytes w n) rest (byte_len w) len, drop_at (to_be_bytes w n) rest (byte_len w) len, wide.reads_back n lt) refl
 
 pub word_codec : IsCodec (to_be_bytes w16) (λ n. n < 2 ^ 16) (wide_number_at w16)
-word_codec = record { takes = number_takes w16 (2 ^ 16) wide16; again = number_again w16 (2 ^ 16) wide16 }
+word_codec = record { reads_encoding = number_takes w16 (2 ^ 16) wide16; reads_back = number_again w16 (2 ^ 16) wide16 }
 
 pub long_codec : IsCodec (to_be_bytes w32) (λ n. n < 2 ^ 32) (wide_number_at w32)
-long_codec = record { takes = number_takes w32 (2 ^ 32) wide32; again = number_again w32 (2 ^ 32) wide32 }
+long_codec = record { reads_encoding = number_takes w32 (2 ^ 32) wide32; reads_back = number_again w32 (2 ^ 32) wide32 }
 
 -- reads `count` bytes, with no condition on their values
 pub bytes_codec : (count : ℕ) → IsCodec (λ (l : List ℕ). l) (λ l. length l ≡ count) (bytes_at count)
 unfolding bytes_at
 bytes_codec count = record {
-  takes = λ bytes x all e.
+  reads_encoding = λ bytes x all e.
       let g = guarded (ltb (length bytes) count) (take count bytes, drop count bytes) x e in
       subst (λ (y : List ℕ × List ℕ). (bytes ≡ y.0 ++ y.1) × (length y.0 ≡ count)) g.1 (sym (take-append-drop count bytes), length-take-le count bytes (ltb-false _ _ g.0));
-  again = λ l rest h.
+  reads_back = λ l rest h.
       let long : ltb (length (l ++ rest)) count ≡ false = le-ltb _ _ (omega (arith, length-append l rest, h)) in
       rw (long, take_at l rest count h, drop_at l rest count h) refl;
 }
 
 -- holds if there are `count` numbers, each below `limit`
-pub record AreCells (count limit : ℕ) (items : List ℕ) : Type 0 where
+pub record AreNumbersBelow (count limit : ℕ) (items : List ℕ) : Type 0 where
   pub len : length items ≡ count
   pub small : AllByRecursion (λ n. n < limit) items
 
@@ -128,67 +128,67 @@ bytes_below [] rest h = tt
 bytes_below (b ∷ front) rest h = (h 0, bytes_below front rest (IsBytes-rest b (front ++ rest) h))
 
 -- reads `count` bytes, with the condition that each is below 256
-pub cells_codec : (count : ℕ) → IsCodec (λ (l : List ℕ). l) (AreCells count 256) (bytes_at count)
-cells_codec count = record {
-  takes = λ bytes x all e. let t = (bytes_codec count).takes bytes x all e in (t.0, record { len = t.1; small = bytes_below x.0 x.1 (subst IsBytes t.0 all) });
-  again = λ l rest h. (bytes_codec count).again l rest h.len;
+pub numbers_codec : (count : ℕ) → IsCodec (λ (l : List ℕ). l) (AreNumbersBelow count 256) (bytes_at count)
+numbers_codec count = record {
+  reads_encoding = λ bytes x all e. let t = (bytes_codec count).reads_encoding bytes x all e in (t.0, record { len = t.1; small = bytes_below x.0 x.1 (subst IsBytes t.0 all) });
+  reads_back = λ l rest h. (bytes_codec count).reads_back l rest h.len;
 }
 
 -- ---- combinators
 
 -- reads a value, and fails if it does not pass the test
-pub only_codec : {A : Type 0} {s : A → List ℕ} {f : A → Type 0} {r : Reading A} (test : A → Bool) → IsCodec s f r → IsCodec s (λ a. f a × (test a ≡ true)) (only test r)
+pub only_codec : {A : Type 0} {s : A → List ℕ} {f : A → Type 0} {r : Reading A} (test : A → Bool) → IsCodec s f r → IsCodec s (λ a. f a × (test a ≡ true)) (read_if test r)
 only_codec {A} {s} {f} {r} test codec = record {
-  takes = λ bytes x all e.
+  reads_encoding = λ bytes x all e.
       let b = then_some (r bytes) (λ a rest. cond (test a) (Some (a, rest)) None) x e in
       let g = cond_some (test b.0.0) b.0 x b.2 in
-      let t = codec.takes bytes b.0 all b.1 in
+      let t = codec.reads_encoding bytes b.0 all b.1 in
       subst (λ (y : A × List ℕ). (bytes ≡ s y.0 ++ y.1) × (f y.0 × (test y.0 ≡ true))) g.1 (t.0, (t.1, g.0));
-  again = λ a rest h. rw (codec.again a rest h.0) (rw h.1 refl);
+  reads_back = λ a rest h. rw (codec.reads_back a rest h.0) (rw h.1 refl);
 }
 
 -- Holds if `read` is a block that reads the values c with its steps, in order, and then continues
 -- with `end`.
 pub record Steps {C B : Type 0} (s : C → List ℕ) (f : C → Type 0) (end : C → Reading B) (read : Reading B) : Type 0 where
-  pub takes : (bytes : List ℕ) (x : B × List ℕ) → IsBytes bytes → read bytes ≡ Some x → (c : C × List ℕ) × (bytes ≡ s c.0 ++ c.1) × f c.0 × (end c.0 c.1 ≡ Some x)
-  pub again : (c : C) (rest : List ℕ) → f c → read (s c ++ rest) ≡ end c rest
+  pub reads_encoding : (bytes : List ℕ) (x : B × List ℕ) → IsBytes bytes → read bytes ≡ Some x → (c : C × List ℕ) × (bytes ≡ s c.0 ++ c.1) × f c.0 × (end c.0 c.1 ≡ Some x)
+  pub reads_back : (c : C) (rest : List ℕ) → f c → read (s c ++ rest) ≡ end c rest
 
 -- a block of one step and an end
 pub last : {A B : Type 0} {s : A → List ℕ} {f : A → Type 0} {r : Reading A} (end : A → Reading B) → IsCodec s f r → Steps s f end (r >>= end)
 last {A} {B} {s} {f} {r} end codec = record {
-  takes = λ bytes x all e.
+  reads_encoding = λ bytes x all e.
       let a = then_some (r bytes) end x e in
-      let t = codec.takes bytes a.0 all a.1 in
+      let t = codec.reads_encoding bytes a.0 all a.1 in
       (a.0, t.0, t.1, a.2);
-  again = λ c rest h. rw (codec.again c rest h) refl;
+  reads_back = λ c rest h. rw (codec.reads_back c rest h) refl;
 }
 
 -- a block of one step, which gives the value of that step
-pub tail : {A : Type 0} {s : A → List ℕ} {f : A → Type 0} {r : Reading A} → IsCodec s f r → Steps s f giving r
+pub tail : {A : Type 0} {s : A → List ℕ} {f : A → Type 0} {r : Reading A} → IsCodec s f r → Steps s f give r
 tail codec = record {
-  takes = λ bytes x all e. let t = codec.takes bytes x all e in (x, t.0, t.1, refl);
-  again = λ c rest h. codec.again c rest h;
+  reads_encoding = λ bytes x all e. let t = codec.reads_encoding bytes x all e in (x, t.0, t.1, refl);
+  reads_back = λ c rest h. codec.reads_back c rest h;
 }
 
 -- a block without steps
 pub no_step : {B : Type 0} (end : Unit {0} → Reading B) → Steps (λ (_ : Unit {0}). []) (λ _. Unit {0}) end (end tt)
 no_step end = record {
-  takes = λ bytes x all e. ((tt, bytes), refl, tt, e);
-  again = λ c rest h. refl;
+  reads_encoding = λ bytes x all e. ((tt, bytes), refl, tt, e);
+  reads_back = λ c rest h. refl;
 }
 
 -- a block of one step and further steps, which can depend on the value of the first
 pub next : {A C B : Type 0} {s : A → List ℕ} {f : A → Type 0} {r : Reading A} {t : A → C → List ℕ} {g : A → C → Type 0} {q : A → Reading B} (end : A × C → Reading B)
     → IsCodec s f r → ((a : A) → f a → Steps (t a) (g a) (λ c. end (a, c)) (q a)) → Steps (λ (p : A × C). s p.0 ++ t p.0 p.1) (λ p. f p.0 × g p.0 p.1) end (r >>= q)
 next {A} {C} {B} {s} {f} {r} {t} {g} {q} end first second = record {
-  takes = λ bytes x all e.
+  reads_encoding = λ bytes x all e.
       let a = then_some (r bytes) q x e in
-      let one = first.takes bytes a.0 all a.1 in
-      let two = (second a.0.0 one.1).takes a.0.1 x (IsBytes-after (s a.0.0) a.0.1 (subst IsBytes one.0 all)) a.2 in
+      let one = first.reads_encoding bytes a.0 all a.1 in
+      let two = (second a.0.0 one.1).reads_encoding a.0.1 x (IsBytes-after (s a.0.0) a.0.1 (subst IsBytes one.0 all)) a.2 in
       let parts : bytes ≡ (s a.0.0 ++ t a.0.0 two.0.0) ++ two.0.1 = one.0 ∙ ap (λ (l : List ℕ). s a.0.0 ++ l) two.1 ∙ sym (append_assoc (s a.0.0) (t a.0.0 two.0.0) two.0.1) in
       (((a.0.0, two.0.0), two.0.1), parts, (one.1, two.2), two.3);
-  again = λ p rest h.
-      ap (r >>= q) (append_assoc (s p.0) (t p.0 p.1) rest) ∙ rw (first.again p.0 (t p.0 p.1 ++ rest) h.0) ((second p.0 h.0).again p.1 rest h.1);
+  reads_back = λ p rest h.
+      ap (r >>= q) (append_assoc (s p.0) (t p.0 p.1) rest) ∙ rw (first.reads_back p.0 (t p.0 p.1 ++ rest) h.0) ((second p.0 h.0).reads_back p.1 rest h.1);
 }
 
 -- ---- blocks
@@ -201,17 +201,17 @@ pub record Ends {C B : Type 0} (s : C → List ℕ) (f : C → Type 0) (spell : 
 
 pub block_codec : {B C : Type 0} {s : C → List ℕ} {f : C → Type 0} {spell : B → List ℕ} {fits : B → Type 0} {end : C → Reading B} {q : Reading B} → Steps s f end q → Ends s f spell fits end → IsCodec spell fits q
 block_codec {B} {C} {s} {f} {spell} {fits} {end} {q} steps ends = record {
-  takes = λ bytes x all e.
-      let c = steps.takes bytes x all e in
+  reads_encoding = λ bytes x all e.
+      let c = steps.reads_encoding bytes x all e in
       let m = ends.made c.0.0 c.0.1 x c.2 c.3 in
       (c.1 ∙ ap (λ (l : List ℕ). s c.0.0 ++ l) m.1 ∙ ap (λ (l : List ℕ). l ++ x.1) (sym m.0), m.2);
-  again = λ b rest h.
+  reads_back = λ b rest h.
       let u = ends.unmade b h in
-      ap (λ (l : List ℕ). q (l ++ rest)) u.1 ∙ steps.again u.0 rest u.2 ∙ u.3 rest;
+      ap (λ (l : List ℕ). q (l ++ rest)) u.1 ∙ steps.reads_back u.0 rest u.2 ∙ u.3 rest;
 }
 
 -- a block whose end makes its value from the values of the steps
-pub giving_codec : {C B : Type 0} {s : C → List ℕ} {f : C → Type 0} {q : Reading B} (make : C → B) (spell : B → List ℕ) (fits : B → Type 0) → Steps s f (λ c. giving (make c)) q
+pub giving_codec : {C B : Type 0} {s : C → List ℕ} {f : C → Type 0} {q : Reading B} (make : C → B) (spell : B → List ℕ) (fits : B → Type 0) → Steps s f (λ c. give (make c)) q
     → ((c : C) → f c → (spell (make c) ≡ s c) × fits (make c)) → ((b : B) → fits b → (c : C) × (make c ≡ b) × f c) → IsCodec spell fits q
 giving_codec {C} {B} {s} {f} {q} make spell fits steps made unmade = block_codec steps (record {
   made = λ c rest x h e.
@@ -232,21 +232,21 @@ many_some : {A : Type 0} (f : A → Type 0) (n : ℕ) (l : List A) → (length l
 many_some f n [] h = absurd cc
 many_some f n (a ∷ l) h = ((a, l), refl, (h.1.0, (omega (arith, h.0), h.1.1)))
 
-pub many_codec : {A : Type 0} {s : A → List ℕ} {f : A → Type 0} {r : Reading A} (n : ℕ) → IsCodec s f r → IsCodec (flat_map s) (λ l. (length l ≡ n) × AllByRecursion f l) (many n r)
-unfolding many
+pub many_codec : {A : Type 0} {s : A → List ℕ} {f : A → Type 0} {r : Reading A} (n : ℕ) → IsCodec s f r → IsCodec (flat_map s) (λ l. (length l ≡ n) × AllByRecursion f l) (read_times n r)
+unfolding read_times
 many_codec {A} {s} {f} {r} zero codec = giving_codec (λ (_ : Unit {0}). []) (flat_map s) (λ l. (length l ≡ 0) × AllByRecursion f l) (no_step _) (λ u h. (refl, (refl, tt))) (many_none f)
 many_codec {A} {s} {f} {r} (suc n) codec = giving_codec (λ p. p.0 ∷ p.1) (flat_map s) (λ l. (length l ≡ suc n) × AllByRecursion f l) (next _ codec (λ _ _. last _ (many_codec n codec))) (λ p h. (refl, (ap suc h.1.0, (h.0, h.1.1)))) (many_some f n)
 
 -- a codec stays a codec if its range is stated in an equivalent way
 pub refit_codec : {A : Type 0} {s : A → List ℕ} {f : A → Type 0} {r : Reading A} (fits : A → Type 0) → ((a : A) → f a → fits a) → ((a : A) → fits a → f a) → IsCodec s f r → IsCodec s fits r
 refit_codec fits to from codec = record {
-  takes = λ bytes x all e. let t = codec.takes bytes x all e in (t.0, to x.0 t.1);
-  again = λ a rest h. codec.again a rest (from a h);
+  reads_encoding = λ bytes x all e. let t = codec.reads_encoding bytes x all e in (t.0, to x.0 t.1);
+  reads_back = λ a rest h. codec.reads_back a rest (from a h);
 }
 
 -- ---- numbers below a limit
 
-pub small_codec : (limit : ℕ) → limit ≤ 256 → IsCodec (λ b. b ∷ []) (λ b. b < limit) (small_at limit)
+pub small_codec : (limit : ℕ) → limit ≤ 256 → IsCodec (λ b. b ∷ []) (λ b. b < limit) (number_below_at limit)
 small_codec limit le = refit_codec (λ b. b < limit) (λ b h. ltb-true _ _ h.1) (λ b h. (omega arith, lt-ltb _ _ h)) (only_codec (λ n. ltb n limit) byte_codec)
 
 pub address_codec : IsCodec address_bytes (λ n. n < 4096) address_at
@@ -277,13 +277,13 @@ Spelled spell fits tag bytes x = (tag ∷ bytes ≡ spell x.0 ++ x.1) × fits x.
 
 -- one row of a table of tags: if the tag is k, `read` reads the value; if not, `other` does
 pub row : {C P : Type 0} {s : C → List ℕ} {f : C → Type 0} {read : Reading P} {tag : ℕ} {bytes : List ℕ} {x : P × List ℕ} (spell : P → List ℕ) (fits : P → Type 0) (k : ℕ) (make : C → P) (other : Reading P)
-    → IsBytes bytes → Steps s f (λ c. giving (make c)) read → ((c : C) → f c → (spell (make c) ≡ k ∷ s c) × fits (make c))
+    → IsBytes bytes → Steps s f (λ c. give (make c)) read → ((c : C) → f c → (spell (make c) ≡ k ∷ s c) × fits (make c))
     → (other bytes ≡ Some x → Spelled spell fits tag bytes x) → cond (eqb tag k) read other bytes ≡ Some x → Spelled spell fits tag bytes x
 row {C} {P} {s} {f} {read} {tag} {bytes} {x} spell fits k make other all steps made otherwise e =
     let Q : Bool → Type 0 = λ b. (eqb tag k ≡ b) → cond b read other bytes ≡ Some x → Spelled spell fits tag bytes x in
     (elim (eqb tag k) as Q [
       | true ↦ λ yes h.
-          let c = steps.takes bytes x all h in
+          let c = steps.reads_encoding bytes x all h in
           let same : (make c.0.0, c.0.1) ≡ x = let i = c.3 in cc in
           let m = made c.0.0 c.2 in
           let parts : tag ∷ bytes ≡ spell (make c.0.0) ++ c.0.1 = rw (m.0, eqb-true _ _ yes) (ap (λ (l : List ℕ). k ∷ l) c.1) in
@@ -298,16 +298,16 @@ all_read (Some (x, [])) a e = let same : x ≡ a = cc in ap (λ v. Some (v, []))
 all_read (Some (x, b ∷ rest)) a e = absurd cc
 all_read None a e = absurd cc
 
-pub whole_takes : {A : Type 0} {s : A → List ℕ} {f : A → Type 0} {r : Reading A} → IsCodec s f r → (bytes : List ℕ) (a : A) → IsBytes bytes → whole r bytes ≡ Some a → (bytes ≡ s a) × f a
+pub whole_takes : {A : Type 0} {s : A → List ℕ} {f : A → Type 0} {r : Reading A} → IsCodec s f r → (bytes : List ℕ) (a : A) → IsBytes bytes → read_all_of r bytes ≡ Some a → (bytes ≡ s a) × f a
 whole_takes {A} {s} {f} {r} codec bytes a all e =
-    let t = codec.takes bytes (a, []) all (all_read (r bytes) a e) in
+    let t = codec.reads_encoding bytes (a, []) all (all_read (r bytes) a e) in
     (t.0 ∙ append-nil (s a), t.1)
 
-pub whole_again : {A : Type 0} {s : A → List ℕ} {f : A → Type 0} {r : Reading A} → IsCodec s f r → (a : A) → f a → whole r (s a) ≡ Some a
-whole_again {A} {s} {f} {r} codec a h = ap (whole r) (sym (append-nil (s a))) ∙ rw (codec.again a [] h) refl
+pub whole_again : {A : Type 0} {s : A → List ℕ} {f : A → Type 0} {r : Reading A} → IsCodec s f r → (a : A) → f a → read_all_of r (s a) ≡ Some a
+whole_again {A} {s} {f} {r} codec a h = ap (read_all_of r) (sym (append-nil (s a))) ∙ rw (codec.reads_back a [] h) refl
 
 -- no bytes encode two different values
 pub same_value : {A : Type 0} {s : A → List ℕ} {f : A → Type 0} {r : Reading A} → IsCodec s f r → (a b : A) → f a → f b → s a ≡ s b → a ≡ b
 same_value {A} {s} {f} {r} codec a b h k e =
-    let one : Some a ≡ Some b = sym (whole_again codec a h) ∙ ap (whole r) e ∙ whole_again codec b k in
+    let one : Some a ≡ Some b = sym (whole_again codec a h) ∙ ap (read_all_of r) e ∙ whole_again codec b k in
     cc

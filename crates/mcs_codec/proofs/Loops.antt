@@ -5,15 +5,15 @@ use Rattle.std.specs.Prelude.{◌≢◌}
 use Rattle.std.proofs.lemmas.Bool.Decides.{nat_tests}
 use Rattle.std.proofs.lemmas.List.{append-nil, at_drop_more, at_drop_all}
 use Rattle.mcs_model.specs.declared.board.ChainPart.{ChainPart}
-use Rattle.mcs_codec.specs.Reading.{◌>>=◌, and_then, Read, Reading, giving, byte_at, bytes_at, many}
-use Rattle.mcs_codec.specs.CommandReading.{mark_bit, addressed_at}
+use Rattle.mcs_codec.specs.Reading.{◌>>=◌, and_then, Read, Reading, give, byte_at, bytes_at, read_times}
+use Rattle.mcs_codec.specs.CommandReading.{mark_bit, addressed_bytes_at}
 use Rattle.mcs_codec.specs.StateReading.{chains_at}
 
 -- the result of a reading, with the values in `front` put before its values
 abbrev pub with_front : {A : Type 0} → List A → Read (List A) → Read (List A)
-with_front front read = and_then read (λ xs. giving (front ++ xs))
+with_front front read = and_then read (λ xs. give (front ++ xs))
 
-regroup : {A : Type 0} (front : List A) (a : A) (read : Read (List A)) → with_front front (and_then read (λ xs. giving (a ∷ xs))) ≡ with_front (front ++ a ∷ []) read
+regroup : {A : Type 0} (front : List A) (a : A) (read : Read (List A)) → with_front front (and_then read (λ xs. give (a ∷ xs))) ≡ with_front (front ++ a ∷ []) read
 regroup {A} front a (Some x) = ap (λ (xs : List A). Some (xs, x.1)) (simp append_assoc)
 regroup front a None = refl
 
@@ -21,7 +21,7 @@ regroup front a None = refl
 abbrev step_to : {A B : Type 0} → List A → (B → A) → Read B → Reading (List A) → Read (List A)
 step_to front make read later = and_then read (λ b after. with_front (front ++ make b ∷ []) (later after))
 
-step : {A B : Type 0} (front : List A) (make : B → A) (read : Read B) (later : Reading (List A)) → with_front front (and_then read (λ b. later >>= λ others. giving (make b ∷ others))) ≡ step_to front make read later
+step : {A B : Type 0} (front : List A) (make : B → A) (read : Read B) (later : Reading (List A)) → with_front front (and_then read (λ b. later >>= λ others. give (make b ∷ others))) ≡ step_to front make read later
 step front make (Some x) later = regroup front (make x.0) (later x.1)
 step front make None later = refl
 
@@ -31,14 +31,14 @@ none_left {A} front bytes = ap (λ (xs : List A). Some (xs, bytes)) (append-nil 
 -- ---- reading `count` values
 
 pub many_step : {A : Type 0} (read : Reading A) (front : List A) (count i : ℕ) (bytes : List ℕ) → i < count
-    → with_front front (many (count - i) read bytes) ≡ and_then (read bytes) (λ a after. with_front (front ++ a ∷ []) (many (count - (i + 1)) read after))
-unfolding many
+    → with_front front (read_times (count - i) read bytes) ≡ and_then (read bytes) (λ a after. with_front (front ++ a ∷ []) (read_times (count - (i + 1)) read after))
+unfolding read_times
 many_step read front count i bytes lt =
     let k : count - i ≡ suc (count - (i + 1)) = omega arith in
-    rw k (step front (λ a. a) (read bytes) (many (count - (i + 1)) read))
+    rw k (step front (λ a. a) (read bytes) (read_times (count - (i + 1)) read))
 
-pub many_done : {A : Type 0} (read : Reading A) (front : List A) (count i : ℕ) (bytes : List ℕ) → count ≤ i → with_front front (many (count - i) read bytes) ≡ Some (front, bytes)
-unfolding many
+pub many_done : {A : Type 0} (read : Reading A) (front : List A) (count i : ℕ) (bytes : List ℕ) → count ≤ i → with_front front (read_times (count - i) read bytes) ≡ Some (front, bytes)
+unfolding read_times
 many_done read front count i bytes le = let k : count - i ≡ 0 = omega arith in rw k (none_left front bytes)
 
 -- ---- reading the bits of each chain
@@ -56,20 +56,20 @@ chains_done chains i front bytes le = ap (with_front front) (at_drop_all (λ l. 
 -- ---- reading the bytes of the marked addresses
 
 pub addressed_step : (marks : List ℕ) (front : List (ℕ × ℕ)) (count at : ℕ) (bytes : List ℕ) → at < count → mark_bit marks at ≡ 1
-    → with_front front (addressed_at marks (count - at) at bytes) ≡ and_then (byte_at bytes) (λ byte after. with_front (front ++ (at, byte) ∷ []) (addressed_at marks (count - (at + 1)) (at + 1) after))
-unfolding addressed_at
+    → with_front front (addressed_bytes_at marks (count - at) at bytes) ≡ and_then (byte_at bytes) (λ byte after. with_front (front ++ (at, byte) ∷ []) (addressed_bytes_at marks (count - (at + 1)) (at + 1) after))
+unfolding addressed_bytes_at
 addressed_step marks front count at bytes lt one =
     let k : count - at ≡ suc (count - (at + 1)) = omega arith in
-    rw (k, one) (step front (λ byte. (at, byte)) (byte_at bytes) (addressed_at marks (count - (at + 1)) (at + 1)))
+    rw (k, one) (step front (λ byte. (at, byte)) (byte_at bytes) (addressed_bytes_at marks (count - (at + 1)) (at + 1)))
 
 pub addressed_skip : (marks : List ℕ) (front : List (ℕ × ℕ)) (count at : ℕ) (bytes : List ℕ) → at < count → mark_bit marks at ≢ 1
-    → with_front front (addressed_at marks (count - at) at bytes) ≡ with_front front (addressed_at marks (count - (at + 1)) (at + 1) bytes)
-unfolding addressed_at
+    → with_front front (addressed_bytes_at marks (count - at) at bytes) ≡ with_front front (addressed_bytes_at marks (count - (at + 1)) (at + 1) bytes)
+unfolding addressed_bytes_at
 addressed_skip marks front count at bytes lt other =
     let k : count - at ≡ suc (count - (at + 1)) = omega arith in
     let test : eqb (mark_bit marks at) 1 ≡ false = grind (arith, nat_tests) in
     rw (k, test) refl
 
-pub addressed_done : (marks : List ℕ) (front : List (ℕ × ℕ)) (count at : ℕ) (bytes : List ℕ) → count ≤ at → with_front front (addressed_at marks (count - at) at bytes) ≡ Some (front, bytes)
-unfolding addressed_at
+pub addressed_done : (marks : List ℕ) (front : List (ℕ × ℕ)) (count at : ℕ) (bytes : List ℕ) → count ≤ at → with_front front (addressed_bytes_at marks (count - at) at bytes) ≡ Some (front, bytes)
+unfolding addressed_bytes_at
 addressed_done marks front count at bytes le = let k : count - at ≡ 0 = omega arith in rw k (none_left front bytes)

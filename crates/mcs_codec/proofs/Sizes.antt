@@ -24,10 +24,10 @@ use Rattle.mcs_codec.proofs.ImageCodec.{length-image}
 use Rattle.mcs_codec.proofs.StateCodec.{AreChains, chains_of}
 use Rattle.mcs_codec.proofs.Codecs.{all_units}
 
-pub each_is : {A : Type 0} (s : A → List ℕ) (f : A → Type 0) (k : ℕ) → ((a : A) → f a → length (s a) ≡ k) → (l : List A) → AllByRecursion f l → length (flat_map s l) ≡ length l * k
-each_is s f k one [] h = omega arith
-each_is s f k one (a ∷ l) h =
-    let rest : length (flat_map s l) ≡ length l * k = each_is s f k one l h.1 in
+pub length-flat_map_each : {A : Type 0} (s : A → List ℕ) (f : A → Type 0) (k : ℕ) → ((a : A) → f a → length (s a) ≡ k) → (l : List A) → AllByRecursion f l → length (flat_map s l) ≡ length l * k
+length-flat_map_each s f k one [] h = omega arith
+length-flat_map_each s f k one (a ∷ l) h =
+    let rest : length (flat_map s l) ≡ length l * k = length-flat_map_each s f k one l h.1 in
     let here : length (s a) ≡ k = one a h.0 in
     omega (arith, length-append (s a) (flat_map s l), suc-mul (length l) k)
 
@@ -47,7 +47,7 @@ length-chain c =
     omega (arith, length-append (board_line_bytes c.clock) (board_line_bytes c.data_in ++ c.chips ∷ []), length-append (board_line_bytes c.data_in) (c.chips ∷ []))
 
 length-lines : (l : List Line) → length (counted_bytes board_line_bytes l) ≡ 1 + length l * 4
-length-lines l = let e = each_is board_line_bytes (λ _. Unit {0}) 4 (λ a h. length-line a) l (all_units l) in omega (arith, e)
+length-lines l = let e = length-flat_map_each board_line_bytes (λ _. Unit {0}) 4 (λ a h. length-line a) l (all_units l) in omega (arith, e)
 
 length-keys : (k : Option KeyMatrix) → IsKeys k → length (keys_bytes k) ≤ 37
 length-keys None h = omega arith
@@ -55,8 +55,8 @@ length-keys (Some m) h = let e : length (counted_bytes board_line_bytes m.column
 
 pub length-board : (b : BoardParts) → HasLengths b → length (board_bytes b) ≤ 403
 length-board b h =
-    let roms : length (flat_map rom_bytes b.roms) ≡ length b.roms * 4 = each_is rom_bytes IsMask 4 length-rom b.roms h.masks in
-    let chains : length (flat_map chain_bytes b.chains.items) ≡ length b.chains.items * 9 = each_is chain_bytes (λ _. Unit {0}) 9 (λ c u. length-chain c) b.chains.items (all_units b.chains.items) in
+    let roms : length (flat_map rom_bytes b.roms) ≡ length b.roms * 4 = length-flat_map_each rom_bytes IsMask 4 length-rom b.roms h.masks in
+    let chains : length (flat_map chain_bytes b.chains.items) ≡ length b.chains.items * 9 = length-flat_map_each chain_bytes (λ _. Unit {0}) 9 (λ c u. length-chain c) b.chains.items (all_units b.chains.items) in
     let keys = length-keys b.keys h.keys in
     let lamps : length (counted_bytes board_line_bytes b.lamps.items) ≡ 1 + length b.lamps.items * 4 = length-lines b.lamps.items in
     simp length-append (omega (arith, roms, chains, keys, lamps, h.roms, h.banks, h.chains, h.lamps))
@@ -72,7 +72,7 @@ length-chains (c ∷ chains) (bits ∷ l) h few =
     omega (arith, h.0, few.0, length-append bits (flat_map (λ bits. bits) l))
 
 addresses : (l : List ℕ) → length (flat_map address_bytes l) ≡ length l * 2
-addresses l = each_is address_bytes (λ _. Unit {0}) 2 (λ a h. refl) l (all_units l)
+addresses l = length-flat_map_each address_bytes (λ _. Unit {0}) 2 (λ a h. refl) l (all_units l)
 
 pub length-state : (s : BenchState) → IsValid s → length (state_bytes s) ≤ 7632
 length-state s valid =
@@ -83,19 +83,19 @@ length-state s valid =
     simp length-append (omega (
       arith,
       simp length-append at (length-board s.bus.board lengths),
-      b.rom.count_is,
-      b.ram.count_is,
-      b.status.count_is,
-      b.ram_ports.count_is,
-      b.rom_ports.count_is,
-      valid.processor.r.count_is,
-      valid.processor.ret.count_is,
+      b.rom.has_count,
+      b.ram.has_count,
+      b.status.has_count,
+      b.ram_ports.has_count,
+      b.rom_ports.has_count,
+      valid.processor.r.has_count,
+      valid.processor.ret.has_count,
       addresses s.processor.ret,
-      b.ram_src.count_is,
+      b.ram_src.has_count,
       chains,
       lengths.chains,
       keys_of s.bus.board lengths.keys sound,
-      b.keys.count_is,
+      b.keys.has_count,
       valid.breakpoints.few,
       addresses s.breakpoints,
       valid.watches.few,

@@ -15,12 +15,12 @@ use Rattle.mcs_version1.specs.BenchState.{BenchState1}
 use Rattle.mcs_version1.specs.Lift.{lift}
 use Rattle.mcs_version1.specs.Validity.{IsValid1}
 use Rattle.mcs_version1.proofs.Limits.{small-then, valid-now, valid-then}
-use Rattle.mcs_codec.specs.Reading.{whole}
+use Rattle.mcs_codec.specs.Reading.{read_all_of}
 use Rattle.mcs_codec.specs.BoardBytes.{counted_bytes}
 use Rattle.mcs_codec.specs.CommandBytes.{address_bytes}
-use Rattle.mcs_codec.specs.StateBytes.{registers_bytes, src_bytes, wiring_bytes, groups_bytes}
+use Rattle.mcs_codec.specs.StateBytes.{registers_bytes, src_bytes, wiring_bytes, field_group_bytes}
 use Rattle.mcs_codec.specs.StateReading.{chains_at, state_at}
-use Rattle.mcs_codec.specs.Codec.{SpellsInSomeVersion, SpellsState, SpellsState1, SpellsStateBy, version_of}
+use Rattle.mcs_codec.specs.Codec.{EncodesInSomeVersion, EncodesState, EncodesState1, EncodesStateBy, version_of}
 use Rattle.mcs_codec.specs.declared.versions.Version.{Version}
 use Rattle.mcs_codec.specs.declared.versions.Version.TheVariants.{One, Two}
 use Rattle.mcs_codec.proofs.Codecs.{IsCodec, IsBytes, any_codec, bytes_codec, word_codec, long_codec, last, next, no_step, many_codec, counted_codec, giving_codec, whole_takes, whole_again}
@@ -52,8 +52,8 @@ chains_codec (c ∷ chains) = giving_codec (λ p. p.0 ∷ p.1) (flat_map (λ bit
 
 -- ---- a state in either version
 
-abbrev pub bytes_by : Version → BenchState → List ℕ
-bytes_by version s = to_be_bytes w32 s.seq ++ (versioned_board_bytes version s.bus.board ++ groups_bytes s.processor s.bus s.breakpoints (watches_bytes version s.watches))
+abbrev pub versioned_state_bytes : Version → BenchState → List ℕ
+versioned_state_bytes version s = to_be_bytes w32 s.seq ++ (versioned_board_bytes version s.bus.board ++ field_group_bytes s.processor s.bus s.breakpoints (watches_bytes version s.watches))
 
 -- holds if each field fits its width, in the order of the bytes
 abbrev pub HasWidths : Version → BenchState → Type 0
@@ -83,29 +83,29 @@ state_from (seq, ((version, board), (rom, (ram, (status, (ram_ports, (rom_ports,
   },
 )
 
-three : (a b c rest : List ℕ) → (a ++ (b ++ c)) ++ rest ≡ a ++ (b ++ (c ++ rest))
-three a b c rest = simp append_assoc
+regroup_three : (a b c rest : List ℕ) → (a ++ (b ++ c)) ++ rest ≡ a ++ (b ++ (c ++ rest))
+regroup_three a b c rest = simp append_assoc
 
-five : (a b c d e rest : List ℕ) → (a ++ (b ++ (c ++ (d ++ e)))) ++ rest ≡ a ++ (b ++ (c ++ (d ++ (e ++ rest))))
-five a b c d e rest = simp append_assoc
+regroup_five : (a b c d e rest : List ℕ) → (a ++ (b ++ (c ++ (d ++ e)))) ++ rest ≡ a ++ (b ++ (c ++ (d ++ (e ++ rest))))
+regroup_five a b c d e rest = simp append_assoc
 
 -- the groups of fields are the fields in the order of their bytes
 fields_in_order : (b : BusState) (p : Regs) (breakpoints rest : List ℕ)
-    → groups_bytes p b breakpoints rest
+    → field_group_bytes p b breakpoints rest
     ≡ b.rom ++ (b.ram ++ (b.status ++ (b.ram_ports ++ (b.rom_ports ++ (p.acc ∷ p.cy ∷ (p.r ++ (address_bytes p.pc ++ (flat_map address_bytes p.ret ++ (p.dcl ∷ b.rom_src ∷ (b.ram_src ++ (p.owed ∷ (flat_map (λ bits. bits) b.chains ++ (b.keys ++ (b.test ∷ (counted_bytes address_bytes breakpoints ++ rest)))))))))))))))
 fields_in_order b p breakpoints rest =
     let wiring = wiring_bytes b breakpoints ++ rest in
-    five b.rom b.ram b.status b.ram_ports b.rom_ports (registers_bytes p ++ (src_bytes p b ++ wiring))
+    regroup_five b.rom b.ram b.status b.ram_ports b.rom_ports (registers_bytes p ++ (src_bytes p b ++ wiring))
     ∙ ap (λ l. b.rom ++ (b.ram ++ (b.status ++ (b.ram_ports ++ (b.rom_ports ++ (p.acc ∷ p.cy ∷ l)))))) (
-    three p.r (address_bytes p.pc) (flat_map address_bytes p.ret) (src_bytes p b ++ wiring)
+    regroup_three p.r (address_bytes p.pc) (flat_map address_bytes p.ret) (src_bytes p b ++ wiring)
     ∙ ap (λ l. p.r ++ (address_bytes p.pc ++ (flat_map address_bytes p.ret ++ (p.dcl ∷ b.rom_src ∷ l)))) (
-    append_assoc b.ram_src (p.owed ∷ []) wiring ∙ ap (λ l. b.ram_src ++ (p.owed ∷ l)) (three (flat_map (λ bits. bits) b.chains) b.keys (b.test ∷ counted_bytes address_bytes breakpoints) rest)
+    append_assoc b.ram_src (p.owed ∷ []) wiring ∙ ap (λ l. b.ram_src ++ (p.owed ∷ l)) (regroup_three (flat_map (λ bits. bits) b.chains) b.keys (b.test ∷ counted_bytes address_bytes breakpoints) rest)
     )
     )
 
-pub state_codec : IsCodec (λ (p : Version × BenchState). bytes_by p.0 p.1) (λ p. HasWidths p.0 p.1) state_at
+pub state_codec : IsCodec (λ (p : Version × BenchState). versioned_state_bytes p.0 p.1) (λ p. HasWidths p.0 p.1) state_at
 unfolding state_at
-state_codec = giving_codec state_from (λ p. bytes_by p.0 p.1) (λ p. HasWidths p.0 p.1)
+state_codec = giving_codec state_from (λ p. versioned_state_bytes p.0 p.1) (λ p. HasWidths p.0 p.1)
     (next _ long_codec (λ _ _. next _ versioned_board_codec (λ versioned _.
     next _ (bytes_codec 4096) (λ _ _. next _ (bytes_codec 2048) (λ _ _. next _ (bytes_codec 512) (λ _ _. next _ (bytes_codec 32) (λ _ _. next _ (bytes_codec 16) (λ _ _.
     next _ any_codec (λ _ _. next _ any_codec (λ _ _. next _ (bytes_codec 16) (λ _ _. next _ word_codec (λ _ _. next _ (many_codec 3 word_codec) (λ _ _.
@@ -123,7 +123,7 @@ pub chains_of : (chains : List ChainPart) (l : List (List ℕ)) → length l ≡
 chains_of [] [] len h = tt
 chains_of [] (bits ∷ l) len h = absurd cc
 chains_of (c ∷ chains) [] len h = absurd cc
-chains_of (c ∷ chains) (bits ∷ l) len h = ((h 0 (omega arith)).count_is, chains_of chains l (omega arith) (λ i lt. h (suc i) (omega arith)))
+chains_of (c ∷ chains) (bits ∷ l) len h = ((h 0 (omega arith)).has_count, chains_of chains l (omega arith) (λ i lt. h (suc i) (omega arith)))
 
 widths_by : (version : Version) (s : BenchState) → IsValid s → FitsVersion version s.bus.board → FitsWatches version s.watches → HasWidths version s
 widths_by version s h board watches =
@@ -133,37 +133,37 @@ widths_by version s h board watches =
       (
         board,
         (
-          b.rom.count_is,
+          b.rom.has_count,
           (
-            b.ram.count_is,
+            b.ram.has_count,
             (
-              b.status.count_is,
+              b.status.has_count,
               (
-                b.ram_ports.count_is,
+                b.ram_ports.has_count,
                 (
-                  b.rom_ports.count_is,
+                  b.rom_ports.has_count,
                   (
                     tt,
                     (
                       tt,
                       (
-                        p.r.count_is,
+                        p.r.has_count,
                         (
                           omega (arith, p.pc),
                           (
-                            (p.ret.count_is, words_of 4096 s.processor.ret (omega arith) p.ret.below),
+                            (p.ret.has_count, words_of 4096 s.processor.ret (omega arith) p.ret.below),
                             (
                               tt,
                               (
                                 tt,
                                 (
-                                  b.ram_src.count_is,
+                                  b.ram_src.has_count,
                                   (
                                     tt,
                                     (
                                       chains_of s.bus.board.chains.items s.bus.chains b.chains b.chain_bits,
                                       (
-                                        b.keys.count_is,
+                                        b.keys.has_count,
                                         (
                                           tt,
                                           (
@@ -205,7 +205,7 @@ lift-valid s h = record {
 -- ---- the contracts of the public functions
 
 -- if all of the bytes are read as a valid state, they encode that state
-pub state_read : (version : Version) (bytes : List ℕ) (s : BenchState) → IsBytes bytes → Some (version, s) ≡ whole state_at bytes → IsValid s → SpellsStateBy version bytes s
+pub state_read : (version : Version) (bytes : List ℕ) (s : BenchState) → IsBytes bytes → Some (version, s) ≡ read_all_of state_at bytes → IsValid s → EncodesStateBy version bytes s
 state_read Two bytes s all e valid = record { is = (whole_takes state_codec bytes (Two, s) all (sym e)).0; valid = valid }
 state_read One bytes s all e valid =
     let t = whole_takes state_codec bytes (One, s) all (sym e) in
@@ -217,35 +217,35 @@ state_read One bytes s all e valid =
     }
 
 -- if the bytes encode a state, they are read as that state
-pub state_again : (version : Version) (bytes : List ℕ) (s : BenchState) → SpellsStateBy version bytes s → whole state_at bytes ≡ Some (version, s)
-state_again Two bytes s h = ap (whole state_at) h.is ∙ whole_again state_codec (Two, s) (widths_of s h.valid)
+pub state_again : (version : Version) (bytes : List ℕ) (s : BenchState) → EncodesStateBy version bytes s → read_all_of state_at bytes ≡ Some (version, s)
+state_again Two bytes s h = ap (read_all_of state_at) h.is ∙ whole_again state_codec (Two, s) (widths_of s h.valid)
 state_again One bytes s h =
     let t = lift h.version_1 in
     let v = h.spells.valid in
     let widths = widths_by One t (lift-valid h.version_1 v) (valid-now t.bus.board v.bus.board, small-then t.bus.board v.bus.board) refl in
-    ap (whole state_at) h.spells.is ∙ whole_again state_codec (One, t) widths ∙ ap (λ (u : BenchState). Some (One, u)) (sym h.lifted)
+    ap (read_all_of state_at) h.spells.is ∙ whole_again state_codec (One, t) widths ∙ ap (λ (u : BenchState). Some (One, u)) (sym h.lifted)
 
-pub spelled_valid : (version : Version) (bytes : List ℕ) (s : BenchState) → SpellsStateBy version bytes s → IsValid s
+pub spelled_valid : (version : Version) (bytes : List ℕ) (s : BenchState) → EncodesStateBy version bytes s → IsValid s
 spelled_valid Two bytes s h = h.valid
 spelled_valid One bytes s h = subst IsValid (sym h.lifted) (lift-valid h.version_1 h.spells.valid)
 
 -- the fifth byte determines the version in which the bytes encode a state
-pub state_version : (version : Version) (bytes : List ℕ) (s : BenchState) → SpellsStateBy version bytes s → version_of bytes ≡ Some version
+pub state_version : (version : Version) (bytes : List ℕ) (s : BenchState) → EncodesStateBy version bytes s → version_of bytes ≡ Some version
 state_version Two bytes s h = ap version_of h.is
 state_version One bytes s h = ap version_of h.spells.is ∙ (board-begins h.version_1.bus.board _ (valid-now h.version_1.bus.board h.spells.valid.bus.board)).0
 
-pub state_none : (bytes : List ℕ) → None ≡ whole state_at bytes → (version : Version) (s : BenchState) → SpellsStateBy version bytes s → ⊥
+pub state_none : (bytes : List ℕ) → None ≡ read_all_of state_at bytes → (version : Version) (s : BenchState) → EncodesStateBy version bytes s → ⊥
 state_none bytes e version s h =
     let versioned : Version × BenchState = (version, s) in
     let back : Some versioned ≡ None = sym (state_again version bytes s h) ∙ sym e in cc
 
-pub state_invalid : (bytes : List ℕ) (versioned : Version) (t : BenchState) → Some (versioned, t) ≡ whole state_at bytes → (IsValid t → ⊥) → (version : Version) (s : BenchState) → SpellsStateBy version bytes s → ⊥
+pub state_invalid : (bytes : List ℕ) (versioned : Version) (t : BenchState) → Some (versioned, t) ≡ read_all_of state_at bytes → (IsValid t → ⊥) → (version : Version) (s : BenchState) → EncodesStateBy version bytes s → ⊥
 state_invalid bytes versioned t e wrong version s h =
     let one : Some (versioned, t) ≡ Some (version, s) = e ∙ state_again version bytes s h in
     let same : (version, s) ≡ (versioned, t) = cc in
     wrong (subst IsValid (ap (λ (p : Version × BenchState). p.1) same) (spelled_valid version bytes s h))
 
-pub same_state : (bytes : List ℕ) (v w : Version) (s t : BenchState) → SpellsStateBy v bytes s → SpellsStateBy w bytes t → (v ≡ w) × (s ≡ t)
+pub same_state : (bytes : List ℕ) (v w : Version) (s t : BenchState) → EncodesStateBy v bytes s → EncodesStateBy w bytes t → (v ≡ w) × (s ≡ t)
 same_state bytes v w s t h k =
     let one : Some (v, s) ≡ Some (w, t) = sym (state_again v bytes s h) ∙ state_again w bytes t k in
     let same : (v, s) ≡ (w, t) = cc in
@@ -253,13 +253,13 @@ same_state bytes v w s t h k =
 
 -- ---- a state in one of the two versions
 
-pub in_some_version : (version : Version) (bytes : List ℕ) (s : BenchState) → SpellsStateBy version bytes s → SpellsInSomeVersion bytes s
+pub in_some_version : (version : Version) (bytes : List ℕ) (s : BenchState) → EncodesStateBy version bytes s → EncodesInSomeVersion bytes s
 in_some_version One bytes s h = inr h
 in_some_version Two bytes s h = inl h
 
-pub in_no_version : (bytes : List ℕ) → ((version : Version) (s : BenchState) → SpellsStateBy version bytes s → ⊥) → (s : BenchState) → SpellsInSomeVersion bytes s → ⊥
+pub in_no_version : (bytes : List ℕ) → ((version : Version) (s : BenchState) → EncodesStateBy version bytes s → ⊥) → (s : BenchState) → EncodesInSomeVersion bytes s → ⊥
 in_no_version bytes none s (inl h) = none Two s h
 in_no_version bytes none s (inr h) = none One s h
 
-pub not_both : (bytes : List ℕ) (s : BenchState) (t : BenchState1) → SpellsState bytes s → SpellsState1 bytes t → ⊥
+pub not_both : (bytes : List ℕ) (s : BenchState) (t : BenchState1) → EncodesState bytes s → EncodesState1 bytes t → ⊥
 not_both bytes s t h k = let same : Two ≡ One = (same_state bytes Two One s (lift t) h (record { version_1 = t; spells = k; lifted = refl })).0 in absurd cc

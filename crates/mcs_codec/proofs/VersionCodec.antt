@@ -7,12 +7,12 @@ use Rattle.mcs_nibble.specs.declared.lines.LineMask.TheVariants as mask
 use Rattle.mcs_nibble.specs.Ports.{mask_at, mask_character}
 use Rattle.mcs_model.specs.declared.board.BoardParts.{BoardParts}
 use Rattle.mcs_model.specs.Validity.{IsValidBoard}
-use Rattle.mcs_version1.specs.Boards.{is_small}
+use Rattle.mcs_version1.specs.Boards.{is_small_board}
 use Rattle.mcs_codec.specs.BoardBytes.{rom_bytes, board_bytes, counted_bytes}
 use Rattle.mcs_codec.specs.CommandBytes.{address_bytes}
-use Rattle.mcs_codec.specs.Reading.{and_then, giving}
-use Rattle.mcs_codec.specs.StateReading.{version_at, board_by, versioned_board_at, watches_at}
-use Rattle.mcs_codec.specs.Codec.{version_number, version_of, version_read}
+use Rattle.mcs_codec.specs.Reading.{and_then, give}
+use Rattle.mcs_codec.specs.StateReading.{version_at, board_in_version, versioned_board_at, watches_at}
+use Rattle.mcs_codec.specs.Codec.{version_number, version_of, version_at_start}
 use Rattle.mcs_codec.specs.declared.versions.Version.{Version}
 use Rattle.mcs_codec.specs.declared.versions.Version.TheVariants.{One, Two}
 use Rattle.mcs_codec.proofs.Codecs.{IsBytes, IsBytes-after, IsCodec, counted_codec, only_codec, then_some, word_codec}
@@ -22,7 +22,7 @@ use Rattle.mcs_codec.proofs.BoardCodec.{board_codec}
 
 -- holds if the first byte determines version 1, and reading the version consumes nothing
 abbrev BeginsBoard : List ℕ → Type 0
-BeginsBoard bytes = (version_read bytes ≡ Some One) × (version_at bytes ≡ Some (One, bytes))
+BeginsBoard bytes = (version_at_start bytes ≡ Some One) × (version_at bytes ≡ Some (One, bytes))
 
 line-begins : (line : LineMask) (rest : List ℕ) → BeginsBoard (mask_character line ∷ rest)
 unfolding version_at
@@ -46,36 +46,36 @@ abbrev pub version_bytes : Version → List ℕ
 version_bytes One = []
 version_bytes Two = 2 ∷ []
 
-version-judged : (b : ℕ) (bytes : List ℕ) (character two : Bool) (x : Version × List ℕ) → (two ≡ true → b ≡ 2)
+version_cases : (b : ℕ) (bytes : List ℕ) (character two : Bool) (x : Version × List ℕ) → (two ≡ true → b ≡ 2)
     → cond character (Some (One, b ∷ bytes)) (cond two (Some (Two, bytes)) None) ≡ Some x → b ∷ bytes ≡ version_bytes x.0 ++ x.1
-version-judged b bytes true two x is e = let same : (One, b ∷ bytes) ≡ x = cc in subst (λ (y : Version × List ℕ). b ∷ bytes ≡ version_bytes y.0 ++ y.1) same refl
-version-judged b bytes false true x is e = let same : (Two, bytes) ≡ x = cc in subst (λ (y : Version × List ℕ). b ∷ bytes ≡ version_bytes y.0 ++ y.1) same (ap (λ n. n ∷ bytes) (is refl))
-version-judged b bytes false false x is e = absurd cc
+version_cases b bytes true two x is e = let same : (One, b ∷ bytes) ≡ x = cc in subst (λ (y : Version × List ℕ). b ∷ bytes ≡ version_bytes y.0 ++ y.1) same refl
+version_cases b bytes false true x is e = let same : (Two, bytes) ≡ x = cc in subst (λ (y : Version × List ℕ). b ∷ bytes ≡ version_bytes y.0 ++ y.1) same (ap (λ n. n ∷ bytes) (is refl))
+version_cases b bytes false false x is e = absurd cc
 
 version-read : (bytes : List ℕ) (x : Version × List ℕ) → version_at bytes ≡ Some x → bytes ≡ version_bytes x.0 ++ x.1
 unfolding version_at
 version-read [] x e = absurd cc
-version-read (b ∷ bytes) x e = version-judged b bytes _ (eqb b 2) x (eqb-true _ _) e
+version-read (b ∷ bytes) x e = version_cases b bytes _ (eqb b 2) x (eqb-true _ _) e
 
 -- ---- the version that the next byte determines, without the bytes after it
 
 abbrev pub and_rest : List ℕ → Version → Version × List ℕ
 and_rest rest v = (v, rest)
 
-judged_version : (b : ℕ) (bytes rest : List ℕ) (character two : Bool) (versioned : Option Version)
+version_cases_only : (b : ℕ) (bytes rest : List ℕ) (character two : Bool) (versioned : Option Version)
     → option_map (and_rest rest) versioned ≡ cond character (Some (One, b ∷ bytes)) (cond two (Some (Two, bytes)) None) → versioned ≡ cond character (Some One) (cond two (Some Two) None)
-judged_version b bytes rest true two None e = absurd cc
-judged_version b bytes rest true two (Some v) e = let same : (v, rest) ≡ (One, b ∷ bytes) = cc in ap (λ (p : Version × List ℕ). Some p.0) same
-judged_version b bytes rest false true None e = absurd cc
-judged_version b bytes rest false true (Some v) e = let same : (v, rest) ≡ (Two, bytes) = cc in ap (λ (p : Version × List ℕ). Some p.0) same
-judged_version b bytes rest false false None e = refl
-judged_version b bytes rest false false (Some v) e = absurd cc
+version_cases_only b bytes rest true two None e = absurd cc
+version_cases_only b bytes rest true two (Some v) e = let same : (v, rest) ≡ (One, b ∷ bytes) = cc in ap (λ (p : Version × List ℕ). Some p.0) same
+version_cases_only b bytes rest false true None e = absurd cc
+version_cases_only b bytes rest false true (Some v) e = let same : (v, rest) ≡ (Two, bytes) = cc in ap (λ (p : Version × List ℕ). Some p.0) same
+version_cases_only b bytes rest false false None e = refl
+version_cases_only b bytes rest false false (Some v) e = absurd cc
 
-pub version_is_read : (bytes rest : List ℕ) (versioned : Option Version) → option_map (and_rest rest) versioned ≡ version_at bytes → versioned ≡ version_read bytes
+pub version_is_read : (bytes rest : List ℕ) (versioned : Option Version) → option_map (and_rest rest) versioned ≡ version_at bytes → versioned ≡ version_at_start bytes
 unfolding version_at
 version_is_read [] rest None e = refl
 version_is_read [] rest (Some v) e = absurd cc
-version_is_read (b ∷ bytes) rest versioned e = judged_version b bytes rest _ _ versioned e
+version_is_read (b ∷ bytes) rest versioned e = version_cases_only b bytes rest _ _ versioned e
 
 pub version_number_read : (bytes rest at : List ℕ) (versioned : Option Version) → at ≡ drop 4 bytes → option_map (and_rest rest) versioned ≡ version_at at
     → option_map version_number versioned ≡ option_map version_number (version_of bytes)
@@ -87,31 +87,31 @@ abbrev pub versioned_board_bytes : Version → BoardParts → List ℕ
 versioned_board_bytes version b = version_bytes version ++ board_bytes b
 
 abbrev pub FitsVersion : Version → BoardParts → Type 0
-FitsVersion One b = IsValidBoard b × (is_small b ≡ true)
+FitsVersion One b = IsValidBoard b × (is_small_board b ≡ true)
 FitsVersion Two b = IsValidBoard b
 
-board_by_codec : (version : Version) → IsCodec board_bytes (FitsVersion version) (board_by version)
-unfolding board_by
-board_by_codec One = only_codec is_small board_codec
+board_by_codec : (version : Version) → IsCodec board_bytes (FitsVersion version) (board_in_version version)
+unfolding board_in_version
+board_by_codec One = only_codec is_small_board board_codec
 board_by_codec Two = board_codec
 
-version-again : (version : Version) (b : BoardParts) (rest : List ℕ) → FitsVersion version b → version_at (versioned_board_bytes version b ++ rest) ≡ Some (version, board_bytes b ++ rest)
+version-reads_back : (version : Version) (b : BoardParts) (rest : List ℕ) → FitsVersion version b → version_at (versioned_board_bytes version b ++ rest) ≡ Some (version, board_bytes b ++ rest)
 unfolding version_at
-version-again One b rest h = (board-begins b rest h.0).1
-version-again Two b rest h = refl
+version-reads_back One b rest h = (board-begins b rest h.0).1
+version-reads_back Two b rest h = refl
 
 pub versioned_board_codec : IsCodec (λ (p : Version × BoardParts). versioned_board_bytes p.0 p.1) (λ p. FitsVersion p.0 p.1) versioned_board_at
 unfolding versioned_board_at
 versioned_board_codec = record {
-  takes = λ bytes x all e.
-      let v = then_some (version_at bytes) (λ version rest. and_then (board_by version rest) (λ board. giving (version, board))) x e in
+  reads_encoding = λ bytes x all e.
+      let v = then_some (version_at bytes) (λ version rest. and_then (board_in_version version rest) (λ board. give (version, board))) x e in
       let mark = version-read bytes v.0 v.1 in
-      let b = then_some (board_by v.0.0 v.0.1) (λ board. giving (v.0.0, board)) x v.2 in
-      let t = (board_by_codec v.0.0).takes v.0.1 b.0 (IsBytes-after (version_bytes v.0.0) v.0.1 (subst IsBytes mark all)) b.1 in
+      let b = then_some (board_in_version v.0.0 v.0.1) (λ board. give (v.0.0, board)) x v.2 in
+      let t = (board_by_codec v.0.0).reads_encoding v.0.1 b.0 (IsBytes-after (version_bytes v.0.0) v.0.1 (subst IsBytes mark all)) b.1 in
       let same : ((v.0.0, b.0.0), b.0.1) ≡ x = let end = b.2 in cc in
       let parts : bytes ≡ versioned_board_bytes v.0.0 b.0.0 ++ b.0.1 = mark ∙ ap (λ (l : List ℕ). version_bytes v.0.0 ++ l) t.0 ∙ sym (append_assoc (version_bytes v.0.0) (board_bytes b.0.0) b.0.1) in
       subst (λ (y : (Version × BoardParts) × List ℕ). (bytes ≡ versioned_board_bytes y.0.0 y.0.1 ++ y.1) × FitsVersion y.0.0 y.0.1) same (parts, t.1);
-  again = λ p rest h. rw (version-again p.0 p.1 rest h, (board_by_codec p.0).again p.1 rest h) refl;
+  reads_back = λ p rest h. rw (version-reads_back p.0 p.1 rest h, (board_by_codec p.0).reads_back p.1 rest h) refl;
 }
 
 -- ---- the watches
@@ -129,5 +129,5 @@ no-watches bytes x e = let same : ([], bytes) ≡ x = cc in subst (λ (y : List 
 
 pub watches_codec : (version : Version) → IsCodec (watches_bytes version) (FitsWatches version) (watches_at version)
 unfolding watches_at
-watches_codec One = record { takes = λ bytes x all e. no-watches bytes x e; again = λ a rest h. ap (λ (l : List ℕ). Some (l, rest)) (sym h) }
+watches_codec One = record { reads_encoding = λ bytes x all e. no-watches bytes x e; reads_back = λ a rest h. ap (λ (l : List ℕ). Some (l, rest)) (sym h) }
 watches_codec Two = counted_codec 8 (omega arith) word_codec

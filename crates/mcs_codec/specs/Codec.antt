@@ -14,7 +14,7 @@ use Rattle.mcs_codec.specs.declared.versions.Version.{Version}
 use Rattle.mcs_codec.specs.declared.versions.Version.TheVariants.{One, Two}
 
 -- holds if these bytes encode this command
-pub record Spells (bytes : List ℕ) (c : Command) : Type 0 where
+pub record Encodes (bytes : List ℕ) (c : Command) : Type 0 where
   pub is : bytes ≡ command_bytes c
   pub in_range : IsCommand c
 
@@ -24,38 +24,38 @@ has_command One c = in_version_1 c
 has_command Two c = true
 
 -- holds if these bytes encode this command in a session of this version
-abbrev pub SpellsBy : Version → List ℕ → Command → Type 0
-SpellsBy version bytes c = Spells bytes c × (has_command version c ≡ true)
+abbrev pub EncodesBy : Version → List ℕ → Command → Type 0
+EncodesBy version bytes c = Encodes bytes c × (has_command version c ≡ true)
 
 -- holds if these bytes begin with the tag of a load
 abbrev pub BeginsAsLoad : List ℕ → Type 0
 BeginsAsLoad bytes = take 1 bytes ≡ 2 ∷ []
 
 -- holds if these bytes encode this state
-pub record SpellsState (bytes : List ℕ) (s : BenchState) : Type 0 where
+pub record EncodesState (bytes : List ℕ) (s : BenchState) : Type 0 where
   pub is : bytes ≡ state_bytes s
   pub valid : IsValid s
 
 -- holds if these bytes encode this state of version 1
-pub record SpellsState1 (bytes : List ℕ) (s : BenchState1) : Type 0 where
+pub record EncodesState1 (bytes : List ℕ) (s : BenchState1) : Type 0 where
   pub is : bytes ≡ state_bytes_1 s
   pub valid : IsValid1 s
 
 -- holds if these bytes encode a state of version 1 that is converted (`lift`) to this state
-pub record SpellsLifted (bytes : List ℕ) (s : BenchState) : Type 0 where
+pub record EncodesLifted (bytes : List ℕ) (s : BenchState) : Type 0 where
   pub version_1 : BenchState1
-  pub spells : SpellsState1 bytes version_1
+  pub spells : EncodesState1 bytes version_1
   pub lifted : s ≡ lift version_1
 
 -- Holds if these bytes encode this state in this version. In version 1, they encode a state that is
 -- converted to this state.
-abbrev pub SpellsStateBy : Version → List ℕ → BenchState → Type 0
-SpellsStateBy One bytes s = SpellsLifted bytes s
-SpellsStateBy Two bytes s = SpellsState bytes s
+abbrev pub EncodesStateBy : Version → List ℕ → BenchState → Type 0
+EncodesStateBy One bytes s = EncodesLifted bytes s
+EncodesStateBy Two bytes s = EncodesState bytes s
 
 -- holds if these bytes encode this state in one of the two versions
-abbrev pub SpellsInSomeVersion : List ℕ → BenchState → Type 0
-SpellsInSomeVersion bytes s = SpellsState bytes s ⊎ SpellsLifted bytes s
+abbrev pub EncodesInSomeVersion : List ℕ → BenchState → Type 0
+EncodesInSomeVersion bytes s = EncodesState bytes s ⊎ EncodesLifted bytes s
 
 -- the number of a version, 1 or 2
 abbrev pub version_number : Version → ℕ
@@ -64,12 +64,12 @@ version_number Two = 2
 
 -- The version that the first of these bytes determines. In a state, that is the byte after the
 -- count of commands: a port character (`i`, `0`, `1` or `-`) in version 1, and 02 in version 2.
-abbrev pub version_read : List ℕ → Option Version
-version_read [] = None
-version_read (b ∷ bytes) =
+abbrev pub version_at_start : List ℕ → Option Version
+version_at_start [] = None
+version_at_start (b ∷ bytes) =
     if b == 105 || b == 48 || b == 49 || b == 45 then Some One
     else if b == 2 then Some Two
     else None
 
 abbrev pub version_of : List ℕ → Option Version
-version_of bytes = version_read (drop 4 bytes)
+version_of bytes = version_at_start (drop 4 bytes)

@@ -33,12 +33,12 @@ abbrev pub mark : List (ℕ × ℕ) → ℕ → ℕ
 mark image at = if list_any (λ p. p.0 == at) image then 1 else 0
 
 -- the byte whose bit k is f k, for k from 0 to 7
-abbrev pub byte_of : (ℕ → ℕ) → ℕ
-byte_of f = f 0 + 2 * f 1 + 4 * f 2 + 8 * f 3 + 16 * f 4 + 32 * f 5 + 64 * f 6 + 128 * f 7
+abbrev pub byte_of_bits : (ℕ → ℕ) → ℕ
+byte_of_bits f = f 0 + 2 * f 1 + 4 * f 2 + 8 * f 3 + 16 * f 4 + 32 * f 5 + 64 * f 6 + 128 * f 7
 
 -- the marks of an image: bit k of byte i is 1 if the image has a byte at the address 8 * i + k
 unfoldable pub mark_bytes : List (ℕ × ℕ) → List ℕ
-mark_bytes image = table_of 512 (λ i. byte_of (λ k. mark image (8 * i + k)))
+mark_bytes image = table_of 512 (λ i. byte_of_bits (λ k. mark image (8 * i + k)))
 
 abbrev pub values : List (ℕ × ℕ) → List ℕ
 values image = map (λ p. p.1) image

@@ -24,21 +24,21 @@ abbrev pub ◌>>=◌ : {A B : Type 0} → Reading A → (A → Reading B) → Re
 read >>= next = λ bytes. and_then (read bytes) next
 
 -- gives this value, and consumes no bytes
-abbrev pub giving : {A : Type 0} → A → Reading A
-giving a = λ bytes. Some (a, bytes)
+abbrev pub give : {A : Type 0} → A → Reading A
+give a = λ bytes. Some (a, bytes)
 
 -- gives no value: the reading fails
-abbrev pub refusing : {A : Type 0} → Reading A
-refusing = λ bytes. None
+abbrev pub fail_reading : {A : Type 0} → Reading A
+fail_reading = λ bytes. None
 
 -- gives this value if `test` is true, and fails otherwise
-abbrev pub giving_if : {A : Type 0} → Bool → A → Reading A
-giving_if test a = λ bytes. if test then Some (a, bytes) else None
+abbrev pub give_if : {A : Type 0} → Bool → A → Reading A
+give_if test a = λ bytes. if test then Some (a, bytes) else None
 
 -- gives the value if there is one, and fails otherwise
-abbrev pub giving_some : {A : Type 0} → Option A → Reading A
-giving_some (Some a) = giving a
-giving_some None = refusing
+abbrev pub give_some : {A : Type 0} → Option A → Reading A
+give_some (Some a) = give a
+give_some None = fail_reading
 
 -- ---- numbers and bytes
 
@@ -60,32 +60,32 @@ bytes_at count bytes =
 -- ---- tests, repetition, and the end
 
 -- reads a value, and fails if the test is false for it
-abbrev pub only : {A : Type 0} → (A → Bool) → Reading A → Reading A
-only test read = do
+abbrev pub read_if : {A : Type 0} → (A → Bool) → Reading A → Reading A
+read_if test read = do
   a ← read
-  giving_if (test a) a
+  give_if (test a) a
 
 -- reads a number below `limit` from one byte
-abbrev pub small_at : ℕ → Reading ℕ
-small_at limit = only (λ n. nat_lt n limit) byte_at
+abbrev pub number_below_at : ℕ → Reading ℕ
+number_below_at limit = read_if (λ n. nat_lt n limit) byte_at
 
 -- reads an address from two bytes, and fails if it is 4,096 or more
 abbrev pub address_at : Reading ℕ
-address_at = only (λ n. nat_lt n 4096) (wide_number_at w16)
+address_at = read_if (λ n. nat_lt n 4096) (wide_number_at w16)
 
 -- reads n values, one after another
-unfoldable pub many : {A : Type 0} → ℕ → Reading A → Reading (List A)
-many zero read = giving []
-many (suc n) read = do
+unfoldable pub read_times : {A : Type 0} → ℕ → Reading A → Reading (List A)
+read_times zero read = give []
+read_times (suc n) read = do
   first ← read
-  others ← many n read
-  giving (first ∷ others)
+  others ← read_times n read
+  give (first ∷ others)
 
 -- reads a count of at most `limit` from one byte, and then that many values
 unfoldable pub counted_at : {A : Type 0} → ℕ → Reading A → Reading (List A)
 counted_at limit read = do
-  count ← only (λ n. nat_le n limit) byte_at
-  many count read
+  count ← read_if (λ n. nat_le n limit) byte_at
+  read_times count read
 
 -- the value that was read, or `None` if there is no value or bytes are left after it
 abbrev pub whole_value : {A : Type 0} → Read A → Option A
@@ -93,5 +93,5 @@ whole_value (Some x) = elim x.1 [ [] ↦ Some x.0 | (_ ∷ _) ↦ None ]
 whole_value None = None
 
 -- the value that all of the bytes together encode, or `None`
-abbrev pub whole : {A : Type 0} → Reading A → List ℕ → Option A
-whole read bytes = whole_value (read bytes)
+abbrev pub read_all_of : {A : Type 0} → Reading A → List ℕ → Option A
+read_all_of read bytes = whole_value (read bytes)

@@ -31,8 +31,8 @@ wiring_bytes b breakpoints =
     flat_map (λ bits. bits) b.chains ++ (b.keys ++ (b.test ∷ counted_bytes address_bytes breakpoints))
 
 -- the four groups of fields after the board, and then `rest`
-abbrev pub groups_bytes : Regs → BusState → List ℕ → List ℕ → List ℕ
-groups_bytes p b breakpoints rest =
+abbrev pub field_group_bytes : Regs → BusState → List ℕ → List ℕ → List ℕ
+field_group_bytes p b breakpoints rest =
     memory_bytes b
     ++ (registers_bytes p
     ++ (src_bytes p b
@@ -41,17 +41,17 @@ groups_bytes p b breakpoints rest =
 
 -- The bytes after the board in version 2: the groups of fields and the watches. Each watch is the
 -- number bank * 256 + SRC byte, in two bytes.
-abbrev pub after_board : BenchState → List ℕ
-after_board s = groups_bytes s.processor s.bus s.breakpoints (counted_bytes address_bytes s.watches)
+abbrev pub bytes_after_board : BenchState → List ℕ
+bytes_after_board s = field_group_bytes s.processor s.bus s.breakpoints (counted_bytes address_bytes s.watches)
 
 -- a state in version 2: the count of accepted commands, the byte 02, the board, the groups of
 -- fields and the watches
 abbrev pub state_bytes : BenchState → List ℕ
-state_bytes s = to_be_bytes w32 s.seq ++ (2 ∷ (board_bytes s.bus.board ++ after_board s))
+state_bytes s = to_be_bytes w32 s.seq ++ (2 ∷ (board_bytes s.bus.board ++ bytes_after_board s))
 
 -- a state in version 1: the count of accepted commands, the board and the groups of fields
 abbrev pub state_bytes_1 : BenchState1 → List ℕ
 state_bytes_1 s =
     to_be_bytes w32 s.seq
     ++ (board_bytes s.bus.board
-    ++ groups_bytes s.processor s.bus s.breakpoints [])
+    ++ field_group_bytes s.processor s.bus s.breakpoints [])

@@ -10,8 +10,8 @@ use Rattle.mcs_model.specs.declared.limits.TheConstants.{BANKS, BREAKPOINTS, WAT
 use Rattle.mcs_model.specs.Boards.{key_count}
 use Rattle.mcs_model.specs.Bus.{BusState}
 use Rattle.mcs_model.specs.BenchState.{BenchState}
-use Rattle.mcs_version1.specs.Boards.{is_small}
-use Rattle.mcs_codec.specs.Reading.{◌>>=◌, Reading, giving, only, byte_at, wide_number_at, bytes_at, many, counted_at}
+use Rattle.mcs_version1.specs.Boards.{is_small_board}
+use Rattle.mcs_codec.specs.Reading.{◌>>=◌, Reading, give, read_if, byte_at, wide_number_at, bytes_at, read_times, counted_at}
 use Rattle.mcs_codec.specs.BoardReading.{board_at}
 use Rattle.mcs_codec.specs.declared.versions.Version.{Version}
 use Rattle.mcs_codec.specs.declared.versions.Version.TheVariants.{One, Two}
@@ -26,27 +26,27 @@ version_at (b ∷ bytes) =
     else None
 
 -- reads the board, which must be small in version 1
-unfoldable pub board_by : Version → Reading BoardParts
-board_by One = only is_small board_at
-board_by Two = board_at
+unfoldable pub board_in_version : Version → Reading BoardParts
+board_in_version One = read_if is_small_board board_at
+board_in_version Two = board_at
 
 unfoldable pub versioned_board_at : Reading (Version × BoardParts)
 versioned_board_at = do
   version ← version_at
-  board ← board_by version
-  giving (version, board)
+  board ← board_in_version version
+  give (version, board)
 
 -- reads the bits of each chain, one byte for each bit
 unfoldable pub chains_at : List ChainPart → Reading (List (List ℕ))
-chains_at [] = giving []
+chains_at [] = give []
 chains_at (c ∷ chains) = do
   bits ← bytes_at (10 * c.chips)
   others ← chains_at chains
-  giving (bits ∷ others)
+  give (bits ∷ others)
 
 -- reads the watches; version 1 has none
 unfoldable pub watches_at : Version → Reading (List ℕ)
-watches_at One = giving []
+watches_at One = give []
 watches_at Two = counted_at WATCHES (wide_number_at w16)
 
 unfoldable pub state_at : Reading (Version × BenchState)
@@ -62,7 +62,7 @@ state_at = do
   cy ← byte_at
   r ← bytes_at 16
   pc ← wide_number_at w16
-  ret ← many 3 (wide_number_at w16)
+  ret ← read_times 3 (wide_number_at w16)
   dcl ← byte_at
   rom_src ← byte_at
   ram_src ← bytes_at BANKS
@@ -72,7 +72,7 @@ state_at = do
   test ← byte_at
   breakpoints ← counted_at BREAKPOINTS (wide_number_at w16)
   watches ← watches_at versioned.0
-  giving (
+  give (
     versioned.0,
     record {
       processor = record { acc = acc; cy = cy; r = r; pc = pc; ret = ret; dcl = dcl; owed = owed };
@@ -96,7 +96,7 @@ state_at = do
   )
 
 -- holds if the five lists that `Flat` stores as `Cells` have their fixed lengths, as in a new bench
-pub record HasCells (b : BusState) : Type 0 where
+pub record HasFixedLengths (b : BusState) : Type 0 where
   pub rom : length b.rom ≡ 4096
   pub ram : length b.ram ≡ 2048
   pub status : length b.status ≡ 512

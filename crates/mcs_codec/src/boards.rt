@@ -10,7 +10,7 @@ use mcs_model::limits::{BANKS, ROMS};
 use mcs_nibble::LineMask;
 
 /// Returns the characters of a ROM's four port lines, line 3 first.
-fn masks_bytes(mask: [LineMask; 4]) -> [u8; 4]
+fn port_characters(mask: [LineMask; 4]) -> [u8; 4]
     ensures { result ≡ rom_bytes (Some mask) }
 {
     let [a, b, c, d] = mask;
@@ -24,7 +24,7 @@ impl Encode for Option<[LineMask; 4]> {
 
     fn put(&self, out: &mut [u8], at: usize) -> usize {
         match self {
-            Some(mask) => put(out, at, &masks_bytes(*mask)),
+            Some(mask) => put(out, at, &port_characters(*mask)),
             None => put(out, at, b"----"),
         }
     }
@@ -44,10 +44,10 @@ impl Decode for Option<[LineMask; 4]> {
         if first == b'-' && second == b'-' && third == b'-' && fourth == b'-' {
             return Some(None);
         }
-        let line_3 = LineMask::of_character(first)?;
-        let line_2 = LineMask::of_character(second)?;
-        let line_1 = LineMask::of_character(third)?;
-        let line_0 = LineMask::of_character(fourth)?;
+        let line_3 = LineMask::from_character(first)?;
+        let line_2 = LineMask::from_character(second)?;
+        let line_1 = LineMask::from_character(third)?;
+        let line_0 = LineMask::from_character(fourth)?;
         Some(Some([line_0, line_1, line_2, line_3]))
     }
 }

@@ -1,15 +1,15 @@
 //! The encoding of a command.
 ghost use Rattle.std.specs.Prelude.{◌≡◌, ℕ, ◌+◌, ◌≤◌, ◌<◌, ◌∷◌, ◌++◌, List, [], length, take, option_map, Option, Some, None, IfOk, OnErr, IfSome, IfNone, if◌then◌else◌};
 ghost use Rattle.mcs_model.specs.declared.command.Command.{Command};
-ghost use Rattle.mcs_codec.specs.Reading.{whole};
+ghost use Rattle.mcs_codec.specs.Reading.{read_all_of};
 ghost use Rattle.mcs_codec.specs.CommandBytes.{command_bytes, IsCommand};
 ghost use Rattle.mcs_codec.specs.CommandReading.{command_without_image, command_after_tag, command_at};
-ghost use Rattle.mcs_codec.specs.Codec.{BeginsAsLoad, Spells};
+ghost use Rattle.mcs_codec.specs.Codec.{BeginsAsLoad, Encodes};
 
 use crate::boards::{put_board, read_board};
 use crate::encoding::{Decode, Encode, put};
 use crate::images::{put_image, read_image};
-use crate::places::place_is_in_range;
+use crate::places::show_place_is_in_range;
 use crate::reader::Reader;
 use mcs_model::command::{Command, Place};
 use mcs_model::limits::RECORD_BYTES;
@@ -25,7 +25,7 @@ pub const COMMAND_BYTES: usize = RECORD_BYTES;
 
 /// Proves that each part of a command is in its range. Also proves that the encoding has at least
 /// one byte, the tag.
-fn command_is_in_range(command: &Command)
+fn show_command_is_in_range(command: &Command)
     ensures range { IsCommand command.now }
     ensures tag { 1 ≤ length (command_bytes command.now) }
 {
@@ -42,7 +42,7 @@ fn command_is_in_range(command: &Command)
         Command::Run(cycles) => {
             let _cycles = *cycles;
         }
-        Command::Poke(place) => place_is_in_range(*place),
+        Command::Poke(place) => show_place_is_in_range(*place),
         Command::Test(bit) => {
             bit.get();
         }
@@ -100,19 +100,19 @@ fn put_command(command: &Command, out: &mut [u8], at: usize) -> usize
 /// Writes a command to the start of `into` and returns its length, 1 to 4,609 bytes. The bytes of
 /// `into` after the command are unspecified. `into` must have at least `COMMAND_BYTES` bytes.
 pub fn command_bytes(command: &Command, into: &mut [u8]) -> usize
-    requires lent { COMMAND_BYTES ≤ length into.old }
-    ensures spells { Spells (take result into.new) command.now }
+    requires buffer_size { COMMAND_BYTES ≤ length into.old }
+    ensures spells { Encodes (take result into.new) command.now }
     ensures count { result ≡ length (command_bytes command.now) }
     ensures some { 1 ≤ result }
     ensures fits { result ≤ COMMAND_BYTES }
 {
-    command_is_in_range(command);
+    show_command_is_in_range(command);
     put_command(command, into, 0)
 }
 
 /// Reads the rest of a command after its tag, for every command except a load, which needs memory.
 /// Returns `None` if the tag is that of a load or the bytes do not encode a command.
-fn read_without_image(tag: u8, reader: &mut Reader<'_>) -> Option<Command>
+fn read_command_without_image(tag: u8, reader: &mut Reader<'_>) -> Option<Command>
     ensures { option_map (λ x. (x, reader.new)) result ≡ command_without_image tag reader.old }
 {
     match tag {
@@ -147,7 +147,7 @@ fn read_without_image(tag: u8, reader: &mut Reader<'_>) -> Option<Command>
 /// Reads the rest of a command after its tag. Returns `None` if the bytes do not encode a command.
 /// Fails if memory runs out.
 #[tactic(auto, unfolding(crate::specs::CommandReading::command_after_tag))]
-fn read_after_tag(
+fn read_command_after_tag(
     alloc: Global,
     tag: u8,
     reader: &mut Reader<'_>,
@@ -162,7 +162,7 @@ fn read_after_tag(
             None => Ok(None),
         }
     } else {
-        Ok(read_without_image(tag, reader))
+        Ok(read_command_without_image(tag, reader))
     }
 }
 
@@ -170,14 +170,14 @@ fn read_after_tag(
 /// Fails if memory runs out.
 #[tactic(auto, unfolding(crate::specs::CommandReading::command_at))]
 fn read_command(alloc: Global, bytes: &[u8]) -> Result<Option<Command>, NoMemory>
-    ensures read { IfOk result (λ found. found ≡ whole command_at bytes.now) }
+    ensures read { IfOk result (λ found. found ≡ read_all_of command_at bytes.now) }
     ensures memory { OnErr result (BeginsAsLoad bytes.now) }
 {
     let mut reader = Reader::new(bytes);
     let Some(tag) = reader.byte() else {
         return Ok(None);
     };
-    match read_after_tag(alloc, tag, &mut reader)? {
+    match read_command_after_tag(alloc, tag, &mut reader)? {
         Some(command) => {
             if reader.is_empty() {
                 Ok(Some(command))
@@ -195,8 +195,8 @@ fn read_command(alloc: Global, bytes: &[u8]) -> Result<Option<Command>, NoMemory
 ///
 /// Fails if memory runs out. Only a load needs memory.
 pub fn command_of(alloc: Global, bytes: &[u8]) -> Result<Option<Command>, NoMemory>
-    ensures some { IfOk result (λ found. IfSome found (λ c. Spells bytes.now c)) }
-    ensures none { IfOk result (λ found. IfNone found ((c : Command) → Spells bytes.now c → ⊥)) }
+    ensures some { IfOk result (λ found. IfSome found (λ c. Encodes bytes.now c)) }
+    ensures none { IfOk result (λ found. IfNone found ((c : Command) → Encodes bytes.now c → ⊥)) }
     ensures memory { OnErr result (BeginsAsLoad bytes.now) }
 {
     read_command(alloc, bytes)
@@ -205,5 +205,5 @@ pub fn command_of(alloc: Global, bytes: &[u8]) -> Result<Option<Command>, NoMemo
 /// Proves that no bytes encode two different commands. (Each command has one encoding, because the
 /// definition of the encoding is a function.)
 pub fn one_command()
-    ensures { (bytes : List ℕ) (c d : Command) → Spells bytes c → Spells bytes d → c ≡ d }
+    ensures { (bytes : List ℕ) (c d : Command) → Encodes bytes c → Encodes bytes d → c ≡ d }
 {}

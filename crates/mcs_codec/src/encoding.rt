@@ -1,7 +1,7 @@
 //! Traits and functions that write and read values in sequence.
 ghost use Rattle.std.specs.Prelude.{◌≡◌, ℕ, ◌+◌, ◌≤◌, ◌<◌, ◌∷◌, ◌++◌, List, [], length, take, option_map, Option, Some, None, if◌then◌else◌};
 ghost use Rattle.std.specs.List.{flat_map};
-ghost use Rattle.mcs_codec.specs.Reading.{small_at, many, counted_at};
+ghost use Rattle.mcs_codec.specs.Reading.{number_below_at, read_times, counted_at};
 ghost use Rattle.mcs_codec.specs.BoardBytes.{counted_bytes as counted_text};
 
 use crate::reader::Reader;
@@ -58,7 +58,7 @@ pub fn put_all<T: Encode>(items: &[T], out: &mut [u8], at: usize) -> usize
 /// values.
 pub fn read_into<T: Decode>(reader: &mut Reader<'_>, items: &mut [T]) -> Option<()>
     ensures { option_map (λ _. (items.new, reader.new)) result
-        ≡ many (length items.old) T.reading reader.old }
+        ≡ read_times (length items.old) T.reading reader.old }
 {
     for i in 0..items.len() {
         items[i] = T::read(reader)?;
@@ -72,7 +72,7 @@ pub fn read_list<T: Decode + Default, const CAP: usize>(
     count: usize,
 ) -> Option<ArrayVec<T, CAP>>
     requires { count ≤ CAP }
-    ensures { option_map (λ v. (v.items, reader.new)) result ≡ many count T.reading reader.old }
+    ensures { option_map (λ v. (v.items, reader.new)) result ≡ read_times count T.reading reader.old }
 {
     let mut items = ArrayVec::new();
     for _ in 0..count {
@@ -82,7 +82,7 @@ pub fn read_list<T: Decode + Default, const CAP: usize>(
 }
 
 impl Decode for Nibble {
-    ghost reading = { small_at 16 };
+    ghost reading = { number_below_at 16 };
 
     fn read(reader: &mut Reader<'_>) -> Option<Nibble> {
         let value = reader.byte()?;
@@ -91,7 +91,7 @@ impl Decode for Nibble {
 }
 
 impl Decode for Bit {
-    ghost reading = { small_at 2 };
+    ghost reading = { number_below_at 2 };
 
     fn read(reader: &mut Reader<'_>) -> Option<Bit> {
         let value = reader.byte()?;

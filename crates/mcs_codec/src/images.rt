@@ -2,8 +2,8 @@
 //! there, and then the bytes.
 ghost use Rattle.std.specs.Prelude.{◌≡◌, ℕ, ◌+◌, ◌*◌, ◌≤◌, ◌<◌, ◌∷◌, ◌++◌, List, [], length, take, map, slice_index, option_map, IfOk};
 ghost use Rattle.mcs_nibble.specs.Tables.{table_of};
-ghost use Rattle.mcs_codec.specs.CommandBytes.{mark, byte_of, mark_bytes, values, image_bytes};
-ghost use Rattle.mcs_codec.specs.CommandReading.{mark_bit, addressed_at, image_at};
+ghost use Rattle.mcs_codec.specs.CommandBytes.{mark, byte_of_bits, mark_bytes, values, image_bytes};
+ghost use Rattle.mcs_codec.specs.CommandReading.{mark_bit, addressed_bytes_at, image_at};
 
 use crate::encoding::{Encode, put, put_all};
 use crate::reader::Reader;
@@ -35,7 +35,7 @@ fn marks_of(image: &[AddressedByte]) -> [Bit; ADDRESSES]
 /// lowest bit.
 fn mark_byte(marks: &[Bit], at: usize) -> u8
     requires { at + 8 ≤ length marks.now }
-    ensures { result ≡ byte_of (λ k. slice_index marks.now (at + k)) }
+    ensures { result ≡ byte_of_bits (λ k. slice_index marks.now (at + k)) }
 {
     let low = marks[at].get() + 2 * marks[at + 1].get() + 4 * marks[at + 2].get();
     let middle = 8 * marks[at + 3].get() + 16 * marks[at + 4].get();
@@ -44,7 +44,7 @@ fn mark_byte(marks: &[Bit], at: usize) -> u8
 }
 
 /// Returns the marks of an image's addresses, packed eight to a byte.
-fn marks_packed(image: &[AddressedByte]) -> [u8; MARK_BYTES]
+fn packed_marks(image: &[AddressedByte]) -> [u8; MARK_BYTES]
     ensures { result ≡ mark_bytes image.now }
 {
     let marks = marks_of(image);
@@ -79,7 +79,7 @@ pub fn put_image(image: &Image, out: &mut [u8], at: usize) -> usize
     ensures front { take result out.new ≡ take at out.old ++ image_bytes image.now }
 {
     let addressed = image.pairs();
-    let at = put(out, at, &marks_packed(addressed));
+    let at = put(out, at, &packed_marks(addressed));
     put_values(addressed, out, at)
 }
 
@@ -95,14 +95,14 @@ fn mark_bit(marks: &[u8], at: u16) -> u8
 
 /// Reads one byte for each marked address, in ascending order of address. Returns `None` if too few
 /// bytes are left. Fails if memory runs out.
-fn read_addressed(
+fn read_addressed_bytes(
     alloc: Global,
     reader: &mut Reader<'_>,
     marks: &[u8],
 ) -> Result<Option<Image>, AllocError>
     requires { length marks.now ≡ 512 }
     ensures { IfOk result (λ found.
-        option_map (λ x. (x, reader.new)) found ≡ addressed_at marks.now 4096 0 reader.old) }
+        option_map (λ x. (x, reader.new)) found ≡ addressed_bytes_at marks.now 4096 0 reader.old) }
 {
     let mut image = Image::new(alloc)?;
     for at in 0..4096 {
@@ -124,7 +124,7 @@ pub fn read_image(alloc: Global, reader: &mut Reader<'_>) -> Result<Option<Image
     ensures { IfOk result (λ found. option_map (λ x. (x, reader.new)) found ≡ image_at reader.old) }
 {
     match reader.bytes(MARK_BYTES) {
-        Some(marks) => read_addressed(alloc, reader, marks),
+        Some(marks) => read_addressed_bytes(alloc, reader, marks),
         None => Ok(None),
     }
 }

@@ -4,7 +4,7 @@ ghost use Rattle.mcs_model.specs.BenchState.{BenchState};
 ghost use Rattle.mcs_model.specs.Bus.{BusState};
 ghost use Rattle.mcs_version1.specs.BenchState.{BenchState1};
 ghost use Rattle.mcs_version1.specs.Lift.{CommandsLift, FoldsLift, QueriesLift, lift};
-ghost use Rattle.mcs_codec.specs.Codec.{SpellsState, SpellsState1};
+ghost use Rattle.mcs_codec.specs.Codec.{EncodesState, EncodesState1};
 
 use crate::versions::one_state;
 use mcs_version1::laws::{commands_lift, queries_lift};
@@ -27,7 +27,7 @@ pub fn version_1_keeps_its_meaning()
 /// Proves that no bytes encode both a state of version 2 and a state of version 1.
 pub fn no_bytes_of_both_versions()
     ensures { (bytes : List ℕ) (s : BenchState) (t : BenchState1)
-        → SpellsState bytes s → SpellsState1 bytes t → ⊥ }
+        → EncodesState bytes s → EncodesState1 bytes t → ⊥ }
 {
     one_state();
 }

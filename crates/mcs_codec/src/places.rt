@@ -9,9 +9,9 @@ use mcs_model::command::Place;
 use mcs_nibble::{Addr, BankNo, Bit, Nibble, RegNo, StatusNo};
 
 impl Decode for RegNo {
-    ghost use Rattle.mcs_codec.specs.Reading.{small_at};
+    ghost use Rattle.mcs_codec.specs.Reading.{number_below_at};
 
-    ghost reading = { small_at 16 };
+    ghost reading = { number_below_at 16 };
 
     fn read(reader: &mut Reader<'_>) -> Option<RegNo> {
         let value = reader.byte()?;
@@ -20,9 +20,9 @@ impl Decode for RegNo {
 }
 
 impl Decode for BankNo {
-    ghost use Rattle.mcs_codec.specs.Reading.{small_at};
+    ghost use Rattle.mcs_codec.specs.Reading.{number_below_at};
 
-    ghost reading = { small_at 8 };
+    ghost reading = { number_below_at 8 };
 
     fn read(reader: &mut Reader<'_>) -> Option<BankNo> {
         let value = reader.byte()?;
@@ -31,9 +31,9 @@ impl Decode for BankNo {
 }
 
 impl Decode for StatusNo {
-    ghost use Rattle.mcs_codec.specs.Reading.{small_at};
+    ghost use Rattle.mcs_codec.specs.Reading.{number_below_at};
 
-    ghost reading = { small_at 4 };
+    ghost reading = { number_below_at 4 };
 
     fn read(reader: &mut Reader<'_>) -> Option<StatusNo> {
         let value = reader.byte()?;
@@ -106,7 +106,7 @@ impl Encode for Place {
 }
 
 /// Proves that each number of a [`Place`] is in its range.
-pub fn place_is_in_range(place: Place)
+pub fn show_place_is_in_range(place: Place)
     ensures { IsPlace place }
 {
     match place {

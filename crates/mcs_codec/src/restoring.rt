@@ -2,15 +2,15 @@
 ghost use Rattle.std.specs.Prelude.{◌≡◌, ℕ, ◌≤◌, List, All, length, option_map, IfOk, IfSome, IfNone};
 ghost use Rattle.mcs_model.specs.BenchState.{BenchState};
 ghost use Rattle.mcs_bench.specs.States.{bits_of_chains, state_of};
-ghost use Rattle.mcs_codec.specs.Reading.{bytes_at, whole};
-ghost use Rattle.mcs_codec.specs.StateReading.{board_by, versioned_board_at, chains_at, watches_at, state_at, HasCells};
-ghost use Rattle.mcs_codec.specs.Codec.{SpellsInSomeVersion, SpellsStateBy, version_number, version_of};
+ghost use Rattle.mcs_codec.specs.Reading.{bytes_at, read_all_of};
+ghost use Rattle.mcs_codec.specs.StateReading.{board_in_version, versioned_board_at, chains_at, watches_at, state_at, HasFixedLengths};
+ghost use Rattle.mcs_codec.specs.Codec.{EncodesInSomeVersion, EncodesStateBy, version_number, version_of};
 
 use crate::boards::read_board;
 use crate::commands::NoMemory;
 use crate::encoding::{Decode, read_counted, read_into};
 use crate::reader::Reader;
-use crate::versions::{Version, is_small};
+use crate::versions::{Version, is_small_board};
 use arrayvec::ArrayVec;
 use mcs_bench::{Bench, Cells, Flat};
 use mcs_model::board::{Board, ChainPart};
@@ -35,14 +35,18 @@ impl Decode for u16 {
 }
 
 /// Reads a board in the given version. Returns `None` if the bytes do not encode a board, or if the
-/// version is 1 and the board is too large for it (`is_small`).
-#[tactic(auto, unfolding(crate::specs::StateReading::board_by))]
-fn read_board_by(version: Version, reader: &mut Reader<'_>) -> Option<Board>
-    ensures { option_map (λ x. (x, reader.new)) result ≡ board_by version reader.old }
+/// version is 1 and the board is too large for it (`is_small_board`).
+#[tactic(auto, unfolding(crate::specs::StateReading::board_in_version))]
+fn read_board_in_version(version: Version, reader: &mut Reader<'_>) -> Option<Board>
+    ensures { option_map (λ x. (x, reader.new)) result ≡ board_in_version version reader.old }
 {
     let board = read_board(reader)?;
     match version {
-        Version::One => if is_small(&board) { Some(board) } else { None },
+        Version::One => if is_small_board(&board) {
+            Some(board)
+        } else {
+            None
+        },
         Version::Two => Some(board),
     }
 }
@@ -54,12 +58,12 @@ fn read_versioned_board(reader: &mut Reader<'_>) -> Option<(Version, Board)>
     ensures { option_map (λ x. (x, reader.new)) result ≡ versioned_board_at reader.old }
 {
     let version = reader.version()?;
-    let board = read_board_by(version, reader)?;
+    let board = read_board_in_version(version, reader)?;
     Some((version, board))
 }
 
 /// Fills `cells` with the next bytes. Returns `None` if too few bytes are left.
-fn read_cells(reader: &mut Reader<'_>, cells: &mut Cells) -> Option<()>
+fn read_fixed_bytes(reader: &mut Reader<'_>, cells: &mut Cells) -> Option<()>
     ensures { option_map (λ _. (cells.new, reader.new)) result
         ≡ bytes_at (length cells.old) reader.old }
 {
@@ -113,17 +117,17 @@ fn read_watches(version: Version, reader: &mut Reader<'_>) -> Option<ArrayVec<u1
 /// bytes do not encode these fields.
 #[tactic(auto, unfolding(crate::specs::StateReading::state_at))]
 fn read_state(reader: &mut Reader<'_>, flat: &mut Flat) -> Option<Version>
-    requires { HasCells (state_of flat.old).bus }
+    requires { HasFixedLengths (state_of flat.old).bus }
     ensures { option_map (λ version. ((version, state_of flat.new), reader.new)) result
         ≡ state_at reader.old }
 {
     flat.seq = reader.long_number()?;
     let (version, board) = read_versioned_board(reader)?;
-    read_cells(reader, &mut flat.rom)?;
-    read_cells(reader, &mut flat.ram)?;
-    read_cells(reader, &mut flat.status)?;
-    read_cells(reader, &mut flat.ram_ports)?;
-    read_cells(reader, &mut flat.rom_ports)?;
+    read_fixed_bytes(reader, &mut flat.rom)?;
+    read_fixed_bytes(reader, &mut flat.ram)?;
+    read_fixed_bytes(reader, &mut flat.status)?;
+    read_fixed_bytes(reader, &mut flat.ram_ports)?;
+    read_fixed_bytes(reader, &mut flat.rom_ports)?;
     flat.acc = reader.byte()?;
     flat.cy = reader.byte()?;
     reader.fill(&mut flat.r)?;
@@ -144,10 +148,10 @@ fn read_state(reader: &mut Reader<'_>, flat: &mut Flat) -> Option<Version>
 
 /// Reads all of the bytes as the fields of a state, and returns the state's version. Returns `None`
 /// if the bytes do not encode these fields.
-fn read_whole(bytes: &[u8], flat: &mut Flat) -> Option<Version>
-    requires { HasCells (state_of flat.old).bus }
+fn read_whole_state(bytes: &[u8], flat: &mut Flat) -> Option<Version>
+    requires { HasFixedLengths (state_of flat.old).bus }
     ensures { option_map (λ version. (version, state_of flat.new)) result
-        ≡ whole state_at bytes.now }
+        ≡ read_all_of state_at bytes.now }
 {
     let mut reader = Reader::new(bytes);
     let version = read_state(&mut reader, flat)?;
@@ -181,12 +185,12 @@ pub fn version_of(bytes: &[u8]) -> Option<u8>
 /// Fails if memory runs out.
 pub fn versioned_bench_of(alloc: Global, bytes: &[u8]) -> Result<Option<(Version, Bench)>, NoMemory>
     ensures some { IfOk result (λ found.
-        IfSome found (λ x. SpellsStateBy x.0 bytes.now x.1)) }
+        IfSome found (λ x. EncodesStateBy x.0 bytes.now x.1)) }
     ensures none { IfOk result (λ found.
-        IfNone found ((version : Version) (s : BenchState) → SpellsStateBy version bytes.now s → ⊥)) }
+        IfNone found ((version : Version) (s : BenchState) → EncodesStateBy version bytes.now s → ⊥)) }
 {
     let mut flat = Flat::new(alloc)?;
-    let Some(version) = read_whole(bytes, &mut flat) else {
+    let Some(version) = read_whole_state(bytes, &mut flat) else {
         return Ok(None);
     };
     if !flat.check() {
@@ -203,9 +207,9 @@ pub fn versioned_bench_of(alloc: Global, bytes: &[u8]) -> Result<Option<(Version
 ///
 /// Fails if memory runs out.
 pub fn bench_of(alloc: Global, bytes: &[u8]) -> Result<Option<Bench>, NoMemory>
-    ensures some { IfOk result (λ found. IfSome found (λ s. SpellsInSomeVersion bytes.now s)) }
+    ensures some { IfOk result (λ found. IfSome found (λ s. EncodesInSomeVersion bytes.now s)) }
     ensures none { IfOk result (λ found.
-        IfNone found ((s : BenchState) → SpellsInSomeVersion bytes.now s → ⊥)) }
+        IfNone found ((s : BenchState) → EncodesInSomeVersion bytes.now s → ⊥)) }
 {
     match versioned_bench_of(alloc, bytes)? {
         Some((_, bench)) => Ok(Some(bench)),

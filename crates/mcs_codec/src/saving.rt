@@ -4,8 +4,8 @@ ghost use Rattle.std.specs.List.{flat_map};
 ghost use Rattle.mcs_model.specs.Boards.{chain_bits, chain_count, key_count};
 ghost use Rattle.mcs_model.specs.Validity.{IsValid};
 ghost use Rattle.mcs_codec.specs.StateLists.{list_in_state, state_list_length};
-ghost use Rattle.mcs_codec.specs.StateBytes.{memory_bytes, registers_bytes, src_bytes, wiring_bytes, after_board, state_bytes};
-ghost use Rattle.mcs_codec.specs.Codec.{SpellsState};
+ghost use Rattle.mcs_codec.specs.StateBytes.{memory_bytes, registers_bytes, src_bytes, wiring_bytes, bytes_after_board, state_bytes};
+ghost use Rattle.mcs_codec.specs.Codec.{EncodesState};
 
 use crate::boards::put_board;
 use crate::encoding::{Encode, put, put_all, put_counted};
@@ -33,7 +33,7 @@ pub enum StateList {
 }
 
 /// Returns the state of the key at index `i`, counted row by row: 1 if it is down, 0 if it is up.
-fn key_at(bench: &Bench, i: usize) -> u8
+fn key_state_at(bench: &Bench, i: usize) -> u8
     requires { i < key_count bench.now.bus.board }
     ensures { result ≡ slice_index bench.now.bus.keys i }
 {
@@ -72,11 +72,11 @@ impl StateList {
         ensures { result ≡ slice_index (list_in_state self bench.now) i }
     {
         match self {
-            StateList::Chips(list) => bench.chip_number(list, i),
+            StateList::Chips(list) => bench.chip_value(list, i),
             StateList::RomPorts => bench.rom_port(i as u8).get(),
             StateList::IndexRegisters => bench.regs().r[i].get(),
             StateList::ChainBits(n) => bench.chain_bit(n, i as u8).get(),
-            StateList::Keys => key_at(bench, i),
+            StateList::Keys => key_state_at(bench, i),
         }
     }
 
@@ -104,7 +104,7 @@ fn put_memory(bench: &Bench, out: &mut [u8], at: usize) -> usize
     ensures front { take result out.new ≡ take at out.old ++ memory_bytes bench.now.bus }
 {
     let at = StateList::Chips(ChipList::RomBytes).put(bench, out, at);
-    let at = StateList::Chips(ChipList::Characters).put(bench, out, at);
+    let at = StateList::Chips(ChipList::RamCharacters).put(bench, out, at);
     let at = StateList::Chips(ChipList::StatusCharacters).put(bench, out, at);
     let at = StateList::Chips(ChipList::RamPorts).put(bench, out, at);
     StateList::RomPorts.put(bench, out, at)
@@ -136,7 +136,7 @@ fn put_src_bytes(bench: &Bench, out: &mut [u8], at: usize) -> usize
 {
     let registers = bench.regs();
     let at = put(out, at, &[registers.dcl, bench.rom_src()]);
-    let at = StateList::Chips(ChipList::BankSrcs).put(bench, out, at);
+    let at = StateList::Chips(ChipList::BankSrcBytes).put(bench, out, at);
     put(out, at, &[registers.owed])
 }
 
@@ -175,9 +175,9 @@ fn put_wiring(bench: &Bench, out: &mut [u8], at: usize) -> usize
 /// offset after them.
 fn put_groups(bench: &Bench, out: &mut [u8], at: usize) -> usize
     requires valid { IsValid bench.now }
-    requires room { at + length (after_board bench.now) ≤ length out.old }
-    ensures end { result ≡ at + length (after_board bench.now) }
-    ensures front { take result out.new ≡ take at out.old ++ after_board bench.now }
+    requires room { at + length (bytes_after_board bench.now) ≤ length out.old }
+    ensures end { result ≡ at + length (bytes_after_board bench.now) }
+    ensures front { take result out.new ≡ take at out.old ++ bytes_after_board bench.now }
 {
     let at = put_memory(bench, out, at);
     let at = put_registers(bench, out, at);
@@ -203,8 +203,8 @@ fn put_state(bench: &Bench, into: &mut [u8]) -> usize
 /// The bytes of `into` after the state are unspecified. `into` must have at least `STATE_BYTES`
 /// bytes.
 pub fn state_bytes(bench: &Bench, into: &mut [u8]) -> usize
-    requires lent { STATE_BYTES ≤ length into.old }
-    ensures spells { SpellsState (take result into.new) bench.now }
+    requires buffer_size { STATE_BYTES ≤ length into.old }
+    ensures spells { EncodesState (take result into.new) bench.now }
     ensures count { result ≡ length (state_bytes bench.now) }
     ensures fits { result ≤ STATE_BYTES }
 {

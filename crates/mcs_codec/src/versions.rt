@@ -2,9 +2,9 @@
 ghost use Rattle.std.specs.Prelude.{◌≡◌, List, ℕ, Some, nat_lt};
 ghost use Rattle.std.specs.List.{list_any};
 ghost use Rattle.mcs_model.specs.BenchState.{BenchState};
-ghost use Rattle.mcs_version1.specs.Boards.{is_small};
+ghost use Rattle.mcs_version1.specs.Boards.{is_small_board};
 ghost use Rattle.mcs_version1.specs.Command.{in_version_1, is_place_1};
-ghost use Rattle.mcs_codec.specs.Codec.{SpellsStateBy, has_command, version_number, version_of};
+ghost use Rattle.mcs_codec.specs.Codec.{EncodesStateBy, has_command, version_number, version_of};
 
 use mcs_model::board::Board;
 use mcs_model::command::{Command, Place};
@@ -28,8 +28,8 @@ fn has_long_chain(board: &Board) -> bool
 }
 
 /// Returns true if version 1 allows the board: at most two chains, each with at most four chips.
-pub(crate) fn is_small(board: &Board) -> bool
-    ensures { result ≡ is_small board.now }
+pub(crate) fn is_small_board(board: &Board) -> bool
+    ensures { result ≡ is_small_board board.now }
 {
     if board.chain_count() > VERSION_1_CHAINS {
         return false;
@@ -60,7 +60,7 @@ pub fn in_version_1(command: &Command) -> bool
     ensures { result ≡ in_version_1 command.now }
 {
     match command {
-        Command::Wire(board) => is_small(board),
+        Command::Wire(board) => is_small_board(board),
         Command::Poke(place) => is_place_1(place),
         Command::Watch(_, _) | Command::Unwatch(_, _) => false,
         Command::Load(_)
@@ -111,9 +111,9 @@ impl Version {
 /// version, because its definition is a function.)
 pub fn one_state()
     ensures states { (bytes : List ℕ) (v w : Version) (s t : BenchState)
-        → SpellsStateBy v bytes s → SpellsStateBy w bytes t → s ≡ t }
+        → EncodesStateBy v bytes s → EncodesStateBy w bytes t → s ≡ t }
     ensures versions { (bytes : List ℕ) (v w : Version) (s t : BenchState)
-        → SpellsStateBy v bytes s → SpellsStateBy w bytes t → v ≡ w }
+        → EncodesStateBy v bytes s → EncodesStateBy w bytes t → v ≡ w }
     ensures versioned { (bytes : List ℕ) (version : Version) (s : BenchState)
-        → SpellsStateBy version bytes s → version_of bytes ≡ Some version }
+        → EncodesStateBy version bytes s → version_of bytes ≡ Some version }
 {}

@@ -1,1 +1,1 @@
-pub mod InstructionRan
+pub mod IsInstructionRun

@@ -1,19 +1,19 @@
 //! The effect of each instruction on the registers and the bus.
 ghost use Rattle.std.specs.Prelude.{◌≡◌, ℕ, ◌+◌, ◌-◌, ◌%◌, ◌<◌, ◌==◌, if◌then◌else◌, [], ◌∷◌, slice_index};
-ghost use Rattle.mcs_model.specs.Effect.{effect, address_beside, with_sum, is_taken, after_jcn, after_isz, after_rar, after_daa, key_of};
+ghost use Rattle.mcs_model.specs.Effect.{effect, address_on_page_of, with_sum, is_taken, after_jcn, after_isz, after_rar, after_daa, key_of};
 ghost use Rattle.mcs_model.specs.Table.{cycles_of};
 ghost use Rattle.mcs_model.specs.Registers.{register_of, pair_of, with_register, with_pair};
 ghost use Rattle.mcs_model.specs.Bus.{fetch_of};
 
 use crate::bus::Bus;
-use mcs_code::{Op, instructions, taken};
+use mcs_code::{Op, instructions, operand_pattern};
 use mcs_model::regs::Regs;
 use mcs_nibble::{Addr, Bit, Nibble, PairNo, RegNo};
 
 /// Returns the address on the page of `at` whose lower eight bits are `word`.
 #[inline(always)]
-fn word_beside(at: Addr, word: u8) -> Addr
-    ensures { result ≡ address_beside at word }
+fn address_of_word(at: Addr, word: u8) -> Addr
+    ensures { result ≡ address_on_page_of at word }
 {
     Addr::on_page(at.page(), word)
 }
@@ -33,12 +33,12 @@ fn takes_jump(condition: Nibble, regs: &Regs, test: Bit) -> bool
 /// Returns the program counter after JCN. `test` is the level of the TEST pin, and `next` is the address after the
 /// two words of JCN.
 #[inline(always)]
-fn after_condition(regs: &Regs, condition: Nibble, word: u8, test: Bit, next: Addr) -> Addr
+fn pc_after_jcn(regs: &Regs, condition: Nibble, word: u8, test: Bit, next: Addr) -> Addr
     ensures { record regs.now { pc = result }
         ≡ after_jcn condition word (record regs.now { pc = next }) test }
 {
     if takes_jump(condition, regs, test) {
-        word_beside(next, word)
+        address_of_word(next, word)
     } else {
         next
     }
@@ -48,9 +48,9 @@ fn after_condition(regs: &Regs, condition: Nibble, word: u8, test: Bit, next: Ad
 #[inline(always)]
 fn fetch_indirect<B: Bus>(regs: &mut Regs, bus: &B, pair: PairNo, next: Addr)
     ensures { regs.new ≡ with_pair regs.old pair
-        (fetch_of (B.flat bus.now) (address_beside next (pair_of regs.old 0))) }
+        (fetch_of (B.flat bus.now) (address_on_page_of next (pair_of regs.old 0))) }
 {
-    let from = word_beside(next, regs.pair(PairNo::ZERO));
+    let from = address_of_word(next, regs.pair(PairNo::ZERO));
     regs.set_pair(pair, bus.fetch(from));
 }
 
@@ -78,21 +78,21 @@ fn pop(regs: &mut Regs, next: Addr)
 
 /// Increments a register modulo 16, as INC does. The carry does not change.
 #[inline(always)]
-fn count_up(regs: &mut Regs, r: RegNo)
+fn increment_register(regs: &mut Regs, r: RegNo)
     ensures { regs.new ≡ with_register regs.old r ((register_of regs.old r + 1) % 16) }
 {
     let (sum, _) = regs.register(r).add(Nibble::ONE, Bit::ZERO);
     regs.set_register(r, sum);
 }
 
-/// Returns `next` unchanged. `count_to_zero` calls this function when ISZ does not jump, which is rare. The call
+/// Returns `next` unchanged. `increment_and_jump` calls this function when ISZ does not jump, which is rare. The call
 /// makes the decision a branch: the host can predict a branch, and a branch does not wait for a register.
 ///
 /// The emulated registers are not parameters, because the compiler would assume that the call can change each of
 /// them. The compiler cannot see that adding 0 has no effect, so it keeps the call.
 #[cold]
 #[inline(never)]
-fn without_jump(next: Addr) -> Addr
+fn fall_through(next: Addr) -> Addr
     ensures { result ≡ next }
 {
     Addr::ZERO.plus(next.get())
@@ -101,17 +101,17 @@ fn without_jump(next: Addr) -> Addr
 /// Executes ISZ, but returns the next program counter instead of storing it. `next` is the address after the two
 /// words of ISZ.
 #[inline(always)]
-fn count_to_zero(regs: &mut Regs, r: RegNo, word: u8, next: Addr) -> Addr
+fn increment_and_jump(regs: &mut Regs, r: RegNo, word: u8, next: Addr) -> Addr
     ensures counted { record regs.new { pc = result }
         ≡ after_isz r word (record regs.old { pc = next }) }
     ensures pc { regs.new.pc ≡ regs.old.pc }
 {
     if regs.register(r) == Nibble::MAX {
         regs.set_register(r, Nibble::ZERO);
-        return without_jump(next);
+        return fall_through(next);
     }
-    count_up(regs, r);
-    word_beside(next, word)
+    increment_register(regs, r);
+    address_of_word(next, word)
 }
 
 /// Adds a nibble and the carry to the accumulator, as ADD and ADM do.
@@ -151,7 +151,7 @@ fn transfer_carry_subtract(regs: &mut Regs)
 
 /// Sets the command register to the lower three bits of the accumulator, as DCL does.
 #[inline(always)]
-fn designate(regs: &mut Regs)
+fn designate_bank(regs: &mut Regs)
     ensures bank { regs.new ≡ record regs.old { dcl = regs.old.acc % 8 } }
     ensures in_range { regs.new.dcl < 8 }
 {
@@ -161,7 +161,7 @@ fn designate(regs: &mut Regs)
 /// Converts one-out-of-four code to binary, as KBP does. Returns the number of the only bit that is 1, counted from 1.
 /// Returns 0 if no bit is 1, and 15 if several bits are 1.
 #[inline(always)]
-fn line_number(lines: Nibble) -> Nibble
+fn active_line(lines: Nibble) -> Nibble
     ensures { result ≡ key_of lines }
 {
     Nibble::low_of(match lines.get() {
@@ -177,7 +177,7 @@ fn line_number(lines: Nibble) -> Nibble
 /// Adjusts the accumulator to decimal, as DAA does. The new carry is 1 exactly when 6 is added: either the carry was
 /// already 1, or the sum is above 15. The code has no branches, because a host cannot predict the digits.
 #[inline(always)]
-fn adjust(regs: &mut Regs)
+fn decimal_adjust(regs: &mut Regs)
     ensures { regs.new ≡ after_daa regs.old }
 {
     let adds = regs.cy.get() == 1 || regs.acc.get() > 9;
@@ -190,12 +190,12 @@ fn adjust(regs: &mut Regs)
 /// instruction, unless the instruction is a jump, JMS or BBL. The expression is evaluated before the instruction's
 /// other effects. It also increments the register of ISZ, because the result decides whether ISZ jumps. `$a` and `$b`
 /// are the operands.
-macro_rules! goes_on {
+macro_rules! next_pc {
     (Jcn $regs:ident $bus:ident $next:ident $a:ident $b:ident) => {
-        after_condition($regs, $a, $b, $bus.test(), $next)
+        pc_after_jcn($regs, $a, $b, $bus.test(), $next)
     };
     (Jin $regs:ident $bus:ident $next:ident $a:ident $b:ident) => {
-        word_beside($next, $regs.pair($a))
+        address_of_word($next, $regs.pair($a))
     };
     (Jun $regs:ident $bus:ident $next:ident $a:ident $b:ident) => {
         Addr::on_page($a, $b)
@@ -204,7 +204,7 @@ macro_rules! goes_on {
         Addr::on_page($a, $b)
     };
     (Isz $regs:ident $bus:ident $next:ident $a:ident $b:ident) => {
-        count_to_zero($regs, $a, $b, $next)
+        increment_and_jump($regs, $a, $b, $next)
     };
     (Bbl $regs:ident $bus:ident $next:ident $a:ident $b:ident) => {
         $regs.ret[0]
@@ -215,7 +215,7 @@ macro_rules! goes_on {
 }
 
 /// Expands to the effect of the instruction with this name on the bus and on all registers except the program
-/// counter. `goes_on!` contains the effect of ISZ. `$a` and `$b` are the operands, and `$next` is the address after
+/// counter. `next_pc!` contains the effect of ISZ. `$a` and `$b` are the operands, and `$next` is the address after
 /// the instruction.
 macro_rules! effect {
     (Nop $regs:ident $bus:ident $next:ident $a:ident $b:ident) => {
@@ -243,7 +243,7 @@ macro_rules! effect {
         push($regs, $next)
     };
     (Inc $regs:ident $bus:ident $next:ident $a:ident $b:ident) => {
-        count_up($regs, $a)
+        increment_register($regs, $a)
     };
     (Isz $regs:ident $bus:ident $next:ident $a:ident $b:ident) => {
         ()
@@ -358,23 +358,23 @@ macro_rules! effect {
         $regs.cy = Bit::ONE
     };
     (Daa $regs:ident $bus:ident $next:ident $a:ident $b:ident) => {
-        adjust($regs)
+        decimal_adjust($regs)
     };
     (Kbp $regs:ident $bus:ident $next:ident $a:ident $b:ident) => {
-        $regs.acc = line_number($regs.acc)
+        $regs.acc = active_line($regs.acc)
     };
     (Dcl $regs:ident $bus:ident $next:ident $a:ident $b:ident) => {
-        designate($regs)
+        designate_bank($regs)
     };
 }
 
 /// Expands to a match that executes an instruction. Its value is the next program counter and the number of cycles.
-macro_rules! work_rows {
+macro_rules! execute_rows {
     (($regs:ident, $bus:ident, $op:ident, $at:ident) $($codes:pat, $name:ident $kind:ident $words:literal $cycles:literal $group:ident $text:literal;)*) => {
         match $op {
-            $(taken!(a b $name $kind) => {
+            $(operand_pattern!(a b $name $kind) => {
                 let next = $at.plus($words);
-                let on = goes_on!($name $regs $bus next a b);
+                let on = next_pc!($name $regs $bus next a b);
                 effect!($name $regs $bus next a b);
                 (on, $cycles)
             })*
@@ -399,5 +399,5 @@ pub fn execute<B: Bus>(regs: &mut Regs, bus: &mut B, op: Op, at: Addr) -> (Addr,
     ensures counter { regs.new.pc ≡ regs.old.pc }
     ensures dcl { regs.new.dcl < 8 }
 {
-    instructions!(work_rows!(regs, bus, op, at))
+    instructions!(execute_rows!(regs, bus, op, at))
 }

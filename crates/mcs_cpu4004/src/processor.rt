@@ -3,7 +3,7 @@ ghost use Rattle.std.specs.Prelude.{◌≡◌, ◌≢◌, ℕ, ◌<◌, ◌↔�
 ghost use Rattle.mcs_model.specs.BenchState.{new_regs};
 ghost use Rattle.mcs_model.specs.Registers.{with_register};
 ghost use Rattle.mcs_model.specs.Effect.{cycle_of, instruction_at};
-ghost use Rattle.mcs_cpu4004.specs.InstructionRan.{InstructionRan};
+ghost use Rattle.mcs_cpu4004.specs.IsInstructionRun.{IsInstructionRun};
 
 use crate::bus::Bus;
 use crate::execute::execute;
@@ -57,7 +57,7 @@ impl Cpu {
     fn begin<B: Bus>(&mut self, bus: &mut B) -> Cycle
         requires { self.old.owed ≢ 1 }
         ensures outside { (result ≡ Cycle.Outside) ↔ IsNone (cycle_of self.old (B.flat bus.old)) }
-        ensures works { result ≢ Cycle.Idle }
+        ensures not_idle { result ≢ Cycle.Idle }
         ensures state { (self.new, B.flat bus.new)
             ≡ unwrap_or (cycle_of self.old (B.flat bus.old)) (self.old, B.flat bus.old) }
     {
@@ -118,7 +118,7 @@ impl Cpu {
         requires free { self.old.owed ≢ 1 }
         requires some { 0 < left }
         requires decoded { instruction_at (record self.old { pc = at }) (B.flat bus.old) ≡ Some op }
-        ensures ran { InstructionRan left (record self.old { pc = at }, B.flat bus.old)
+        ensures ran { IsInstructionRun left (record self.old { pc = at }, B.flat bus.old)
             (record self.new { pc = result.0 }, B.flat bus.new) result.1 }
         ensures goes { 0 < result.1 }
         ensures owes { self.new.owed ≡ 1 → result.1 ≡ left }
@@ -135,7 +135,7 @@ impl Cpu {
 
     /// Returns true if the next cycle on a bus would return `Outside`.
     #[tactic(auto, unfolding(mcs_model::specs::Effect::cycle_of))]
-    pub fn is_outside<B: Bus>(&self, bus: &B) -> bool
+    pub fn is_outside_table<B: Bus>(&self, bus: &B) -> bool
         ensures { IsTrue result ↔ IsNone (cycle_of self.now (B.flat bus.now)) }
     {
         self.regs.owed != 1 && self.instruction(bus, self.regs.pc).is_none()

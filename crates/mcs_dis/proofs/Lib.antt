@@ -1,7 +1,7 @@
 pub mod ReadBack
-pub mod LinesAgain
-pub mod Clean
+pub mod LinesParseBack
+pub mod NoLineEnds
 pub mod Pieces
-pub mod Whole
+pub mod SourceAssembles
 pub mod Loops
 pub mod RangePairs

@@ -7,10 +7,10 @@ use Rattle.mcs_source.specs.Lexical.{tokens}
 use Rattle.mcs_source.specs.Lines as asm
 use Rattle.mcs_model.specs.Table.{instruction_of, word_count_of}
 use Rattle.mcs_source.specs.Assembly.{statement_bytes, size, is_bad_origin, next_statement}
-use Rattle.mcs_source.specs.Text.{op_at, whole_or_byte, second_word, piece_text, piece_size}
-use Rattle.mcs_dis.specs.Again.{statement}
-use Rattle.mcs_dis.proofs.ReadBack.{read_back, spells, byte_back, size_is, next_is, fine_is}
-use Rattle.mcs_dis.proofs.Clean.{Clean, byte_clean, text_clean}
+use Rattle.mcs_source.specs.Text.{op_at, complete_op, second_word, piece_text, piece_size}
+use Rattle.mcs_dis.specs.ParseBack.{statement}
+use Rattle.mcs_dis.proofs.ReadBack.{read_back, statement_emits_encoding, byte_parses_back, statement_size_is_word_count, next_address_is, origin_is_not_bad}
+use Rattle.mcs_dis.proofs.NoLineEnds.{NoLineEnds, byte_clean, text_clean}
 use Rattle.mcs_source.proofs.Decoding.{decoded_spells, one_or_two}
 
 abbrev pub piece_statement : ℕ → ℕ → Option Op → asm.Statement
@@ -25,10 +25,10 @@ pub record IsPiece (at b : ℕ) (rest : List ℕ) (x : Option Op) : Type 0 where
   pub fine : is_bad_origin (Some (piece_statement at b x)) ≡ false
   pub some : 1 ≤ piece_size x
   pub fits : piece_size x ≤ 1 + length rest
-  pub clean : Clean (piece_text at b x)
+  pub clean : NoLineEnds (piece_text at b x)
 
 byte_piece : (at b : ℕ) (rest : List ℕ) → b < 256 → IsPiece at b rest None
-byte_piece at b rest lt = record { reads = byte_back b lt; bytes = rw (lt-ltb b 256 lt) refl; size_of = refl; next = refl; fine = refl; some = omega arith; fits = omega arith; clean = byte_clean b lt }
+byte_piece at b rest lt = record { reads = byte_parses_back b lt; bytes = rw (lt-ltb b 256 lt) refl; size_of = refl; next = refl; fine = refl; some = omega arith; fits = omega arith; clean = byte_clean b lt }
 
 take_words : (n b : ℕ) (rest : List ℕ) → (n ≡ 1) ⊎ (n ≡ 2) → n ≤ 1 + length rest → take n (b ∷ second_word rest ∷ []) ≡ take n (b ∷ rest)
 take_words n b rest (inl e) le = rw e refl
@@ -40,10 +40,10 @@ op_piece at b rest o lt e le =
     let s = decoded_spells b (second_word rest) o lt e in
     record {
       reads = read_back at o s.0;
-      bytes = spells at o [] s.0 ∙ ap Ok (s.1 ∙ take_words (word_count_of o) b rest (one_or_two o) le);
-      size_of = size_is at o;
-      next = next_is at at o;
-      fine = fine_is at o;
+      bytes = statement_emits_encoding at o [] s.0 ∙ ap Ok (s.1 ∙ take_words (word_count_of o) b rest (one_or_two o) le);
+      size_of = statement_size_is_word_count at o;
+      next = next_address_is at at o;
+      fine = origin_is_not_bad at o;
       some = elim (one_or_two o) [ inl e ↦ omega (arith, e) | inr e ↦ omega (arith, e) ];
       fits = le;
       clean = text_clean at o s.0;
@@ -52,7 +52,7 @@ op_piece at b rest o lt e le =
 pub piece_is : (at b : ℕ) (rest : List ℕ) → b < 256 → second_word rest < 256 → IsPiece at b rest (op_at b rest)
 unfolding op_at
 piece_is at b rest lt second =
-    let P : Option Op → Type 0 = λ d. instruction_of b (second_word rest) ≡ d → IsPiece at b rest (whole_or_byte d b rest) in
+    let P : Option Op → Type 0 = λ d. instruction_of b (second_word rest) ≡ d → IsPiece at b rest (complete_op d b rest) in
     (elim (instruction_of b (second_word rest)) as P [
       | None ↦ λ e. byte_piece at b rest lt
       | Some o ↦ λ e.

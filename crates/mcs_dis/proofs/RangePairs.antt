@@ -3,7 +3,7 @@ use Rattle.std.proofs.Common.{◌≡◌, ℕ, zero, suc, ◌+◌, ◌-◌, ◌<�
 use Rattle.std.proofs.lemmas.List.{length-take, length-drop, get_or-take, get_or-drop}
 use Rattle.mcs_model.specs.Images.{from_address}
 use Rattle.mcs_source.specs.SourceText.{range}
-use Rattle.mcs_dis.specs.Again.{AreItsPairs}
+use Rattle.mcs_dis.specs.ParseBack.{AreRangePairs}
 
 length-from_address : (bytes : List ℕ) (at : ℕ) → length (from_address at bytes) ≡ length bytes
 length-from_address [] at = refl
@@ -24,7 +24,7 @@ length-range rom from to all end = omega (arith, length-take (to - from) (drop f
 get_or-range : (rom : List ℕ) (from to k : ℕ) → k < to - from → get_or (range rom from to) k 0 ≡ get_or rom (from + k) 0
 get_or-range rom from to k lt = get_or-take (to - from) (drop from rom) k 0 lt ∙ get_or-drop from rom k 0
 
-pub range_pairs : (rom : List ℕ) (from to : ℕ) → length rom ≡ 4096 → to ≤ 4096 → AreItsPairs rom from to
+pub range_pairs : (rom : List ℕ) (from to : ℕ) → length rom ≡ 4096 → to ≤ 4096 → AreRangePairs rom from to
 range_pairs rom from to all end =
     let bytes : List ℕ = range rom from to in
     let len : length (range rom from to) ≡ to - from = length-range rom from to all end in

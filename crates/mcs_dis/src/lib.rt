@@ -7,5 +7,5 @@ mod laws;
 mod listings;
 mod texts;
 
-pub use laws::{reads_back, source_law};
+pub use laws::{source_law, text_parses_back};
 pub use listings::{line_of, listing, source};

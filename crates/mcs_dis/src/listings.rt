@@ -2,10 +2,10 @@
 ghost use Rattle.std.specs.Prelude.{◌≡◌, ◌<◌, ◌≤◌, ◌++◌, length, slice_index, drop, string_bytes, IfOk};
 ghost use Rattle.mcs_source.specs.Text.{listing_line, listing_text, piece_size, piece_text};
 ghost use Rattle.mcs_source.specs.SourceText.{line_text, source_text};
-ghost use Rattle.mcs_dis.specs.Front.{op_in_front};
+ghost use Rattle.mcs_dis.specs.OpAtStart.{op_at_start};
 ghost use Rattle.mcs_model.specs.TextLines.{as_line};
 
-use crate::decoding::{op_in_front, op_of, piece_size, second};
+use crate::decoding::{op_at_start, op_of, piece_size, second};
 use crate::texts::{push_columns, push_origin, push_piece};
 use mcs_nibble::Addr;
 use std::alloc::{AllocError, Global};
@@ -22,15 +22,15 @@ pub fn line_of(alloc: Global, at: Addr, first: u8, second: Option<u8>) -> Result
 }
 
 /// Appends the source line of the piece at the start of `bytes`. Returns the number of bytes in the piece.
-#[tactic(auto, using(crate::proofs::Loops::front_fits, crate::proofs::Loops::front_some))]
+#[tactic(auto, using(crate::proofs::Loops::start_piece_fits, crate::proofs::Loops::start_piece_is_not_empty))]
 fn push_source_line(out: &mut String, at: Addr, bytes: &[u8]) -> Result<usize, AllocError>
     requires { 0 < length bytes.now }
-    ensures size { IfOk result (λ n. n ≡ piece_size (op_in_front bytes.now)) }
+    ensures size { IfOk result (λ n. n ≡ piece_size (op_at_start bytes.now)) }
     ensures within { IfOk result (λ n. (0 < n) × (n ≤ length bytes.now)) }
     ensures line { IfOk result (λ n. string_bytes out.new ≡ string_bytes out.old
-        ++ as_line (piece_text at (slice_index bytes.now 0) (op_in_front bytes.now))) }
+        ++ as_line (piece_text at (slice_index bytes.now 0) (op_at_start bytes.now))) }
 {
-    let piece = op_in_front(bytes);
+    let piece = op_at_start(bytes);
     let size = piece_size(&piece);
     push_piece(out, at, bytes[0], piece)?;
     out.push('\n')?;
@@ -38,16 +38,16 @@ fn push_source_line(out: &mut String, at: Addr, bytes: &[u8]) -> Result<usize, A
 }
 
 /// Appends the listing line of the piece at the start of `bytes`. Returns the number of bytes in the piece.
-#[tactic(auto, using(crate::proofs::Loops::front_fits, crate::proofs::Loops::front_some))]
+#[tactic(auto, using(crate::proofs::Loops::start_piece_fits, crate::proofs::Loops::start_piece_is_not_empty))]
 fn push_listing_line(out: &mut String, at: Addr, bytes: &[u8]) -> Result<usize, AllocError>
     requires { 0 < length bytes.now }
-    ensures size { IfOk result (λ n. n ≡ piece_size (op_in_front bytes.now)) }
+    ensures size { IfOk result (λ n. n ≡ piece_size (op_at_start bytes.now)) }
     ensures within { IfOk result (λ n. (0 < n) × (n ≤ length bytes.now)) }
     ensures line { IfOk result (λ n. string_bytes out.new ≡ string_bytes out.old
         ++ as_line (listing_line at (slice_index bytes.now 0) (drop 1 bytes.now)
-        (op_in_front bytes.now))) }
+        (op_at_start bytes.now))) }
 {
-    let piece = op_in_front(bytes);
+    let piece = op_at_start(bytes);
     let size = piece_size(&piece);
     push_columns(out, at, bytes[0], second(bytes, &piece))?;
     push_piece(out, at, bytes[0], piece)?;

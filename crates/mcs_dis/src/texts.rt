@@ -2,13 +2,13 @@
 ghost use Rattle.std.specs.Prelude.{◌≡◌, ◌++◌, ◌/◌, ◌%◌, codes, string_bytes, OnOk};
 ghost use Rattle.std.specs.Fmt.{decimal};
 ghost use Rattle.mcs_source.specs.InstructionNames.{name};
-ghost use Rattle.mcs_source.specs.Assembly.{near_page};
+ghost use Rattle.mcs_source.specs.Assembly.{reachable_page};
 ghost use Rattle.mcs_source.specs.Text.{address, operands, instruction_text, piece_text, address_digits, word_columns, columns};
 ghost use Rattle.mcs_source.specs.SourceText.{origin_text};
-ghost use Rattle.mcs_model.specs.QueryText.{hex_2};
+ghost use Rattle.mcs_model.specs.QueryText.{two_hex_digits};
 ghost use Rattle.mcs_model.specs.TextLines.{as_line};
 
-use mcs_code::{Op, instructions, taken};
+use mcs_code::{Op, instructions, operand_pattern};
 use mcs_nibble::{Addr, Nibble};
 use std::alloc::AllocError;
 
@@ -16,7 +16,7 @@ use std::alloc::AllocError;
 macro_rules! name_rows {
     (($op:ident) $($codes:pat, $name:ident $kind:ident $words:literal $cycles:literal $group:ident $text:literal;)*) => {
         match *$op {
-            $(taken!(_a _b $name $kind) => $text,)*
+            $(operand_pattern!(_a _b $name $kind) => $text,)*
         }
     };
 }
@@ -28,46 +28,52 @@ fn name(op: &Op) -> &'static str
     instructions!(name_rows!(op))
 }
 
-/// Appends the text `front`, then a number in decimal.
-fn push_number(out: &mut String, front: &str, n: u8) -> Result<(), AllocError>
+/// Appends the text `prefix`, then a number in decimal.
+fn push_number(out: &mut String, prefix: &str, n: u8) -> Result<(), AllocError>
     ensures { OnOk result (string_bytes out.new
-        ≡ string_bytes out.old ++ (front.now ++ decimal n)) }
+        ≡ string_bytes out.old ++ (prefix.now ++ decimal n)) }
 {
-    write!(out, "{front}{n}")
+    write!(out, "{prefix}{n}")
 }
 
-/// Appends the text `front`, then an address as `0xHHH`. `word` is the low byte of the address.
+/// Appends the text `prefix`, then an address as `0xHHH`. `word` is the low byte of the address.
 #[tactic(auto, using(std::proofs::lemmas::Fmt::hex_one_digit, std::proofs::lemmas::Fmt::hex_byte))]
-fn push_address(out: &mut String, front: &str, page: Nibble, word: u8) -> Result<(), AllocError>
+fn push_address(out: &mut String, prefix: &str, page: Nibble, word: u8) -> Result<(), AllocError>
     ensures { OnOk result (string_bytes out.new
-        ≡ string_bytes out.old ++ (front.now ++ address page word)) }
+        ≡ string_bytes out.old ++ (prefix.now ++ address page word)) }
 {
     let page = page.get();
-    write!(out, "{front}0x{page:X}{word:02X}")
+    write!(out, "{prefix}0x{page:X}{word:02X}")
 }
 
 /// Appends a register pair and a byte as operands, for example ` P3, 0x2A`.
 #[tactic(auto, using(std::proofs::lemmas::Fmt::hex_byte))]
 fn push_pair_and_byte(out: &mut String, pair: u8, byte: u8) -> Result<(), AllocError>
     ensures { OnOk result (string_bytes out.new
-        ≡ string_bytes out.old ++ (codes " P" ++ (decimal pair ++ (codes ", 0x" ++ hex_2 byte)))) }
+        ≡ string_bytes out.old ++ (codes " P" ++ (decimal pair ++ (codes ", 0x" ++ two_hex_digits byte)))) }
 {
     write!(out, " P{pair}, 0x{byte:02X}")
 }
 
-/// Appends the text `front`, a number, and the target address of a JCN or ISZ at address `at`. `word` is the low byte
+/// Appends the text `prefix`, a number, and the target address of a JCN or ISZ at address `at`. `word` is the low byte
 /// of the target.
-fn push_near(out: &mut String, front: &str, n: u8, at: Addr, word: u8) -> Result<(), AllocError>
+fn push_number_and_target(
+    out: &mut String,
+    prefix: &str,
+    n: u8,
+    at: Addr,
+    word: u8,
+) -> Result<(), AllocError>
     ensures { OnOk result (string_bytes out.new ≡ string_bytes out.old
-        ++ (front.now ++ (decimal n ++ (codes ", " ++ address (near_page at) word)))) }
+        ++ (prefix.now ++ (decimal n ++ (codes ", " ++ address (reachable_page at) word)))) }
 {
-    push_number(out, front, n)?;
+    push_number(out, prefix, n)?;
     push_address(out, ", ", at.plus(2).page(), word)
 }
 
 /// Expands to code that appends the operands `$a` and `$b` of an instruction, by the kind of its operands. JUN, JMS
 /// and JCN have the kind `nibble_byte`: the nibble is a page for JUN and JMS, and a condition for JCN.
-macro_rules! pushed {
+macro_rules! push_by_kind {
     (($out:ident $at:ident) $a:ident $b:ident $name:ident none) => {
         Ok(())
     };
@@ -84,10 +90,10 @@ macro_rules! pushed {
         push_number($out, " R", $a.get())
     };
     (($out:ident $at:ident) $a:ident $b:ident $name:ident register_byte) => {
-        push_near($out, " R", $a.get(), $at, $b)
+        push_number_and_target($out, " R", $a.get(), $at, $b)
     };
     (($out:ident $at:ident) $a:ident $b:ident Jcn nibble_byte) => {
-        push_near($out, " ", $a.get(), $at, $b)
+        push_number_and_target($out, " ", $a.get(), $at, $b)
     };
     (($out:ident $at:ident) $a:ident $b:ident $name:ident nibble_byte) => {
         push_address($out, " ", $a, $b)
@@ -98,7 +104,7 @@ macro_rules! pushed {
 macro_rules! operand_rows {
     (($out:ident, $at:ident, $op:ident) $($codes:pat, $name:ident $kind:ident $words:literal $cycles:literal $group:ident $text:literal;)*) => {
         match $op {
-            $(taken!(a b $name $kind) => pushed!(($out $at) a b $name $kind),)*
+            $(operand_pattern!(a b $name $kind) => push_by_kind!(($out $at) a b $name $kind),)*
         }
     };
 }

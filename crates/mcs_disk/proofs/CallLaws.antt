@@ -1,7 +1,7 @@
 -- Properties of a disk after any calls: its bytes, the bytes that a power cut can leave, and how a
 -- stretch of further calls changes both.
 use Rattle.std.proofs.Common.{◌≡◌, ◌⊎◌, inl, inr, ⊎_elim, ℕ, zero, suc, ◌+◌, ◌≤◌, ◌<◌, List, [], ◌∷◌, ◌++◌, length, take, refl, arith, sym, ◌∙◌, ap, subst, get_or, length-take}
-use Rattle.mcs_disk.specs.Calls.{DiskCall, WasRead, Wrote, Failed, Synced, Torn, put, bytes_after, clock_of, images_after, since_after}
+use Rattle.mcs_disk.specs.Calls.{DiskCall, WasRead, Wrote, Failed, Synced, Torn, put, bytes_after, clock_of, images_after, images_after_since}
 use Rattle.mcs_disk.specs.Stretches.{writes_of}
 use Rattle.mcs_disk.specs.Disk.{DiskState, bytes_of, images_of, images_since, size_of, time_of}
 
@@ -76,12 +76,12 @@ sized start (Failed at from now ∷ calls) c left = left.2.size ∙ sized start 
 sized start (Synced ∷ calls) c left = ap length left ∙ length-bytes_after start calls
 
 pub counts_now : (start : List ℕ) (calls : List DiskCall) (t : ℕ) (c : List ℕ)
-    → images_after start calls c → since_after start calls t c
+    → images_after start calls c → images_after_since start calls t c
 counts_now start [] t c now = now
 counts_now start (call ∷ calls) t c now = inl now
 
 pub longer : (start : List ℕ) (calls : List DiskCall) (t u : ℕ) (c : List ℕ) → t ≤ u
-    → since_after start calls u c → since_after start calls t c
+    → images_after_since start calls u c → images_after_since start calls t c
 longer start [] t u c le left = left
 longer start (call ∷ calls) t u c le (inl now) = inl now
 longer start (call ∷ calls) t u c le (inr past) =
@@ -89,7 +89,7 @@ longer start (call ∷ calls) t u c le (inr past) =
 
 -- a power cut since the current time of the clock leaves an image of this moment; a failed call
 -- does not advance the clock, so the images before it are images after it too
-pub since_now : (start : List ℕ) (calls : List DiskCall) (c : List ℕ) → since_after start calls (clock_of calls) c → images_after start calls c
+pub since_now : (start : List ℕ) (calls : List DiskCall) (c : List ℕ) → images_after_since start calls (clock_of calls) c → images_after start calls c
 since_now start [] c left = left
 since_now start (WasRead ∷ calls) c (inl now) = now
 since_now start (WasRead ∷ calls) c (inr past) = absurd (omega (arith, past.0))
@@ -100,7 +100,7 @@ since_now start (Failed at from n ∷ calls) c (inr past) = (c, since_now start 
 since_now start (Synced ∷ calls) c (inl now) = now
 since_now start (Synced ∷ calls) c (inr past) = absurd (omega (arith, past.0))
 
-pub since_sized : (start : List ℕ) (calls : List DiskCall) (t : ℕ) (c : List ℕ) → since_after start calls t c → length c ≡ length start
+pub since_sized : (start : List ℕ) (calls : List DiskCall) (t : ℕ) (c : List ℕ) → images_after_since start calls t c → length c ≡ length start
 since_sized start [] t c left = sized start [] c left
 since_sized start (call ∷ calls) t c (inl now) = sized start (call ∷ calls) c now
 since_sized start (call ∷ calls) t c (inr past) = since_sized start calls t c past.1
@@ -141,12 +141,12 @@ clock_of-more (Failed at from now ∷ more) calls = omega (arith, clock_of-more 
 clock_of-more (Synced ∷ more) calls = omega (arith, clock_of-more more calls)
 
 -- later calls keep every image since a time that is not later than the clock before them
-pub since_more : (start : List ℕ) (more calls : List DiskCall) (t : ℕ) (c : List ℕ) → t ≤ clock_of calls → since_after start calls t c → since_after start (more ++ calls) t c
+pub since_more : (start : List ℕ) (more calls : List DiskCall) (t : ℕ) (c : List ℕ) → t ≤ clock_of calls → images_after_since start calls t c → images_after_since start (more ++ calls) t c
 since_more start [] calls t c le left = left
 since_more start (call ∷ more) calls t c le left = inr (omega (arith, le, clock_of-more more calls), since_more start more calls t c le left)
 
 -- an image after later calls is an image from before them, or an image since they began
-pub since_before : (start : List ℕ) (more calls : List DiskCall) (t : ℕ) (c : List ℕ) → since_after start (more ++ calls) t c → since_after start calls t c ⊎ since_after start (more ++ calls) (clock_of calls) c
+pub since_before : (start : List ℕ) (more calls : List DiskCall) (t : ℕ) (c : List ℕ) → images_after_since start (more ++ calls) t c → images_after_since start calls t c ⊎ images_after_since start (more ++ calls) (clock_of calls) c
 since_before start [] calls t c left = inl left
 since_before start (call ∷ more) calls t c (inl now) = inr (inl now)
 since_before start (call ∷ more) calls t c (inr past) = ⊎_elim (λ old. inl old) (λ new. inr (inr (clock_of-more more calls, new))) (since_before start more calls t c past.1)
@@ -161,35 +161,35 @@ writes_of-more (Failed at from now ∷ more) calls = omega (arith, writes_of-mor
 writes_of-more (Synced ∷ more) calls = writes_of-more more calls
 
 -- holds if none of these calls is a write
-abbrev pub Quiet : List DiskCall → Type 0
-Quiet [] = Unit {0}
-Quiet (WasRead ∷ more) = Quiet more
-Quiet (Wrote at from ∷ more) = ⊥
-Quiet (Failed at from now ∷ more) = ⊥
-Quiet (Synced ∷ more) = Quiet more
+abbrev pub HasNoWrites : List DiskCall → Type 0
+HasNoWrites [] = Unit {0}
+HasNoWrites (WasRead ∷ more) = HasNoWrites more
+HasNoWrites (Wrote at from ∷ more) = ⊥
+HasNoWrites (Failed at from now ∷ more) = ⊥
+HasNoWrites (Synced ∷ more) = HasNoWrites more
 
-pub quiet : (more calls : List DiskCall) → writes_of (more ++ calls) ≡ writes_of calls → Quiet more
-quiet [] calls same = tt
-quiet (WasRead ∷ more) calls same = quiet more calls same
-quiet (Wrote at from ∷ more) calls same = absurd (omega (arith, same, writes_of-more more calls))
-quiet (Failed at from now ∷ more) calls same = absurd (omega (arith, same, writes_of-more more calls))
-quiet (Synced ∷ more) calls same = quiet more calls same
+pub has_no_writes : (more calls : List DiskCall) → writes_of (more ++ calls) ≡ writes_of calls → HasNoWrites more
+has_no_writes [] calls same = tt
+has_no_writes (WasRead ∷ more) calls same = has_no_writes more calls same
+has_no_writes (Wrote at from ∷ more) calls same = absurd (omega (arith, same, writes_of-more more calls))
+has_no_writes (Failed at from now ∷ more) calls same = absurd (omega (arith, same, writes_of-more more calls))
+has_no_writes (Synced ∷ more) calls same = has_no_writes more calls same
 
-pub quiet_bytes : (start : List ℕ) (more calls : List DiskCall) → Quiet more → bytes_after start (more ++ calls) ≡ bytes_after start calls
+pub quiet_bytes : (start : List ℕ) (more calls : List DiskCall) → HasNoWrites more → bytes_after start (more ++ calls) ≡ bytes_after start calls
 quiet_bytes start [] calls q = refl
 quiet_bytes start (WasRead ∷ more) calls q = quiet_bytes start more calls q
 quiet_bytes start (Wrote at from ∷ more) calls q = absurd q
 quiet_bytes start (Failed at from now ∷ more) calls q = absurd q
 quiet_bytes start (Synced ∷ more) calls q = quiet_bytes start more calls q
 
-pub quiet_images : (start : List ℕ) (more calls : List DiskCall) (c : List ℕ) → Quiet more → images_after start (more ++ calls) c → images_after start calls c
+pub quiet_images : (start : List ℕ) (more calls : List DiskCall) (c : List ℕ) → HasNoWrites more → images_after start (more ++ calls) c → images_after start calls c
 quiet_images start [] calls c q now = now
 quiet_images start (WasRead ∷ more) calls c q now = quiet_images start more calls c q now
 quiet_images start (Wrote at from ∷ more) calls c q now = absurd q
 quiet_images start (Failed at from n ∷ more) calls c q now = absurd q
 quiet_images start (Synced ∷ more) calls c q now = subst (images_after start calls) (sym (now ∙ quiet_bytes start more calls q)) (current start calls)
 
-pub quiet_since : (start : List ℕ) (more calls : List DiskCall) (t : ℕ) (c : List ℕ) → Quiet more → since_after start (more ++ calls) t c → since_after start calls t c
+pub quiet_since : (start : List ℕ) (more calls : List DiskCall) (t : ℕ) (c : List ℕ) → HasNoWrites more → images_after_since start (more ++ calls) t c → images_after_since start calls t c
 quiet_since start [] calls t c q left = left
 quiet_since start (WasRead ∷ more) calls t c q (inl now) = counts_now start calls t c (quiet_images start more calls c q now)
 quiet_since start (WasRead ∷ more) calls t c q (inr past) = quiet_since start more calls t c q past.1
@@ -198,7 +198,7 @@ quiet_since start (Failed at from n ∷ more) calls t c q left = absurd q
 quiet_since start (Synced ∷ more) calls t c q (inl now) = counts_now start calls t c (subst (images_after start calls) (sym (now ∙ quiet_bytes start more calls q)) (current start calls))
 quiet_since start (Synced ∷ more) calls t c q (inr past) = quiet_since start more calls t c q past.1
 
-pub quiet_durable : (start : List ℕ) (more calls : List DiskCall) → Quiet more → ((c : List ℕ) → images_after start calls c → c ≡ bytes_after start calls)
+pub quiet_durable : (start : List ℕ) (more calls : List DiskCall) → HasNoWrites more → ((c : List ℕ) → images_after start calls c → c ≡ bytes_after start calls)
     → (c : List ℕ) → images_after start (more ++ calls) c → c ≡ bytes_after start (more ++ calls)
 quiet_durable start [] calls q held c now = held c now
 quiet_durable start (WasRead ∷ more) calls q held c now = quiet_durable start more calls q held c now

@@ -1,4 +1,4 @@
 pub mod CallLaws
-pub mod Calling
-pub mod Composing
-pub mod Kept
+pub mod CallSequences
+pub mod StretchComposition
+pub mod WrittenBytes

@@ -4,38 +4,38 @@ use Rattle.std.specs.Prelude.{◌≡◌, ◌⊎◌, ℕ, ◌+◌, ◌≤◌, Lis
 use Rattle.mcs_disk.specs.Calls.{DiskCall, WasRead, Wrote, Failed, Synced}
 
 -- the number of writes in the list, including failed writes, that no sync has followed
-abbrev pub unsynced : List DiskCall → ℕ
-unsynced [] = 0
-unsynced (WasRead ∷ calls) = unsynced calls
-unsynced (Wrote at bytes ∷ calls) = unsynced calls + 1
-unsynced (Failed at tried seen ∷ calls) = unsynced calls + 1
-unsynced (Synced ∷ calls) = 0
+abbrev pub unsynced_writes : List DiskCall → ℕ
+unsynced_writes [] = 0
+unsynced_writes (WasRead ∷ calls) = unsynced_writes calls
+unsynced_writes (Wrote at bytes ∷ calls) = unsynced_writes calls + 1
+unsynced_writes (Failed at tried seen ∷ calls) = unsynced_writes calls + 1
+unsynced_writes (Synced ∷ calls) = 0
 
 -- Holds if `new` is `old` with calls added, and at most one write is unsynced after each added
 -- call. Unsynced writes of `old` count too.
-pub record OneUnsynced (old new : List DiskCall) : Type 0 where
+pub record AtMostOneUnsynced (old new : List DiskCall) : Type 0 where
   pub added : List DiskCall
   pub all : new ≡ added ++ old
   pub each : (later sooner : List DiskCall) (call : DiskCall) → added ≡ later ++ call ∷ sooner
-      → unsynced (call ∷ sooner ++ old) ≤ 1
+      → unsynced_writes (call ∷ sooner ++ old) ≤ 1
 
 -- Holds if `new` is the list `old` after the given call failed. A failed write either adds an entry
 -- `Failed` with its offset and bytes, or leaves the list unchanged. Any other failed call leaves it
 -- unchanged.
-abbrev pub FailureOf : DiskCall → List DiskCall → List DiskCall → Type 0
-FailureOf (Wrote at bytes) old new =
+abbrev pub IsFailureOf : DiskCall → List DiskCall → List DiskCall → Type 0
+IsFailureOf (Wrote at bytes) old new =
     (new ≡ old) ⊎ ((seen : List ℕ) × (new ≡ Failed at bytes seen ∷ old))
-FailureOf call old new = new ≡ old
+IsFailureOf call old new = new ≡ old
 
--- Holds if one of the given calls failed, and only the calls made before it succeeded. `FailureOf`
+-- Holds if one of the given calls failed, and only the calls made before it succeeded. `IsFailureOf`
 -- states how the list records the failed call.
-abbrev pub CutShort : List DiskCall → List DiskCall → List DiskCall → Type 0
-CutShort [] old new = ⊥
-CutShort (call ∷ before) old new = FailureOf call (before ++ old) new ⊎ CutShort before old new
+abbrev pub IsCutShort : List DiskCall → List DiskCall → List DiskCall → Type 0
+IsCutShort [] old new = ⊥
+IsCutShort (call ∷ before) old new = IsFailureOf call (before ++ old) new ⊎ IsCutShort before old new
 
 -- Holds if `new` is `old` after the given calls. If the result is Ok, all of them were made. If it
--- is an error, one of them failed, and only the calls made before it succeeded. `FailureOf` states
+-- is an error, one of them failed, and only the calls made before it succeeded. `IsFailureOf` states
 -- how the list records the failed call.
-pub record Makes {T E : Type 0} (calls old new : List DiskCall) (result : Result T E) : Type 0 where
+pub record MakesCalls {T E : Type 0} (calls old new : List DiskCall) (result : Result T E) : Type 0 where
   pub all : OnOk result (new ≡ calls ++ old)
-  pub cut : OnErr result (CutShort calls old new)
+  pub cut : OnErr result (IsCutShort calls old new)

@@ -6,14 +6,14 @@
 use Rattle.std.specs.Prelude.{◌≡◌, ◌⊎◌, ℕ, zero, suc, ◌+◌, ◌≤◌, ◌<◌, List, [], ◌∷◌, length, take, drop, slice_index}
 
 -- A call in a list of calls: a call that returned Ok, or a failed write. Failed reads and syncs are
--- not listed. A failed write that had no effect can be missing too (`Makes` in CallList).
+-- not listed. A failed write that had no effect can be missing too (`MakesCalls` in CallList).
 pub data DiskCall : Type 0 where
   -- a read that returned Ok; on an honest disk it returned the bytes that the disk holds
   WasRead : DiskCall
   -- a write of these bytes at this offset that returned Ok
   Wrote : ℕ → List ℕ → DiskCall
   -- `Failed at tried seen`: a write of the bytes `tried` at offset `at` that failed, or that a
-  -- close, a process kill or a power cut interrupted (`IsCutInWrite` of mcs_host). A power cut can
+  -- close, a process kill or a power cut interrupted (`IsInterruptedInWrite` of mcs_host). A power cut can
   -- leave any bytes in the range of the write. From then on, a read of the range returns the bytes
   -- `seen`, truncated to the length of `tried`. If `seen` is shorter, a read of the rest of the
   -- range returns the same bytes as before.
@@ -71,8 +71,8 @@ clock_of (Synced ∷ calls) = clock_of calls + 1
 -- Holds if a power cut can leave `image`, either after all of these calls or earlier, before the
 -- newest of them. An earlier cut counts only if the clock was at `time` or later; a cut after all
 -- of the calls always counts.
-abbrev pub since_after : List ℕ → List DiskCall → ℕ → List ℕ → Type 0
-since_after start [] time image = images_after start [] image
-since_after start (call ∷ calls) time image =
+abbrev pub images_after_since : List ℕ → List DiskCall → ℕ → List ℕ → Type 0
+images_after_since start [] time image = images_after start [] image
+images_after_since start (call ∷ calls) time image =
     images_after start (call ∷ calls) image
-    ⊎ ((time ≤ clock_of calls) × since_after start calls time image)
+    ⊎ ((time ≤ clock_of calls) × images_after_since start calls time image)

@@ -1,14 +1,14 @@
 -- The effect of a store's calls on its disk. Only the contracts of single calls use this module.
 use Rattle.std.specs.Prelude.{◌≡◌, ℕ, ◌+◌, List, Result, OnOk}
 use Rattle.mcs_disk.specs.Disk.{CountsFault, DiskState, bytes_of, time_of}
-use Rattle.mcs_disk.specs.Stretches.{AddsNoImage, Either, LeavesOnly}
+use Rattle.mcs_disk.specs.Stretches.{AddsNoImage, SatisfiesEither, LeavesOnly}
 use Rattle.mcs_disk.specs.PowerCut.{IsDurable}
 
 -- Holds if only reads and syncs were made between `old` and `new`. The fault count rose by one if
 -- `failed` holds, and stayed the same otherwise.
 pub record ReadsOnly (old new : DiskState) (failed : Type 0) : Type 0 where
   pub counts : CountsFault old new failed
-  pub rests : AddsNoImage old new
+  pub adds_no_image : AddsNoImage old new
 
 -- Holds if a call changes the contents of the disk from `Before` to `After`. A power cut at any
 -- moment between `old` and `new` leaves bytes that satisfy `Before` or `After`. If the call
@@ -18,4 +18,4 @@ pub record Changes {T E : Type 0} (count : ℕ) (old new : DiskState)
   pub after : OnOk result (After (bytes_of new))
   pub durable : OnOk result (IsDurable new)
   pub ticks : OnOk result (time_of new ≡ time_of old + count)
-  pub leaves : LeavesOnly old new (Either Before After)
+  pub leaves : LeavesOnly old new (SatisfiesEither Before After)

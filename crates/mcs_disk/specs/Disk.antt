@@ -2,12 +2,12 @@
 -- else is a function of these two, except the fault count and the honesty of the disk. (Our own
 -- choice.)
 use Rattle.std.specs.Prelude.{◌≡◌, ◌↔◌, ℕ, ◌+◌, ◌-◌, ◌^◌, min, List, ◌++◌, length}
-use Rattle.mcs_disk.specs.Calls.{DiskCall, bytes_after, images_after, clock_of, since_after}
+use Rattle.mcs_disk.specs.Calls.{DiskCall, bytes_after, images_after, clock_of, images_after_since}
 pub use Rattle.mcs_disk.specs.Calls.{part, put, Torn}
 
 -- the state of a disk: everything that a contract can see of it
 pub record DiskState : Type 1 where
-  -- the number of failed calls, saturating at `most_faults`
+  -- the number of failed calls, saturating at `max_fault_count`
   pub faults : ℕ
   -- the premise that the device is honest: if it holds, a read returns `bytes_of`; each kind of
   -- disk states its own premise
@@ -38,11 +38,11 @@ time_of disk = clock_of disk.calls
 -- have left them. (A cut during a write leaves one of the images after the write. A cut during a
 -- read or a sync leaves one of the images before it.)
 abbrev pub images_since : ℕ → DiskState → List ℕ → Type 0
-images_since time disk = since_after disk.start disk.calls time
+images_since time disk = images_after_since disk.start disk.calls time
 
 -- the maximum fault count
-abbrev pub most_faults : ℕ
-most_faults = 2 ^ 64 - 1
+abbrev pub max_fault_count : ℕ
+max_fault_count = 2 ^ 64 - 1
 
 -- Holds if calls on a disk kept its initial bytes and its honesty, and counted their faults. The
 -- saturating fault count rises by one if a call failed, and stays the same otherwise. `failed`
@@ -50,7 +50,7 @@ most_faults = 2 ^ 64 - 1
 pub record CountsFault (old new : DiskState) (failed : Type 0) : Type 0 where
   pub start : new.start ≡ old.start
   pub honest : new.honest ↔ old.honest
-  pub fault : failed → new.faults ≡ min (old.faults + 1) most_faults
+  pub fault : failed → new.faults ≡ min (old.faults + 1) max_fault_count
   pub no_fault : ¬ failed → new.faults ≡ old.faults
 
 -- Holds if `new` is later than `old`: both have the same initial bytes, and the calls of `new` are

@@ -3,15 +3,15 @@ use Rattle.std.specs.Prelude.{◌≡◌, ◌↔◌, ℕ, ◌+◌, ◌≤◌, IsE
 use Rattle.mcs_disk.specs.Disk.{CountsFault}
 use Rattle.mcs_disk.specs.States.{mem_disk_state}
 use Rattle.mcs_disk.specs.declared.fuse.Fuse.{Fuse}
-use Rattle.mcs_disk.specs.declared.fuse.Fuse.TheVariants.{Whole, AllAfter, OneAfter}
+use Rattle.mcs_disk.specs.declared.fuse.Fuse.TheVariants.{NeverFails, FailsAllAfter, FailsOneAfter}
 use Rattle.mcs_disk.specs.declared.fuse.FuseDisk.{FuseDisk}
 use Rattle.mcs_disk.specs.declared.memory.MemDisk.{MemDisk}
 
 -- holds if the schedule fails the call that follows the next n calls
 abbrev pub Fails : Fuse → ℕ → Type 0
-Fails Whole n = ⊥
-Fails (AllAfter passed) n = passed ≤ n
-Fails (OneAfter passed) n = n ≡ passed
+Fails NeverFails n = ⊥
+Fails (FailsAllAfter passed) n = passed ≤ n
+Fails (FailsOneAfter passed) n = n ≡ passed
 
 -- holds if the disk fails the call after the next n calls, without passing it on
 abbrev pub FailsAfter : FuseDisk → ℕ → Type 0
@@ -26,7 +26,7 @@ inner_disk disk = disk.disk
 -- fuse advances by one call.
 pub record FuseCall {T E : Type 0} (old new : FuseDisk) (result : Result T E) : Type 0 where
   pub fails : FailsAfter old 0 → IsErr result
-  pub kept_back : FailsAfter old 0 → inner_disk new ≡ inner_disk old
+  pub inner_unchanged : FailsAfter old 0 → inner_disk new ≡ inner_disk old
   -- if the call is passed on, the wrapped disk counts a fault only if the result is an error
   pub passed_on : ¬ (FailsAfter old 0)
       → CountsFault (mem_disk_state (inner_disk old)) (mem_disk_state (inner_disk new))

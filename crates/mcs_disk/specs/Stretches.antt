@@ -22,7 +22,7 @@ WritesNothing old new = writes_of new.calls ≡ writes_of old.calls
 -- image that a power cut could leave.
 pub record AddsNoImage (old new : DiskState) : Type 0 where
   pub later : IsLater old new
-  pub unwritten : WritesNothing old new
+  pub writes_nothing : WritesNothing old new
 
 -- holds if `new` is later than `old`, and every image that a power cut at some moment since `old`
 -- can leave satisfies P
@@ -31,5 +31,5 @@ pub record LeavesOnly (old new : DiskState) (P : List ℕ → Type 0) : Type 0 w
   pub each : (image : List ℕ) → images_since (time_of old) new image → P image
 
 -- holds if an image satisfies P or Q
-abbrev pub Either : (List ℕ → Type 0) → (List ℕ → Type 0) → List ℕ → Type 0
-Either P Q image = P image ⊎ Q image
+abbrev pub SatisfiesEither : (List ℕ → Type 0) → (List ℕ → Type 0) → List ℕ → Type 0
+SatisfiesEither P Q image = P image ⊎ Q image

@@ -2,7 +2,7 @@
 //! the calls on it have left.
 ghost use Rattle.std.specs.Prelude.{◌≡◌, ◌≤◌, ◌+◌, [], ◌∷◌, length, IsErr, OnOk};
 ghost use Rattle.mcs_disk.specs.Disk.{DiskState, bytes_of, part, put, size_of, CountsFault};
-ghost use Rattle.mcs_disk.specs.CallList.{Makes};
+ghost use Rattle.mcs_disk.specs.CallList.{MakesCalls};
 ghost use Rattle.mcs_disk.specs.Calls.{WasRead, Wrote, Synced};
 
 use thiserror::Error;
@@ -31,7 +31,7 @@ pub trait Disk {
     fn read(&mut self, at: usize, into: &mut [u8]) -> Result<(), DiskFault>
         requires { at + length into.old ≤ size_of (state self.old) }
         ensures call { CountsFault (state self.old) (state self.new) (IsErr result) }
-        ensures noted { Makes (WasRead ∷ []) (state self.old).calls (state self.new).calls result }
+        ensures lists_call { MakesCalls (WasRead ∷ []) (state self.old).calls (state self.new).calls result }
         ensures honest { (state self.old).honest
             → OnOk result (into.new ≡ part at (length into.old) (bytes_of (state self.old))) };
 
@@ -40,14 +40,14 @@ pub trait Disk {
     fn write(&mut self, at: usize, from: &[u8]) -> Result<(), DiskFault>
         requires { at + length from.now ≤ size_of (state self.old) }
         ensures call { CountsFault (state self.old) (state self.new) (IsErr result) }
-        ensures noted { Makes (Wrote at from.now ∷ []) (state self.old).calls
+        ensures lists_call { MakesCalls (Wrote at from.now ∷ []) (state self.old).calls
             (state self.new).calls result };
 
     /// Makes all written bytes stable: after Ok, a power cut leaves the bytes that a read returns.
     /// It fails if the device fails.
     fn sync(&mut self) -> Result<(), DiskFault>
         ensures call { CountsFault (state self.old) (state self.new) (IsErr result) }
-        ensures noted { Makes (Synced ∷ []) (state self.old).calls (state self.new).calls result };
+        ensures lists_call { MakesCalls (Synced ∷ []) (state self.old).calls (state self.new).calls result };
 }
 
 /// Overwrites the bytes at offset `at` with `from`, and leaves the other bytes unchanged.

@@ -1,7 +1,7 @@
 //! An in-memory disk that fails chosen calls.
 ghost use Rattle.std.specs.Prelude.{◌≡◌, ◌≤◌, ◌+◌, ◌↔◌, ℕ, [], ◌∷◌, length, min, IsErr, OnErr, OnOk, IsTrue};
-ghost use Rattle.mcs_disk.specs.Disk.{most_faults, CountsFault, bytes_of, part, size_of};
-ghost use Rattle.mcs_disk.specs.CallList.{Makes};
+ghost use Rattle.mcs_disk.specs.Disk.{max_fault_count, CountsFault, bytes_of, part, size_of};
+ghost use Rattle.mcs_disk.specs.CallList.{MakesCalls};
 ghost use Rattle.mcs_disk.specs.Calls.{WasRead, Wrote, Synced};
 
 use crate::{Disk, DiskFault, MemDisk};
@@ -10,34 +10,34 @@ use crate::{Disk, DiskFault, MemDisk};
 #[derive(Clone, Copy)]
 enum Fuse {
     /// No call fails.
-    Whole,
+    NeverFails,
     /// This number of calls succeed; every later call fails.
-    AllAfter(usize),
+    FailsAllAfter(usize),
     /// This number of calls succeed; only the next call after them fails.
-    OneAfter(usize),
+    FailsOneAfter(usize),
 }
 
 impl Fuse {
     ghost use Rattle.mcs_disk.specs.Fuse.{Fails};
 
     // Returns true if the next call fails, and advances the schedule by one call.
-    fn blows(&mut self) -> bool
+    fn next_call_fails(&mut self) -> bool
         ensures now { IsTrue result ↔ Fails self.old 0 }
         ensures later { (n : ℕ) → Fails self.new n ↔ Fails self.old (n + 1) }
     {
         match *self {
-            Fuse::Whole => false,
-            Fuse::AllAfter(0) => true,
-            Fuse::AllAfter(left) => {
-                *self = Fuse::AllAfter(left - 1);
+            Fuse::NeverFails => false,
+            Fuse::FailsAllAfter(0) => true,
+            Fuse::FailsAllAfter(left) => {
+                *self = Fuse::FailsAllAfter(left - 1);
                 false
             }
-            Fuse::OneAfter(0) => {
-                *self = Fuse::Whole;
+            Fuse::FailsOneAfter(0) => {
+                *self = Fuse::NeverFails;
                 true
             }
-            Fuse::OneAfter(left) => {
-                *self = Fuse::OneAfter(left - 1);
+            Fuse::FailsOneAfter(left) => {
+                *self = Fuse::FailsOneAfter(left - 1);
                 false
             }
         }
@@ -68,7 +68,7 @@ impl FuseDisk {
     {
         FuseDisk {
             disk,
-            fuse: Fuse::AllAfter(calls),
+            fuse: Fuse::FailsAllAfter(calls),
             faults: 0,
         }
     }
@@ -83,7 +83,7 @@ impl FuseDisk {
     {
         FuseDisk {
             disk,
-            fuse: Fuse::OneAfter(calls),
+            fuse: Fuse::FailsOneAfter(calls),
             faults: 0,
         }
     }
@@ -95,14 +95,14 @@ impl FuseDisk {
         ensures inner { inner_disk self.new ≡ inner_disk self.old }
         ensures fails { (n : ℕ) → ¬ (FailsAfter self.new n) }
     {
-        self.fuse = Fuse::Whole;
+        self.fuse = Fuse::NeverFails;
     }
 
     // Adds one to the saturating fault count and returns the fault. Changes nothing else.
     fn fail(&mut self) -> DiskFault
         ensures inner { self.new.disk ≡ self.old.disk }
         ensures fuse { self.new.fuse ≡ self.old.fuse }
-        ensures fault { self.new.faults ≡ min (self.old.faults + 1) most_faults }
+        ensures fault { self.new.faults ≡ min (self.old.faults + 1) max_fault_count }
     {
         self.faults = self.faults.saturating_add(1);
         DiskFault
@@ -123,7 +123,7 @@ impl Disk for FuseDisk {
         requires { at + length into.old ≤ size_of (fuse_disk_state self.old) }
         ensures call { CountsFault (fuse_disk_state self.old) (fuse_disk_state self.new)
             (IsErr result) }
-        ensures noted { Makes (WasRead ∷ []) (fuse_disk_state self.old).calls
+        ensures lists_call { MakesCalls (WasRead ∷ []) (fuse_disk_state self.old).calls
             (fuse_disk_state self.new).calls result }
         ensures honest { (fuse_disk_state self.old).honest
             → OnOk result
@@ -132,7 +132,7 @@ impl Disk for FuseDisk {
             ((fuse_disk_state self.new).calls ≡ (fuse_disk_state self.old).calls) }
         ensures fuse { FuseCall self.old self.new result }
     {
-        if self.fuse.blows() {
+        if self.fuse.next_call_fails() {
             return Err(self.fail());
         }
         self.disk.read(at, into)
@@ -142,13 +142,13 @@ impl Disk for FuseDisk {
         requires { at + length from.now ≤ size_of (fuse_disk_state self.old) }
         ensures call { CountsFault (fuse_disk_state self.old) (fuse_disk_state self.new)
             (IsErr result) }
-        ensures noted { Makes (Wrote at from.now ∷ []) (fuse_disk_state self.old).calls
+        ensures lists_call { MakesCalls (Wrote at from.now ∷ []) (fuse_disk_state self.old).calls
             (fuse_disk_state self.new).calls result }
         ensures refused { OnErr result
             ((fuse_disk_state self.new).calls ≡ (fuse_disk_state self.old).calls) }
         ensures fuse { FuseCall self.old self.new result }
     {
-        if self.fuse.blows() {
+        if self.fuse.next_call_fails() {
             return Err(self.fail());
         }
         self.disk.write(at, from)
@@ -157,13 +157,13 @@ impl Disk for FuseDisk {
     fn sync(&mut self) -> Result<(), DiskFault>
         ensures call { CountsFault (fuse_disk_state self.old) (fuse_disk_state self.new)
             (IsErr result) }
-        ensures noted { Makes (Synced ∷ []) (fuse_disk_state self.old).calls
+        ensures lists_call { MakesCalls (Synced ∷ []) (fuse_disk_state self.old).calls
             (fuse_disk_state self.new).calls result }
         ensures refused { OnErr result
             ((fuse_disk_state self.new).calls ≡ (fuse_disk_state self.old).calls) }
         ensures fuse { FuseCall self.old self.new result }
     {
-        if self.fuse.blows() {
+        if self.fuse.next_call_fails() {
             return Err(self.fail());
         }
         self.disk.sync()

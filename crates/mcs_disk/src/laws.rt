@@ -8,7 +8,7 @@ ghost use Rattle.mcs_disk.specs.Stretches.{AddsNoImage};
 use crate::Disk;
 
 /// Shows that the bytes of a disk are one of its images: a power cut at this moment can leave them.
-pub fn read_bytes_are_an_image<D: Disk>()
+pub fn current_bytes_are_an_image<D: Disk>()
     ensures { (disk : D) → images_of (D.state disk) (bytes_of (D.state disk)) }
 {}
 
@@ -35,7 +35,7 @@ pub fn reads_and_syncs_add_no_image<D: Disk>()
 
 /// Shows for an honest disk: if a power cut since time `later` can leave the disk `found`, then a
 /// power cut since an earlier time can leave it too.
-pub fn cut_is_since_an_earlier_time<D: Disk, E: Disk>()
+pub fn cut_since_later_is_since_earlier<D: Disk, E: Disk>()
     ensures { (earlier later : ℕ) (disk : D) (found : E) → earlier ≤ later
         → (D.state disk).honest → IsLeftByCut later (D.state disk) (E.state found)
         → IsLeftByCut earlier (D.state disk) (E.state found) }
@@ -43,7 +43,7 @@ pub fn cut_is_since_an_earlier_time<D: Disk, E: Disk>()
 
 /// Shows that a power cut on a durable disk, since the disk's current time, leaves the bytes of the
 /// disk unchanged.
-pub fn cut_leaves_what_is_durable<D: Disk, E: Disk>()
+pub fn cut_keeps_durable_bytes<D: Disk, E: Disk>()
     ensures { (disk : D) (found : E) → IsDurable (D.state disk)
         → IsLeftByCut (time_of (D.state disk)) (D.state disk) (E.state found)
         → bytes_of (E.state found) ≡ bytes_of (D.state disk) }
@@ -60,7 +60,7 @@ pub fn cut_is_before_a_stretch_or_since_its_start<D: Disk, E: Disk>()
 
 /// Shows that a second power cut adds no new outcome. With no call between the two cuts, it leaves
 /// a disk that the first cut could have left.
-pub fn cut_of_what_a_cut_left<D: Disk, E: Disk, F: Disk>()
+pub fn second_cut_adds_no_outcome<D: Disk, E: Disk, F: Disk>()
     ensures { (time : ℕ) (disk : D) (found : E) (again : F)
         → IsLeftByCut time (D.state disk) (E.state found)
         → IsLeftByCut (time_of (E.state found)) (E.state found) (F.state again)

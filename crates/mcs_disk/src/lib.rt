@@ -17,9 +17,9 @@ pub use call_record::{Call, CallRecord};
 pub use disk::{Disk, DiskFault, overwrite};
 pub use fuse::FuseDisk;
 pub use laws::{
-    cut_is_before_a_stretch_or_since_its_start, cut_is_since_an_earlier_time,
-    cut_leaves_what_is_durable, cut_of_what_a_cut_left, images_have_the_size_of_the_disk,
-    read_bytes_are_an_image, reads_and_syncs_add_no_image,
+    current_bytes_are_an_image, cut_is_before_a_stretch_or_since_its_start,
+    cut_keeps_durable_bytes, cut_since_later_is_since_earlier, images_have_the_size_of_the_disk,
+    reads_and_syncs_add_no_image, second_cut_adds_no_outcome,
 };
 pub use memory::MemDisk;
 pub use record::Record;

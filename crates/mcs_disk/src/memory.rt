@@ -2,7 +2,7 @@
 ghost use Rattle.std.specs.Prelude.{◌≡◌, ◌+◌, ◌≤◌, [], ◌∷◌, length, replicate, IfOk, IsErr, IsOk, OnOk};
 ghost use Rattle.mcs_disk.specs.Disk.{CountsFault, bytes_of, part, size_of};
 ghost use Rattle.mcs_disk.specs.Calls.{bytes_after, WasRead, Wrote, Synced};
-ghost use Rattle.mcs_disk.specs.CallList.{Makes};
+ghost use Rattle.mcs_disk.specs.CallList.{MakesCalls};
 ghost use Rattle.mcs_disk.specs.NotedCalls.{calls_in};
 
 use crate::call_record::{Call, CallRecord};
@@ -60,7 +60,7 @@ impl Disk for MemDisk {
         requires { at + length into.old ≤ size_of (mem_disk_state self.old) }
         ensures call { CountsFault (mem_disk_state self.old) (mem_disk_state self.new)
             (IsErr result) }
-        ensures noted { Makes (WasRead ∷ []) (mem_disk_state self.old).calls
+        ensures lists_call { MakesCalls (WasRead ∷ []) (mem_disk_state self.old).calls
             (mem_disk_state self.new).calls result }
         ensures honest { (mem_disk_state self.old).honest
             → OnOk result
@@ -76,7 +76,7 @@ impl Disk for MemDisk {
         requires { at + length from.now ≤ size_of (mem_disk_state self.old) }
         ensures call { CountsFault (mem_disk_state self.old) (mem_disk_state self.new)
             (IsErr result) }
-        ensures noted { Makes (Wrote at from.now ∷ []) (mem_disk_state self.old).calls
+        ensures lists_call { MakesCalls (Wrote at from.now ∷ []) (mem_disk_state self.old).calls
             (mem_disk_state self.new).calls result }
         ensures answered { IsOk result }
     {
@@ -88,7 +88,7 @@ impl Disk for MemDisk {
     fn sync(&mut self) -> Result<(), DiskFault>
         ensures call { CountsFault (mem_disk_state self.old) (mem_disk_state self.new)
             (IsErr result) }
-        ensures noted { Makes (Synced ∷ []) (mem_disk_state self.old).calls
+        ensures lists_call { MakesCalls (Synced ∷ []) (mem_disk_state self.old).calls
             (mem_disk_state self.new).calls result }
         ensures answered { IsOk result }
     {

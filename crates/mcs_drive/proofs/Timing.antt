@@ -1,8 +1,8 @@
 -- The stopwatch of an observer during a run.
 use Rattle.std.proofs.Common.{◌≡◌, ◌<◌, ◌≤◌, ◌+◌, ◌⊎◌, ℕ, zero, suc, inl, inr, Bool, true, false, cond, ◌||◌, nat_lt, nat_le, refl, sym, ap, ◌∙◌, subst, arith, eqb}
 use Rattle.std.proofs.lemmas.Bool.{eqb-false, leb-true, lt-ltb, ne_eqb, or_parts}
-use Rattle.mcs_drive.specs.Driven.{Levels, FitBoard}
-use Rattle.mcs_drive.specs.Tracked.{Observer, Tracked, LONGEST, begins_at, ends_at, shown_after, driven, Holds}
+use Rattle.mcs_drive.specs.DrivenRuns.{Levels, FitsBoard}
+use Rattle.mcs_drive.specs.TrackedMachine.{Observer, TrackedMachine, STOPWATCH_MAX, begins_at, ends_at, stopwatch_after, driven, Holds}
 
 -- ---- one cycle
 
@@ -10,34 +10,34 @@ some : (n : ℕ) → (n ≡ 0 → ⊥) → 1 ≤ n
 some zero h = absurd (h refl)
 some (suc n) h = omega arith
 
-picked : (a b : Bool) (n : ℕ) → (a ≡ false → 1 ≤ n) → 1 ≤ cond a 1 (cond b (n + 1) n)
-picked true b n h = omega arith
-picked false true n h = omega arith
-picked false false n h = h refl
+cond-positive : (a b : Bool) (n : ℕ) → (a ≡ false → 1 ≤ n) → 1 ≤ cond a 1 (cond b (n + 1) n)
+cond-positive true b n h = omega arith
+cond-positive false true n h = omega arith
+cond-positive false false n h = h refl
 
 -- after a cycle at which it begins, the stopwatch shows at least 1
-after-begun : (n : ℕ) (ends : Bool) → 1 ≤ shown_after n true ends
-after-begun n ends = picked (eqb n 0 || ends) (nat_lt n LONGEST) n (λ e. some n (eqb-false n 0 (or_parts (eqb n 0) ends e).0))
+after-begun : (n : ℕ) (ends : Bool) → 1 ≤ stopwatch_after n true ends
+after-begun n ends = cond-positive (eqb n 0 || ends) (nat_lt n STOPWATCH_MAX) n (λ e. some n (eqb-false n 0 (or_parts (eqb n 0) ends e).0))
 
 -- a running stopwatch that does not end counts the cycle
-counts-on : (n m : ℕ) (begins ends : Bool) → 1 ≤ n → n < LONGEST → ends ≡ false → m ≤ n → suc m ≤ shown_after n begins ends
+counts-on : (n m : ℕ) (begins ends : Bool) → 1 ≤ n → n < STOPWATCH_MAX → ends ≡ false → m ≤ n → suc m ≤ stopwatch_after n begins ends
 counts-on n m begins ends runs few free more =
     let at : (eqb n 0 || ends) ≡ false = rw (ne_eqb n 0 (omega arith), free) refl in
-    let below : nat_lt n LONGEST ≡ true = lt-ltb n LONGEST few in
-    let is : shown_after n begins ends ≡ n + 1 = rw (at, below) refl in
+    let below : nat_lt n STOPWATCH_MAX ≡ true = lt-ltb n STOPWATCH_MAX few in
+    let is : stopwatch_after n begins ends ≡ n + 1 = rw (at, below) refl in
     subst (λ (k : ℕ). suc m ≤ k) (sym is) (omega arith)
 
 module _ (w : Observer) where
   -- ---- a run
 
   -- the stopwatch ended at most m cycles after cycle k, or it shows more than m
-  abbrev Runs : (ℕ → Levels) → ℕ → Tracked → ℕ → Type 0
-  Runs f k s m =
+  abbrev EndedOrShowsMore : (ℕ → Levels) → ℕ → TrackedMachine → ℕ → Type 0
+  EndedOrShowsMore f k s m =
       ((d : ℕ) × (1 ≤ d) × (d ≤ m) × (ends_at w (driven w f (k + d) s) ≡ true))
       ⊎ (suc m ≤ (driven w f (suc (k + m)) s).2.elapsed)
 
-  runs-on : (f : ℕ → Levels) (k m : ℕ) (s : Tracked) (b : Bool) → ends_at w (driven w f (suc (k + m)) s) ≡ b → suc m ≤ (driven w f (suc (k + m)) s).2.elapsed →
-      (driven w f (suc (k + m)) s).2.elapsed < LONGEST → Runs f k s (suc m)
+  runs-on : (f : ℕ → Levels) (k m : ℕ) (s : TrackedMachine) (b : Bool) → ends_at w (driven w f (suc (k + m)) s) ≡ b → suc m ≤ (driven w f (suc (k + m)) s).2.elapsed →
+      (driven w f (suc (k + m)) s).2.elapsed < STOPWATCH_MAX → EndedOrShowsMore f k s (suc m)
   runs-on f k m s true e shows few =
       let next : k + suc m ≡ suc (k + m) = omega arith in
       inl (suc m, omega arith, omega arith, ap (λ (n : ℕ). ends_at w (driven w f n s)) next ∙ e)
@@ -47,12 +47,12 @@ module _ (w : Observer) where
       inr (subst (λ (n : ℕ). suc (suc m) ≤ (driven w f (suc n) s).2.elapsed) next
       (counts-on t.2.elapsed (suc m) (begins_at w t) (ends_at w t) (omega arith) few e shows))
 
-  runs-to : (limit : ℕ) (s : Tracked) → limit < LONGEST → (f : ℕ → Levels) → ((k : ℕ) → nat_le (driven w f k s).2.elapsed limit ≡ true) → (k : ℕ) → begins_at w (driven w f k s) ≡ true → (m : ℕ) → Runs f k s m
+  runs-to : (limit : ℕ) (s : TrackedMachine) → limit < STOPWATCH_MAX → (f : ℕ → Levels) → ((k : ℕ) → nat_le (driven w f k s).2.elapsed limit ≡ true) → (k : ℕ) → begins_at w (driven w f k s) ≡ true → (m : ℕ) → EndedOrShowsMore f k s m
   runs-to limit s few f within k begins zero =
       let t = driven w f k s in
       let here : k ≡ k + zero = omega arith in
       inr (subst (λ (n : ℕ). 1 ≤ (driven w f (suc n) s).2.elapsed) here
-      (subst (λ b. 1 ≤ shown_after t.2.elapsed b (ends_at w t)) (sym begins) (after-begun t.2.elapsed (ends_at w t))))
+      (subst (λ b. 1 ≤ stopwatch_after t.2.elapsed b (ends_at w t)) (sym begins) (after-begun t.2.elapsed (ends_at w t))))
   runs-to limit s few f within k begins (suc m) =
       elim (runs-to limit s few f within k begins m) [
         | inl ended ↦ inl (ended.0, ended.1, (let less = ended.2 in omega arith), ended.3)
@@ -61,8 +61,8 @@ module _ (w : Observer) where
             runs-on f k m s (ends_at w (driven w f (suc (k + m)) s)) refl shows (omega arith)
       ]
 
-  pub ends-within : (limit : ℕ) (s : Tracked) → limit < LONGEST → Holds w (λ t. nat_le t.2.elapsed limit) s →
-      (f : ℕ → Levels) → ((k : ℕ) → FitBoard s.1.board (f k)) → (k : ℕ) → begins_at w (driven w f k s) ≡ true →
+  pub ends-within : (limit : ℕ) (s : TrackedMachine) → limit < STOPWATCH_MAX → Holds w (λ t. nat_le t.2.elapsed limit) s →
+      (f : ℕ → Levels) → ((k : ℕ) → FitsBoard s.1.board (f k)) → (k : ℕ) → begins_at w (driven w f k s) ≡ true →
       (d : ℕ) × (1 ≤ d) × (d ≤ limit) × (ends_at w (driven w f (k + d) s) ≡ true)
   ends-within limit s few holds f fit k begins =
       elim (runs-to limit s few f (holds f fit) k begins limit) [

@@ -3,31 +3,31 @@ use Rattle.std.proofs.Common.{◌≡◌, ◌∙◌, ℕ, zero, suc, false, None,
 use Rattle.mcs_model.specs.Boards.{board_fault_of}
 use Rattle.mcs_model.specs.Bus.{fetch_of}
 use Rattle.mcs_model.specs.Running.{Machine}
-use Rattle.mcs_drive.specs.Driven.{Levels, under as under_machine, cycled as cycled_machine, driven as driven_machine}
-use Rattle.mcs_drive.specs.Tracked.{Counts, Observer, Tracked, machine_in, counts_after, under, plain, cycled, is_asking, answer, driven}
-use Rattle.mcs_drive.proofs.Commuting.{cycle-rest as machine-rest}
-use Rattle.mcs_drive.proofs.Answering.{answers-decide as machine-decides}
-use Rattle.mcs_drive.proofs.Seeing.{quiet-rests, seen-decides}
+use Rattle.mcs_drive.specs.DrivenRuns.{Levels, with_levels as under_machine, cycled as cycled_machine, driven as driven_machine}
+use Rattle.mcs_drive.specs.TrackedMachine.{Counts, Observer, TrackedMachine, machine_in, counts_after, with_levels, without_levels, cycled, next_reads_input, answer, driven}
+use Rattle.mcs_drive.proofs.LevelLemmas.{cycle-rest as machine-rest}
+use Rattle.mcs_drive.proofs.ReadValueLemmas.{answers-decide as machine-decides}
+use Rattle.mcs_drive.proofs.SeenMarkLemmas.{quiet-rests, seen-decides}
 
 -- the tracked machine with machine m and counts n
-abbrev pub with_counts : Counts → Machine → Tracked
+abbrev pub with_counts : Counts → Machine → TrackedMachine
 with_counts n m = (m.0, m.1, n)
 
 module _ (w : Observer) where
   -- a cycle that reads no input does not depend on the input levels and leaves them unchanged
-  pub cycle-rest : (l : Levels) (s : Tracked) → board_fault_of s.1.board ≡ None → is_asking s ≡ false → cycled w (under l s) ≡ under l (cycled w s)
+  pub cycle-rest : (l : Levels) (s : TrackedMachine) → board_fault_of s.1.board ≡ None → next_reads_input s ≡ false → cycled w (with_levels l s) ≡ with_levels l (cycled w s)
   unfolding fetch_of
   cycle-rest l s v e =
       ap (λ (n : ℕ). with_counts (record (counts_after w s) { seen = n }) (cycled_machine (under_machine l (machine_in s)))) (quiet-rests w l s e)
       ∙ ap (with_counts (counts_after w s)) (machine-rest l (machine_in s) v e)
 
   -- the input levels affect a cycle only through the value that the cycle reads
-  pub answers-decide : (l l' : Levels) (s : Tracked) → board_fault_of s.1.board ≡ None → answer l s ≡ answer l' s → plain (cycled w (under l s)) ≡ plain (cycled w (under l' s))
+  pub answers-decide : (l l' : Levels) (s : TrackedMachine) → board_fault_of s.1.board ≡ None → answer l s ≡ answer l' s → without_levels (cycled w (with_levels l s)) ≡ without_levels (cycled w (with_levels l' s))
   unfolding fetch_of
   answers-decide l l' s v e =
-      ap (λ (n : ℕ). plain (with_counts (record (counts_after w s) { seen = n }) (cycled_machine (under_machine l (machine_in s))))) (seen-decides w l l' s e)
-      ∙ ap (with_counts (counts_after w (under l' s))) (machine-decides l l' (machine_in s) v e)
+      ap (λ (n : ℕ). without_levels (with_counts (record (counts_after w s) { seen = n }) (cycled_machine (under_machine l (machine_in s))))) (seen-decides w l l' s e)
+      ∙ ap (with_counts (counts_after w (with_levels l' s))) (machine-decides l l' (machine_in s) v e)
 
-  pub tracks-machine : (f : ℕ → Levels) (k : ℕ) (s : Tracked) → machine_in (driven w f k s) ≡ driven_machine f k (machine_in s)
+  pub tracks-machine : (f : ℕ → Levels) (k : ℕ) (s : TrackedMachine) → machine_in (driven w f k s) ≡ driven_machine f k (machine_in s)
   tracks-machine f zero s = refl
   tracks-machine f (suc k) s = ap (λ (m : Machine). cycled_machine (under_machine (f k) m)) (tracks-machine f k s)

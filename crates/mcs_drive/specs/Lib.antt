@@ -1,6 +1,6 @@
-pub mod Driven
-pub mod Asking
+pub mod DrivenRuns
+pub mod InputReads
 pub mod Marks
-pub mod Tracked
+pub mod TrackedMachine
 pub mod Opening
-pub mod Leading
+pub mod RunsBetweenReads

@@ -13,7 +13,7 @@ use Rattle.mcs_model.specs.Boards.{has_key, key_index}
 use Rattle.mcs_model.specs.Bus.{BusState}
 use Rattle.mcs_model.specs.Levels.{bit_when, chain_bit, is_rom_line}
 use Rattle.mcs_drive.specs.declared.marks.Mark.{Mark}
-use Rattle.mcs_drive.specs.Driven.{Levels}
+use Rattle.mcs_drive.specs.DrivenRuns.{Levels}
 
 -- ---- marks that a read shows
 
@@ -27,8 +27,8 @@ column_line m j = slice_index_or m.columns.items j (Rom 0 0)
 
 -- true if a key other than the key of the mark can pull line k of a ROM: the other key is in a
 -- driven row, and its column is that line
-abbrev pub can_another_pull : BusState → KeyMatrix → Mark → ℕ → ℕ → Bool
-can_another_pull s m mark chip k =
+abbrev pub can_other_key_pull : BusState → KeyMatrix → Mark → ℕ → ℕ → Bool
+can_other_key_pull s m mark chip k =
     list_any
     (λ j. is_rom_line chip k (column_line m j)
     && list_any (λ r. is_row_driven s m r && not (r == mark.row && j == mark.column)) (range_with_len 0 m.rows))
@@ -41,7 +41,7 @@ abbrev pub line_shows : BusState → KeyMatrix → ℕ → Mark → Line → Boo
 line_shows s m value mark (Rom chip k) =
     chip == s.rom_src / 16
     && (if mark.is_down
-    then bit_of value k == 1 && not (can_another_pull s m mark chip k)
+    then bit_of value k == 1 && not (can_other_key_pull s m mark chip k)
     else bit_of value k == 0 && is_row_driven s m mark.row)
 line_shows s m value mark _ = false
 
@@ -68,7 +68,7 @@ pub record IsAtMark (b : BoardParts) (l : Levels) (mark : Mark) : Type 0 where
   pub level : slice_index l.keys (key_index b mark.row mark.column) ≡ bit_when mark.is_down
 
 -- holds if the keys are at the marks, in order, at increasing moments from `a` on and before b
-abbrev pub Passes : BoardParts → (ℕ → Levels) → List Mark → ℕ → ℕ → Type 0
-Passes board f [] a b = Unit {0}
-Passes board f (mark ∷ marks) a b =
-    (i : ℕ) × (a ≤ i) × (i < b) × IsAtMark board (f i) mark × Passes board f marks (suc i) b
+abbrev pub PassesMarks : BoardParts → (ℕ → Levels) → List Mark → ℕ → ℕ → Type 0
+PassesMarks board f [] a b = Unit {0}
+PassesMarks board f (mark ∷ marks) a b =
+    (i : ℕ) × (a ≤ i) × (i < b) × IsAtMark board (f i) mark × PassesMarks board f marks (suc i) b

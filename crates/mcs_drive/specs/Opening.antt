@@ -1,13 +1,13 @@
 -- Conditions that become true only after the keys were at given levels, in a given order.
 use Rattle.std.specs.Prelude.{◌≡◌, ◌<◌, ◌≤◌, ◌-◌, ◌⊎◌, ℕ, Bool, true, false, None, length, nat_lt, not, ◌&&◌}
 use Rattle.mcs_model.specs.Boards.{board_fault_of}
-use Rattle.mcs_drive.specs.Driven.{Levels, FitBoard}
-use Rattle.mcs_drive.specs.Marks.{Passes}
-use Rattle.mcs_drive.specs.Tracked.{Observer, Tracked, Holds, driven, opens_at}
+use Rattle.mcs_drive.specs.DrivenRuns.{Levels, FitsBoard}
+use Rattle.mcs_drive.specs.Marks.{PassesMarks}
+use Rattle.mcs_drive.specs.TrackedMachine.{Observer, TrackedMachine, Holds, driven, condition_holds_at}
 
 -- false if the condition of an observer holds although not all its marks are seen, otherwise true
-abbrev pub is_open_in_turn : Observer → Tracked → Bool
-is_open_in_turn w s = not (opens_at w s && nat_lt s.2.seen (length w.marks))
+abbrev pub holds_only_after_marks : Observer → TrackedMachine → Bool
+holds_only_after_marks w s = not (condition_holds_at w s && nat_lt s.2.seen (length w.marks))
 
 -- Holds if a condition becomes true at moment b, and is false from moment `a` until then. Moment
 -- `a` is the start of the run, or the moment after the condition last held. `holds i` is true if
@@ -20,8 +20,8 @@ pub record BecomesTrue (holds : ℕ → Bool) (a b : ℕ) : Type 0 where
 -- If the condition of an observer never holds before all its marks are seen, then the keys were at
 -- the marks, in order, each time it becomes true. They were at the marks after the condition last
 -- held, or after the start of the run.
-abbrev pub OpensOnlyAfter : Type 0
-OpensOnlyAfter =
-    (w : Observer) (s : Tracked) → s.2.seen ≡ 0 → board_fault_of s.1.board ≡ None → Holds w (is_open_in_turn w) s →
-    (f : ℕ → Levels) → ((k : ℕ) → FitBoard s.1.board (f k)) →
-    (a b : ℕ) → BecomesTrue (λ i. opens_at w (driven w f i s)) a b → Passes s.1.board f w.marks a b
+abbrev pub MarksPrecedeCondition : Type 0
+MarksPrecedeCondition =
+    (w : Observer) (s : TrackedMachine) → s.2.seen ≡ 0 → board_fault_of s.1.board ≡ None → Holds w (holds_only_after_marks w) s →
+    (f : ℕ → Levels) → ((k : ℕ) → FitsBoard s.1.board (f k)) →
+    (a b : ℕ) → BecomesTrue (λ i. condition_holds_at w (driven w f i s)) a b → PassesMarks s.1.board f w.marks a b

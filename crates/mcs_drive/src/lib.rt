@@ -5,7 +5,8 @@ mod laws;
 mod marks;
 
 pub use laws::{
-    answers_decide, answers_lead, choices_cover, ends_within, levels_rest, opens_only_after,
-    pulled_at_most, tracks_machine,
+    counts_keep_machine, levels_have_no_effect, marks_precede_condition, port_choices_cover_reads,
+    pulled_lines_can_be_pulled, reads_decide_cycle, same_read_gives_same_run,
+    stopwatch_ends_within_limit,
 };
 pub use marks::Mark;

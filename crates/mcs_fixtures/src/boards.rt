@@ -59,7 +59,7 @@ pub const CLOCK_AND_DATA: (Line, Line) = (Line::Rom(0, 0), Line::Rom(0, 1));
 
 /// Returns a board whose only ROM is ROM 0, with the given port masks. The board has the given banks, chains and
 /// lamps, and no keys.
-pub fn on_one_rom(
+pub fn board_on_one_rom(
     port: [LineMask; 4],
     banks: [u8; BANKS],
     chains: ArrayVec<ChainPart, CHAINS>,
@@ -78,7 +78,7 @@ pub fn on_one_rom(
 
 /// Returns the example board. It has three ROMs, one RAM chip in each of banks 0 and 1, a chain of ten bits, ten rows
 /// of eight keys, and three lamps.
-pub fn worked() -> Result<Board, BoardFault> {
+pub fn example_board() -> Result<Board, BoardFault> {
     let mut roms = [None; ROMS];
     roms[0] = Some(OUTPUTS);
     roms[1] = Some(INPUTS);

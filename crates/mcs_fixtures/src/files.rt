@@ -1,11 +1,11 @@
 //! Parts of session files in format version 1.
 
 /// A byte range of a file: its offset in the file, and its bytes.
-pub type Stretch = (usize, &'static [u8]);
+pub type FileRange = (usize, &'static [u8]);
 
 /// The non-zero bytes in the session file of a new bench: the format name, the state's length (6,822 bytes), the
 /// characters `-` for no ROMs, and the TEST level 1.
-pub const NEW_BENCH: [Stretch; 4] = [
+pub const NEW_BENCH: [FileRange; 4] = [
     (0, b"MCS4BEN1"),
     (18, &[0x1A, 0xA6]),
     (24, &[b'-'; 64]),
@@ -13,4 +13,4 @@ pub const NEW_BENCH: [Stretch; 4] = [
 ];
 
 /// The log record of the command `poke r5 9`, at the start of the session file's first log.
-pub const POKE: Stretch = (16_400, &[1, 0, 4, 7, 3, 5, 9]);
+pub const POKE_RECORD: FileRange = (16_400, &[1, 0, 4, 7, 3, 5, 9]);

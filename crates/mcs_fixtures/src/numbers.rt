@@ -3,14 +3,14 @@ ghost use Rattle.std.specs.Prelude.{◌<◌};
 
 /// A pseudo-random number generator (Knuth's MMIX linear congruential generator).
 #[derive(Drop)]
-pub struct Numbers {
+pub struct RandomNumbers {
     state: u64,
 }
 
-impl Numbers {
+impl RandomNumbers {
     /// Returns a generator with the given seed.
-    pub fn new(seed: u64) -> Numbers {
-        Numbers { state: seed }
+    pub fn new(seed: u64) -> RandomNumbers {
+        RandomNumbers { state: seed }
     }
 
     fn next(&mut self) -> u64 {

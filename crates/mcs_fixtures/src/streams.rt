@@ -48,18 +48,21 @@ impl Read for CutReader<'_> {
 #[derive(Drop)]
 pub struct EndlessReader {
     byte: u8,
-    given: u64,
+    bytes_returned: u64,
 }
 
 impl EndlessReader {
     /// Returns a reader that returns the given byte without end.
     pub fn new(byte: u8) -> EndlessReader {
-        EndlessReader { byte, given: 0 }
+        EndlessReader {
+            byte,
+            bytes_returned: 0,
+        }
     }
 
     /// Returns the number of bytes that the reader has returned.
-    pub fn given(&self) -> u64 {
-        self.given
+    pub fn bytes_returned(&self) -> u64 {
+        self.bytes_returned
     }
 }
 
@@ -68,7 +71,7 @@ impl Read for EndlessReader {
 
     fn read(&mut self, buf: &mut [u8]) -> io::Result<usize> {
         buf.fill(self.byte);
-        self.given = self.given.saturating_add(buf.len() as u64);
+        self.bytes_returned = self.bytes_returned.saturating_add(buf.len() as u64);
         Ok(buf.len())
     }
 }
@@ -77,7 +80,7 @@ impl Read for EndlessReader {
 /// `failures` writes return an error, and later writes are accepted.
 #[derive(Drop)]
 pub struct CutWriter {
-    held: Vec<u8>,
+    accepted_bytes: Vec<u8>,
     left: usize,
     failures: usize,
 }
@@ -86,20 +89,20 @@ impl CutWriter {
     /// Returns a writer that accepts `left` bytes, then fails for `failures` writes, then accepts all bytes.
     pub fn new(alloc: Global, left: usize, failures: usize) -> CutWriter {
         CutWriter {
-            held: Vec::new(alloc),
+            accepted_bytes: Vec::new(alloc),
             left,
             failures,
         }
     }
 
     /// Returns the bytes that the writer has accepted.
-    pub fn held(&self) -> &[u8] {
-        self.held.as_slice()
+    pub fn accepted_bytes(&self) -> &[u8] {
+        self.accepted_bytes.as_slice()
     }
 }
 
 impl Write for CutWriter {
-    ghost contents = { λ w. Some w.held.items };
+    ghost contents = { λ w. Some w.accepted_bytes.items };
 
     fn write(&mut self, buf: &[u8]) -> io::Result<usize> {
         if self.left == 0 && 0 < self.failures {
@@ -111,7 +114,7 @@ impl Write for CutWriter {
         } else {
             self.left.min(buf.len())
         };
-        self.held.extend_from_slice(&buf[..count])?;
+        self.accepted_bytes.extend_from_slice(&buf[..count])?;
         self.left = self.left.saturating_sub(count);
         Ok(count)
     }
@@ -122,7 +125,7 @@ impl Write for CutWriter {
 }
 
 /// Returns the concatenation of byte slices. Fails if allocation fails.
-pub fn joined(alloc: Global, pieces: &[&[u8]]) -> Result<Vec<u8>, AllocError> {
+pub fn concatenate(alloc: Global, pieces: &[&[u8]]) -> Result<Vec<u8>, AllocError> {
     let mut bytes = Vec::new(alloc);
     for piece in pieces {
         bytes.extend_from_slice(piece)?;

@@ -2,7 +2,7 @@
 
 /// The `wire` command with the text of the example board. The board has three ROMs, one RAM chip in each of banks 0
 /// and 1, a chain of ten bits, ten rows of eight keys, and three lamps.
-pub const WIRE_WORKED: &[u8] = b"wire
+pub const WIRE_EXAMPLE: &[u8] = b"wire
 [[rom]]
 chip = 0
 port = \"0000\"
@@ -37,7 +37,7 @@ line = \"ram0.0.3\"
 ";
 
 /// Returns the board text in a `wire` command: the lines between `wire` and the final dot.
-pub fn board_in(command: &[u8]) -> &[u8] {
+pub fn board_text_in(command: &[u8]) -> &[u8] {
     let text = command
         .strip_prefix(b"wire\n".as_slice())
         .unwrap_or(command);

@@ -8,7 +8,7 @@ use Rattle.clap.specs.declared.parser.matches.ArgMatches.{ArgMatches}
 use Rattle.clap.specs.declared.parser.matches.ArgMatches.TheViews.{out-ArgMatches, out-SubCommand}
 use Rattle.clap.specs.declared.parser.matches.SubCommand.{SubCommand}
 use Rattle.clap.proofs.WalkLemmas.{first_value-rows}
-use Rattle.mcs_host.specs.CommandLine.{choice_in, file_in, program}
+use Rattle.mcs_host.specs.CommandLine.{choice_in, subcommand_and_file, program}
 
 -- if the name and the rows of an optional pair are given, so is the pair
 both_there : (entered : Option (Text × List Row)) (name : Text) (rows : List Row) → option_map (λ p. p.0) entered ≡ Some name → option_map (λ p. p.1) entered ≡ Some rows → entered ≡ Some (name, rows)
@@ -31,27 +31,27 @@ no_rows (Some b) unnamed = absurd (cc)
 pub chosen_from : (arguments : List Text) (m sub : ArgMatches) (name : Text) → subcommand_rows_of m ≡ subcommand_of program arguments
     → subcommand_name_of m ≡ Some name
     → option_map (λ p. p.1) (subcommand_rows (out-ArgMatches m).subcommand) ≡ Some (rows_of (found_of sub))
-    → choice_in arguments ≡ file_in (name, rows_of (found_of sub))
+    → choice_in arguments ≡ subcommand_and_file (name, rows_of (found_of sub))
 unfolding choice_in
-chosen_from arguments m sub name parsed named rowed = ap (option_and_then file_in)
+chosen_from arguments m sub name parsed named rowed = ap (option_and_then subcommand_and_file)
     (sym parsed ∙ both_there (subcommand_rows_of m) name (rows_of (found_of sub)) (names_agree (out-ArgMatches m).subcommand ∙ named) rowed)
 
 -- if the matches have no subcommand, there is no choice
 pub chosen_none : (arguments : List Text) (m : ArgMatches) → subcommand_rows_of m ≡ subcommand_of program arguments → subcommand_name_of m ≡ None → choice_in arguments ≡ None
 unfolding choice_in
-chosen_none arguments m parsed unnamed = ap (option_and_then file_in) (sym parsed ∙ no_rows (out-ArgMatches m).subcommand unnamed)
+chosen_none arguments m parsed unnamed = ap (option_and_then subcommand_and_file) (sym parsed ∙ no_rows (out-ArgMatches m).subcommand unnamed)
 
-pub file_in_new : (sub : ArgMatches) (file : Text) → first_value (found_of sub) (codes "FILE") ≡ Some file → file_in (codes "new", rows_of (found_of sub)) ≡ Some (codes "new", file)
+pub file_in_new : (sub : ArgMatches) (file : Text) → first_value (found_of sub) (codes "FILE") ≡ Some file → subcommand_and_file (codes "new", rows_of (found_of sub)) ≡ Some (codes "new", file)
 file_in_new sub file found = ap (option_map (λ f. (codes "new", f))) (sym (first_value-rows (found_of sub) (codes "FILE")) ∙ found)
 
-pub file_in_open : (sub : ArgMatches) (file : Text) → first_value (found_of sub) (codes "FILE") ≡ Some file → file_in (codes "open", rows_of (found_of sub)) ≡ Some (codes "open", file)
+pub file_in_open : (sub : ArgMatches) (file : Text) → first_value (found_of sub) (codes "FILE") ≡ Some file → subcommand_and_file (codes "open", rows_of (found_of sub)) ≡ Some (codes "open", file)
 file_in_open sub file found = ap (option_map (λ f. (codes "open", f))) (sym (first_value-rows (found_of sub) (codes "FILE")) ∙ found)
 
 either_way : (v : Bool) (x : Option (Text × Text)) → (if v then x else x) ≡ x
 either_way true x = refl
 either_way false x = refl
 
-pub no_file : (sub : ArgMatches) (name : Text) → first_value (found_of sub) (codes "FILE") ≡ None → file_in (name, rows_of (found_of sub)) ≡ None
+pub no_file : (sub : ArgMatches) (name : Text) → first_value (found_of sub) (codes "FILE") ≡ None → subcommand_and_file (name, rows_of (found_of sub)) ≡ None
 no_file sub name missing =
     let none : first_of (codes "FILE") (rows_of (found_of sub)) ≡ None = sym (first_value-rows (found_of sub) (codes "FILE")) ∙ missing in
     ap (λ r. if bytes_eq name (codes "new") || bytes_eq name (codes "open") then option_map (λ f. (name, f)) r else None) none

@@ -1,8 +1,8 @@
 -- The calls on a file that was filled, or rewritten, while it was opened.
 use Rattle.std.proofs.Common.{◌≡◌, ◌∙◌, ap, ap₂, subst, sym, refl, inl, inr, ℕ, min, ◌+◌, List, ◌∷◌, length, Bool, true, IsTrue, arith}
 use Rattle.mcs_journal.specs.declared.format.TheConstants.{FILE_SIZE}
-use Rattle.mcs_host.specs.HostCalls.{HostCall, HostState, IsSame, Length, asked}
-use Rattle.mcs_host.specs.Opening.{IsBegun, IsAllZeros, IsFilledAfter, IsOpening, IsReadAfter, IsWrittenAfter, locking_calls}
+use Rattle.mcs_host.specs.HostCalls.{HostCall, HostState, KeepsNameAndNumber, Length, asked}
+use Rattle.mcs_host.specs.Opening.{IsFreshlyOpened, IsAllZeros, IsFilledAfter, IsOpenedFile, IsReadAfter, IsWrittenAfter, locking_calls}
 
 -- the calls on a file that was locked and whose length was requested
 measured_calls : (name : List ℕ) (found n : ℕ) (first locked measured : HostState) → locked.calls ≡ locking_calls name first.calls → measured ≡ asked (Length found true) locked → found ≡ n
@@ -10,14 +10,14 @@ measured_calls : (name : List ℕ) (found n : ℕ) (first locked measured : Host
 measured_calls name found n first locked measured lock long is =
     ap (λ (s : HostState). s.calls) long ∙ ap₂ (λ (n : ℕ) (before : List HostCall). Length n true ∷ before) is lock
 
-pub filled_as_opened : (make : Bool) (name bytes written : List ℕ) (found : ℕ) (first locked measured filled : HostState) → IsTrue make → first.name ≡ name → IsBegun make first.calls
-    → IsSame first locked → locked.calls ≡ locking_calls name first.calls → measured ≡ asked (Length found true) locked → found ≡ 0
-    → IsSame measured filled → IsFilledAfter name written bytes measured.calls filled.calls → length bytes ≡ FILE_SIZE → IsAllZeros written → IsOpening make name bytes true filled
-filled_as_opened make name bytes written found first locked measured filled to_be_made named begun same lock long none after fills size blank = record {
+pub filled_as_opened : (create_if_missing : Bool) (name bytes written : List ℕ) (found : ℕ) (first locked measured filled : HostState) → IsTrue create_if_missing → first.name ≡ name → IsFreshlyOpened create_if_missing first.calls
+    → KeepsNameAndNumber first locked → locked.calls ≡ locking_calls name first.calls → measured ≡ asked (Length found true) locked → found ≡ 0
+    → KeepsNameAndNumber measured filled → IsFilledAfter name written bytes measured.calls filled.calls → length bytes ≡ FILE_SIZE → IsAllZeros written → IsOpenedFile create_if_missing name bytes true filled
+filled_as_opened create_if_missing name bytes written found first locked measured filled to_be_made named begun same lock long none after fills size blank = record {
   named = after.name ∙ ap (λ (s : HostState). s.name) long ∙ same.name ∙ named;
   opened = first.calls;
   begun = begun;
-  way = inl (record {
+  filled_read_or_rewritten = inl (record {
     to_be_made = to_be_made;
     size = size;
     stable = refl;
@@ -30,17 +30,17 @@ filled_as_opened make name bytes written found first locked measured filled to_b
 whole_length : (found : ℕ) → min found (FILE_SIZE + 1) ≡ FILE_SIZE → found ≡ FILE_SIZE
 whole_length found seen = omega (arith, seen)
 
-pub rewritten_as_opened : (make : Bool) (name bytes written : List ℕ) (stable : Bool) (found : ℕ) (first locked measured read again : HostState) → IsTrue make → first.name ≡ name
-    → IsBegun make first.calls → IsSame first locked → locked.calls ≡ locking_calls name first.calls → measured ≡ asked (Length found true) locked → length bytes ≡ min found (FILE_SIZE + 1)
-    → IsSame measured read → IsReadAfter name bytes stable measured.calls read.calls → IsAllZeros bytes → IsSame read again → written ≡ bytes
-    → IsWrittenAfter name written read.calls again.calls → IsOpening make name bytes stable again
-rewritten_as_opened make name bytes written stable found first locked measured read again to_be_made named begun same lock long size after reads blank still these writes =
+pub rewritten_as_opened : (create_if_missing : Bool) (name bytes written : List ℕ) (stable : Bool) (found : ℕ) (first locked measured read again : HostState) → IsTrue create_if_missing → first.name ≡ name
+    → IsFreshlyOpened create_if_missing first.calls → KeepsNameAndNumber first locked → locked.calls ≡ locking_calls name first.calls → measured ≡ asked (Length found true) locked → length bytes ≡ min found (FILE_SIZE + 1)
+    → KeepsNameAndNumber measured read → IsReadAfter name bytes stable measured.calls read.calls → IsAllZeros bytes → KeepsNameAndNumber read again → written ≡ bytes
+    → IsWrittenAfter name written read.calls again.calls → IsOpenedFile create_if_missing name bytes stable again
+rewritten_as_opened create_if_missing name bytes written stable found first locked measured read again to_be_made named begun same lock long size after reads blank still these writes =
     let whole : found ≡ FILE_SIZE = whole_length found (sym size ∙ blank.size) in
     record {
       named = still.name ∙ after.name ∙ ap (λ (s : HostState). s.name) long ∙ same.name ∙ named;
       opened = first.calls;
       begun = begun;
-      way = inr (inr (record {
+      filled_read_or_rewritten = inr (inr (record {
         to_be_made = to_be_made;
         is_blank = blank;
         read = read.calls;

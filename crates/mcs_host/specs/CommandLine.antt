@@ -11,30 +11,30 @@ abbrev pub file_rule : Rule
 file_rule = record (new_rule (codes "FILE")) { required = true }
 
 -- a subcommand of this name, which takes the argument FILE
-abbrev pub over_file : Text → App
-over_file name = with_rule (new_app name) file_rule
+abbrev pub subcommand_with_file : Text → App
+subcommand_with_file name = with_rule (new_app name) file_rule
 
 -- the command line of the program: `mcs4 new FILE` and `mcs4 open FILE`
 abbrev pub program : App
 program =
-    with_subcommand (with_subcommand (new_app (codes "mcs4")) (over_file (codes "new")).top)
-    (over_file (codes "open")).top
+    with_subcommand (with_subcommand (new_app (codes "mcs4")) (subcommand_with_file (codes "new")).top)
+    (subcommand_with_file (codes "open")).top
 
 -- true if clap's definition accepts these arguments; the first argument is the program's name
-unfoldable pub takes_arguments : List Text → Bool
-takes_arguments arguments = takes program arguments
+unfoldable pub accepts_arguments : List Text → Bool
+accepts_arguments arguments = takes program arguments
 
 -- the subcommand `new` or `open` with its FILE; `None` if the matches have another subcommand or no
 -- FILE
-abbrev pub file_in : Text × List Row → Option (Text × Text)
-file_in entered =
+abbrev pub subcommand_and_file : Text × List Row → Option (Text × Text)
+subcommand_and_file entered =
     if bytes_eq entered.0 (codes "new") || bytes_eq entered.0 (codes "open")
     then option_map (λ file. (entered.0, file)) (first_of (codes "FILE") entered.1) else None
 
 -- the subcommand and the FILE that clap's definition of the matches gives for these arguments, or
 -- `None`
 unfoldable pub choice_in : List Text → Option (Text × Text)
-choice_in arguments = option_and_then file_in (subcommand_of program arguments)
+choice_in arguments = option_and_then subcommand_and_file (subcommand_of program arguments)
 
 -- the subcommand and the FILE that the arguments of this choice have
 abbrev pub arguments_of_choice : Choice → Text × Text

@@ -10,19 +10,19 @@ use Rattle.mcs_host.specs.declared.file_disk.FileDisk.{FileDisk}
 
 -- the state of a session file, seen as a disk
 abbrev pub as_disk : FileDisk → DiskState
-as_disk file = host_disk file.on
+as_disk file = host_disk file.inner_disk
 
 -- the state of a session file, seen as an open file of the host
 abbrev pub as_host_file : FileDisk → HostState
-as_host_file file = system_state file.on.file
+as_host_file file = system_state file.inner_disk.file
 
 -- the bytes that are found in the file at its next opening, after a close, a process kill or a
 -- power cut
-abbrev pub found_in : FileDisk → List ℕ
-found_in file = file.on.end.start
+abbrev pub bytes_found_in : FileDisk → List ℕ
+bytes_found_in file = file.inner_disk.end.start
 
 -- holds if the newest of `calls` is a write, and `cut` is the same list with that write interrupted
-pub record IsCutInWrite (calls cut : List DiskCall) : Type 0 where
+pub record IsInterruptedInWrite (calls cut : List DiskCall) : Type 0 where
   pub at : ℕ
   pub bytes : List ℕ
   pub before : List DiskCall
@@ -35,25 +35,25 @@ pub record IsCutInWrite (calls cut : List DiskCall) : Type 0 where
 pub record IsLeftSince (time : ℕ) (file : FileDisk) : Type 0 where
   pub never_made : List DiskCall
   pub made : List DiskCall
-  pub all : calls_in file.on.history.notes ≡ never_made ++ made
-  pub by_the_end : (calls_in file.on.end.notes ≡ made)
-      ⊎ IsCutInWrite made (calls_in file.on.end.notes)
-  pub late : time ≤ clock_of (calls_in file.on.end.notes)
+  pub all : calls_in file.inner_disk.history.notes ≡ never_made ++ made
+  pub calls_before_end : (calls_in file.inner_disk.end.notes ≡ made)
+      ⊎ IsInterruptedInWrite made (calls_in file.inner_disk.end.notes)
+  pub clock_reached : time ≤ clock_of (calls_in file.inner_disk.end.notes)
 
 -- holds if the bytes that are found after the end are an image after the calls before the end; this
 -- spells out `IsHonest` for a file
 abbrev pub IsFoundAfterTheEnd : FileDisk → Type 0
 IsFoundAfterTheEnd file =
-    images_after file.on.history.start (calls_in file.on.end.notes) (found_in file)
+    images_after file.inner_disk.history.start (calls_in file.inner_disk.end.notes) (bytes_found_in file)
 
 -- Holds if `like` and `file` have given the same answers to all calls. In addition, `like` was left
 -- after all of its calls, and the bytes `image` are found in it.
 pub record IsFoundWith (image : List ℕ) (file like : FileDisk) : Type 0 where
-  pub faults : like.on.faults ≡ file.on.faults
-  pub bytes : like.on.bytes.items ≡ file.on.bytes.items
-  pub start : like.on.history.start ≡ file.on.history.start
-  pub calls : calls_in like.on.history.notes ≡ calls_in file.on.history.notes
+  pub faults : like.inner_disk.faults ≡ file.inner_disk.faults
+  pub bytes : like.inner_disk.bytes.items ≡ file.inner_disk.bytes.items
+  pub start : like.inner_disk.history.start ≡ file.inner_disk.history.start
+  pub calls : calls_in like.inner_disk.history.notes ≡ calls_in file.inner_disk.history.notes
   pub asked : as_host_file like ≡ as_host_file file
-  pub stable : like.on.is_name_stable ≡ file.on.is_name_stable
-  pub by_the_end : calls_in like.on.end.notes ≡ calls_in file.on.history.notes
-  pub found : found_in like ≡ image
+  pub stable : like.inner_disk.is_name_stable ≡ file.inner_disk.is_name_stable
+  pub calls_before_end : calls_in like.inner_disk.end.notes ≡ calls_in file.inner_disk.history.notes
+  pub found : bytes_found_in like ≡ image

@@ -22,10 +22,10 @@ file_state faults history end = record {
 }
 
 -- holds if the descriptor of a file is above 2, so the file has no descriptor of a standard stream
-abbrev pub IsApart : ℤ → Type 0
-IsApart number = pos 2 <ℤ number
+abbrev pub IsNotStandardStream : ℤ → Type 0
+IsNotStandardStream number = pos 2 <ℤ number
 
 -- holds if no call has been made on the disk, so a power cut leaves all of its bytes
-pub record IsUncalled (disk : DiskState) : Type 0 where
+pub record HasNoCalls (disk : DiskState) : Type 0 where
   pub faults : disk.faults ≡ 0
   pub calls : disk.calls ≡ []

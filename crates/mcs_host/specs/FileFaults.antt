@@ -6,12 +6,12 @@ use Rattle.std.specs.declared.io.ErrorKind.{ErrorKind}
 use Rattle.std.specs.declared.io.ErrorKind.TheVariants.{FileTooLarge, InvalidFilename, IsADirectory, NotADirectory, NotFound, NotSeekable, OutOfMemory, PermissionDenied, QuotaExceeded, ReadOnlyFilesystem, StorageFull}
 use Rattle.std.specs.IoError.{error_kind, raw_os_error}
 use Rattle.mcs_host.specs.declared.file_fault.FileFault.{FileFault}
-use Rattle.mcs_host.specs.declared.file_fault.FileFault.TheVariants.{Denied, Device, Folder, FolderUnsynced, NameTooLong, NoMemory, NoSpace, NotAFile, NotThere, TooManyFiles}
+use Rattle.mcs_host.specs.declared.file_fault.FileFault.TheVariants.{Denied, Device, Folder, FolderUnsynced, NameTooLong, NoMemory, NoSpace, NotAFile, FileMissing, TooManyFiles}
 
 -- the fault for an error of this kind, or `None` if the kind has no variant of its own
 abbrev pub fault_of_kind : ErrorKind → Option FileFault
-fault_of_kind NotFound = Some NotThere
-fault_of_kind NotADirectory = Some NotThere
+fault_of_kind NotFound = Some FileMissing
+fault_of_kind NotADirectory = Some FileMissing
 fault_of_kind PermissionDenied = Some Denied
 fault_of_kind ReadOnlyFilesystem = Some Denied
 fault_of_kind IsADirectory = Some Folder
@@ -46,12 +46,12 @@ pub record IsLinkFault (error : Error) (fault : FileFault) : Type 0 where
   pub other : error_kind error ≢ InvalidFilename → IsNameFault error fault
 
 -- The two kinds of errors of a look-up by name: no file has the name (`IsAbsent`), or any other
--- error (`IsUnanswered`).
+-- error (`IsOtherNameError`).
 abbrev pub IsAbsent : Error → Type 0
 IsAbsent error = (error_kind error ≡ NotFound) ⊎ (error_kind error ≡ NotADirectory)
 
-abbrev pub IsUnanswered : Error → Type 0
-IsUnanswered error = (error_kind error ≢ NotFound) × (error_kind error ≢ NotADirectory)
+abbrev pub IsOtherNameError : Error → Type 0
+IsOtherNameError error = (error_kind error ≢ NotFound) × (error_kind error ≢ NotADirectory)
 
 -- holds if a file is neither a regular file nor a folder
 abbrev pub IsOtherFile : FileType → Type 0

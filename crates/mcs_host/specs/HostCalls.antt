@@ -9,7 +9,7 @@ pub data HostCall : Type 0 where
   -- lock
   Lock : Bool → HostCall
   -- the question whether this name refers to the file; the Bool is true if it does
-  LookUp : List ℕ → Bool → HostCall
+  IsNamed : List ℕ → Bool → HostCall
   -- a request for the length of the file; the number is the length that the host returned
   Length : ℕ → Bool → HostCall
   -- a request to set the length of the file to this number of bytes
@@ -30,7 +30,7 @@ pub data HostCall : Type 0 where
   -- a request for the file's name without links; the list is the name that the host returned
   RealName : List ℕ → Bool → HostCall
   -- the call that opened the file and created it if it was missing
-  Made : HostCall
+  OpenedOrCreated : HostCall
 
 -- the state of an open file of the host: everything that a contract can see of it
 pub record HostState : Type 0 where
@@ -46,7 +46,7 @@ abbrev pub asked : HostCall → HostState → HostState
 asked call file = record file { calls = call ∷ file.calls }
 
 -- holds if the name and the descriptor are unchanged; the calls can differ
-pub record IsSame (old new : HostState) : Type 0 where
+pub record KeepsNameAndNumber (old new : HostState) : Type 0 where
   pub name : new.name ≡ old.name
   pub number : new.number ≡ old.number
 
@@ -62,6 +62,6 @@ is_yes (Err e) = false
 
 -- Holds if exactly one call was made, a read at this offset. If the result is Ok, that call
 -- returned Ok.
-abbrev pub AsksToRead : {T E : Type 0} → ℕ → List ℕ → Result T E → HostState → HostState → Type 0
-AsksToRead at into result old new =
+abbrev pub MakesReadCall : {T E : Type 0} → ℕ → List ℕ → Result T E → HostState → HostState → Type 0
+MakesReadCall at into result old new =
     (ok : Bool) × (new ≡ asked (ReadAt at into ok) old) × OnOk result (ok ≡ true)

@@ -1,14 +1,14 @@
--- The `HostCall` for each `Asked` of the code.
+-- The `HostCall` for each `HostRequest` of the code.
 use Rattle.std.specs.Prelude.{ℕ, List, [], ◌∷◌}
 use Rattle.mcs_host.specs.HostCalls as calls
 use Rattle.mcs_host.specs.HostCalls.{HostCall}
-use Rattle.mcs_host.specs.declared.host_record.Asked.{Asked}
-use Rattle.mcs_host.specs.declared.host_record.Asked.TheVariants as asked
+use Rattle.mcs_host.specs.declared.host_record.HostRequest.{HostRequest}
+use Rattle.mcs_host.specs.declared.host_record.HostRequest.TheVariants as asked
 
--- the `HostCall` for an `Asked` of the code, given the bytes or the name of the call
-abbrev pub host_call_of : Asked → List ℕ → HostCall
+-- the `HostCall` for an `HostRequest` of the code, given the bytes or the name of the call
+abbrev pub host_call_of : HostRequest → List ℕ → HostCall
 host_call_of (asked.Lock ok) bytes = calls.Lock ok
-host_call_of (asked.LookUp ok) bytes = calls.LookUp bytes ok
+host_call_of (asked.IsNamed ok) bytes = calls.IsNamed bytes ok
 host_call_of (asked.Length n ok) bytes = calls.Length n ok
 host_call_of (asked.SetLength n ok) bytes = calls.SetLength n ok
 host_call_of (asked.ReadAt at ok) bytes = calls.ReadAt at bytes ok
@@ -18,9 +18,9 @@ host_call_of (asked.SyncAll ok) bytes = calls.SyncAll ok
 host_call_of (asked.SyncFolder ok) bytes = calls.SyncFolder bytes ok
 host_call_of (asked.IsLink ok) bytes = calls.IsLink bytes ok
 host_call_of (asked.RealName ok) bytes = calls.RealName bytes ok
-host_call_of asked.Made bytes = calls.Made
+host_call_of asked.OpenedOrCreated bytes = calls.OpenedOrCreated
 
 -- the `HostCall`s for the calls of a record, in the same order
-abbrev pub host_calls_in : List (Asked × List ℕ) → List HostCall
+abbrev pub host_calls_in : List (HostRequest × List ℕ) → List HostCall
 host_calls_in [] = []
 host_calls_in (note ∷ notes) = host_call_of note.0 note.1 ∷ host_calls_in notes

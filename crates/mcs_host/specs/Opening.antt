@@ -5,7 +5,7 @@ use Rattle.std.specs.List.{list_all}
 use Rattle.std.specs.Path.{path_parent}
 use Rattle.mcs_journal.specs.declared.format.TheConstants.{FILE_SIZE, NAME, NAME_SIZE}
 use Rattle.mcs_disk.specs.Disk.{part}
-use Rattle.mcs_host.specs.HostCalls.{HostCall, HostState, IsLink, Length, Lock, LookUp, Made, ReadAt, RealName, SetLength, SyncAll, SyncFolder, WriteAt}
+use Rattle.mcs_host.specs.HostCalls.{HostCall, HostState, IsLink, Length, Lock, IsNamed, OpenedOrCreated, ReadAt, RealName, SetLength, SyncAll, SyncFolder, WriteAt}
 
 -- holds if all of these bytes are 0
 abbrev pub AreZeros : List ℕ → Type 0
@@ -24,14 +24,14 @@ pub record IsNamedSession (bytes : List ℕ) : Type 0 where
 
 -- this parent folder, or the program's working folder if there is no parent or the parent's name is
 -- empty
-abbrev pub folder_or_here : Option (List ℕ) → List ℕ
-folder_or_here None = codes "."
-folder_or_here (Some []) = codes "."
-folder_or_here (Some (b ∷ folder)) = b ∷ folder
+abbrev pub parent_or_working_folder : Option (List ℕ) → List ℕ
+parent_or_working_folder None = codes "."
+parent_or_working_folder (Some []) = codes "."
+parent_or_working_folder (Some (b ∷ folder)) = b ∷ folder
 
 -- the folder that contains the file of this name
 abbrev pub folder_of : List ℕ → List ℕ
-folder_of name = folder_or_here (path_parent name)
+folder_of name = parent_or_working_folder (path_parent name)
 
 -- Holds if the calls after `before` sync the folder of a file. This is the folder of its name or,
 -- if the name is a link, the folder of its real name. `ok` is true if the folder was synced.
@@ -44,14 +44,14 @@ FolderCalls name ok before after =
     ⊎ (IsFalse ok × ((after ≡ IsLink name false ∷ before)
     ⊎ (after ≡ RealName [] false ∷ IsLink name true ∷ before))))
 
--- holds if the file was opened, or created if `make` is true, and no further call was made on it
-abbrev pub IsBegun : Bool → List HostCall → Type 0
-IsBegun make calls = (calls ≡ []) ⊎ (IsTrue make × (calls ≡ Made ∷ []))
+-- holds if the file was opened, or created if `create_if_missing` is true, and no further call was made on it
+abbrev pub IsFreshlyOpened : Bool → List HostCall → Type 0
+IsFreshlyOpened create_if_missing calls = (calls ≡ []) ⊎ (IsTrue create_if_missing × (calls ≡ OpenedOrCreated ∷ []))
 
 -- the calls that lock the file, before any other call on it, and then find that its name still
 -- refers to it
 abbrev pub locking_calls : List ℕ → List HostCall → List HostCall
-locking_calls name before = LookUp name true ∷ Lock true ∷ before
+locking_calls name before = IsNamed name true ∷ Lock true ∷ before
 
 -- the calls that set the length of the file, write all of its bytes, and sync it
 abbrev pub writing_calls : List ℕ → List HostCall → List HostCall
@@ -79,11 +79,11 @@ pub record IsFilledAfter
   pub writes : IsWrittenAfter name written before filled
   pub read : after ≡ ReadAt 0 bytes true ∷ filled
 
--- Holds if the file was empty and `make` is true: the file was filled with zeros and read back.
+-- Holds if the file was empty and `create_if_missing` is true: the file was filled with zeros and read back.
 pub record IsFilled
-    (make : Bool) (name bytes : List ℕ) (is_name_stable : Bool) (locked calls : List HostCall)
+    (create_if_missing : Bool) (name bytes : List ℕ) (is_name_stable : Bool) (locked calls : List HostCall)
     : Type 0 where
-  pub to_be_made : IsTrue make
+  pub to_be_made : IsTrue create_if_missing
   pub size : length bytes ≡ FILE_SIZE
   pub stable : IsTrue is_name_stable
   pub written : List ℕ
@@ -93,21 +93,21 @@ pub record IsFilled
 -- Holds if the file was read as it is. Of a longer file, only one byte more than a session file has
 -- was read; this size shows that it is not a session file.
 pub record IsRead
-    (make : Bool) (name bytes : List ℕ) (is_name_stable : Bool) (locked calls : List HostCall)
+    (create_if_missing : Bool) (name bytes : List ℕ) (is_name_stable : Bool) (locked calls : List HostCall)
     : Type 0 where
   pub found : ℕ
   pub size : length bytes ≡ min found (FILE_SIZE + 1)
-  -- if `make` is true, the file is neither empty nor blank
-  pub not_empty : IsTrue make → ¬ (found ≡ 0)
-  pub not_blank : IsTrue make → ¬ (IsAllZeros bytes)
+  -- if `create_if_missing` is true, the file is neither empty nor blank
+  pub not_empty : IsTrue create_if_missing → ¬ (found ≡ 0)
+  pub not_blank : IsTrue create_if_missing → ¬ (IsAllZeros bytes)
   pub asked : IsReadAfter name bytes is_name_stable (Length found true ∷ locked) calls
 
--- Holds if the file was blank and `make` is true: the file was read, and then written again because
+-- Holds if the file was blank and `create_if_missing` is true: the file was read, and then written again because
 -- a blank file can have holes.
 pub record IsRewritten
-    (make : Bool) (name bytes : List ℕ) (is_name_stable : Bool) (locked calls : List HostCall)
+    (create_if_missing : Bool) (name bytes : List ℕ) (is_name_stable : Bool) (locked calls : List HostCall)
     : Type 0 where
-  pub to_be_made : IsTrue make
+  pub to_be_made : IsTrue create_if_missing
   pub is_blank : IsAllZeros bytes
   pub read : List HostCall
   pub asked : IsReadAfter name bytes is_name_stable (Length FILE_SIZE true ∷ locked) read
@@ -115,12 +115,12 @@ pub record IsRewritten
 
 -- Holds if the file of this name was opened and locked, and holds these bytes. If `is_name_stable`
 -- is true, its folder was synced before the bytes were read.
-pub record IsOpening
-    (make : Bool) (name bytes : List ℕ) (is_name_stable : Bool) (file : HostState)
+pub record IsOpenedFile
+    (create_if_missing : Bool) (name bytes : List ℕ) (is_name_stable : Bool) (file : HostState)
     : Type 0 where
   pub named : file.name ≡ name
   pub opened : List HostCall
-  pub begun : IsBegun make opened
-  pub way : IsFilled make name bytes is_name_stable (locking_calls name opened) file.calls
-      ⊎ (IsRead make name bytes is_name_stable (locking_calls name opened) file.calls
-      ⊎ IsRewritten make name bytes is_name_stable (locking_calls name opened) file.calls)
+  pub begun : IsFreshlyOpened create_if_missing opened
+  pub filled_read_or_rewritten : IsFilled create_if_missing name bytes is_name_stable (locking_calls name opened) file.calls
+      ⊎ (IsRead create_if_missing name bytes is_name_stable (locking_calls name opened) file.calls
+      ⊎ IsRewritten create_if_missing name bytes is_name_stable (locking_calls name opened) file.calls)

@@ -3,5 +3,5 @@ use Rattle.std.specs.Prelude.{false}
 use Rattle.mcs_host.specs.declared.streams.Streams.{Streams}
 
 -- the empty set of streams
-abbrev pub none_of_them : Streams
-none_of_them = record { input = false; output = false; errors = false }
+abbrev pub no_streams : Streams
+no_streams = record { input = false; output = false; errors = false }

@@ -1,7 +1,7 @@
 //! The command line: `mcs4 new FILE` and `mcs4 open FILE`, parsed by clap.
 ghost use Rattle.std.specs.Prelude.{◌≡◌, ◌≢◌, Some, None, true, map, IfOk, IfErr, IsErrOf};
 ghost use Rattle.clap.specs.Words.{kind_of, subcommand_of, subcommand_rows_of};
-ghost use Rattle.mcs_host.specs.CommandLine.{choice_in, takes_arguments, arguments_of_choice, program};
+ghost use Rattle.mcs_host.specs.CommandLine.{choice_in, accepts_arguments, arguments_of_choice, program};
 
 use crate::arguments::{Choice, FileName, WordsFault};
 use clap::error::ErrorKind;
@@ -25,7 +25,7 @@ impl Choice {
 fn matches<'a, S: AsStr>(alloc: Global, arguments: &'a [S]) -> Result<ArgMatches<'a>, Error>
     ensures ok { IfOk result (λ m. subcommand_rows_of m
         ≡ subcommand_of program (map S.text arguments.entry.now)) }
-    ensures err { IfErr result (λ e. takes_arguments (map S.text arguments.entry.now) ≡ true
+    ensures err { IfErr result (λ e. accepts_arguments (map S.text arguments.entry.now) ≡ true
         → kind_of e ≡ ErrorKind.OutOfMemory) }
 {
     let new_file = Arg::new(alloc, "FILE").required(true);
@@ -47,7 +47,7 @@ pub fn choice<S: AsStr>(alloc: Global, arguments: &[S]) -> Result<Choice, WordsF
     ensures given { IfOk result (λ c.
         choice_in (map S.text arguments.entry.now) ≡ Some (arguments_of_choice c)) }
     ensures usage { IsErrOf result WordsFault.Usage
-        → (takes_arguments (map S.text arguments.entry.now) ≡ true
+        → (accepts_arguments (map S.text arguments.entry.now) ≡ true
         → choice_in (map S.text arguments.entry.now) ≡ None) }
 {
     let found = match matches(alloc, arguments) {

@@ -1,7 +1,7 @@
 //! A session file of the host, used as a disk.
 ghost use Rattle.std.specs.Prelude.{◌≡◌, ◌<◌, ◌≤◌, ◌+◌, ℕ, List, [], ◌∷◌, IfOk, IsErr, OnOk, IsTrue, is_ok, length, ◌↔◌};
 ghost use Rattle.mcs_disk.specs.Disk.{part, CountsFault, Torn, bytes_of, size_of, images_of};
-ghost use Rattle.mcs_disk.specs.CallList.{Makes};
+ghost use Rattle.mcs_disk.specs.CallList.{MakesCalls};
 ghost use Rattle.mcs_disk.specs.Calls.{WasRead, Wrote, Synced};
 
 use crate::file_fault::FileFault;
@@ -20,15 +20,15 @@ use std::rt::Files;
 /// them. No session file has that size.
 #[derive(Drop)]
 pub struct FileDisk {
-    on: HostDisk<SystemFile>,
+    inner_disk: HostDisk<SystemFile>,
 }
 
 impl FileDisk {
     ghost use Rattle.mcs_host.specs.Ending.{as_disk, as_host_file};
-    ghost use Rattle.mcs_host.specs.FileDisk.{IsUncalled};
-    ghost use Rattle.mcs_host.specs.Opening.{IsNamedSession, IsOpening};
+    ghost use Rattle.mcs_host.specs.FileDisk.{HasNoCalls};
+    ghost use Rattle.mcs_host.specs.Opening.{IsNamedSession, IsOpenedFile};
 
-    /// Opens a file for reading and writing. If `make` is true, it creates a missing file, and
+    /// Opens a file for reading and writing. If `create_if_missing` is true, it creates a missing file, and
     /// fills an empty file with [`FILE_SIZE`] zero bytes. When it returns Ok, the file's contents
     /// are on the device. The file's name is there too if `is_name_stable` returns true.
     ///
@@ -38,39 +38,39 @@ impl FileDisk {
     /// - `Stream` if the file is also a standard stream (checked before the file is opened)
     /// - `StreamsUnknown` if the host does not say whether the file is a standard stream (also
     ///   checked before the file is opened)
-    /// - `FolderUnsynced` if `make` is true, the file was missing, empty or all zeros, and its
+    /// - `FolderUnsynced` if `create_if_missing` is true, the file was missing, empty or all zeros, and its
     ///   folder cannot be synced
     /// - another error if the host rejects the file
     pub fn open_at<R: Files<File = File>>(
         rt: &R,
         alloc: Global,
         file: &str,
-        make: bool,
+        create_if_missing: bool,
     ) -> Result<FileDisk, FileFault>
-        ensures opened { IfOk result (λ disk. IsUncalled (as_disk disk)) }
+        ensures opened { IfOk result (λ disk. HasNoCalls (as_disk disk)) }
         ensures at_most { IfOk result (λ disk. size_of (as_disk disk) ≤ FILE_SIZE + 1) }
-        ensures not_empty { IsTrue make → IfOk result (λ disk. 0 < size_of (as_disk disk)) }
-        ensures asked { IfOk result (λ disk. IsOpening make file.now (bytes_of (as_disk disk))
-            disk.on.is_name_stable (as_host_file disk)) }
+        ensures not_empty { IsTrue create_if_missing → IfOk result (λ disk. 0 < size_of (as_disk disk)) }
+        ensures asked { IfOk result (λ disk. IsOpenedFile create_if_missing file.now (bytes_of (as_disk disk))
+            disk.inner_disk.is_name_stable (as_host_file disk)) }
     {
-        let on = HostDisk::open_at(rt, alloc, file, make)?;
-        Ok(FileDisk { on })
+        let inner_disk = HostDisk::open_at(rt, alloc, file, create_if_missing)?;
+        Ok(FileDisk { inner_disk })
     }
 
     /// Returns true if the file's name survives a power cut, because its folder was synced. For an
     /// existing file, it returns false if the program cannot read the folder, or if the host does
     /// not sync folders. It also returns false if a link leads to a folder whose name is not text.
     pub fn is_name_stable(&self) -> bool
-        ensures { result ≡ self.now.on.is_name_stable }
+        ensures { result ≡ self.now.inner_disk.is_name_stable }
     {
-        self.on.is_name_stable()
+        self.inner_disk.is_name_stable()
     }
 
     /// Returns true if the last call that failed did so because the device had no space.
     pub fn is_full(&self) -> bool
-        ensures { result ≡ self.now.on.is_full }
+        ensures { result ≡ self.now.inner_disk.is_full }
     {
-        self.on.is_full()
+        self.inner_disk.is_full()
     }
 
     /// Returns true if the file has the size of a session file and begins with the name `MCS4BEN1`.
@@ -78,40 +78,40 @@ impl FileDisk {
     pub fn is_named_session(&self) -> bool
         ensures { IsTrue result ↔ IsNamedSession (bytes_of (as_disk self.now)) }
     {
-        self.on.is_named_session()
+        self.inner_disk.is_named_session()
     }
 }
 
 impl Disk for FileDisk {
     ghost use Rattle.mcs_host.specs.Ending.{as_disk, as_host_file};
-    ghost use Rattle.mcs_host.specs.HostCalls.{AsksToRead, SyncData, WriteAt, asked};
+    ghost use Rattle.mcs_host.specs.HostCalls.{MakesReadCall, SyncData, WriteAt, asked};
 
     ghost state = { as_disk };
 
     fn size(&self) -> usize {
-        self.on.size()
+        self.inner_disk.size()
     }
 
     fn read(&mut self, at: usize, into: &mut [u8]) -> Result<(), DiskFault>
         requires { at + length into.old ≤ size_of (as_disk self.old) }
         ensures call { CountsFault (as_disk self.old) (as_disk self.new) (IsErr result) }
-        ensures noted { Makes (WasRead ∷ []) (as_disk self.old).calls (as_disk self.new).calls
+        ensures lists_call { MakesCalls (WasRead ∷ []) (as_disk self.old).calls (as_disk self.new).calls
             result }
         ensures honest { (as_disk self.old).honest → OnOk result
             (into.new ≡ part at (length into.old) (bytes_of (as_disk self.old))) }
         // The next clause holds for every file, honest or not.
         ensures given { OnOk result
             (into.new ≡ part at (length into.old) (bytes_of (as_disk self.old))) }
-        ensures asked { AsksToRead at into.new result
+        ensures asked { MakesReadCall at into.new result
             (as_host_file self.old) (as_host_file self.new) }
     {
-        self.on.read(at, into)
+        self.inner_disk.read(at, into)
     }
 
     fn write(&mut self, at: usize, from: &[u8]) -> Result<(), DiskFault>
         requires { at + length from.now ≤ size_of (as_disk self.old) }
         ensures call { CountsFault (as_disk self.old) (as_disk self.new) (IsErr result) }
-        ensures noted { Makes (Wrote at from.now ∷ []) (as_disk self.old).calls
+        ensures lists_call { MakesCalls (Wrote at from.now ∷ []) (as_disk self.old).calls
             (as_disk self.new).calls result }
         // The next clause holds even if the write failed: it can have changed any part of the
         // range.
@@ -120,16 +120,16 @@ impl Disk for FileDisk {
         ensures asked { as_host_file self.new
             ≡ asked (WriteAt at from.now (is_ok result)) (as_host_file self.old) }
     {
-        self.on.write(at, from)
+        self.inner_disk.write(at, from)
     }
 
     fn sync(&mut self) -> Result<(), DiskFault>
         ensures call { CountsFault (as_disk self.old) (as_disk self.new) (IsErr result) }
-        ensures noted { Makes (Synced ∷ []) (as_disk self.old).calls (as_disk self.new).calls
+        ensures lists_call { MakesCalls (Synced ∷ []) (as_disk self.old).calls (as_disk self.new).calls
             result }
         ensures asked { as_host_file self.new
             ≡ asked (SyncData (is_ok result)) (as_host_file self.old) }
     {
-        self.on.sync()
+        self.inner_disk.sync()
     }
 }

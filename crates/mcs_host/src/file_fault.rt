@@ -2,7 +2,7 @@
 ghost use Rattle.std.specs.Prelude.{◌≡◌, ◌≢◌, ◌⊎◌, ◌↔◌, IsTrue, MatchResult, false};
 ghost use Rattle.std.specs.IoError.{error_kind};
 ghost use Rattle.std.specs.declared.fs.locks.TryLockError.TheVariants.{WouldBlock};
-ghost use Rattle.mcs_host.specs.declared.file_fault.FileFault.TheVariants.{InUse, NoLock, NoMemory};
+ghost use Rattle.mcs_host.specs.declared.file_fault.FileFault.TheVariants.{InUse, CannotLock, NoMemory};
 ghost use Rattle.mcs_host.specs.FileFaults.{IsFaultOfNumber, IsHostFault, fault_of_kind};
 
 use crate::streams::Streams;
@@ -13,11 +13,11 @@ use thiserror::Error;
 
 /// The number of the error that the host returns if the program has reached its limit of open files
 /// (POSIX's EMFILE).
-const PROGRAM_FILES: i32 = 24;
+const PROGRAM_FILE_LIMIT_ERROR: i32 = 24;
 
 /// The number of the error that the host returns if it has reached its own limit of open files
 /// (POSIX's ENFILE).
-const HOST_FILES: i32 = 23;
+const HOST_FILE_LIMIT_ERROR: i32 = 23;
 
 /// The reason why a file was not opened. All except `NoMemory` are errors of the host. Each error
 /// that a user can act on has its own variant.
@@ -28,10 +28,10 @@ pub enum FileFault {
     InUse,
     /// The host cannot lock this file. Some network file systems have no locks.
     #[error("no lock")]
-    NoLock,
+    CannotLock,
     /// No file has this name, or the folder in the name does not exist.
     #[error("not there")]
-    NotThere,
+    FileMissing,
     /// The program is not permitted to read and write the file.
     #[error("no permission")]
     Denied,
@@ -72,19 +72,19 @@ impl From<io::Error> for FileFault {
     ghost from_gives = { λ error fault. IsHostFault error fault };
 
     fn from(error: io::Error) -> Self {
-        match named_fault(error.kind()) {
+        match fault_for_kind(error.kind()) {
             Some(fault) => fault,
-            None => unnamed_fault(error.raw_os_error()),
+            None => fault_for_number(error.raw_os_error()),
         }
     }
 }
 
 // Returns the fault for an error of this kind, or `None` if the kind has no variant of its own.
-fn named_fault(kind: ErrorKind) -> Option<FileFault>
+fn fault_for_kind(kind: ErrorKind) -> Option<FileFault>
     ensures { result ≡ fault_of_kind kind }
 {
     match kind {
-        ErrorKind::NotFound | ErrorKind::NotADirectory => Some(FileFault::NotThere),
+        ErrorKind::NotFound | ErrorKind::NotADirectory => Some(FileFault::FileMissing),
         ErrorKind::PermissionDenied | ErrorKind::ReadOnlyFilesystem => Some(FileFault::Denied),
         ErrorKind::IsADirectory => Some(FileFault::Folder),
         ErrorKind::NotSeekable => Some(FileFault::NotAFile),
@@ -97,17 +97,17 @@ fn named_fault(kind: ErrorKind) -> Option<FileFault>
 }
 
 // Returns the fault for any other error, given its error number.
-fn unnamed_fault(number: Option<i32>) -> FileFault
+fn fault_for_number(number: Option<i32>) -> FileFault
     ensures { IsFaultOfNumber number result }
 {
     match number {
-        Some(PROGRAM_FILES | HOST_FILES) => FileFault::TooManyFiles,
+        Some(PROGRAM_FILE_LIMIT_ERROR | HOST_FILE_LIMIT_ERROR) => FileFault::TooManyFiles,
         _ => FileFault::Device,
     }
 }
 
 /// Returns true if the call failed because the device is full or because a quota is used up.
-pub(crate) fn is_for_space(answer: &io::Result<()>) -> bool
+pub(crate) fn is_out_of_space(answer: &io::Result<()>) -> bool
     ensures { MatchResult answer.now (λ _. result ≡ false) (λ error. IsTrue result
         ↔ (error_kind error ≡ ErrorKind.StorageFull) ⊎ (error_kind error ≡ ErrorKind.QuotaExceeded)) }
 {
@@ -122,12 +122,12 @@ pub(crate) fn is_for_space(answer: &io::Result<()>) -> bool
 
 impl From<TryLockError> for FileFault {
     ghost from_gives = { λ error fault. (error ≡ WouldBlock → fault ≡ InUse)
-        × (error ≢ WouldBlock → fault ≡ NoLock) };
+        × (error ≢ WouldBlock → fault ≡ CannotLock) };
 
     fn from(error: TryLockError) -> Self {
         match error {
             TryLockError::WouldBlock => FileFault::InUse,
-            TryLockError::Error(_) => FileFault::NoLock,
+            TryLockError::Error(_) => FileFault::CannotLock,
         }
     }
 }

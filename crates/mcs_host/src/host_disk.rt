@@ -1,16 +1,16 @@
 //! An open file of the host, used as a disk.
 ghost use Rattle.std.specs.Prelude.{◌≡◌, ◌↔◌, ◌<◌, ◌≤◌, ◌+◌, ℕ, List, [], ◌∷◌, IfOk, IsErr, OnOk, IsTrue, is_ok, length, min, vec_len};
-ghost use Rattle.mcs_disk.specs.Disk.{most_faults, part, CountsFault, Torn, bytes_of, size_of, images_of};
-ghost use Rattle.mcs_disk.specs.CallList.{Makes};
+ghost use Rattle.mcs_disk.specs.Disk.{max_fault_count, part, CountsFault, Torn, bytes_of, size_of, images_of};
+ghost use Rattle.mcs_disk.specs.CallList.{MakesCalls};
 ghost use Rattle.mcs_disk.specs.Calls.{bytes_after, WasRead, Wrote, Synced};
 ghost use Rattle.mcs_disk.specs.NotedCalls.{calls_in};
-ghost use Rattle.mcs_host.specs.FileDisk.{IsApart};
+ghost use Rattle.mcs_host.specs.FileDisk.{IsNotStandardStream};
 ghost use Rattle.mcs_host.specs.Opening.{AreZeros, IsNamedSession};
 
 use crate::ending::{Ending, ending};
-use crate::file_fault::{FileFault, is_for_space};
+use crate::file_fault::{FileFault, is_out_of_space};
 use crate::host_file::{Host, HostFile};
-use crate::opening::{MOST_BYTES, open_and_read};
+use crate::opening::{MAX_BYTES_READ, open_and_read};
 use crate::streams::is_session_name;
 use mcs_disk::{Call, CallRecord, Disk, DiskFault, overwrite};
 use mcs_journal::FILE_SIZE;
@@ -33,30 +33,36 @@ pub struct HostDisk<H: HostFile> {
     is_full: bool,
     ghost kept: { bytes.items ≡ bytes_after history.start (calls_in history.notes) },
     ghost sized: { length bytes.items ≡ length history.start },
-    ghost apart: { IsApart (H.HostFile.state file).number },
+    ghost not_standard_stream: { IsNotStandardStream (H.HostFile.state file).number },
 }
 
 impl<H: HostFile> HostDisk<H> {
     ghost use Rattle.mcs_host.specs.HostDisk.{host_disk};
-    ghost use Rattle.mcs_host.specs.FileDisk.{IsUncalled};
-    ghost use Rattle.mcs_host.specs.Opening.{IsOpening};
+    ghost use Rattle.mcs_host.specs.FileDisk.{HasNoCalls};
+    ghost use Rattle.mcs_host.specs.Opening.{IsOpenedFile};
 
     /// Opens the file of this name. `FileDisk::open_at` describes the parameters and the errors.
     pub fn open_at<N: Host<File = H>>(
         host: &N,
         alloc: Global,
         file: &str,
-        make: bool,
+        create_if_missing: bool,
     ) -> Result<HostDisk<H>, FileFault>
-        ensures opened { IfOk result (λ disk. IsUncalled (host_disk disk)) }
+        ensures opened { IfOk result (λ disk. HasNoCalls (host_disk disk)) }
         ensures at_most { IfOk result (λ disk. size_of (host_disk disk) ≤ FILE_SIZE + 1) }
-        ensures not_empty { IsTrue make → IfOk result (λ disk. 0 < size_of (host_disk disk)) }
-        ensures asked { IfOk result (λ disk. IsOpening make file.now (bytes_of (host_disk disk))
+        ensures not_empty { IsTrue create_if_missing → IfOk result (λ disk. 0 < size_of (host_disk disk)) }
+        ensures asked { IfOk result (λ disk. IsOpenedFile create_if_missing file.now (bytes_of (host_disk disk))
             disk.is_name_stable (H.HostFile.state disk.file)) }
     {
         // Allocate first, so that no call is made on the host if memory runs out.
-        let mut bytes = zeros(alloc, MOST_BYTES)?;
-        let (opened, is_name_stable) = open_and_read(host, alloc, file, make, &mut bytes)?;
+        let mut bytes = zeros(alloc, MAX_BYTES_READ)?;
+        let (opened, is_name_stable) = open_and_read(
+            host,
+            alloc,
+            file,
+            create_if_missing,
+            &mut bytes,
+        )?;
         let history = CallRecord::new(&bytes);
         let end = ending(&bytes);
         Ok(HostDisk {
@@ -106,7 +112,7 @@ impl<H: HostFile> HostDisk<H> {
         ensures bytes { self.new.bytes ≡ self.old.bytes }
         ensures history { self.new.history ≡ self.old.history }
         ensures end { self.new.end ≡ self.old.end }
-        ensures fault { self.new.faults ≡ min (self.old.faults + 1) most_faults }
+        ensures fault { self.new.faults ≡ min (self.old.faults + 1) max_fault_count }
     {
         self.faults = self.faults.saturating_add(1);
         self.is_full = is_full;
@@ -125,7 +131,7 @@ fn zeros(alloc: Global, size: usize) -> Result<Vec<u8>, AllocError>
 
 impl<H: HostFile> Disk for HostDisk<H> {
     ghost use Rattle.mcs_host.specs.HostDisk.{host_disk};
-    ghost use Rattle.mcs_host.specs.HostCalls.{AsksToRead, SyncData, WriteAt, asked};
+    ghost use Rattle.mcs_host.specs.HostCalls.{MakesReadCall, SyncData, WriteAt, asked};
 
     ghost state = { host_disk };
 
@@ -136,14 +142,14 @@ impl<H: HostFile> Disk for HostDisk<H> {
     fn read(&mut self, at: usize, into: &mut [u8]) -> Result<(), DiskFault>
         requires { at + length into.old ≤ size_of (host_disk self.old) }
         ensures call { CountsFault (host_disk self.old) (host_disk self.new) (IsErr result) }
-        ensures noted { Makes (WasRead ∷ []) (host_disk self.old).calls (host_disk self.new).calls
+        ensures lists_call { MakesCalls (WasRead ∷ []) (host_disk self.old).calls (host_disk self.new).calls
             result }
         ensures honest { (host_disk self.old).honest → OnOk result
             (into.new ≡ part at (length into.old) (bytes_of (host_disk self.old))) }
         // The next clause holds for every file, honest or not.
         ensures given { OnOk result
             (into.new ≡ part at (length into.old) (bytes_of (host_disk self.old))) }
-        ensures asked { AsksToRead at into.new result
+        ensures asked { MakesReadCall at into.new result
             (H.HostFile.state self.old.file) (H.HostFile.state self.new.file) }
     {
         let answer = self.file.read_at(at, into);
@@ -157,7 +163,7 @@ impl<H: HostFile> Disk for HostDisk<H> {
     fn write(&mut self, at: usize, from: &[u8]) -> Result<(), DiskFault>
         requires { at + length from.now ≤ size_of (host_disk self.old) }
         ensures call { CountsFault (host_disk self.old) (host_disk self.new) (IsErr result) }
-        ensures noted { Makes (Wrote at from.now ∷ []) (host_disk self.old).calls
+        ensures lists_call { MakesCalls (Wrote at from.now ∷ []) (host_disk self.old).calls
             (host_disk self.new).calls result }
         // The next clause holds even if the write failed: it can have changed any part of the
         // range.
@@ -169,7 +175,7 @@ impl<H: HostFile> Disk for HostDisk<H> {
         let answer = self.file.write_at(at, from);
         if answer.is_err() {
             self.history.note(&Call::FailedWrite(at), from);
-            return Err(self.fail(is_for_space(&answer)));
+            return Err(self.fail(is_out_of_space(&answer)));
         }
         self.history.note(&Call::Write(at), from);
         overwrite(&mut self.bytes, at, from);
@@ -179,14 +185,14 @@ impl<H: HostFile> Disk for HostDisk<H> {
     // The length of the file does not change while it is a disk, so a sync of its data is enough.
     fn sync(&mut self) -> Result<(), DiskFault>
         ensures call { CountsFault (host_disk self.old) (host_disk self.new) (IsErr result) }
-        ensures noted { Makes (Synced ∷ []) (host_disk self.old).calls (host_disk self.new).calls
+        ensures lists_call { MakesCalls (Synced ∷ []) (host_disk self.old).calls (host_disk self.new).calls
             result }
         ensures asked { H.HostFile.state self.new.file
             ≡ asked (SyncData (is_ok result)) (H.HostFile.state self.old.file) }
     {
         let answer = self.file.sync_data();
         if answer.is_err() {
-            return Err(self.fail(is_for_space(&answer)));
+            return Err(self.fail(is_out_of_space(&answer)));
         }
         self.history.note(&Call::Sync, &[]);
         Ok(())

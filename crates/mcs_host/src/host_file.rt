@@ -2,7 +2,7 @@
 //! traits is proved to make exactly the calls that its contracts state, in that order.
 ghost use Rattle.std.specs.Prelude.{◌≡◌, [], ◌∷◌, IfOk, MatchResult, false, is_ok, true};
 ghost use Rattle.std.specs.Path.{path_buf_bytes};
-ghost use Rattle.mcs_host.specs.HostCalls.{HostState, HasCalls, IsLink, Length, Lock, LookUp, Made, ReadAt, RealName, SetLength, SyncAll, SyncData, SyncFolder, WriteAt, asked, is_yes};
+ghost use Rattle.mcs_host.specs.HostCalls.{HostState, HasCalls, IsLink, Length, Lock, IsNamed, OpenedOrCreated, ReadAt, RealName, SetLength, SyncAll, SyncData, SyncFolder, WriteAt, asked, is_yes};
 
 use crate::file_fault::FileFault;
 use crate::streams::Streams;
@@ -63,12 +63,12 @@ pub trait Host {
     /// Returns the standard streams that refer to the file of this name. The file must be regular
     /// or missing. The call fails for any other file, and if the host does not say which files the
     /// streams refer to.
-    fn streams_that_are(&self, name: &str) -> Result<Streams, FileFault>;
+    fn streams_of_file(&self, name: &str) -> Result<Streams, FileFault>;
 
     /// Checks that a file created under this name can be removed again. If the name is a link, the
     /// folder that it leads to must have a name without links; otherwise the call fails. The call
     /// allocates memory.
-    fn can_be_removed(&self, alloc: Global, name: &str) -> io::Result<()>;
+    fn check_removable(&self, alloc: Global, name: &str) -> io::Result<()>;
 
     /// Opens the existing file of this name for reading and writing. Fails if the host returns an
     /// error.
@@ -77,13 +77,13 @@ pub trait Host {
 
     /// Opens the file of this name for reading and writing. If the file is missing, the call
     /// creates it. Fails if the host returns an error.
-    fn open_or_make(&self, name: &str) -> io::Result<Self::File>
-        ensures { IfOk result (λ file. HasCalls name.now (Made ∷ []) (Self.File.state file)) };
+    fn open_or_create(&self, name: &str) -> io::Result<Self::File>
+        ensures { IfOk result (λ file. HasCalls name.now (OpenedOrCreated ∷ []) (Self.File.state file)) };
 
     /// Returns true if this name still refers to the open file. Fails if the host returns an error.
     fn is_named(&self, file: &mut Self::File, name: &str) -> io::Result<bool>
         ensures { Self.File.state file.new
-            ≡ asked (LookUp name.now (is_yes result)) (Self.File.state file.old) };
+            ≡ asked (IsNamed name.now (is_yes result)) (Self.File.state file.old) };
 
     /// Returns true if this name of the file is a symbolic link. Fails if the host returns an
     /// error.

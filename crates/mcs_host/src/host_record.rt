@@ -5,11 +5,11 @@ use mcs_disk::Record;
 /// for a question, the answer must also be yes. The value does not contain the bytes or the name of
 /// the call; a `Record` stores them next to the call.
 #[derive(Clone, Copy)]
-pub(crate) enum Asked {
+pub(crate) enum HostRequest {
     /// A request to lock the file exclusively.
     Lock(bool),
     /// A question: does a name refer to the file?
-    LookUp(bool),
+    IsNamed(bool),
     /// A request for the length of the file, with the length that the host returned.
     Length(u64, bool),
     /// A request to set the length of the file to this number of bytes.
@@ -29,9 +29,9 @@ pub(crate) enum Asked {
     /// A request for the name of the file without links.
     RealName(bool),
     /// The call that opened the file and created it if it was missing.
-    Made,
+    OpenedOrCreated,
 }
 
 /// The record of an open file of the host: the name with which it was opened, and the calls on it
 /// since.
-pub(crate) type HostRecord = Record<Asked>;
+pub(crate) type HostRecord = Record<HostRequest>;

@@ -3,17 +3,17 @@
 ghost use Rattle.std.specs.Prelude.{◌≡◌, ◌↔◌, ℕ, List};
 ghost use Rattle.mcs_disk.specs.Disk.{bytes_of, images_of, images_since};
 ghost use Rattle.mcs_disk.specs.PowerCut.{IsLeftByCut};
-ghost use Rattle.mcs_host.specs.Ending.{IsFoundAfterTheEnd, IsFoundWith, IsLeftSince, as_disk, as_host_file, found_in};
-ghost use Rattle.mcs_host.specs.FileDisk.{IsApart, IsUncalled};
+ghost use Rattle.mcs_host.specs.Ending.{IsFoundAfterTheEnd, IsFoundWith, IsLeftSince, as_disk, as_host_file, bytes_found_in};
+ghost use Rattle.mcs_host.specs.FileDisk.{IsNotStandardStream, HasNoCalls};
 
 use crate::FileDisk;
 
 /// Shows that the bytes that are found in an honest file after its end are an image since a given
 /// time. The premise is that the file was left after an initial part of its calls, with the clock
 /// at that time or later.
-pub fn what_is_found_is_an_image()
+pub fn found_bytes_are_an_image()
     ensures { (time : ℕ) (file : FileDisk) → (as_disk file).honest
-        → IsLeftSince time file → images_since time (as_disk file) (found_in file) }
+        → IsLeftSince time file → images_since time (as_disk file) (bytes_found_in file) }
 {}
 
 /// Shows that a file that is opened again is a disk that a power cut since a given time can leave.
@@ -21,30 +21,30 @@ pub fn what_is_found_is_an_image()
 ///
 /// - The file is honest, and it was left with the clock at that time or later.
 /// - The file opened again is honest. Before any call on it, it holds the bytes that were found.
-pub fn opened_again_is_left_by_cut()
+pub fn reopened_file_is_left_by_cut()
     ensures { (time : ℕ) (file again : FileDisk) → (as_disk file).honest
         → IsLeftSince time file → (as_disk again).honest
-        → IsUncalled (as_disk again)
-        → bytes_of (as_disk again) ≡ found_in file
+        → HasNoCalls (as_disk again)
+        → bytes_of (as_disk again) ≡ bytes_found_in file
         → IsLeftByCut time (as_disk file) (as_disk again) }
 {}
 
 /// Shows that a file is honest if, and only if, the bytes that are found after its end are an image
 /// after the calls before that end.
-pub fn honest_where_an_image_is_found()
+pub fn file_is_honest_iff_image_is_found()
     ensures { (file : FileDisk) → (as_disk file).honest ↔ IsFoundAfterTheEnd file }
 {}
 
 /// Shows that no answer of a file can refute the premise that the file is honest. For each image
 /// that the calls on a file can leave, there is an honest file with the same answers in which that
 /// image is found after the end.
-pub fn each_image_may_be_found()
+pub fn each_image_can_be_found()
     ensures { (file : FileDisk) (image : List ℕ) → images_of (as_disk file) image
         → (like : FileDisk) × (as_disk like).honest × IsFoundWith image file like }
 {}
 
 /// Shows that no open `FileDisk` has the descriptor of a standard stream. Nothing that the program
 /// writes to a standard stream goes into a session file.
-pub fn each_file_is_apart()
-    ensures { (file : FileDisk) → IsApart (as_host_file file).number }
+pub fn no_file_is_a_standard_stream()
+    ensures { (file : FileDisk) → IsNotStandardStream (as_host_file file).number }
 {}

@@ -26,8 +26,8 @@ pub use file_fault::FileFault;
 pub use host_disk::HostDisk;
 pub use host_file::{Host, HostFile};
 pub use laws::{
-    each_file_is_apart, each_image_may_be_found, honest_where_an_image_is_found,
-    opened_again_is_left_by_cut, what_is_found_is_an_image,
+    each_image_can_be_found, file_is_honest_iff_image_is_found, found_bytes_are_an_image,
+    no_file_is_a_standard_stream, reopened_file_is_left_by_cut,
 };
-pub use streams::{RefusedStreams, StandIns, Streams, StreamsFault};
+pub use streams::{StandIns, Streams, StreamsError, StreamsFault};
 pub use system_file::SystemFile;

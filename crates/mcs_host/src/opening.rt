@@ -1,10 +1,10 @@
 //! Functions that open and lock a file of the host. On request, they create the file and fill it.
 ghost use Rattle.std.specs.Prelude.{◌≡◌, ◌==◌, ◌↔◌, ◌<◌, ◌≤◌, [], ◌∷◌, IfOk, OnOk, IsTrue, is_ok, true, vec_len};
 ghost use Rattle.std.specs.List.{list_all};
-ghost use Rattle.mcs_host.specs.FileDisk.{IsApart};
+ghost use Rattle.mcs_host.specs.FileDisk.{IsNotStandardStream};
 ghost use Rattle.mcs_host.specs.FileFaults.{IsLinkFault, IsNameFault};
-ghost use Rattle.mcs_host.specs.HostCalls.{HasCalls, IsSame, Made, SyncAll};
-ghost use Rattle.mcs_host.specs.Opening.{AreZeros, FolderCalls, IsBegun, IsAllZeros, IsFilledAfter, IsOpening, IsReadAfter, IsWrittenAfter, folder_of, locking_calls};
+ghost use Rattle.mcs_host.specs.HostCalls.{HasCalls, KeepsNameAndNumber, OpenedOrCreated, SyncAll};
+ghost use Rattle.mcs_host.specs.Opening.{AreZeros, FolderCalls, IsFreshlyOpened, IsAllZeros, IsFilledAfter, IsOpenedFile, IsReadAfter, IsWrittenAfter, folder_of, locking_calls};
 
 use crate::file_fault::FileFault;
 use crate::host_file::{Host, HostFile};
@@ -15,7 +15,7 @@ use std::path::Path;
 
 /// The maximum number of bytes that are read from a file: one more than a session file has. If a
 /// file is longer, the number of bytes read shows that it is not a session file.
-pub(crate) const MOST_BYTES: usize = FILE_SIZE + 1;
+pub(crate) const MAX_BYTES_READ: usize = FILE_SIZE + 1;
 
 /// The descriptor of standard error, the highest of the three standard streams.
 const STANDARD_ERROR: i32 = 2;
@@ -23,7 +23,7 @@ const STANDARD_ERROR: i32 = 2;
 /// Opens a file for reading and writing, locks it, and reads it into `bytes`, which must be zeros.
 /// Returns the file, and true if the file's name survives a power cut.
 ///
-/// If `make` is true, it creates a missing file, and fills an empty file with [`FILE_SIZE`] zero
+/// If `create_if_missing` is true, it creates a missing file, and fills an empty file with [`FILE_SIZE`] zero
 /// bytes. If the fill fails, the file is made empty again. If the call fails after it created the
 /// file, it removes the file if it is empty and no other program uses it.
 ///
@@ -33,23 +33,23 @@ pub(crate) fn open_and_read<N: Host>(
     host: &N,
     alloc: Global,
     file: &str,
-    make: bool,
+    create_if_missing: bool,
     bytes: &mut Vec<u8>,
 ) -> Result<(N::File, bool), FileFault>
-    requires len { vec_len bytes.old ≡ MOST_BYTES }
+    requires len { vec_len bytes.old ≡ MAX_BYTES_READ }
     requires zeros { AreZeros bytes.old.items }
-    ensures apart { IfOk result (λ opened. IsApart (N.File.state opened.0).number) }
-    ensures at_most { vec_len bytes.new ≤ MOST_BYTES }
-    ensures not_empty { IsTrue make → IfOk result (λ _. 0 < vec_len bytes.new) }
-    ensures asked { IfOk result (λ opened. IsOpening make file.now bytes.new.items opened.1
+    ensures not_standard_stream { IfOk result (λ opened. IsNotStandardStream (N.File.state opened.0).number) }
+    ensures at_most { vec_len bytes.new ≤ MAX_BYTES_READ }
+    ensures not_empty { IsTrue create_if_missing → IfOk result (λ _. 0 < vec_len bytes.new) }
+    ensures asked { IfOk result (λ opened. IsOpenedFile create_if_missing file.now bytes.new.items opened.1
         (N.File.state opened.0)) }
 {
-    let streams = host.streams_that_are(file)?;
+    let streams = host.streams_of_file(file)?;
     if streams.any() {
         return Err(FileFault::Stream(streams));
     }
-    let (mut opened, is_made) = open_or_make(host, alloc, file, make)?;
-    match lock_and_read(host, alloc, &mut opened, file, make, bytes) {
+    let (mut opened, is_made) = open_or_create(host, alloc, file, create_if_missing)?;
+    match lock_and_read(host, alloc, &mut opened, file, create_if_missing, bytes) {
         Ok(is_name_stable) => Ok((opened, is_name_stable)),
         Err(fault) => {
             if is_made && fault != FileFault::InUse {
@@ -61,22 +61,23 @@ pub(crate) fn open_and_read<N: Host>(
     }
 }
 
-// Opens a file. If the file is missing and `make` is true, creates it. Returns the file, and true
+// Opens a file. If the file is missing and `create_if_missing` is true, creates it. Returns the file, and true
 // if the file was created.
-fn open_or_make<N: Host>(
+fn open_or_create<N: Host>(
     host: &N,
     alloc: Global,
     file: &str,
-    make: bool,
+    create_if_missing: bool,
 ) -> Result<(N::File, bool), FileFault>
     ensures named { IfOk result (λ opened. (N.File.state opened.0).name ≡ file.now) }
-    ensures begun { IfOk result (λ opened. IsBegun make (N.File.state opened.0).calls) }
+    ensures begun { IfOk result (λ opened. IsFreshlyOpened create_if_missing (N.File.state opened.0).calls) }
 {
     match host.open(file) {
         Ok(opened) => Ok((opened, false)),
-        Err(error) if make && error.kind() == ErrorKind::NotFound => {
-            host.can_be_removed(alloc, file).map_err(link_fault)?;
-            Ok((host.open_or_make(file)?, true))
+        Err(error) if create_if_missing && error.kind() == ErrorKind::NotFound => {
+            host.check_removable(alloc, file)
+                .map_err(fault_for_link_error)?;
+            Ok((host.open_or_create(file)?, true))
         }
         Err(error) => Err(FileFault::from(error)),
     }
@@ -90,29 +91,29 @@ fn lock_and_read<N: Host>(
     alloc: Global,
     opened: &mut N::File,
     file: &str,
-    make: bool,
+    create_if_missing: bool,
     bytes: &mut Vec<u8>,
 ) -> Result<bool, FileFault>
-    requires len { vec_len bytes.old ≡ MOST_BYTES }
+    requires len { vec_len bytes.old ≡ MAX_BYTES_READ }
     requires zeros { AreZeros bytes.old.items }
     requires named { (N.File.state opened.old).name ≡ file.now }
-    requires begun { IsBegun make (N.File.state opened.old).calls }
-    ensures apart { OnOk result (IsApart (N.File.state opened.new).number) }
-    ensures at_most { vec_len bytes.new ≤ MOST_BYTES }
-    ensures not_empty { IsTrue make → OnOk result (0 < vec_len bytes.new) }
-    ensures asked { IfOk result (λ is_name_stable. IsOpening make file.now bytes.new.items
+    requires begun { IsFreshlyOpened create_if_missing (N.File.state opened.old).calls }
+    ensures not_standard_stream { OnOk result (IsNotStandardStream (N.File.state opened.new).number) }
+    ensures at_most { vec_len bytes.new ≤ MAX_BYTES_READ }
+    ensures not_empty { IsTrue create_if_missing → OnOk result (0 < vec_len bytes.new) }
+    ensures asked { IfOk result (λ is_name_stable. IsOpenedFile create_if_missing file.now bytes.new.items
         is_name_stable (N.File.state opened.new)) }
 {
     lock(host, opened, file)?;
     let found = opened.length()?;
-    if make && found == 0 {
+    if create_if_missing && found == 0 {
         bytes.truncate(FILE_SIZE);
         fill_and_read(host, alloc, opened, file, bytes)?;
         return Ok(true);
     }
-    bytes.truncate(found.min(MOST_BYTES as u64) as usize);
+    bytes.truncate(found.min(MAX_BYTES_READ as u64) as usize);
     let is_name_stable = sync_and_read(host, alloc, opened, file, bytes)?;
-    if make && is_blank(bytes) {
+    if create_if_missing && is_blank(bytes) {
         // A blank file can have holes, for example after an earlier fill that was interrupted.
         write_whole(host, alloc, opened, file, bytes)?;
     }
@@ -123,8 +124,8 @@ fn lock_and_read<N: Host>(
 // removed the file before the lock was granted. Fails if the file has the descriptor of a standard
 // stream, because output to the stream would go into the file.
 fn lock<N: Host>(host: &N, opened: &mut N::File, file: &str) -> Result<(), FileFault>
-    ensures apart { OnOk result (IsApart (N.File.state opened.new).number) }
-    ensures same { OnOk result (IsSame (N.File.state opened.old) (N.File.state opened.new)) }
+    ensures not_standard_stream { OnOk result (IsNotStandardStream (N.File.state opened.new).number) }
+    ensures same { OnOk result (KeepsNameAndNumber (N.File.state opened.old) (N.File.state opened.new)) }
     ensures asked { OnOk result ((N.File.state opened.new).calls
         ≡ locking_calls file.now (N.File.state opened.old).calls) }
 {
@@ -147,7 +148,7 @@ fn fill_and_read<N: Host>(
     bytes: &mut Vec<u8>,
 ) -> Result<(), FileFault>
     ensures len { vec_len bytes.new ≡ vec_len bytes.old }
-    ensures same { OnOk result (IsSame (N.File.state opened.old) (N.File.state opened.new)) }
+    ensures same { OnOk result (KeepsNameAndNumber (N.File.state opened.old) (N.File.state opened.new)) }
     ensures asked { OnOk result (IsFilledAfter file.now bytes.old.items bytes.new.items
         (N.File.state opened.old).calls (N.File.state opened.new).calls) }
 {
@@ -166,12 +167,12 @@ fn sync_and_read<N: Host>(
     bytes: &mut Vec<u8>,
 ) -> Result<bool, FileFault>
     ensures len { vec_len bytes.new ≡ vec_len bytes.old }
-    ensures same { OnOk result (IsSame (N.File.state opened.old) (N.File.state opened.new)) }
+    ensures same { OnOk result (KeepsNameAndNumber (N.File.state opened.old) (N.File.state opened.new)) }
     ensures asked { IfOk result (λ is_name_stable. IsReadAfter file.now bytes.new.items
         is_name_stable (N.File.state opened.old).calls (N.File.state opened.new).calls) }
 {
     opened.sync_all()?;
-    let is_name_stable = sync_folder_if_it_may_be(host, alloc, opened, file)?;
+    let is_name_stable = try_sync_folder(host, alloc, opened, file)?;
     opened.read_at(0, bytes)?;
     Ok(is_name_stable)
 }
@@ -191,7 +192,7 @@ fn are_zeros(bytes: &[u8]) -> bool
 
 // Returns the fault for an error of making a file's name stable. It can be a lack of memory,
 // because the call allocates the name that a link leads to.
-fn name_fault(error: io::Error) -> FileFault
+fn fault_for_name_error(error: io::Error) -> FileFault
     ensures { IsNameFault error result }
 {
     match error.kind() {
@@ -202,12 +203,12 @@ fn name_fault(error: io::Error) -> FileFault
 
 // Returns the fault for an error of creating a file at the target of a link. If the target's name
 // is not text, the fault is `FolderUnsynced`.
-fn link_fault(error: io::Error) -> FileFault
+fn fault_for_link_error(error: io::Error) -> FileFault
     ensures { IsLinkFault error result }
 {
     match error.kind() {
         ErrorKind::InvalidFilename => FileFault::FolderUnsynced,
-        _ => name_fault(error),
+        _ => fault_for_name_error(error),
     }
 }
 
@@ -219,7 +220,7 @@ fn fill<N: Host>(
     file: &str,
     zeros: &[u8],
 ) -> Result<(), FileFault>
-    ensures same { OnOk result (IsSame (N.File.state opened.old) (N.File.state opened.new)) }
+    ensures same { OnOk result (KeepsNameAndNumber (N.File.state opened.old) (N.File.state opened.new)) }
     ensures asked { OnOk result (IsWrittenAfter file.now zeros.now
         (N.File.state opened.old).calls (N.File.state opened.new).calls) }
 {
@@ -242,14 +243,14 @@ fn write_whole<N: Host>(
     file: &str,
     bytes: &[u8],
 ) -> Result<(), FileFault>
-    ensures same { OnOk result (IsSame (N.File.state opened.old) (N.File.state opened.new)) }
+    ensures same { OnOk result (KeepsNameAndNumber (N.File.state opened.old) (N.File.state opened.new)) }
     ensures asked { OnOk result (IsWrittenAfter file.now bytes.now
         (N.File.state opened.old).calls (N.File.state opened.new).calls) }
 {
     opened.set_length(bytes.len() as u64)?;
     opened.write_at(0, bytes)?;
     opened.sync_all()?;
-    if !sync_folder_if_it_may_be(host, alloc, opened, file)? {
+    if !try_sync_folder(host, alloc, opened, file)? {
         return Err(FileFault::FolderUnsynced);
     }
     Ok(())
@@ -258,7 +259,7 @@ fn write_whole<N: Host>(
 // Syncs the folder of a file, so that the file's name survives a power cut. If the name is a link,
 // the folder is the one of the file that the link leads to.
 fn sync_folder<N: Host>(host: &N, alloc: Global, opened: &mut N::File, file: &str) -> io::Result<()>
-    ensures same { IsSame (N.File.state opened.old) (N.File.state opened.new) }
+    ensures same { KeepsNameAndNumber (N.File.state opened.old) (N.File.state opened.new) }
     ensures asked { FolderCalls file.now (is_ok result)
         (N.File.state opened.old).calls (N.File.state opened.new).calls }
 {
@@ -282,13 +283,13 @@ pub(crate) fn folder_of(name: &str) -> &str
 // Makes a file's name survive a power cut, and returns true if that succeeded. Returns false if the
 // program cannot read the folder, if the host does not sync folders, or if a link leads to a
 // folder whose name is not text.
-fn sync_folder_if_it_may_be<N: Host>(
+fn try_sync_folder<N: Host>(
     host: &N,
     alloc: Global,
     opened: &mut N::File,
     file: &str,
 ) -> Result<bool, FileFault>
-    ensures same { OnOk result (IsSame (N.File.state opened.old) (N.File.state opened.new)) }
+    ensures same { OnOk result (KeepsNameAndNumber (N.File.state opened.old) (N.File.state opened.new)) }
     ensures asked { IfOk result (λ done. FolderCalls file.now done
         (N.File.state opened.old).calls (N.File.state opened.new).calls) }
 {
@@ -298,7 +299,7 @@ fn sync_folder_if_it_may_be<N: Host>(
             ErrorKind::PermissionDenied | ErrorKind::InvalidInput | ErrorKind::InvalidFilename => {
                 Ok(false)
             }
-            _ => Err(name_fault(error)),
+            _ => Err(fault_for_name_error(error)),
         },
     }
 }

@@ -5,8 +5,8 @@
 ghost use Rattle.std.specs.Prelude.{◌≡◌, ◌≢◌, ◌⊎◌, ◌↔◌, IfErr, IfOk, IsErr, IsErrAnd, IsErrOf, IsNone, IsOk, IsTrue, Err, None, Ok, Some, false};
 ghost use Rattle.std.specs.Fs.{file_type, metadata_len, IsDir, IsFile};
 ghost use Rattle.mcs_host.specs.declared.file_fault.FileFault.TheVariants.{Folder, NotAFile};
-ghost use Rattle.mcs_host.specs.FileFaults.{IsAbsent, IsHostFault, IsOtherFile, IsUnanswered};
-ghost use Rattle.mcs_host.specs.Streams.{none_of_them};
+ghost use Rattle.mcs_host.specs.FileFaults.{IsAbsent, IsHostFault, IsOtherFile, IsOtherNameError};
+ghost use Rattle.mcs_host.specs.Streams.{no_streams};
 ghost use Rattle.mcs_journal.specs.declared.format.TheConstants.{NAME};
 
 use crate::file_fault::FileFault;
@@ -38,7 +38,7 @@ pub struct Streams {
 impl Streams {
     /// Returns the empty set of streams.
     pub fn none() -> Streams
-        ensures { result ≡ none_of_them }
+        ensures { result ≡ no_streams }
     {
         Streams {
             input: false,
@@ -49,7 +49,7 @@ impl Streams {
 
     /// Returns true if the set contains at least one stream.
     pub fn any(self) -> bool
-        ensures { result ≡ false ↔ self ≡ none_of_them }
+        ensures { result ≡ false ↔ self ≡ no_streams }
     {
         self.input || self.output || self.errors
     }
@@ -72,7 +72,7 @@ pub enum StreamsFault {
 
 /// The error if the program cannot start with its standard streams.
 #[derive(Clone, Copy, Debug)]
-pub struct RefusedStreams {
+pub struct StreamsError {
     /// The reason why the program cannot start.
     pub fault: StreamsFault,
     /// The output streams that are session files, or could be. The program writes nothing to them.
@@ -93,11 +93,11 @@ impl StandIns {
     /// Opens a stand-in for each closed standard stream, and checks all three streams. Fails if a
     /// stand-in cannot be opened, if an output stream is a session file, or if the host does not
     /// say what a stream is.
-    pub fn open(rt: &HostRuntime) -> Result<StandIns, RefusedStreams> {
-        let opened = StandIns::in_place(rt);
-        let input = what_is_found(answers(rt, INPUT), rt.stdin().is_terminal());
-        let output = what_is_found(is_session(rt, OUTPUT), rt.stdout().is_terminal());
-        let errors = what_is_found(is_session(rt, ERRORS), rt.stderr().is_terminal());
+    pub fn open(rt: &HostRuntime) -> Result<StandIns, StreamsError> {
+        let opened = StandIns::open_stand_ins(rt);
+        let input = stream_kind(check_stream_is_known(rt, INPUT), rt.stdin().is_terminal());
+        let output = stream_kind(is_session(rt, OUTPUT), rt.stdout().is_terminal());
+        let errors = stream_kind(is_session(rt, ERRORS), rt.stderr().is_terminal());
         let fault = match opened {
             Err(_) => StreamsFault::NoStandIn,
             Ok(stand_ins) => match refused(input, output, errors) {
@@ -106,12 +106,12 @@ impl StandIns {
             },
         };
         let unusable = unusable(output, errors);
-        Err(RefusedStreams { fault, unusable })
+        Err(StreamsError { fault, unusable })
     }
 
     // Opens the stand-ins in the order of their descriptors. The host assigns the lowest free
     // descriptor, so each stand-in gets the descriptor of its stream.
-    fn in_place(rt: &HostRuntime) -> io::Result<StandIns> {
+    fn open_stand_ins(rt: &HostRuntime) -> io::Result<StandIns> {
         Ok(StandIns {
             input: stand_in(rt, &rt.stdin())?,
             output: stand_in(rt, &rt.stdout())?,
@@ -131,7 +131,7 @@ fn stand_in<S: AsFd>(rt: &HostRuntime, stream: &S) -> io::Result<Option<File>> {
 
 /// The kind of file that a standard stream is, according to the host.
 #[derive(Clone, Copy, Debug, PartialEq, Eq)]
-enum Found {
+enum StreamKind {
     /// The stream is a session file, or a file of the same size that cannot be read.
     Session,
     /// The stream is another file or a terminal. Standard input counts as this even if it is a
@@ -143,44 +143,44 @@ enum Found {
 
 // Returns what a stream is, given the host's answer whether it is a session file. If there is no
 // answer, a terminal counts as `Other`.
-fn what_is_found(answer: io::Result<bool>, is_terminal: bool) -> Found
-    ensures session { IfOk answer (λ yes. IsTrue yes → result ≡ Found.Session) }
-    ensures other { IfOk answer (λ yes. yes ≡ false → result ≡ Found.Other) }
-    ensures unknown { IsErr answer → is_terminal ≡ false → result ≡ Found.Unknown }
+fn stream_kind(answer: io::Result<bool>, is_terminal: bool) -> StreamKind
+    ensures session { IfOk answer (λ yes. IsTrue yes → result ≡ StreamKind.Session) }
+    ensures other { IfOk answer (λ yes. yes ≡ false → result ≡ StreamKind.Other) }
+    ensures unknown { IsErr answer → is_terminal ≡ false → result ≡ StreamKind.Unknown }
 {
     match answer {
-        Ok(true) => Found::Session,
-        Ok(false) => Found::Other,
-        Err(_) if is_terminal => Found::Other,
-        Err(_) => Found::Unknown,
+        Ok(true) => StreamKind::Session,
+        Ok(false) => StreamKind::Other,
+        Err(_) if is_terminal => StreamKind::Other,
+        Err(_) => StreamKind::Unknown,
     }
 }
 
 // Returns the reason why the program cannot start with these streams, or `None` if the program can
 // start.
-fn refused(input: Found, output: Found, errors: Found) -> Option<StreamsFault>
-    ensures input { IsNone result → input ≢ Found.Unknown }
-    ensures output { IsNone result → output ≡ Found.Other }
-    ensures errors { IsNone result → errors ≡ Found.Other }
+fn refused(input: StreamKind, output: StreamKind, errors: StreamKind) -> Option<StreamsFault>
+    ensures input { IsNone result → input ≢ StreamKind.Unknown }
+    ensures output { IsNone result → output ≡ StreamKind.Other }
+    ensures errors { IsNone result → errors ≡ StreamKind.Other }
     ensures session { result ≡ Some StreamsFault.IntoSession
-        → (output ≡ Found.Session) ⊎ (errors ≡ Found.Session) }
+        → (output ≡ StreamKind.Session) ⊎ (errors ≡ StreamKind.Session) }
     ensures unknown { result ≡ Some StreamsFault.Unknown
-        → (input ≡ Found.Unknown) ⊎ (output ≡ Found.Unknown) ⊎ (errors ≡ Found.Unknown) }
+        → (input ≡ StreamKind.Unknown) ⊎ (output ≡ StreamKind.Unknown) ⊎ (errors ≡ StreamKind.Unknown) }
 {
     match (output, errors) {
-        (Found::Session, _) | (_, Found::Session) => Some(StreamsFault::IntoSession),
-        (Found::Unknown, _) | (_, Found::Unknown) => Some(StreamsFault::Unknown),
-        (Found::Other, Found::Other) => match input {
-            Found::Unknown => Some(StreamsFault::Unknown),
-            Found::Session | Found::Other => None,
+        (StreamKind::Session, _) | (_, StreamKind::Session) => Some(StreamsFault::IntoSession),
+        (StreamKind::Unknown, _) | (_, StreamKind::Unknown) => Some(StreamsFault::Unknown),
+        (StreamKind::Other, StreamKind::Other) => match input {
+            StreamKind::Unknown => Some(StreamsFault::Unknown),
+            StreamKind::Session | StreamKind::Other => None,
         },
     }
 }
 
 // Returns the output streams to which the program must write nothing.
-fn unusable(output: Found, errors: Found) -> Streams
-    ensures output { result.output ≡ false ↔ output ≡ Found.Other }
-    ensures errors { result.errors ≡ false ↔ errors ≡ Found.Other }
+fn unusable(output: StreamKind, errors: StreamKind) -> Streams
+    ensures output { result.output ≡ false ↔ output ≡ StreamKind.Other }
+    ensures errors { result.errors ≡ false ↔ errors ≡ StreamKind.Other }
 {
     Streams {
         input: false,
@@ -189,18 +189,18 @@ fn unusable(output: Found, errors: Found) -> Streams
     }
 }
 
-fn may_be_session(stream: Found) -> bool
-    ensures { result ≡ false ↔ stream ≡ Found.Other }
+fn may_be_session(stream: StreamKind) -> bool
+    ensures { result ≡ false ↔ stream ≡ StreamKind.Other }
 {
     match stream {
-        Found::Other => false,
-        Found::Session | Found::Unknown => true,
+        StreamKind::Other => false,
+        StreamKind::Session | StreamKind::Unknown => true,
     }
 }
 
 // Checks that the host says which file a stream is, and returns false. (This is for standard input,
 // which is allowed to be a session file.)
-fn answers<R: Files>(rt: &R, stream: &str) -> io::Result<bool> {
+fn check_stream_is_known<R: Files>(rt: &R, stream: &str) -> io::Result<bool> {
     fs::metadata(rt, stream)?;
     Ok(false)
 }
@@ -237,9 +237,9 @@ pub(crate) fn is_session_name(found: &[u8]) -> bool
 
 /// Returns the standard streams that refer to the file of this name. Fails if the name refers to
 /// something that is not a regular file, or if the host does not say which files the streams are.
-pub(crate) fn streams_that_are<R: Files>(rt: &R, file: &str) -> Result<Streams, FileFault> {
+pub(crate) fn streams_of_file<R: Files>(rt: &R, file: &str) -> Result<Streams, FileFault> {
     match regular_file(fs::metadata(rt, file))? {
-        Some(named) => streams_on(rt, &named),
+        Some(named) => streams_matching(rt, &named),
         None => Ok(Streams::none()),
     }
 }
@@ -251,7 +251,7 @@ fn regular_file(answer: io::Result<Metadata>) -> Result<Option<Metadata>, FileFa
     ensures folder { IfOk answer (λ named. IsDir (file_type named) → result ≡ Err Folder) }
     ensures other { IfOk answer (λ named. IsOtherFile (file_type named) → result ≡ Err NotAFile) }
     ensures absent { IfErr answer (λ error. IsAbsent error → result ≡ Ok None) }
-    ensures refused { IfErr answer (λ error. IsUnanswered error → IsErrAnd result (IsHostFault error)) }
+    ensures refused { IfErr answer (λ error. IsOtherNameError error → IsErrAnd result (IsHostFault error)) }
 {
     match answer {
         Ok(named) if named.is_dir() => Err(FileFault::Folder),
@@ -264,7 +264,7 @@ fn regular_file(answer: io::Result<Metadata>) -> Result<Option<Metadata>, FileFa
     }
 }
 
-fn streams_on<R: Files>(rt: &R, named: &Metadata) -> Result<Streams, FileFault> {
+fn streams_matching<R: Files>(rt: &R, named: &Metadata) -> Result<Streams, FileFault> {
     Ok(Streams {
         input: is_stream(fs::metadata(rt, INPUT), named)?,
         output: is_stream(fs::metadata(rt, OUTPUT), named)?,

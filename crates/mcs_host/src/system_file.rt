@@ -5,9 +5,9 @@ ghost use Rattle.std.specs.Prelude.{◌≡◌, [], length};
 
 use crate::file_fault::FileFault;
 use crate::host_file::{Host, HostFile};
-use crate::host_record::{Asked, HostRecord};
+use crate::host_record::{HostRecord, HostRequest};
 use crate::opening::folder_of;
-use crate::streams::{Streams, is_same_file, streams_that_are};
+use crate::streams::{Streams, is_same_file, streams_of_file};
 use std::alloc::Global;
 use std::fs::{self, File, OpenOptions, TryLockError};
 use std::io;
@@ -17,7 +17,7 @@ use std::path::PathBuf;
 use std::rt::Files;
 
 /// The maximum number of links that the host follows from a name to a file.
-const MOST_LINKS: u32 = 40;
+const MAX_LINKS: u32 = 40;
 
 /// An open file of the operating system.
 #[derive(Drop)]
@@ -46,15 +46,15 @@ impl HostFile for SystemFile {
 
     fn try_lock(&mut self) -> Result<(), TryLockError> {
         let answer = self.file.try_lock();
-        self.history.note(&Asked::Lock(answer.is_ok()), &[]);
+        self.history.note(&HostRequest::Lock(answer.is_ok()), &[]);
         answer
     }
 
     fn length(&mut self) -> io::Result<u64> {
         let answer = length_of(&self.file);
         match answer {
-            Ok(n) => self.history.note(&Asked::Length(n, true), &[]),
-            Err(_) => self.history.note(&Asked::Length(0, false), &[]),
+            Ok(n) => self.history.note(&HostRequest::Length(n, true), &[]),
+            Err(_) => self.history.note(&HostRequest::Length(0, false), &[]),
         }
         answer
     }
@@ -62,31 +62,35 @@ impl HostFile for SystemFile {
     fn set_length(&mut self, to: u64) -> io::Result<()> {
         let answer = self.file.set_len(to);
         self.history
-            .note(&Asked::SetLength(to, answer.is_ok()), &[]);
+            .note(&HostRequest::SetLength(to, answer.is_ok()), &[]);
         answer
     }
 
     fn read_at(&mut self, at: usize, into: &mut [u8]) -> io::Result<()> {
         let answer = self.file.read_exact_at(into, at as u64);
-        self.history.note(&Asked::ReadAt(at, answer.is_ok()), into);
+        self.history
+            .note(&HostRequest::ReadAt(at, answer.is_ok()), into);
         answer
     }
 
     fn write_at(&mut self, at: usize, from: &[u8]) -> io::Result<()> {
         let answer = self.file.write_all_at(from, at as u64);
-        self.history.note(&Asked::WriteAt(at, answer.is_ok()), from);
+        self.history
+            .note(&HostRequest::WriteAt(at, answer.is_ok()), from);
         answer
     }
 
     fn sync_data(&mut self) -> io::Result<()> {
         let answer = self.file.sync_data();
-        self.history.note(&Asked::SyncData(answer.is_ok()), &[]);
+        self.history
+            .note(&HostRequest::SyncData(answer.is_ok()), &[]);
         answer
     }
 
     fn sync_all(&mut self) -> io::Result<()> {
         let answer = self.file.sync_all();
-        self.history.note(&Asked::SyncAll(answer.is_ok()), &[]);
+        self.history
+            .note(&HostRequest::SyncAll(answer.is_ok()), &[]);
         answer
     }
 }
@@ -98,12 +102,12 @@ fn length_of(file: &File) -> io::Result<u64> {
 impl<R: Files<File = File>> Host for R {
     type File = SystemFile;
 
-    fn streams_that_are(&self, name: &str) -> Result<Streams, FileFault> {
-        streams_that_are(self, name)
+    fn streams_of_file(&self, name: &str) -> Result<Streams, FileFault> {
+        streams_of_file(self, name)
     }
 
-    fn can_be_removed(&self, alloc: Global, name: &str) -> io::Result<()> {
-        can_be_removed(self, alloc, name)
+    fn check_removable(&self, alloc: Global, name: &str) -> io::Result<()> {
+        check_removable(self, alloc, name)
     }
 
     fn open(&self, name: &str) -> io::Result<SystemFile> {
@@ -112,25 +116,27 @@ impl<R: Files<File = File>> Host for R {
         Ok(SystemFile::new(options.open(self, name)?, name))
     }
 
-    fn open_or_make(&self, name: &str) -> io::Result<SystemFile> {
+    fn open_or_create(&self, name: &str) -> io::Result<SystemFile> {
         let mut options = OpenOptions::new();
         options.read(true).write(true).create(true);
         let mut made = SystemFile::new(options.open(self, name)?, name);
-        made.history.note(&Asked::Made, &[]);
+        made.history.note(&HostRequest::OpenedOrCreated, &[]);
         Ok(made)
     }
 
     fn is_named(&self, file: &mut SystemFile, name: &str) -> io::Result<bool> {
-        let answer = stands_for(self, name, &file.file);
+        let answer = names_file(self, name, &file.file);
         let is_yes = matches!(answer, Ok(true));
-        file.history.note(&Asked::LookUp(is_yes), name.as_bytes());
+        file.history
+            .note(&HostRequest::IsNamed(is_yes), name.as_bytes());
         answer
     }
 
     fn is_link(&self, file: &mut SystemFile, name: &str) -> io::Result<bool> {
         let answer = is_name_of_link(self, name);
         let is_yes = matches!(answer, Ok(true));
-        file.history.note(&Asked::IsLink(is_yes), name.as_bytes());
+        file.history
+            .note(&HostRequest::IsLink(is_yes), name.as_bytes());
         answer
     }
 
@@ -143,11 +149,11 @@ impl<R: Files<File = File>> Host for R {
         match self.canonicalize(alloc, name) {
             Ok(real_path) => {
                 let real = real_path.as_str().as_bytes();
-                file.history.note(&Asked::RealName(true), real);
+                file.history.note(&HostRequest::RealName(true), real);
                 Ok(real_path)
             }
             Err(error) => {
-                file.history.note(&Asked::RealName(false), &[]);
+                file.history.note(&HostRequest::RealName(false), &[]);
                 Err(error)
             }
         }
@@ -157,7 +163,7 @@ impl<R: Files<File = File>> Host for R {
         let answer = sync_folder(self, folder);
         let is_ok = answer.is_ok();
         file.history
-            .note(&Asked::SyncFolder(is_ok), folder.as_bytes());
+            .note(&HostRequest::SyncFolder(is_ok), folder.as_bytes());
         answer
     }
 
@@ -166,7 +172,7 @@ impl<R: Files<File = File>> Host for R {
     }
 }
 
-fn stands_for<R: Files<File = File>>(rt: &R, name: &str, file: &File) -> io::Result<bool> {
+fn names_file<R: Files<File = File>>(rt: &R, name: &str, file: &File) -> io::Result<bool> {
     Ok(is_same_file(&fs::metadata(rt, name)?, &file.metadata()?))
 }
 
@@ -176,9 +182,9 @@ fn is_name_of_link<R: Files<File = File>>(rt: &R, name: &str) -> io::Result<bool
 
 // Follows a chain of links that leads to no file, as far as the host would follow it. Fails if the
 // folder of a link's target has no name without links.
-fn can_be_removed<R: Files<File = File>>(rt: &R, alloc: Global, name: &str) -> io::Result<()> {
+fn check_removable<R: Files<File = File>>(rt: &R, alloc: Global, name: &str) -> io::Result<()> {
     let mut link = PathBuf::from_str(alloc, name)?;
-    for _ in 0..MOST_LINKS {
+    for _ in 0..MAX_LINKS {
         match fs::symlink_metadata(rt, link.as_str()) {
             Ok(found) if found.is_symlink() => {}
             _ => break,

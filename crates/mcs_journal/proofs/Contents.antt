@@ -8,7 +8,7 @@ use Rattle.mcs_journal.specs.Writing.{IsArea, IsCommitOffset}
 use Rattle.mcs_journal.specs.declared.format.TheConstants.{NAME, ZEROS}
 use Rattle.mcs_journal.specs.declared.slot.Slot.{Slot}
 use Rattle.mcs_journal.specs.declared.slot.Slot.TheVariants.{A, B}
-use Rattle.mcs_journal.proofs.Parts.{length-part, part_same, part_torn, part_part, part_at}
+use Rattle.mcs_journal.proofs.ByteRanges.{length-part, part_same, part_torn, part_part, part_at}
 use Rattle.mcs_journal.proofs.Logs.{after_commit, IsStaged, staged, commit_torn, commit_either}
 
 pub start_bounds : (slot : Slot) → (16 ≤ start_of slot) × (start_of slot ≤ 81936)
@@ -24,15 +24,15 @@ same_slot f c selector = ap (λ (t : ℕ). start_of (slot_named t)) selector
 
 -- a file with the same header and active snapshot as another file, and with a log of the records
 -- `news`
-pub holds_on : (f c snap : List ℕ) (rs news : List (List ℕ)) → Holds f snap rs → length c ≡ length f → slot_at c ≡ slot_at f → part 0 8 c ≡ part 0 8 f → part 9 7 c ≡ part 9 7 f
+pub holds_with_log : (f c snap : List ℕ) (rs news : List (List ℕ)) → Holds f snap rs → length c ≡ length f → slot_at c ≡ slot_at f → part 0 8 c ≡ part 0 8 f → part 9 7 c ≡ part 9 7 f
     → ((lo k : ℕ) → slot_at f ≤ lo → lo + k ≤ slot_at f + 16384 → part lo k c ≡ part lo k f) → IsLog news (part (slot_at f + 16384) 65536 c) → Holds c snap news
-holds_on f c snap rs news old sized slot name zeros same log = record {
+holds_with_log f c snap rs news old sized slot name zeros same log = record {
   size = sized ∙ old.size;
   name = name ∙ old.name;
   zeros = zeros ∙ old.zeros;
-  short = old.short;
+  within_limit = old.within_limit;
   snap_length = ap (λ (s : ℕ). part s 4 c) slot ∙ same (slot_at f) 4 (omega arith) (omega arith) ∙ old.snap_length;
-  snap_bytes = ap (λ (s : ℕ). part (s + 4) (length snap) c) slot ∙ same (slot_at f + 4) (length snap) (omega arith) (omega (arith, old.short)) ∙ old.snap_bytes;
+  snap_bytes = ap (λ (s : ℕ). part (s + 4) (length snap) c) slot ∙ same (slot_at f + 4) (length snap) (omega arith) (omega (arith, old.within_limit)) ∙ old.snap_bytes;
   log = subst (λ (s : ℕ). IsLog news (part (s + 16384) 65536 c)) (sym slot) log;
 }
 
@@ -44,29 +44,29 @@ area_holds c snap area long name zeros is_area there =
     let flat_log : slot_at c + 16384 + 0 ≡ slot_at c + 16384 = omega arith in
     let inner : (j n m : ℕ) → 16385 ≡ j + m → n ≤ m → part (slot_at c + j) n c ≡ part j n area = λ j n m is le. sym (part_part (slot_at c) 16385 j n m c is le) ∙ ap (part j n) there in
     let sized : length log ≡ 65536 = length-part (slot_at c + 16384) 65536 c (omega (arith, slot_bounds c, long)) in
-    let closed : get_or log 0 0 ≡ 0 = part_at (slot_at c + 16384) 65536 c 0 (omega arith) ∙ ap (λ (i : ℕ). get_or c i 0) flat_log
-    ∙ sym (part_at (slot_at c) 16385 c 16384 (omega arith)) ∙ ap (λ (l : List ℕ). get_or l 16384 0) there ∙ is_area.closed in
+    let ends_log : get_or log 0 0 ≡ 0 = part_at (slot_at c + 16384) 65536 c 0 (omega arith) ∙ ap (λ (i : ℕ). get_or c i 0) flat_log
+    ∙ sym (part_at (slot_at c) 16385 c 16384 (omega arith)) ∙ ap (λ (l : List ℕ). get_or l 16384 0) there ∙ is_area.ends_log in
     record {
       size = long;
       name = name;
       zeros = zeros;
-      short = is_area.short;
+      within_limit = is_area.within_limit;
       snap_length = ap (λ (p : ℕ). part p 4 c) flat ∙ inner 0 4 16385 (omega arith) (omega arith) ∙ is_area.snap_length;
-      snap_bytes = inner 4 (length snap) 16381 (omega arith) (omega (arith, is_area.short)) ∙ is_area.snap_bytes;
-      log = record { commit_byte = 0; rest = drop 1 log; is = drop_more log 0 0 (omega (arith, sized)) ∙ ap (λ (q : ℕ). q ∷ drop 1 log) closed; closed = λ no. cc; records_ok = tt };
+      snap_bytes = inner 4 (length snap) 16381 (omega arith) (omega (arith, is_area.within_limit)) ∙ is_area.snap_bytes;
+      log = record { commit_byte = 0; rest = drop 1 log; is = drop_more log 0 0 (omega (arith, sized)) ∙ ap (λ (q : ℕ). q ∷ drop 1 log) ends_log; ends_log = λ no. cc; records_ok = tt };
     }
 
 -- a write inside the active log changes only the list of records
-kept_outside : (f c snap : List ℕ) (rs news : List (List ℕ)) (at n : ℕ) → Holds f snap rs → Torn at n f c → slot_at f + 16384 ≤ at → IsLog news (part (slot_at f + 16384) 65536 c) → Holds c snap news
-kept_outside f c snap rs news at n old torn after log =
+log_write_keeps_rest : (f c snap : List ℕ) (rs news : List (List ℕ)) (at n : ℕ) → Holds f snap rs → Torn at n f c → slot_at f + 16384 ≤ at → IsLog news (part (slot_at f + 16384) 65536 c) → Holds c snap news
+log_write_keeps_rest f c snap rs news at n old torn after log =
     let bounds = slot_bounds f in
     let same : (lo k : ℕ) → lo + k ≤ at → part lo k c ≡ part lo k f = λ lo k le. part_same at n lo k f c torn (inl le) in
-    holds_on f c snap rs news old torn.size (same_slot f c (torn.before 8 (omega (arith, after, bounds.0)))) (same 0 8 (omega (arith, after))) (same 9 7 (omega (arith, after)))
+    holds_with_log f c snap rs news old torn.size (same_slot f c (torn.before 8 (omega (arith, after, bounds.0)))) (same 0 8 (omega (arith, after))) (same 9 7 (omega (arith, after)))
     (λ lo k from to. same lo k (omega (arith, after, to))) log
 
 -- `from` encodes the record `r` and a commit byte of 0, to be written after the commit byte at
 -- `commit_at`.
-module _ (f snap r from : List ℕ) (rs : List (List ℕ)) (commit_at : ℕ) (spells : from ≡ be16 (length r) ++ r ++ 0 ∷ []) (old : Holds f snap rs) (at_commit : IsCommitOffset f rs commit_at (length r)) (good : IsRecord r) where
+module _ (f snap r from : List ℕ) (rs : List (List ℕ)) (commit_at : ℕ) (spells : from ≡ be16 (length r) ++ r ++ 0 ∷ []) (old : Holds f snap rs) (at_commit : IsCommitOffset f rs commit_at (length r)) (valid_length : IsRecord r) where
   abbrev lo : ℕ
   lo = slot_at f + 16384
 
@@ -81,7 +81,7 @@ module _ (f snap r from : List ℕ) (rs : List (List ℕ)) (commit_at : ℕ) (sp
 
   -- any bytes after the commit byte leave the contents unchanged
   pub first_torn : (c : List ℕ) → Torn (commit_at + 1) (length from) f c → Holds c snap rs
-  first_torn c torn = kept_outside f c snap rs rs (commit_at + 1) (length from) old torn (omega (arith, at_commit.at)) (after_commit rs (length from) _ _ old.log (log_torn c torn))
+  first_torn c torn = log_write_keeps_rest f c snap rs rs (commit_at + 1) (length from) old torn (omega (arith, at_commit.at)) (after_commit rs (length from) _ _ old.log (log_torn c torn))
 
   first_staged : (c : List ℕ) → Torn (commit_at + 1) (length from) f c → part (commit_at + 1) (length from) c ≡ from → IsStaged rs r (part lo 65536 c)
   first_staged c torn here =
@@ -100,10 +100,10 @@ module _ (f snap r from : List ℕ) (rs : List (List ℕ)) (commit_at : ℕ) (sp
     commit_torn_log = part_torn commit_at 1 lo 65536 (length (frames_of rs)) g c torn (omega (arith, fits, first.size)) at_commit.at (omega (arith, at_commit.room))
 
     lift : (news : List (List ℕ)) → IsLog news (part lo 65536 c) → Holds c snap news
-    lift news log = kept_outside g c snap rs news commit_at 1 (first_torn g first) torn (omega (arith, at_commit.at, slot_stays)) (subst (λ (s : ℕ). IsLog news (part (s + 16384) 65536 c)) (sym slot_stays) log)
+    lift news log = log_write_keeps_rest g c snap rs news commit_at 1 (first_torn g first) torn (omega (arith, at_commit.at, slot_stays)) (subst (λ (s : ℕ). IsLog news (part (s + 16384) 65536 c)) (sym slot_stays) log)
 
     pub second_torn : Holds c snap rs ⊎ Holds c snap (rs ++ r ∷ [])
-    second_torn = elim (commit_torn rs r _ _ (first_staged g first here) good commit_torn_log) [ inl a ↦ inl (lift rs a) | inr b ↦ inr (lift (rs ++ r ∷ []) b) ]
+    second_torn = elim (commit_torn rs r _ _ (first_staged g first here) valid_length commit_torn_log) [ inl a ↦ inl (lift rs a) | inr b ↦ inr (lift (rs ++ r ∷ []) b) ]
 
     pub second_done : part commit_at 1 c ≡ 1 ∷ [] → Holds c snap (rs ++ r ∷ [])
     second_done one =
@@ -111,4 +111,4 @@ module _ (f snap r from : List ℕ) (rs : List (List ℕ)) (commit_at : ℕ) (sp
         let at_file : get_or (part commit_at 1 c) 0 0 ≡ get_or c (commit_at + 0) 0 = part_at commit_at 1 c 0 (omega arith) in
         let place : lo + length (frames_of rs) ≡ commit_at + 0 = omega (arith, at_commit.at) in
         let is_one : get_or (part lo 65536 c) (length (frames_of rs)) 0 ≡ 1 = at_log ∙ ap (λ (i : ℕ). get_or c i 0) place ∙ sym at_file ∙ ap (λ (l : List ℕ). get_or l 0 0) one in
-        let by = commit_either rs r _ _ (first_staged g first here) good commit_torn_log in lift (rs ++ r ∷ []) (by.0 is_one)
+        let by = commit_either rs r _ _ (first_staged g first here) valid_length commit_torn_log in lift (rs ++ r ∷ []) (by.0 is_one)

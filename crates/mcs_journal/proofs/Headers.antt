@@ -8,7 +8,7 @@ use Rattle.mcs_journal.specs.File.{slot_named}
 use Rattle.mcs_journal.specs.declared.format.TheConstants.{NAME, ZEROS}
 use Rattle.mcs_journal.specs.Writing.{IsHeader}
 use Rattle.mcs_journal.specs.declared.slot.Slot.{Slot}
-use Rattle.mcs_journal.proofs.Parts.{part_part, part_at}
+use Rattle.mcs_journal.proofs.ByteRanges.{part_part, part_at}
 
 pub same_bytes : (xs ys : List ℕ) → false ≡ not (bytes_eq xs ys) → xs ≡ ys
 same_bytes xs ys e = let decides = bytes_eq-Decides xs ys in decides.0 (not-false (bytes_eq xs ys) (sym e))

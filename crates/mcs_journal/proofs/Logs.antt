@@ -4,7 +4,7 @@ use Rattle.std.proofs.lemmas.List.{append-nil, drop_at}
 use Rattle.std.proofs.lemmas.Bool.{cases_eq}
 use Rattle.mcs_disk.specs.Disk.{part, Torn}
 use Rattle.mcs_journal.specs.File.{IsLog, frames_of, frame_of, be16, AreRecords, IsRecord}
-use Rattle.mcs_journal.proofs.Parts.{starts_as, but_one}
+use Rattle.mcs_journal.proofs.ByteRanges.{begins_with, differs_in_one_byte}
 
 pub length-framed : (r : List ℕ) → length (frame_of r) ≡ length r + 3
 length-framed r = omega arith
@@ -24,12 +24,12 @@ after_commit rs n log c old torn =
     let as_p : log ≡ p ++ old.rest = old.is ∙ sym (append_assoc (frames_of rs) (old.commit_byte ∷ []) old.rest) in
     let long : length p ≡ length (frames_of rs) + 1 = omega (arith, length-append (frames_of rs) (old.commit_byte ∷ [])) in
     let fits : length p ≤ length c = omega (arith, torn.size, ap length as_p, length-append p old.rest) in
-    let is : c ≡ p ++ drop (length p) c = starts_as p old.rest c fits (λ i lt. torn.before i (omega (arith, lt, long)) ∙ ap (λ (l : List ℕ). get_or l i 0) as_p) in
+    let is : c ≡ p ++ drop (length p) c = begins_with p old.rest c fits (λ i lt. torn.before i (omega (arith, lt, long)) ∙ ap (λ (l : List ℕ). get_or l i 0) as_p) in
     record {
       commit_byte = old.commit_byte;
       rest = drop (length p) c;
       is = is ∙ append_assoc (frames_of rs) (old.commit_byte ∷ []) (drop (length p) c);
-      closed = old.closed;
+      ends_log = old.ends_log;
       records_ok = old.records_ok;
     }
 
@@ -58,7 +58,7 @@ staged rs r from log c spells old torn here =
 
 -- the commit byte decides whether the record after it counts
 pub commit_set : (rs : List (List ℕ)) (r rest : List ℕ) (commit_byte : ℕ) → AreRecords rs → IsRecord r → commit_byte ≡ 1 → IsLog (rs ++ r ∷ []) (frames_of rs ++ commit_byte ∷ ((be16 (length r) ++ r ++ 0 ∷ []) ++ rest))
-commit_set rs r rest commit_byte ok good one = record {
+commit_set rs r rest commit_byte ok valid_length one = record {
   commit_byte = 0;
   rest = rest;
   is =
@@ -66,22 +66,22 @@ commit_set rs r rest commit_byte ok good one = record {
       ∙ ap (λ (l : List ℕ). frames_of rs ++ l) (append_assoc (frame_of r) (0 ∷ []) rest)
       ∙ sym (append_assoc (frames_of rs) (frame_of r) (0 ∷ rest))
       ∙ ap (λ (l : List ℕ). l ++ 0 ∷ rest) (sym (spelled-push rs r));
-  closed = λ no. cc;
-  records_ok = AreRecords-push rs r ok good;
+  ends_log = λ no. cc;
+  records_ok = AreRecords-push rs r ok valid_length;
 }
 
 pub commit_either : (rs : List (List ℕ)) (r log c : List ℕ) → IsStaged rs r log → IsRecord r → Torn (length (frames_of rs)) 1 log c → (get_or c (length (frames_of rs)) 0 ≡ 1 → IsLog (rs ++ r ∷ []) c) × (get_or c (length (frames_of rs)) 0 ≢ 1 → IsLog rs c)
-commit_either rs r log c old good torn =
+commit_either rs r log c old valid_length torn =
     let bytes = (be16 (length r) ++ r ++ 0 ∷ []) ++ old.rest in
     let g = get_or c (length (frames_of rs)) 0 in
-    let is : c ≡ frames_of rs ++ g ∷ bytes = but_one (frames_of rs) bytes c old.commit_byte (torn.size ∙ ap length old.is)
+    let is : c ≡ frames_of rs ++ g ∷ bytes = differs_in_one_byte (frames_of rs) bytes c old.commit_byte (torn.size ∙ ap length old.is)
     (λ i lt. torn.before i lt ∙ ap (λ (l : List ℕ). get_or l i 0) old.is)
     (λ i le. torn.after i le ∙ ap (λ (l : List ℕ). get_or l i 0) old.is) in (
-      λ one. subst (IsLog (rs ++ r ∷ [])) (sym is) (commit_set rs r old.rest g old.records_ok good one),
-      λ shut. record { commit_byte = g; rest = bytes; is = is; closed = shut; records_ok = old.records_ok },
+      λ one. subst (IsLog (rs ++ r ∷ [])) (sym is) (commit_set rs r old.rest g old.records_ok valid_length one),
+      λ shut. record { commit_byte = g; rest = bytes; is = is; ends_log = shut; records_ok = old.records_ok },
     )
 
 pub commit_torn : (rs : List (List ℕ)) (r log c : List ℕ) → IsStaged rs r log → IsRecord r → Torn (length (frames_of rs)) 1 log c → IsLog rs c ⊎ IsLog (rs ++ r ∷ []) c
-commit_torn rs r log c old good torn =
-    let by = commit_either rs r log c old good torn in
+commit_torn rs r log c old valid_length torn =
+    let by = commit_either rs r log c old valid_length torn in
     elim (cases_eq (get_or c (length (frames_of rs)) 0) 1) [ inl one ↦ inr (by.0 one) | inr shut ↦ inl (by.1 shut) ]

@@ -4,8 +4,8 @@ use Rattle.std.proofs.lemmas.List.{drop-drop}
 use Rattle.std.proofs.Math.Seq.{take-add}
 use Rattle.mcs_disk.specs.Disk.{part}
 use Rattle.mcs_journal.specs.File.{be16}
-use Rattle.mcs_journal.specs.Writing.{IsNext, IsNoRecord}
-use Rattle.mcs_journal.proofs.Parts.{part_at, part_part}
+use Rattle.mcs_journal.specs.Writing.{IsRecordAt, HasNoRecordAt}
+use Rattle.mcs_journal.proofs.ByteRanges.{part_at, part_part}
 
 part_add : (at m n : ℕ) (f : List ℕ) → part at (m + n) f ≡ part at m f ++ part (at + m) n f
 part_add at m n f = take-add m n (drop at f) ∙ ap (λ (l : List ℕ). part at m f ++ take n l) (drop-drop m at f)
@@ -22,7 +22,7 @@ one (a ∷ []) long = refl
 one (a ∷ b ∷ p) long = absurd (omega arith)
 
 pub next_is : (f : List ℕ) (at n : ℕ) (commit_byte prefix r : List ℕ) → commit_byte ≡ part at 1 f → length commit_byte ≡ 1 → get_or commit_byte 0 0 ≡ 1 → prefix ≡ part (at + 1) 2 f → length prefix ≡ 2 → get_or prefix 1 0 < 256
-    → n ≡ get_or prefix 0 0 * 256 + get_or prefix 1 0 → r ≡ part (at + 3) n f → length r ≡ n → 1 ≤ n → n ≤ 8192 → IsNext f at r
+    → n ≡ get_or prefix 0 0 * 256 + get_or prefix 1 0 → r ≡ part (at + 3) n f → length r ≡ n → 1 ≤ n → n ≤ 8192 → IsRecordAt f at r
 next_is f at n commit_byte prefix r is_commit commit_long opened is_prefix prefix_long low is is_r r_long some few =
     let commit_is : part at 1 f ≡ 1 ∷ [] = sym is_commit ∙ one commit_byte commit_long ∙ ap (λ (x : ℕ). x ∷ []) opened in
     let high_is : get_or prefix 0 0 ≡ length r / 256 = omega (arith, is, r_long, low) in
@@ -31,7 +31,7 @@ next_is f at n commit_byte prefix r is_commit commit_long opened is_prefix prefi
     let count : length r + 3 ≡ 1 + (2 + n) = omega (arith, r_long) in
     let shift : at + 1 + 2 ≡ at + 3 = omega arith in
     record {
-      good = (omega arith, omega arith);
+      valid_length = (omega arith, omega arith);
       is =
           ap (λ (k : ℕ). part at k f) count
           ∙ part_add at 1 (2 + n) f
@@ -41,7 +41,7 @@ next_is f at n commit_byte prefix r is_commit commit_long opened is_prefix prefi
     }
 
 pub no_record : (f : List ℕ) (at room n : ℕ) (commit_byte prefix : List ℕ) → commit_byte ≡ part at 1 f → get_or commit_byte 0 0 ≡ 1 → prefix ≡ part (at + 1) 2 f
-    → n ≡ get_or prefix 0 0 * 256 + get_or prefix 1 0 → (1 ≤ n → n ≤ 8192 → n + 4 ≤ room → ⊥) → IsNoRecord f at room
+    → n ≡ get_or prefix 0 0 * 256 + get_or prefix 1 0 → (1 ≤ n → n ≤ 8192 → n + 4 ≤ room → ⊥) → HasNoRecordAt f at room
 no_record f at room n commit_byte prefix is_commit opened is_prefix is not_good =
     let place : at ≡ at + 0 = omega arith in
     record {
@@ -51,6 +51,6 @@ no_record f at room n commit_byte prefix is_commit opened is_prefix is not_good 
           let high : get_or prefix 0 0 ≡ length r / 256 = ap (λ (l : List ℕ). get_or l 0 0) prefix_is in
           let low : get_or prefix 1 0 ≡ length r % 256 = ap (λ (l : List ℕ). get_or l 1 0) prefix_is in
           let same : n ≡ length r = omega (arith, high, low, is) in
-          let good = next.good in
-          not_good (omega (arith, same, good.0)) (omega (arith, same, good.1)) (omega (arith, same, fits));
+          let valid_length = next.valid_length in
+          not_good (omega (arith, same, valid_length.0)) (omega (arith, same, valid_length.1)) (omega (arith, same, fits));
     }

@@ -1,7 +1,7 @@
 -- The calls on the disk that each method of a store makes. All lists of calls are newest first.
 -- (Our own choice.)
 use Rattle.std.specs.Prelude.{◌≡◌, ◌⊎◌, ◌+◌, ◌*◌, ℕ, List, [], ◌∷◌, ◌++◌, length, replicate, Result}
-use Rattle.mcs_disk.specs.CallList.{Makes}
+use Rattle.mcs_disk.specs.CallList.{MakesCalls}
 use Rattle.mcs_disk.specs.Calls.{DiskCall, Synced, WasRead, Wrote}
 use Rattle.mcs_journal.specs.File.{be16, start_of}
 use Rattle.mcs_journal.specs.Writing.{IsArea, selector_of}
@@ -16,13 +16,13 @@ abbrev pub commit_calls : ℕ → List ℕ → List DiskCall
 commit_calls at bytes = Synced ∷ Wrote at bytes ∷ []
 
 -- the given number of reads
-abbrev pub many_reads : ℕ → List DiskCall
-many_reads n = replicate n WasRead
+abbrev pub read_calls : ℕ → List DiskCall
+read_calls n = replicate n WasRead
 
 -- holds if `new` is `old` after zero or more reads
 pub record AreReads (old new : List DiskCall) : Type 0 where
   pub count : ℕ
-  pub all : new ≡ many_reads count ++ old
+  pub all : new ≡ read_calls count ++ old
 
 -- The calls that an `append` makes. The commit byte of the record is at `commit_at`. The first
 -- write has the record's length, the record, and a commit byte of 0. The second write sets the
@@ -48,27 +48,27 @@ create_calls area = commit_calls 0 FIRST_HEADER ++ commit_calls (start_of A) are
 -- reads: one of the header, two of the snapshot, three of each record, and one of the commit byte
 -- that ends the log.
 abbrev pub open_calls : ℕ → List DiskCall
-open_calls records = many_reads (4 + 3 * records) ++ Synced ∷ []
+open_calls records = read_calls (4 + 3 * records) ++ Synced ∷ []
 
--- holds if the calls `calls area` were made (`Makes`), for some area of this snapshot
+-- holds if the calls `calls area` were made (`MakesCalls`), for some area of this snapshot
 pub record MakesWithArea {T E : Type 0} (snap : List ℕ) (calls : List ℕ → List DiskCall)
     (old new : List DiskCall) (result : Result T E) : Type 0 where
   pub area : List ℕ
   pub is_area : IsArea snap area
-  pub made : Makes (calls area) old new result
+  pub made : MakesCalls (calls area) old new result
 
 -- Holds if a failed `create` turned the list of calls `old` into `new`. (The lists do not contain
 -- failed reads and syncs.)
-abbrev pub RefusedCreateCalls : {T E : Type 0} → StoreFault → List ℕ → List DiskCall → List DiskCall
+abbrev pub FailedCreateCalls : {T E : Type 0} → StoreFault → List ℕ → List DiskCall → List DiskCall
     → Result T E → Type 0
-RefusedCreateCalls store_fault.NotBlank snap old new result = (new ≡ old) ⊎ (new ≡ WasRead ∷ old)
-RefusedCreateCalls store_fault.Device snap old new result =
+FailedCreateCalls store_fault.NotBlank snap old new result = (new ≡ old) ⊎ (new ≡ WasRead ∷ old)
+FailedCreateCalls store_fault.Device snap old new result =
     (new ≡ old) ⊎ MakesWithArea snap create_calls (WasRead ∷ old) new result
-RefusedCreateCalls store_fault.NoMemory snap old new result = new ≡ old
-RefusedCreateCalls store_fault.NotASession snap old new result = ⊥
-RefusedCreateCalls store_fault.Damaged snap old new result = ⊥
+FailedCreateCalls store_fault.NoMemory snap old new result = new ≡ old
+FailedCreateCalls store_fault.NotASession snap old new result = ⊥
+FailedCreateCalls store_fault.Damaged snap old new result = ⊥
 
 -- holds if a failed `open` turned the list of calls `old` into `new`: it added no call, or a sync
 -- and then zero or more reads
-abbrev pub RefusedOpenCalls : List DiskCall → List DiskCall → Type 0
-RefusedOpenCalls old new = (new ≡ old) ⊎ AreReads (Synced ∷ old) new
+abbrev pub FailedOpenCalls : List DiskCall → List DiskCall → Type 0
+FailedOpenCalls old new = (new ≡ old) ⊎ AreReads (Synced ∷ old) new

@@ -53,7 +53,7 @@ pub record IsLog (records : List (List ℕ)) (log : List ℕ) : Type 0 where
   pub commit_byte : ℕ
   pub rest : List ℕ
   pub is : log ≡ frames_of records ++ commit_byte ∷ rest
-  pub closed : commit_byte ≢ 1
+  pub ends_log : commit_byte ≢ 1
   pub records_ok : AreRecords records
 
 -- Holds if a file holds this snapshot and these records. The file begins with the name, the
@@ -63,7 +63,7 @@ pub record Holds (file : List ℕ) (snap : List ℕ) (records : List (List ℕ))
   pub size : length file ≡ FILE_SIZE
   pub name : part 0 8 file ≡ NAME
   pub zeros : part 9 7 file ≡ ZEROS
-  pub short : length snap ≤ MOST_SNAPSHOT
+  pub within_limit : length snap ≤ MOST_SNAPSHOT
   pub snap_length : part (slot_at file) 4 file ≡ be32 (length snap)
   pub snap_bytes : part (slot_at file + 4) (length snap) file ≡ snap
   pub log : IsLog records (part (slot_at file + AREA_SIZE) LOG_SIZE file)

@@ -1,10 +1,10 @@
 -- The state of a store as contracts see it, and the invariant of its fields. (Our own choice.)
 use Rattle.std.specs.Prelude.{◌≡◌, ℕ, ◌+◌, ◌≤◌, Bool, List, length, IsTrue}
-use Rattle.mcs_disk.specs.CallList.{unsynced}
+use Rattle.mcs_disk.specs.CallList.{unsynced_writes}
 use Rattle.mcs_disk.specs.Disk.{DiskState, bytes_of, size_of}
 use Rattle.mcs_disk.specs.PowerCut.{IsDurable}
 use Rattle.mcs_journal.specs.File.{Holds, slot_of, frames_of}
-use Rattle.mcs_journal.specs.declared.format.TheConstants.{FILE_SIZE, LOG_SIZE, BUFFER_SIZE}
+use Rattle.mcs_journal.specs.declared.format.TheConstants.{FILE_SIZE, LOG_SIZE, AREA_WITH_COMMIT_SIZE}
 use Rattle.mcs_journal.specs.declared.slot.Slot.{Slot}
 
 pub record StoreView (D : Type 0) : Type 0 where
@@ -35,6 +35,6 @@ pub record IsStore (disk : DiskState) (live : Bool) (slot : Slot) (used : ℕ) (
     : Type 0 where
   pub disk_size : size_of disk ≡ FILE_SIZE
   pub within : used + 1 ≤ LOG_SIZE
-  pub room : length buffer ≡ BUFFER_SIZE
-  pub synced : IsTrue live → unsynced disk.calls ≡ 0
+  pub room : length buffer ≡ AREA_WITH_COMMIT_SIZE
+  pub synced : IsTrue live → unsynced_writes disk.calls ≡ 0
   pub intact : IsTrue live → disk.honest → IsIntactStore disk slot used

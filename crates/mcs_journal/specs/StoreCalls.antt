@@ -9,8 +9,8 @@ use Rattle.mcs_journal.specs.declared.fault.StoreFault.{StoreFault}
 use Rattle.mcs_journal.specs.declared.fault.StoreFault.TheVariants as store_fault
 
 -- holds if the bytes of the disk do not hold any snapshot with its records
-abbrev pub HoldsNone : DiskState → Type 0
-HoldsNone disk = (snap : List ℕ) (records : List (List ℕ)) → Holds (bytes_of disk) snap records → ⊥
+abbrev pub HoldsNoContents : DiskState → Type 0
+HoldsNoContents disk = (snap : List ℕ) (records : List (List ℕ)) → Holds (bytes_of disk) snap records → ⊥
 
 -- holds if `create` can return this error
 abbrev pub IsCreateFault : StoreFault → Type 0
@@ -29,31 +29,31 @@ IsOpenFault store_fault.NoMemory = Unit {0}
 IsOpenFault store_fault.NotBlank = ⊥
 
 -- what an error of `open` guarantees about the disk before the call
-abbrev pub RefusesOpen : StoreFault → DiskState → Type 0
-RefusesOpen store_fault.NotASession disk = IsNoSession disk
-RefusesOpen store_fault.Damaged disk = ¬ (IsNoSession disk) × HoldsNone disk
-RefusesOpen store_fault.Device disk = Unit {0}
-RefusesOpen store_fault.NoMemory disk = Unit {0}
-RefusesOpen store_fault.NotBlank disk = ⊥
+abbrev pub OpenErrorImplies : StoreFault → DiskState → Type 0
+OpenErrorImplies store_fault.NotASession disk = IsNoSession disk
+OpenErrorImplies store_fault.Damaged disk = ¬ (IsNoSession disk) × HoldsNoContents disk
+OpenErrorImplies store_fault.Device disk = Unit {0}
+OpenErrorImplies store_fault.NoMemory disk = Unit {0}
+OpenErrorImplies store_fault.NotBlank disk = ⊥
 
 -- holds if a successful `open` found this snapshot and these records on the disk `old`, wrote
 -- nothing, and left the disk durable
-pub record Opens (old new : DiskState) (snap : List ℕ) (records : List (List ℕ)) : Type 0 where
+pub record OpensStore (old new : DiskState) (snap : List ℕ) (records : List (List ℕ)) : Type 0 where
   pub holds : Holds (bytes_of old) snap records
-  pub rests : AddsNoImage old new
+  pub adds_no_image : AddsNoImage old new
   pub durable : IsDurable new
 
 -- what an error of `create` guarantees about the disk before and after the call
-abbrev pub RefusesCreate : StoreFault → DiskState → DiskState → Type 0
-RefusesCreate store_fault.NotBlank old new = ¬ (IsBlank old) × AddsNoImage old new
-RefusesCreate store_fault.Device old new = IsLater old new
-RefusesCreate store_fault.NoMemory old new = Unit {0}
-RefusesCreate store_fault.NotASession old new = ⊥
-RefusesCreate store_fault.Damaged old new = ⊥
+abbrev pub CreateErrorImplies : StoreFault → DiskState → DiskState → Type 0
+CreateErrorImplies store_fault.NotBlank old new = ¬ (IsBlank old) × AddsNoImage old new
+CreateErrorImplies store_fault.Device old new = IsLater old new
+CreateErrorImplies store_fault.NoMemory old new = Unit {0}
+CreateErrorImplies store_fault.NotASession old new = ⊥
+CreateErrorImplies store_fault.Damaged old new = ⊥
 
 -- holds if a successful `create` found a blank disk and, five ticks later, left it durable with
 -- this snapshot and no records
-pub record Creates (old new : DiskState) (snap : List ℕ) : Type 0 where
+pub record CreatesStore (old new : DiskState) (snap : List ℕ) : Type 0 where
   pub blank : IsBlank old
   pub holds : Holds (bytes_of new) snap []
   pub durable : IsDurable new

@@ -3,7 +3,7 @@ use Rattle.std.specs.Prelude.{◌≡◌, ℕ, ◌+◌, ◌≤◌, List, ◌⊎�
 use Rattle.mcs_disk.specs.Disk.{DiskState, IsLater, part, Torn, bytes_of, time_of, images_of, images_since}
 use Rattle.mcs_disk.specs.PowerCut.{IsDurable}
 use Rattle.mcs_journal.specs.File.{IsRecord, frame_of, frames_of, slot_at, be32, slot_of}
-use Rattle.mcs_journal.specs.declared.format.TheConstants.{AREA_SIZE, LOG_SIZE, MOST_SNAPSHOT, NAME, BUFFER_SIZE, ZEROS}
+use Rattle.mcs_journal.specs.declared.format.TheConstants.{AREA_SIZE, LOG_SIZE, MOST_SNAPSHOT, NAME, AREA_WITH_COMMIT_SIZE, ZEROS}
 use Rattle.mcs_journal.specs.declared.slot.Slot.{Slot}
 use Rattle.mcs_journal.specs.declared.slot.Slot.TheVariants.{A, B}
 
@@ -23,24 +23,24 @@ pub record IsCommitOffset (file : List ℕ) (records : List (List ℕ)) (commit_
   pub room : length (frames_of records) + n + 4 ≤ LOG_SIZE
 
 -- holds if the frame of this record starts at this offset, with a commit byte of 1
-pub record IsNext (file : List ℕ) (at : ℕ) (r : List ℕ) : Type 0 where
-  pub good : IsRecord r
+pub record IsRecordAt (file : List ℕ) (at : ℕ) (r : List ℕ) : Type 0 where
+  pub valid_length : IsRecord r
   pub is : part at (length r + 3) file ≡ frame_of r
 
 -- holds if the commit byte at this offset is 1, but no record follows it that fits into `room`
 -- bytes together with the next commit byte
-pub record IsNoRecord (file : List ℕ) (at room : ℕ) : Type 0 where
+pub record HasNoRecordAt (file : List ℕ) (at room : ℕ) : Type 0 where
   pub opened : slice_index file at ≡ 1
-  pub none : (r : List ℕ) → length r + 4 ≤ room → IsNext file at r → ⊥
+  pub none : (r : List ℕ) → length r + 4 ≤ room → IsRecordAt file at r → ⊥
 
 -- holds if `area` is a snapshot area of this snapshot, followed by a commit byte of 0; a single
 -- write puts it into a slot
 pub record IsArea (snap area : List ℕ) : Type 0 where
-  pub long : length area ≡ BUFFER_SIZE
-  pub short : length snap ≤ MOST_SNAPSHOT
+  pub long : length area ≡ AREA_WITH_COMMIT_SIZE
+  pub within_limit : length snap ≤ MOST_SNAPSHOT
   pub snap_length : part 0 4 area ≡ be32 (length snap)
   pub snap_bytes : part 4 (length snap) area ≡ snap
-  pub closed : slice_index area AREA_SIZE ≡ 0
+  pub ends_log : slice_index area AREA_SIZE ≡ 0
 
 -- holds if the file begins with a header whose selector names this slot
 pub record IsHeader (file : List ℕ) (slot : Slot) : Type 0 where
@@ -50,13 +50,13 @@ pub record IsHeader (file : List ℕ) (slot : Slot) : Type 0 where
 
 -- holds if the slot that starts at this offset holds this snapshot
 pub record IsSnapshot (file : List ℕ) (start : ℕ) (snap : List ℕ) : Type 0 where
-  pub short : length snap ≤ MOST_SNAPSHOT
+  pub within_limit : length snap ≤ MOST_SNAPSHOT
   pub snap_length : part start 4 file ≡ be32 (length snap)
   pub snap_bytes : part (start + 4) (length snap) file ≡ snap
 
 -- The effect of a write of these bytes, followed by a sync. Each image since the write began is one
 -- from before the write, or it differs from one only in the written range.
-pub record Commits {T E : Type 0} (at : ℕ) (bytes : List ℕ) (old new : DiskState)
+pub record CommitsBytes {T E : Type 0} (at : ℕ) (bytes : List ℕ) (old new : DiskState)
     (result : Result T E) : Type 0 where
   pub written : OnOk result (part at (length bytes) (bytes_of new) ≡ bytes)
   pub outside : Torn at (length bytes) (bytes_of old) (bytes_of new)

@@ -50,7 +50,7 @@ pub const SNAPSHOT_OFFSET: usize = 4;
 pub const LOG_SIZE: usize = 65_536;
 
 /// The size of a frame's header, which precedes the record: a commit byte and a two-byte length.
-pub const FRAME_HEAD: usize = 3;
+pub const FRAME_HEADER_SIZE: usize = 3;
 
 /// The value of a commit byte that makes the record after it count.
 pub const COMMITTED: u8 = 1;
@@ -60,4 +60,4 @@ pub const NOT_COMMITTED: u8 = 0;
 
 /// The size of a snapshot area and the first commit byte of the log after it. One write covers
 /// both.
-pub const BUFFER_SIZE: usize = AREA_SIZE + 1;
+pub const AREA_WITH_COMMIT_SIZE: usize = AREA_SIZE + 1;

@@ -2,9 +2,9 @@
 //! function states a law; the function itself does nothing.
 ghost use Rattle.std.specs.Prelude.{◌⊎◌, ◌≡◌, ◌∷◌, [], ℕ, List, codes};
 ghost use Rattle.mcs_disk.specs.Disk.{bytes_of, time_of};
-ghost use Rattle.mcs_disk.specs.Stretches.{Either, LeavesOnly};
+ghost use Rattle.mcs_disk.specs.Stretches.{SatisfiesEither, LeavesOnly};
 ghost use Rattle.mcs_disk.specs.PowerCut.{IsLeftByCut, IsDurable};
-ghost use Rattle.mcs_journal.specs.declared.format.TheConstants.{AREA_SIZE, COMMITTED, FILE_SIZE, FIRST_SLOT, HEADER_SIZE, LOG_SIZE, MOST_RECORD, MOST_SNAPSHOT, NAME, NOT_COMMITTED, FRAME_HEAD, SECOND_SLOT, SELECTOR_OFFSET, SNAPSHOT_OFFSET, BUFFER_SIZE, ZEROS, ZEROS_OFFSET};
+ghost use Rattle.mcs_journal.specs.declared.format.TheConstants.{AREA_SIZE, COMMITTED, FILE_SIZE, FIRST_SLOT, HEADER_SIZE, LOG_SIZE, MOST_RECORD, MOST_SNAPSHOT, NAME, NOT_COMMITTED, FRAME_HEADER_SIZE, SECOND_SLOT, SELECTOR_OFFSET, SNAPSHOT_OFFSET, AREA_WITH_COMMIT_SIZE, ZEROS, ZEROS_OFFSET};
 ghost use Rattle.mcs_journal.specs.File.{Holds, ContentsAreUnique};
 
 use mcs_disk::Disk;
@@ -18,12 +18,12 @@ use mcs_disk::Disk;
 /// - the offsets of the selector, the zeros, both slots, a snapshot in its area and a record in its
 ///   frame
 /// - the commit bytes, the name and the zeros of the header
-pub fn layout_is()
-    ensures sizes { FILE_SIZE ∷ HEADER_SIZE ∷ AREA_SIZE ∷ LOG_SIZE ∷ BUFFER_SIZE ∷ []
+pub fn layout_values()
+    ensures sizes { FILE_SIZE ∷ HEADER_SIZE ∷ AREA_SIZE ∷ LOG_SIZE ∷ AREA_WITH_COMMIT_SIZE ∷ []
         ≡ 163_856 ∷ 16 ∷ 16_384 ∷ 65_536 ∷ 16_385 ∷ [] }
-    ensures most { MOST_SNAPSHOT ∷ MOST_RECORD ∷ [] ≡ 16_380 ∷ 8_192 ∷ [] }
-    ensures places { SELECTOR_OFFSET ∷ ZEROS_OFFSET ∷ FIRST_SLOT ∷ SECOND_SLOT ∷ SNAPSHOT_OFFSET
-        ∷ FRAME_HEAD ∷ []
+    ensures limits { MOST_SNAPSHOT ∷ MOST_RECORD ∷ [] ≡ 16_380 ∷ 8_192 ∷ [] }
+    ensures offsets { SELECTOR_OFFSET ∷ ZEROS_OFFSET ∷ FIRST_SLOT ∷ SECOND_SLOT ∷ SNAPSHOT_OFFSET
+        ∷ FRAME_HEADER_SIZE ∷ []
         ≡ 8 ∷ 9 ∷ 16 ∷ 81_936 ∷ 4 ∷ 3 ∷ [] }
     ensures commit_bytes { COMMITTED ∷ NOT_COMMITTED ∷ [] ≡ 1 ∷ 0 ∷ [] }
     ensures name { NAME ≡ codes "MCS4BEN1" }
@@ -43,7 +43,7 @@ pub fn contents_are_unique()
 pub fn cut_leaves_old_or_new_contents<D: Disk, E: Disk>()
     ensures { (snap other : List ℕ) (records more : List (List ℕ)) (old new : D) (found : E)
         → LeavesOnly (D.state old) (D.state new)
-        (Either (λ c. Holds c snap records) (λ c. Holds c other more))
+        (SatisfiesEither (λ c. Holds c snap records) (λ c. Holds c other more))
         → IsLeftByCut (time_of (D.state old)) (D.state new) (E.state found)
         → Holds (bytes_of (E.state found)) snap records ⊎ Holds (bytes_of (E.state found)) other more }
 {}

@@ -5,16 +5,16 @@ ghost use Rattle.mcs_disk.specs.Changes.{ReadsOnly};
 ghost use Rattle.mcs_disk.specs.PowerCut.{IsDurable};
 ghost use Rattle.mcs_journal.specs.declared.format.TheConstants.{FILE_SIZE};
 ghost use Rattle.mcs_journal.specs.File.{Holds, IsLog, slot_of, frames_of};
-ghost use Rattle.mcs_disk.specs.CallList.{Makes};
+ghost use Rattle.mcs_disk.specs.CallList.{MakesCalls};
 ghost use Rattle.mcs_disk.specs.Calls.{WasRead};
-ghost use Rattle.mcs_journal.specs.Calls.{AreReads, RefusedOpenCalls, many_reads, open_calls};
-ghost use Rattle.mcs_journal.specs.Writing.{IsHeader, IsNext, IsNoRecord, IsSnapshot};
+ghost use Rattle.mcs_journal.specs.Calls.{AreReads, FailedOpenCalls, read_calls, open_calls};
+ghost use Rattle.mcs_journal.specs.Writing.{IsHeader, IsRecordAt, HasNoRecordAt, IsSnapshot};
 
 use crate::bytes::Bytes;
 use crate::fault::StoreFault;
 use crate::format::{
-    AREA_SIZE, COMMITTED, FRAME_HEAD, HEADER_SIZE, LOG_SIZE, MOST_RECORD, MOST_SNAPSHOT, NAME,
-    NAME_SIZE, SELECTOR_OFFSET, SNAPSHOT_OFFSET, ZEROS, ZEROS_OFFSET,
+    AREA_SIZE, COMMITTED, FRAME_HEADER_SIZE, HEADER_SIZE, LOG_SIZE, MOST_RECORD, MOST_SNAPSHOT,
+    NAME, NAME_SIZE, SELECTOR_OFFSET, SNAPSHOT_OFFSET, ZEROS, ZEROS_OFFSET,
 };
 use crate::slot::Slot;
 use mcs_disk::{Disk, DiskFault};
@@ -25,7 +25,7 @@ use std::alloc::Global;
 pub fn read_at<D: Disk>(disk: &mut D, at: usize, into: &mut [u8]) -> Result<(), DiskFault>
     requires { at + length into.old ≤ size_of (D.state disk.old) }
     ensures reads { ReadsOnly (D.state disk.old) (D.state disk.new) (IsErr result) }
-    ensures calls { Makes (WasRead ∷ []) (D.state disk.old).calls (D.state disk.new).calls result }
+    ensures calls { MakesCalls (WasRead ∷ []) (D.state disk.old).calls (D.state disk.new).calls result }
     ensures ticks { (D.state disk.old).honest
         → OnOk result (time_of (D.state disk.new) ≡ time_of (D.state disk.old) + 1) }
     ensures given { (D.state disk.old).honest
@@ -49,18 +49,18 @@ pub fn read_record<D: Disk>(
     ensures reads { ReadsOnly (D.state disk.old) (D.state disk.new)
         (IsErrOf result StoreFault.Device) }
     ensures calls { IfOk result (λ o. IfNone o
-        ((D.state disk.new).calls ≡ many_reads 1 ++ (D.state disk.old).calls)) }
+        ((D.state disk.new).calls ≡ read_calls 1 ++ (D.state disk.old).calls)) }
     ensures record_calls { IfOk result (λ o. IfSome o (λ r.
-        (D.state disk.new).calls ≡ many_reads 3 ++ (D.state disk.old).calls)) }
-    ensures refused_calls { OnErr result
+        (D.state disk.new).calls ≡ read_calls 3 ++ (D.state disk.old).calls)) }
+    ensures error_calls { OnErr result
         (AreReads (D.state disk.old).calls (D.state disk.new).calls) }
-    ensures fits_in { IfOk result (λ o. IfSome o (λ r. length r + 4 ≤ room)) }
-    ensures closed { (D.state disk.old).honest
+    ensures record_fits { IfOk result (λ o. IfSome o (λ r. length r + 4 ≤ room)) }
+    ensures ends_log { (D.state disk.old).honest
         → IfOk result (λ o. IfNone o (slice_index (bytes_of (D.state disk.old)) at ≢ 1)) }
     ensures next { (D.state disk.old).honest
-        → IfOk result (λ o. IfSome o (λ r. IsNext (bytes_of (D.state disk.old)) at r)) }
+        → IfOk result (λ o. IfSome o (λ r. IsRecordAt (bytes_of (D.state disk.old)) at r)) }
     ensures damaged { (D.state disk.old).honest → IsErrOf result StoreFault.Damaged
-        → IsNoRecord (bytes_of (D.state disk.old)) at room }
+        → HasNoRecordAt (bytes_of (D.state disk.old)) at room }
     ensures named { IsErrOf result StoreFault.NotASession → ⊥ }
     ensures not_blank { IsErrOf result StoreFault.NotBlank → ⊥ }
 {
@@ -69,17 +69,17 @@ pub fn read_record<D: Disk>(
     if commit_byte[0] != COMMITTED {
         return Ok(None);
     }
-    if room < FRAME_HEAD + 2 {
+    if room < FRAME_HEADER_SIZE + 2 {
         return Err(StoreFault::Damaged);
     }
     let mut prefix = [0u8; 2];
     read_at(disk, at + 1, &mut prefix)?;
     let len = prefix[0] as usize * 256 + prefix[1] as usize;
-    if len == 0 || len > MOST_RECORD || room < FRAME_HEAD + len + 1 {
+    if len == 0 || len > MOST_RECORD || room < FRAME_HEADER_SIZE + len + 1 {
         return Err(StoreFault::Damaged);
     }
     let mut bytes = vec![in alloc; 0u8; len]?;
-    read_at(disk, at + FRAME_HEAD, &mut bytes)?;
+    read_at(disk, at + FRAME_HEADER_SIZE, &mut bytes)?;
     Ok(Some(Bytes { bytes }))
 }
 
@@ -98,8 +98,8 @@ pub fn read_log<D: Disk>(alloc: Global, disk: &mut D, at: usize) -> Result<Log, 
     ensures reads { ReadsOnly (D.state disk.old) (D.state disk.new)
         (IsErrOf result StoreFault.Device) }
     ensures calls { IfOk result (λ log. (D.state disk.new).calls
-        ≡ many_reads (1 + 3 * length log.records.items) ++ (D.state disk.old).calls) }
-    ensures refused_calls { OnErr result
+        ≡ read_calls (1 + 3 * length log.records.items) ++ (D.state disk.old).calls) }
+    ensures error_calls { OnErr result
         (AreReads (D.state disk.old).calls (D.state disk.new).calls) }
     ensures within { IfOk result (λ log. log.used + 1 ≤ LOG_SIZE) }
     ensures found { (D.state disk.old).honest
@@ -114,7 +114,7 @@ pub fn read_log<D: Disk>(alloc: Global, disk: &mut D, at: usize) -> Result<Log, 
     let mut records = Vec::new(alloc);
     let mut used = 0;
     while let Some(record) = read_record(alloc, disk, at + used, LOG_SIZE - used)? {
-        used += record.bytes().len() + FRAME_HEAD;
+        used += record.bytes().len() + FRAME_HEADER_SIZE;
         records.push(record)?;
     }
     Ok(Log { records, used })
@@ -126,8 +126,8 @@ pub fn read_header<D: Disk>(disk: &mut D) -> Result<Slot, StoreFault>
     requires size { size_of (D.state disk.old) ≡ FILE_SIZE }
     ensures reads { ReadsOnly (D.state disk.old) (D.state disk.new)
         (IsErrOf result StoreFault.Device) }
-    ensures calls { OnOk result ((D.state disk.new).calls ≡ many_reads 1 ++ (D.state disk.old).calls) }
-    ensures refused_calls { OnErr result
+    ensures calls { OnOk result ((D.state disk.new).calls ≡ read_calls 1 ++ (D.state disk.old).calls) }
+    ensures error_calls { OnErr result
         (AreReads (D.state disk.old).calls (D.state disk.new).calls) }
     ensures header { (D.state disk.old).honest
         → IfOk result (λ slot. IsHeader (bytes_of (D.state disk.old)) slot) }
@@ -160,8 +160,8 @@ pub fn read_snapshot<D: Disk>(
     requires fits { size_of (D.state disk.old) < 2 ^ 64 }
     ensures reads { ReadsOnly (D.state disk.old) (D.state disk.new)
         (IsErrOf result StoreFault.Device) }
-    ensures calls { OnOk result ((D.state disk.new).calls ≡ many_reads 2 ++ (D.state disk.old).calls) }
-    ensures refused_calls { OnErr result
+    ensures calls { OnOk result ((D.state disk.new).calls ≡ read_calls 2 ++ (D.state disk.old).calls) }
+    ensures error_calls { OnErr result
         (AreReads (D.state disk.old).calls (D.state disk.new).calls) }
     ensures snap { (D.state disk.old).honest
         → IfOk result (λ snap. IsSnapshot (bytes_of (D.state disk.old)) start snap) }
@@ -183,7 +183,7 @@ pub fn read_snapshot<D: Disk>(
 
 /// The contents that were read from a disk, and the slot that holds them.
 #[derive(Drop)]
-pub struct Found {
+pub struct FoundContents {
     pub slot: Slot,
     pub snap: Bytes,
     pub log: Log,
@@ -193,14 +193,14 @@ pub struct Found {
 /// if the device fails, or if memory runs out.
 ///
 /// Without the sync, a power cut after the call could lose contents that the call has read.
-pub fn read_contents<D: Disk>(alloc: Global, disk: &mut D) -> Result<Found, StoreFault>
+pub fn read_contents<D: Disk>(alloc: Global, disk: &mut D) -> Result<FoundContents, StoreFault>
     requires size { size_of (D.state disk.old) ≡ FILE_SIZE }
     ensures reads { ReadsOnly (D.state disk.old) (D.state disk.new)
         (IsErrOf result StoreFault.Device) }
     ensures calls { IfOk result (λ found. (D.state disk.new).calls
         ≡ open_calls (length found.log.records.items) ++ (D.state disk.old).calls) }
-    ensures refused_calls { OnErr result
-        (RefusedOpenCalls (D.state disk.old).calls (D.state disk.new).calls) }
+    ensures error_calls { OnErr result
+        (FailedOpenCalls (D.state disk.old).calls (D.state disk.new).calls) }
     ensures within { IfOk result (λ found. found.log.used + 1 ≤ LOG_SIZE) }
     ensures durable { (D.state disk.old).honest → OnOk result (IsDurable (D.state disk.new)) }
     ensures active { (D.state disk.old).honest
@@ -224,5 +224,5 @@ pub fn read_contents<D: Disk>(alloc: Global, disk: &mut D) -> Result<Found, Stor
     let start = slot.start();
     let snap = read_snapshot(alloc, disk, start)?;
     let log = read_log(alloc, disk, start + AREA_SIZE)?;
-    Ok(Found { slot, snap, log })
+    Ok(FoundContents { slot, snap, log })
 }

@@ -3,18 +3,18 @@ ghost use Rattle.std.specs.Prelude.{◌≡◌, ◌≢◌, ◌⊎◌, ◌≤◌, 
 ghost use Rattle.mcs_disk.specs.Disk.{bytes_of, size_of, CountsFault};
 ghost use Rattle.mcs_disk.specs.Changes.{Changes};
 ghost use Rattle.mcs_disk.specs.Stretches.{AddsNoImage, WritesNothing};
-ghost use Rattle.mcs_journal.specs.StoreCalls.{Creates, IsCreateFault, IsOpenFault, Opens, RefusesCreate, RefusesOpen};
-ghost use Rattle.mcs_disk.specs.CallList.{Makes, OneUnsynced, unsynced};
+ghost use Rattle.mcs_journal.specs.StoreCalls.{CreatesStore, IsCreateFault, IsOpenFault, OpensStore, CreateErrorImplies, OpenErrorImplies};
+ghost use Rattle.mcs_disk.specs.CallList.{MakesCalls, AtMostOneUnsynced, unsynced_writes};
 ghost use Rattle.mcs_disk.specs.Calls.{WasRead};
 ghost use Rattle.mcs_journal.specs.declared.format.TheConstants.{AREA_SIZE, MOST_RECORD, MOST_SNAPSHOT};
 ghost use Rattle.mcs_journal.specs.File.{HasRoom, Holds, IsRecord, frames_of, slot_of, start_of};
-ghost use Rattle.mcs_journal.specs.Calls.{MakesWithArea, RefusedCreateCalls, RefusedOpenCalls, append_calls, create_calls, open_calls, replace_calls};
+ghost use Rattle.mcs_journal.specs.Calls.{MakesWithArea, FailedCreateCalls, FailedOpenCalls, append_calls, create_calls, open_calls, replace_calls};
 ghost use Rattle.mcs_journal.specs.Writing.{other_slot};
 
 use crate::bytes::{Bytes, Records};
 use crate::fault::StoreFault;
-use crate::format::{AREA_SIZE, BUFFER_SIZE, FILE_SIZE, FRAME_HEAD, LOG_SIZE};
-use crate::reading::{Found, Log, read_contents};
+use crate::format::{AREA_SIZE, AREA_WITH_COMMIT_SIZE, FILE_SIZE, FRAME_HEADER_SIZE, LOG_SIZE};
+use crate::reading::{FoundContents, Log, read_contents};
 use crate::slot::Slot;
 use crate::writing::{add_record, check_blank, replace_contents, write_first};
 use mcs_disk::{Disk, DiskFault};
@@ -61,17 +61,17 @@ impl<D: Disk + Drop> Store<D> {
     /// An error returns the disk; if the error is not `Device`, nothing was written. A power cut
     /// during the call can leave anything.
     pub fn create(alloc: Global, disk: D, snap: &[u8]) -> Result<Store<D>, (StoreFault, D)>
-        requires short { length snap.now ≤ MOST_SNAPSHOT }
+        requires within_limit { length snap.now ≤ MOST_SNAPSHOT }
 
         // the next clauses hold on any disk
         ensures live { IfOk result (λ store. IsTrue store.live × (store.used ≡ 0)) }
         ensures counts { IfOk result (λ store. CountsFault (D.state disk) (D.state store.disk) ⊥) }
-        ensures refusal_counts { IfErr result (λ refused.
+        ensures error_counts_fault { IfErr result (λ refused.
             CountsFault (D.state disk) (D.state refused.1) (refused.0 ≡ StoreFault.Device)) }
         ensures no_memory { IfErr result (λ refused.
             refused.0 ≡ StoreFault.NoMemory → refused.1 ≡ disk) }
-        ensures cases { IfErr result (λ refused. IsCreateFault refused.0) }
-        ensures unwritten { IfErr result (λ refused. refused.0 ≢ StoreFault.Device
+        ensures possible_errors { IfErr result (λ refused. IsCreateFault refused.0) }
+        ensures writes_nothing { IfErr result (λ refused. refused.0 ≢ StoreFault.Device
             → WritesNothing (D.state disk) (D.state refused.1)) }
         ensures wrong_size { size_of (D.state disk) ≢ FILE_SIZE → IsErrAnd result (λ refused.
             ((refused.0 ≡ StoreFault.NotBlank) ⊎ (refused.0 ≡ StoreFault.NoMemory))
@@ -79,21 +79,21 @@ impl<D: Disk + Drop> Store<D> {
         ensures slot { IfOk result (λ store. store.slot ≡ Slot.A) }
         ensures calls { IfOk result (λ store. MakesWithArea snap.now create_calls
             (WasRead ∷ (D.state disk).calls) (D.state store.disk).calls result) }
-        ensures refused_calls { IfErr result (λ refused. RefusedCreateCalls refused.0 snap.now
+        ensures error_calls { IfErr result (λ refused. FailedCreateCalls refused.0 snap.now
             (D.state disk).calls (D.state refused.1).calls result) }
-        ensures one_unsynced { unsynced (D.state disk).calls ≡ 0
-            → IfOk result (λ store. OneUnsynced (D.state disk).calls (D.state store.disk).calls) }
-        ensures refused_one_unsynced { unsynced (D.state disk).calls ≡ 0
-            → IfErr result (λ refused. OneUnsynced (D.state disk).calls
+        ensures one_unsynced { unsynced_writes (D.state disk).calls ≡ 0
+            → IfOk result (λ store. AtMostOneUnsynced (D.state disk).calls (D.state store.disk).calls) }
+        ensures error_one_unsynced { unsynced_writes (D.state disk).calls ≡ 0
+            → IfErr result (λ refused. AtMostOneUnsynced (D.state disk).calls
             (D.state refused.1).calls) }
 
         // the next clauses hold on an honest disk
         ensures created { (D.state disk).honest → IfOk result (λ store.
-            Creates (D.state disk) (D.state store.disk) snap.now) }
+            CreatesStore (D.state disk) (D.state store.disk) snap.now) }
         ensures refused { (D.state disk).honest → IfErr result (λ refused.
-            RefusesCreate refused.0 (D.state disk) (D.state refused.1)) }
+            CreateErrorImplies refused.0 (D.state disk) (D.state refused.1)) }
     {
-        let mut buffer = match vec![in alloc; 0u8; BUFFER_SIZE] {
+        let mut buffer = match vec![in alloc; 0u8; AREA_WITH_COMMIT_SIZE] {
             Ok(buffer) => buffer,
             Err(_) => return Err((StoreFault::NoMemory, disk)),
         };
@@ -124,34 +124,34 @@ impl<D: Disk + Drop> Store<D> {
         ensures live { IfOk result (λ opened. IsTrue opened.store.live) }
         ensures counts { IfOk result (λ opened.
             CountsFault (D.state disk) (D.state opened.store.disk) ⊥) }
-        ensures refusal_counts { IfErr result (λ refused.
+        ensures error_counts_fault { IfErr result (λ refused.
             CountsFault (D.state disk) (D.state refused.1) (refused.0 ≡ StoreFault.Device)) }
-        ensures cases { IfErr result (λ refused. IsOpenFault refused.0) }
-        ensures unwritten { IfOk result (λ opened.
+        ensures possible_errors { IfErr result (λ refused. IsOpenFault refused.0) }
+        ensures writes_nothing { IfOk result (λ opened.
             WritesNothing (D.state disk) (D.state opened.store.disk)) }
-        ensures refused_unwritten { IfErr result (λ refused.
+        ensures error_writes_nothing { IfErr result (λ refused.
             WritesNothing (D.state disk) (D.state refused.1)) }
         ensures wrong_size { size_of (D.state disk) ≢ FILE_SIZE → IsErrAnd result (λ refused.
             ((refused.0 ≡ StoreFault.NotASession) ⊎ (refused.0 ≡ StoreFault.NoMemory))
             × (refused.1 ≡ disk)) }
         ensures calls { IfOk result (λ opened. (D.state opened.store.disk).calls
             ≡ open_calls (length opened.records) ++ (D.state disk).calls) }
-        ensures refused_calls { IfErr result (λ refused.
-            RefusedOpenCalls (D.state disk).calls (D.state refused.1).calls) }
+        ensures error_calls { IfErr result (λ refused.
+            FailedOpenCalls (D.state disk).calls (D.state refused.1).calls) }
         ensures one_unsynced { IfOk result (λ opened.
-            OneUnsynced (D.state disk).calls (D.state opened.store.disk).calls) }
-        ensures refused_one_unsynced { IfErr result (λ refused.
-            OneUnsynced (D.state disk).calls (D.state refused.1).calls) }
+            AtMostOneUnsynced (D.state disk).calls (D.state opened.store.disk).calls) }
+        ensures error_one_unsynced { IfErr result (λ refused.
+            AtMostOneUnsynced (D.state disk).calls (D.state refused.1).calls) }
 
         // the next clauses hold on an honest disk
         ensures opened { (D.state disk).honest → IfOk result (λ opened.
-            Opens (D.state disk) (D.state opened.store.disk) opened.snap opened.records) }
+            OpensStore (D.state disk) (D.state opened.store.disk) opened.snap opened.records) }
         ensures used { (D.state disk).honest → IfOk result (λ opened.
             opened.store.used ≡ length (frames_of opened.records)) }
         ensures refused { (D.state disk).honest → IfErr result (λ refused.
-            RefusesOpen refused.0 (D.state disk) × AddsNoImage (D.state disk) (D.state refused.1)) }
+            OpenErrorImplies refused.0 (D.state disk) × AddsNoImage (D.state disk) (D.state refused.1)) }
     {
-        let buffer = match vec![in alloc; 0u8; BUFFER_SIZE] {
+        let buffer = match vec![in alloc; 0u8; AREA_WITH_COMMIT_SIZE] {
             Ok(buffer) => buffer,
             Err(_) => return Err((StoreFault::NoMemory, disk)),
         };
@@ -160,7 +160,7 @@ impl<D: Disk + Drop> Store<D> {
         }
         let mut disk = disk;
         match read_contents(alloc, &mut disk) {
-            Ok(Found { slot, snap, log }) => {
+            Ok(FoundContents { slot, snap, log }) => {
                 let Log { records, used } = log;
                 let store = Store {
                     disk,
@@ -182,7 +182,7 @@ impl<D: Disk + Drop> Store<D> {
     /// Returns true if no call on the store has returned a device fault.
     pub fn is_open(&self) -> bool
         ensures is { result ≡ self.now.live }
-        ensures synced { IsTrue self.now.live → unsynced (D.state self.now.disk).calls ≡ 0 }
+        ensures synced { IsTrue self.now.live → unsynced_writes (D.state self.now.disk).calls ≡ 0 }
         ensures slot { IsTrue self.now.live → (D.state self.now.disk).honest
             → self.now.slot ≡ slot_of (bytes_of (D.state self.now.disk)) }
     {
@@ -199,25 +199,25 @@ impl<D: Disk + Drop> Store<D> {
             → Holds (bytes_of (D.state self.now.disk)) snap records
             → self.now.used ≡ length (frames_of records) }
     {
-        self.used + FRAME_HEAD + len + 1 <= LOG_SIZE
+        self.used + FRAME_HEADER_SIZE + len + 1 <= LOG_SIZE
     }
 
     /// Appends a record of 1 to 8,192 bytes to the log, which must have room for it. The store must
     /// be open. A device fault closes it.
     pub fn append(&mut self, payload: &[u8]) -> Result<(), DiskFault>
         requires live { IsTrue self.old.live }
-        requires good { IsRecord payload.now }
+        requires valid_length { IsRecord payload.now }
         requires room { HasRoom self.old.used (length payload.now) }
         ensures live { self.new.live ≡ is_ok result }
         ensures used { OnOk result (self.new.used ≡ self.old.used + 3 + length payload.now) }
-        ensures same_used { OnErr result (self.new.used ≡ self.old.used) }
+        ensures used_unchanged { OnErr result (self.new.used ≡ self.old.used) }
         ensures counts { CountsFault (D.state self.old.disk) (D.state self.new.disk)
             (IsErr result) }
         ensures slot { self.new.slot ≡ self.old.slot }
-        ensures calls { Makes (append_calls
+        ensures calls { MakesCalls (append_calls
             (start_of self.old.slot + AREA_SIZE + self.old.used) payload.now)
             (D.state self.old.disk).calls (D.state self.new.disk).calls result }
-        ensures one_unsynced { OneUnsynced (D.state self.old.disk).calls
+        ensures one_unsynced { AtMostOneUnsynced (D.state self.old.disk).calls
             (D.state self.new.disk).calls }
         ensures appends { (D.state self.old.disk).honest
             → (snap : List ℕ) (records : List (List ℕ))
@@ -229,7 +229,7 @@ impl<D: Disk + Drop> Store<D> {
         let commit_at = self.slot.start() + AREA_SIZE + self.used;
         match add_record(&mut self.disk, &mut self.buffer, commit_at, payload) {
             Ok(()) => {
-                self.used += payload.len() + FRAME_HEAD;
+                self.used += payload.len() + FRAME_HEADER_SIZE;
                 Ok(())
             }
             Err(fault) => {
@@ -243,17 +243,17 @@ impl<D: Disk + Drop> Store<D> {
     /// records. The store must be open. A device fault closes it.
     pub fn replace(&mut self, snap: &[u8]) -> Result<(), DiskFault>
         requires live { IsTrue self.old.live }
-        requires short { length snap.now ≤ MOST_SNAPSHOT }
+        requires within_limit { length snap.now ≤ MOST_SNAPSHOT }
         ensures live { self.new.live ≡ is_ok result }
         ensures used { OnOk result (self.new.used ≡ 0) }
-        ensures same_used { OnErr result (self.new.used ≡ self.old.used) }
+        ensures used_unchanged { OnErr result (self.new.used ≡ self.old.used) }
         ensures counts { CountsFault (D.state self.old.disk) (D.state self.new.disk)
             (IsErr result) }
         ensures slot { OnOk result (self.new.slot ≡ other_slot self.old.slot) }
         ensures same_slot { OnErr result (self.new.slot ≡ self.old.slot) }
         ensures calls { MakesWithArea snap.now (replace_calls (other_slot self.old.slot))
             (D.state self.old.disk).calls (D.state self.new.disk).calls result }
-        ensures one_unsynced { OneUnsynced (D.state self.old.disk).calls
+        ensures one_unsynced { AtMostOneUnsynced (D.state self.old.disk).calls
             (D.state self.new.disk).calls }
         ensures replaces { (D.state self.old.disk).honest
             → (old_snap : List ℕ) (records : List (List ℕ))

@@ -5,17 +5,17 @@ ghost use Rattle.std.specs.Prelude.{◌≡◌, ◌⊎◌, ◌≤◌, ◌+◌, Li
 ghost use Rattle.mcs_disk.specs.Disk.{CountsFault, bytes_of, size_of, time_of, IsLater};
 ghost use Rattle.mcs_disk.specs.Changes.{Changes, ReadsOnly};
 ghost use Rattle.mcs_disk.specs.PowerCut.{IsDurable};
-ghost use Rattle.mcs_journal.specs.declared.format.TheConstants.{FILE_SIZE, MOST_RECORD, MOST_SNAPSHOT, BUFFER_SIZE};
+ghost use Rattle.mcs_journal.specs.declared.format.TheConstants.{FILE_SIZE, MOST_RECORD, MOST_SNAPSHOT, AREA_WITH_COMMIT_SIZE};
 ghost use Rattle.mcs_journal.specs.File.{Holds, IsBlank, IsRecord, be16, slot_of};
-ghost use Rattle.mcs_disk.specs.CallList.{Makes};
+ghost use Rattle.mcs_disk.specs.CallList.{MakesCalls};
 ghost use Rattle.mcs_disk.specs.Calls.{WasRead};
 ghost use Rattle.mcs_journal.specs.Calls.{MakesWithArea, append_calls, commit_calls, create_calls, replace_calls};
-ghost use Rattle.mcs_journal.specs.Writing.{Commits, IsArea, IsCommitOffset, other_slot};
+ghost use Rattle.mcs_journal.specs.Writing.{CommitsBytes, IsArea, IsCommitOffset, other_slot};
 
 use crate::fault::StoreFault;
 use crate::format::{
-    AREA_SIZE, COMMITTED, FIRST_HEADER, FRAME_HEAD, HEADER_SIZE, NOT_COMMITTED, SELECTOR_OFFSET,
-    SNAPSHOT_OFFSET,
+    AREA_SIZE, COMMITTED, FIRST_HEADER, FRAME_HEADER_SIZE, HEADER_SIZE, NOT_COMMITTED,
+    SELECTOR_OFFSET, SNAPSHOT_OFFSET,
 };
 use crate::reading::read_at;
 use crate::slot::Slot;
@@ -25,10 +25,10 @@ use mcs_disk::{Disk, DiskFault};
 pub fn commit<D: Disk>(disk: &mut D, at: usize, from: &[u8]) -> Result<(), DiskFault>
     requires { at + length from.now ≤ size_of (D.state disk.old) }
     ensures call { CountsFault (D.state disk.old) (D.state disk.new) (IsErr result) }
-    ensures calls { Makes (commit_calls at from.now) (D.state disk.old).calls
+    ensures calls { MakesCalls (commit_calls at from.now) (D.state disk.old).calls
         (D.state disk.new).calls result }
     ensures commits { (D.state disk.old).honest
-        → Commits at from.now (D.state disk.old) (D.state disk.new) result }
+        → CommitsBytes at from.now (D.state disk.old) (D.state disk.new) result }
 {
     disk.write(at, from)?;
     disk.sync()
@@ -38,7 +38,7 @@ pub fn commit<D: Disk>(disk: &mut D, at: usize, from: &[u8]) -> Result<(), DiskF
 /// record, and a commit byte of 0.
 pub fn encode_record(buffer: &mut [u8], payload: &[u8])
     requires room { length payload.now + 3 ≤ length buffer.old }
-    requires short { length payload.now ≤ MOST_RECORD }
+    requires within_limit { length payload.now ≤ MOST_RECORD }
     ensures { take (length payload.now + 3) buffer.new ≡ be16
         (length payload.now) ++ payload.now ++ 0 ∷ [] }
 {
@@ -58,11 +58,11 @@ pub fn add_record<D: Disk>(
     payload: &[u8],
 ) -> Result<(), DiskFault>
     requires inside { commit_at + length payload.now + 4 ≤ size_of (D.state disk.old) }
-    requires small { size_of (D.state disk.old) ≡ FILE_SIZE }
+    requires file_size { size_of (D.state disk.old) ≡ FILE_SIZE }
     requires room { length payload.now + 3 ≤ length buffer.old }
-    requires good { IsRecord payload.now }
+    requires valid_length { IsRecord payload.now }
     ensures call { CountsFault (D.state disk.old) (D.state disk.new) (IsErr result) }
-    ensures calls { Makes (append_calls commit_at payload.now) (D.state disk.old).calls
+    ensures calls { MakesCalls (append_calls commit_at payload.now) (D.state disk.old).calls
         (D.state disk.new).calls result }
     ensures selector { (D.state disk.old).honest → 16 ≤ commit_at
         → slice_index (bytes_of (D.state disk.new)) 8 ≡ slice_index (bytes_of (D.state disk.old)) 8 }
@@ -74,14 +74,18 @@ pub fn add_record<D: Disk>(
         (λ c. Holds c snap (records ++ payload.now ∷ [])) result }
 {
     encode_record(buffer, payload);
-    commit(disk, commit_at + 1, &buffer[..payload.len() + FRAME_HEAD])?;
+    commit(
+        disk,
+        commit_at + 1,
+        &buffer[..payload.len() + FRAME_HEADER_SIZE],
+    )?;
     commit(disk, commit_at, &[COMMITTED])
 }
 
 /// Encodes a snapshot area and, after it, a commit byte of 0 into `buffer`.
 pub fn encode_snapshot(buffer: &mut [u8], snap: &[u8])
-    requires room { length buffer.old ≡ BUFFER_SIZE }
-    requires short { length snap.now ≤ MOST_SNAPSHOT }
+    requires room { length buffer.old ≡ AREA_WITH_COMMIT_SIZE }
+    requires within_limit { length snap.now ≤ MOST_SNAPSHOT }
     ensures { IsArea snap.now buffer.new }
 {
     let n = snap.len();
@@ -103,8 +107,8 @@ pub fn replace_contents<D: Disk>(
     snap: &[u8],
 ) -> Result<(), DiskFault>
     requires size { size_of (D.state disk.old) ≡ FILE_SIZE }
-    requires room { length buffer.old ≡ BUFFER_SIZE }
-    requires short { length snap.now ≤ MOST_SNAPSHOT }
+    requires room { length buffer.old ≡ AREA_WITH_COMMIT_SIZE }
+    requires within_limit { length snap.now ≤ MOST_SNAPSHOT }
     ensures call { CountsFault (D.state disk.old) (D.state disk.new) (IsErr result) }
     ensures calls { MakesWithArea snap.now (replace_calls other) (D.state disk.old).calls
         (D.state disk.new).calls result }
@@ -128,7 +132,7 @@ pub fn check_blank<D: Disk>(disk: &mut D) -> Result<(), StoreFault>
     requires size { size_of (D.state disk.old) ≡ FILE_SIZE }
     ensures reads { ReadsOnly (D.state disk.old) (D.state disk.new)
         (IsErrOf result StoreFault.Device) }
-    ensures calls { Makes (WasRead ∷ []) (D.state disk.old).calls (D.state disk.new).calls result
+    ensures calls { MakesCalls (WasRead ∷ []) (D.state disk.old).calls (D.state disk.new).calls result
         ⊎ (IsErrOf result StoreFault.NotBlank
         × ((D.state disk.new).calls ≡ WasRead ∷ (D.state disk.old).calls)) }
     ensures ticks { (D.state disk.old).honest
@@ -137,7 +141,7 @@ pub fn check_blank<D: Disk>(disk: &mut D) -> Result<(), StoreFault>
         → OnOk result (IsBlank (D.state disk.old)) }
     ensures not_blank { (D.state disk.old).honest → IsErrOf result StoreFault.NotBlank
         → IsBlank (D.state disk.old) → ⊥ }
-    ensures cases { IfErr result (λ fault. (fault ≡ StoreFault.NotBlank)
+    ensures possible_errors { IfErr result (λ fault. (fault ≡ StoreFault.NotBlank)
         ⊎ (fault ≡ StoreFault.Device)) }
 {
     let mut header = [0u8; HEADER_SIZE];
@@ -152,13 +156,13 @@ pub fn check_blank<D: Disk>(disk: &mut D) -> Result<(), StoreFault>
 /// slot. Fails if the device fails.
 pub fn write_first<D: Disk>(disk: &mut D, buffer: &mut [u8], snap: &[u8]) -> Result<(), DiskFault>
     requires size { size_of (D.state disk.old) ≡ FILE_SIZE }
-    requires room { length buffer.old ≡ BUFFER_SIZE }
-    requires short { length snap.now ≤ MOST_SNAPSHOT }
+    requires room { length buffer.old ≡ AREA_WITH_COMMIT_SIZE }
+    requires within_limit { length snap.now ≤ MOST_SNAPSHOT }
     ensures call { CountsFault (D.state disk.old) (D.state disk.new) (IsErr result) }
     ensures calls { MakesWithArea snap.now create_calls (D.state disk.old).calls
         (D.state disk.new).calls result }
-    ensures room { length buffer.new ≡ BUFFER_SIZE }
-    ensures goes_on { (D.state disk.old).honest
+    ensures room { length buffer.new ≡ AREA_WITH_COMMIT_SIZE }
+    ensures is_later { (D.state disk.old).honest
         → IsLater (D.state disk.old) (D.state disk.new) }
     ensures ticks { (D.state disk.old).honest
         → OnOk result (time_of (D.state disk.new) ≡ time_of (D.state disk.old) + 4) }

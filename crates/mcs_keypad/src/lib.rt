@@ -5,7 +5,7 @@ ghost use Rattle.std.specs.Prelude.{◌≡◌, ◌+◌, ◌<◌, ◌≤◌, All,
 ghost use Rattle.mcs_nibble.specs.Bits.{nibble_of};
 ghost use Rattle.mcs_model.specs.Boards.{key_count};
 ghost use Rattle.mcs_model.specs.Levels.{is_pulled_by, bit_when};
-ghost use Rattle.mcs_keypad.specs.Keys.{matrix_on};
+ghost use Rattle.mcs_keypad.specs.Keys.{matrix_of_board};
 
 mod scanned;
 
@@ -24,13 +24,13 @@ pub struct KeyPad {
 }
 
 impl Model for KeyPad {
-    ghost use Rattle.mcs_keypad.specs.Keys.{KeyState, IsScanned, matrix_on};
+    ghost use Rattle.mcs_keypad.specs.Keys.{KeyState, MatchesMatrix, matrix_of_board};
 
     ghost Value = { KeyState };
 
     ghost view = { λ k. record { board = k.board; down = k.keys.down } };
 
-    ghost invariant = { λ k. IsScanned (matrix_on k.board) k.keys };
+    ghost invariant = { λ k. MatchesMatrix (matrix_of_board k.board) k.keys };
 }
 
 impl KeyPad {
@@ -40,7 +40,7 @@ impl KeyPad {
     {
         let keys = match &board.parts().keys {
             Some(matrix) => ScannedKeys::of(matrix),
-            None => ScannedKeys::none(),
+            None => ScannedKeys::without_keys(),
         };
         KeyPad { board, keys }
     }
@@ -85,14 +85,14 @@ impl KeyPad {
     /// Returns a nibble in which bit k is 1 if a key pulls line k of ROM `chip` to 1. `bits` is the chain that drives
     /// the rows of the key matrix. It must have a bit for each row.
     #[inline]
-    pub fn pulls<const MAX: usize>(&self, bits: &Chain<MAX>, chip: Nibble) -> Nibble
-        requires { (matrix_on self.now.board).first + (matrix_on self.now.board).rows
+    pub fn lines_pulled<const MAX: usize>(&self, bits: &Chain<MAX>, chip: Nibble) -> Nibble
+        requires { (matrix_of_board self.now.board).first + (matrix_of_board self.now.board).rows
             ≤ length bits.now }
         ensures { result ≡ nibble_of (λ k.
-            bit_when (is_pulled_by bits.now self.now.down (matrix_on self.now.board) chip k)) }
+            bit_when (is_pulled_by bits.now self.now.down (matrix_of_board self.now.board) chip k)) }
     {
         match &self.board.parts().keys {
-            Some(matrix) => self.keys.pulls(matrix, bits, chip),
+            Some(matrix) => self.keys.lines_pulled(matrix, bits, chip),
             None => Nibble::ZERO,
         }
     }

@@ -8,8 +8,8 @@ ghost use Rattle.std.specs.Prelude.{◌≡◌, ℕ, ◌+◌, ◌*◌, ◌/◌, �
 ghost use Rattle.std.specs.List.{list_any, range_with_len};
 ghost use Rattle.mcs_nibble.specs.Bits.{nibble_of};
 ghost use Rattle.mcs_model.specs.declared.board.Line.TheVariants.{Rom};
-ghost use Rattle.mcs_model.specs.Levels.{is_rom_line, drives, is_pulled_by, bit_when};
-ghost use Rattle.mcs_keypad.specs.Keys.{no_matrix, IsByteOf, IsScanned, is_down};
+ghost use Rattle.mcs_model.specs.Levels.{is_rom_line, row_drives_column, is_pulled_by, bit_when};
+ghost use Rattle.mcs_keypad.specs.Keys.{empty_matrix, IsColumnMask, MatchesMatrix, is_down};
 
 use arrayvec::ArrayVec;
 use mcs_model::board::{KeyMatrix, Line};
@@ -19,10 +19,10 @@ use mcs_shift4003::Chain;
 use std::marker::Model;
 
 // The number of row masks: one for each key row.
-const ROW_BYTES: usize = KEY_ROWS as usize;
+const ROW_MASKS: usize = KEY_ROWS as usize;
 
 // The number of line masks: one for each line of each ROM.
-const ROM_LINE_BYTES: usize = 4 * ROMS;
+const LINE_MASKS: usize = 4 * ROMS;
 
 /// The key states of a matrix, and the column masks of its rows and of all ROM lines. In a column mask, bit j
 /// represents column j.
@@ -31,9 +31,9 @@ pub(crate) struct ScannedKeys {
     // The key states, row by row.
     down: ArrayVec<Bit, KEYS>,
     // For each row, the mask of the columns in which its key is down.
-    rows: [u8; ROW_BYTES],
+    rows: [u8; ROW_MASKS],
     // At index 4 * c + k, the mask of the columns that pull line k of ROM c.
-    lines: [u8; ROM_LINE_BYTES],
+    lines: [u8; LINE_MASKS],
 }
 
 impl Model for ScannedKeys {
@@ -41,11 +41,11 @@ impl Model for ScannedKeys {
 
     ghost Value = { ScannedState };
 
-    ghost view = { λ k. record { down = k.down.items; row_bytes = k.rows; line_bytes = k.lines } };
+    ghost view = { λ k. record { down = k.down.items; row_masks = k.rows; line_masks = k.lines } };
 }
 
 /// Returns true if `column`, the line that a key column pulls, is line `k` of ROM `chip`.
-fn is_named(column: Line, chip: u8, k: u8) -> bool
+fn matches_rom_line(column: Line, chip: u8, k: u8) -> bool
     ensures { result ≡ is_rom_line chip k column }
 {
     match column {
@@ -67,10 +67,10 @@ fn is_down(down: &[Bit], at: usize) -> bool
 
 /// Returns the column mask of a row with `columns` keys: bit j is 1 if key `from` + j is down. The first key of the
 /// row has index `from`. Bits from `columns` on are 0.
-fn row_byte(down: &[Bit], from: usize, columns: usize) -> u8
+fn row_mask(down: &[Bit], from: usize, columns: usize) -> u8
     requires columns { columns ≤ KEY_COLUMNS }
     requires from { from ≤ KEYS }
-    ensures { IsByteOf result columns (λ j. is_down down.now (from + j)) }
+    ensures { IsColumnMask result columns (λ j. is_down down.now (from + j)) }
 {
     let mut byte: u8 = 0;
     for j in 0..columns {
@@ -82,14 +82,14 @@ fn row_byte(down: &[Bit], from: usize, columns: usize) -> u8
 }
 
 /// Returns the column mask of one ROM line: bit j is 1 if column j pulls line `k` of ROM `chip`.
-fn line_byte(columns: &[Line], chip: u8, k: u8) -> u8
+fn line_mask(columns: &[Line], chip: u8, k: u8) -> u8
     requires { length columns.now ≤ KEY_COLUMNS }
-    ensures { IsByteOf result (length columns.now)
+    ensures { IsColumnMask result (length columns.now)
         (λ j. is_rom_line chip k (slice_index_or columns.now j (Rom 0 0))) }
 {
     let mut byte: u8 = 0;
     for j in 0..columns.len() {
-        if is_named(columns[j], chip, k) {
+        if matches_rom_line(columns[j], chip, k) {
             byte |= 1 << j;
         }
     }
@@ -97,40 +97,40 @@ fn line_byte(columns: &[Line], chip: u8, k: u8) -> u8
 }
 
 /// Returns the column mask of each of the first `rows` rows: bit j is 1 if the row's key in column j is down.
-fn row_bytes(down: &[Bit], rows: u8, columns: usize) -> [u8; ROW_BYTES]
+fn row_masks(down: &[Bit], rows: u8, columns: usize) -> [u8; ROW_MASKS]
     requires rows { rows ≤ KEY_ROWS }
     requires columns { columns ≤ KEY_COLUMNS }
     ensures { (r : ℕ) → r < rows →
-        IsByteOf (slice_index result r) columns (λ j. is_down down.now (r * columns + j)) }
+        IsColumnMask (slice_index result r) columns (λ j. is_down down.now (r * columns + j)) }
 {
-    let mut bytes = [0; ROW_BYTES];
+    let mut bytes = [0; ROW_MASKS];
     for r in 0..usize::from(rows) {
-        bytes[r] = row_byte(down, r * columns, columns);
+        bytes[r] = row_mask(down, r * columns, columns);
     }
     bytes
 }
 
 /// Returns the column masks of all ROM lines. The mask at index 4 * c + k is that of line k of ROM c: bit j is 1 if
 /// column j pulls this line.
-fn line_bytes(columns: &[Line]) -> [u8; ROM_LINE_BYTES]
+fn line_masks(columns: &[Line]) -> [u8; LINE_MASKS]
     requires { length columns.now ≤ KEY_COLUMNS }
-    ensures { (i : ℕ) → i < ROM_LINE_BYTES →
-        IsByteOf (slice_index result i) (length columns.now)
+    ensures { (i : ℕ) → i < LINE_MASKS →
+        IsColumnMask (slice_index result i) (length columns.now)
         (λ j. is_rom_line (i / 4) (i % 4) (slice_index_or columns.now j (Rom 0 0))) }
 {
-    let mut bytes = [0; ROM_LINE_BYTES];
-    for i in 0..ROM_LINE_BYTES as u8 {
-        bytes[usize::from(i)] = line_byte(columns, i / 4, i % 4);
+    let mut bytes = [0; LINE_MASKS];
+    for i in 0..LINE_MASKS as u8 {
+        bytes[usize::from(i)] = line_mask(columns, i / 4, i % 4);
     }
     bytes
 }
 
-/// Returns 1 if the masks `line` and `driven` have a column in common, and 0 otherwise.
-fn meets(line: u8, driven: u8) -> Bit
-    ensures { (n : ℕ) (p q : ℕ → Bool) → IsByteOf line n p → IsByteOf driven n q →
+/// Returns 1 if the masks `line` and `driven_columns` have a column in common, and 0 otherwise.
+fn have_common_column(line: u8, driven_columns: u8) -> Bit
+    ensures { (n : ℕ) (p q : ℕ → Bool) → IsColumnMask line n p → IsColumnMask driven_columns n q →
         result ≡ bit_when (list_any (λ j. p j && q j) (range_with_len 0 n)) }
 {
-    if line & driven == 0 {
+    if line & driven_columns == 0 {
         Bit::ZERO
     } else {
         Bit::ONE
@@ -138,7 +138,7 @@ fn meets(line: u8, driven: u8) -> Bit
 }
 
 /// Returns the states of `rows` * `columns` keys that are all up.
-fn up(rows: u8, columns: usize) -> ArrayVec<Bit, KEYS>
+fn all_keys_up(rows: u8, columns: usize) -> ArrayVec<Bit, KEYS>
     requires rows { rows ≤ KEY_ROWS }
     requires columns { columns ≤ KEY_COLUMNS }
     ensures { result.items ≡ replicate (rows * columns) 0 }
@@ -151,7 +151,7 @@ fn up(rows: u8, columns: usize) -> ArrayVec<Bit, KEYS>
 }
 
 /// Returns a copy of the key states.
-fn copied(down: &ArrayVec<Bit, KEYS>) -> ArrayVec<Bit, KEYS>
+fn copy_keys(down: &ArrayVec<Bit, KEYS>) -> ArrayVec<Bit, KEYS>
     ensures { result.items ≡ down.now.items }
 {
     let mut copy = ArrayVec::new();
@@ -163,9 +163,9 @@ fn copied(down: &ArrayVec<Bit, KEYS>) -> ArrayVec<Bit, KEYS>
 
 impl ScannedKeys {
     /// Returns the keys of a matrix without rows and columns.
-    pub(crate) fn none() -> ScannedKeys
-        ensures up { result.down ≡ replicate 0 0 }
-        ensures scanned { IsScanned no_matrix result }
+    pub(crate) fn without_keys() -> ScannedKeys
+        ensures all_keys_up { result.down ≡ replicate 0 0 }
+        ensures scanned { MatchesMatrix empty_matrix result }
     {
         ScannedKeys::of(&KeyMatrix {
             chain: 0,
@@ -178,13 +178,13 @@ impl ScannedKeys {
     /// Returns the keys of a matrix. All keys are up.
     pub(crate) fn of(matrix: &KeyMatrix) -> ScannedKeys
         requires { matrix.now.rows ≤ KEY_ROWS }
-        ensures up { result.down ≡ replicate (matrix.now.rows * length matrix.now.columns.items) 0 }
-        ensures scanned { IsScanned matrix.now result }
+        ensures all_keys_up { result.down ≡ replicate (matrix.now.rows * length matrix.now.columns.items) 0 }
+        ensures scanned { MatchesMatrix matrix.now result }
     {
         let columns = matrix.columns.len();
-        let down = up(matrix.rows, columns);
-        let rows = row_bytes(down.as_slice(), matrix.rows, columns);
-        let lines = line_bytes(matrix.columns.as_slice());
+        let down = all_keys_up(matrix.rows, columns);
+        let rows = row_masks(down.as_slice(), matrix.rows, columns);
+        let lines = line_masks(matrix.columns.as_slice());
         ScannedKeys { down, rows, lines }
     }
 
@@ -193,7 +193,7 @@ impl ScannedKeys {
         ensures { result ≡ self.now }
     {
         ScannedKeys {
-            down: copied(&self.down),
+            down: copy_keys(&self.down),
             rows: self.rows,
             lines: self.lines,
         }
@@ -210,59 +210,59 @@ impl ScannedKeys {
     /// Sets the state of the key at index `at` of the matrix: 1 for down, 0 for up. Keys are indexed row by row.
     pub(crate) fn set_key(&mut self, matrix: &KeyMatrix, at: usize, bit: Bit)
         requires at { at < length self.old.down }
-        requires scanned { IsScanned matrix.now self.old }
+        requires scanned { MatchesMatrix matrix.now self.old }
         ensures down { self.new.down ≡ slice_set self.old.down at bit }
-        ensures scanned { IsScanned matrix.now self.new }
+        ensures scanned { MatchesMatrix matrix.now self.new }
     {
         self.down[at] = bit;
-        self.rows = row_bytes(self.down.as_slice(), matrix.rows, matrix.columns.len());
+        self.rows = row_masks(self.down.as_slice(), matrix.rows, matrix.columns.len());
     }
 
     /// Returns the mask of the columns that at least one row drives. A row drives a column if the row's bit in the
     /// chain `bits` is 1 and its key in that column is down.
-    fn driven<const MAX: usize>(&self, matrix: &KeyMatrix, bits: &Chain<MAX>) -> u8
-        requires scanned { IsScanned matrix.now self.now }
+    fn driven_columns<const MAX: usize>(&self, matrix: &KeyMatrix, bits: &Chain<MAX>) -> u8
+        requires scanned { MatchesMatrix matrix.now self.now }
         requires rows { matrix.now.first + matrix.now.rows ≤ length bits.now }
-        ensures { IsByteOf result (length matrix.now.columns.items)
-            (λ j. list_any (drives bits.now self.now.down matrix.now j)
+        ensures { IsColumnMask result (length matrix.now.columns.items)
+            (λ j. list_any (row_drives_column bits.now self.now.down matrix.now j)
             (range_with_len 0 matrix.now.rows)) }
     {
-        let levels = bits.ten_from(usize::from(matrix.first));
+        let levels = bits.ten_bits_from(usize::from(matrix.first));
         let mut left = levels;
-        let mut driven: u8 = 0;
+        let mut driven_columns: u8 = 0;
         for r in 0..usize::from(matrix.rows) {
             // The chain bits of all remaining rows are 0.
             if left == 0 {
-                return driven;
+                return driven_columns;
             }
             if left & 1 == 1 {
-                driven |= self.rows[r];
+                driven_columns |= self.rows[r];
             }
             left /= 2;
         }
-        driven
+        driven_columns
     }
 
     /// Returns a nibble in which bit k is 1 if a key of the matrix pulls line k of ROM `chip` to 1. `bits` is the
     /// chain that drives the rows of the matrix.
-    pub(crate) fn pulls<const MAX: usize>(
+    pub(crate) fn lines_pulled<const MAX: usize>(
         &self,
         matrix: &KeyMatrix,
         bits: &Chain<MAX>,
         chip: Nibble,
     ) -> Nibble
-        requires scanned { IsScanned matrix.now self.now }
+        requires scanned { MatchesMatrix matrix.now self.now }
         requires rows { matrix.now.first + matrix.now.rows ≤ length bits.now }
         ensures { result ≡ nibble_of
             (λ k. bit_when (is_pulled_by bits.now self.now.down matrix.now chip k)) }
     {
-        let driven = self.driven(matrix, bits);
+        let driven_columns = self.driven_columns(matrix, bits);
         let at = 4 * usize::from(chip.get());
         Nibble::of_bits(
-            meets(self.lines[at], driven),
-            meets(self.lines[at + 1], driven),
-            meets(self.lines[at + 2], driven),
-            meets(self.lines[at + 3], driven),
+            have_common_column(self.lines[at], driven_columns),
+            have_common_column(self.lines[at + 1], driven_columns),
+            have_common_column(self.lines[at + 2], driven_columns),
+            have_common_column(self.lines[at + 3], driven_columns),
         )
     }
 

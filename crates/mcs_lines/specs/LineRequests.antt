@@ -4,14 +4,14 @@ use Rattle.std.specs.List.{list_all}
 use Rattle.std.specs.Str.{bytes_eq}
 use Rattle.mcs_model.specs.declared.limits.TheConstants.{LINE_BYTES}
 use Rattle.mcs_probe.specs.declared.probe.Probe.{Probe}
-use Rattle.mcs_probe.specs.declared.probe.TheConstants.{PROBES}
+use Rattle.mcs_probe.specs.declared.probe.TheConstants.{MAX_PROBES}
 use Rattle.mcs_lines.specs.declared.requests.Request.{Request}
 use Rattle.mcs_lines.specs.declared.requests.Request.TheVariants.{Nothing, Refused, Trace}
 use Rattle.mcs_lines.specs.declared.requests.LineFault.{LineFault}
 use Rattle.mcs_lines.specs.declared.requests.LineFault.TheVariants.{NotACommand, BadNumber, LineTooLong, NotAscii}
 use Rattle.mcs_lines.specs.ProbeWords.{probes_within}
-use Rattle.mcs_lines.specs.Requests.{cycles_asked, request_of_word}
-use Rattle.mcs_lines.specs.Words.{is_plain_byte}
+use Rattle.mcs_lines.specs.Requests.{cycle_count_of_word, request_of_word}
+use Rattle.mcs_lines.specs.Words.{is_allowed_byte}
 use Rattle.mcs_model.specs.TextLines.{words_of}
 
 -- the request of `trace` from its parsed arguments; an error in the places takes precedence over a
@@ -24,7 +24,7 @@ trace_of (Some n) (Ok probes) = Trace n (record { items = probes })
 -- the request of `trace`, from the words after it
 abbrev pub trace_request : List (List ℕ) → Request
 trace_request [] = Refused NotACommand
-trace_request (n ∷ places) = trace_of (cycles_asked n) (probes_within PROBES places)
+trace_request (n ∷ places) = trace_of (cycle_count_of_word n) (probes_within MAX_PROBES places)
 
 -- the request of a line, from its words
 abbrev pub request_of_words : List (List ℕ) → Request
@@ -37,5 +37,5 @@ request_of_words (word ∷ words) =
 unfoldable pub request_of : List ℕ → Request
 request_of line =
     if nat_lt LINE_BYTES (length line) then Refused LineTooLong
-    else if list_all is_plain_byte line then request_of_words (words_of line)
+    else if list_all is_allowed_byte line then request_of_words (words_of line)
     else Refused NotAscii

@@ -7,12 +7,12 @@ use Rattle.mcs_model.specs.declared.command.Place.{Place}
 use Rattle.mcs_model.specs.declared.command.Place.TheVariants as place
 use Rattle.mcs_model.specs.declared.board.Line.TheVariants as line
 use Rattle.mcs_probe.specs.declared.probe.Probe.{Probe}
-use Rattle.mcs_probe.specs.declared.probe.Probe.TheVariants.{Acc, Cy, Pc, Register, Dcl, Rom, Ram, Status, Level, RomPort, RamPort, Chain, Src, Lamps, Returns}
+use Rattle.mcs_probe.specs.declared.probe.Probe.TheVariants.{Acc, Cy, Pc, Register, Dcl, Rom, Ram, Status, Level, RomPort, RamPort, Chain, Src, Lamps, ReturnAddresses}
 use Rattle.mcs_lines.specs.declared.requests.Request.{Request}
 use Rattle.mcs_lines.specs.declared.requests.Request.TheVariants.{Change, Refused}
 use Rattle.mcs_lines.specs.declared.requests.LineFault.{LineFault}
 use Rattle.mcs_lines.specs.declared.requests.LineFault.TheVariants.{NotACommand, BadNumber}
-use Rattle.mcs_lines.specs.Requests.{asked, is_number, poke_of}
+use Rattle.mcs_lines.specs.Requests.{table_entry, is_number, poke_of}
 use Rattle.mcs_lines.specs.Words.{parts_of_word}
 
 -- the probe that reads a place; the value in the place is ignored
@@ -93,30 +93,30 @@ chain_probe n = elim (number_up_to 3 n) [ None ↦ None | Some n ↦ Some (Chain
 -- ---- the parts of a word
 
 -- the bytes after a prefix of a word, if the word has that prefix
-abbrev pub after_word : List ℕ → List ℕ → Option (List ℕ)
-after_word [] bytes = Some bytes
-after_word (p ∷ ps) [] = None
-after_word (p ∷ ps) (b ∷ bytes) = if b == p then after_word ps bytes else None
+abbrev pub after_prefix : List ℕ → List ℕ → Option (List ℕ)
+after_prefix [] bytes = Some bytes
+after_prefix (p ∷ ps) [] = None
+after_prefix (p ∷ ps) (b ∷ bytes) = if b == p then after_prefix ps bytes else None
 
 -- the number after a prefix of a word, if the word is that prefix followed by a number
-abbrev pub number_after : List ℕ → List ℕ → Option (List ℕ)
-number_after start name = elim (after_word start name) [
+abbrev pub number_after_prefix : List ℕ → List ℕ → Option (List ℕ)
+number_after_prefix start name = elim (after_prefix start name) [
   | None ↦ None
   | Some n ↦ if is_number n then Some n else None
 ]
 
 -- the number after a prefix, if the word is that prefix and a number, and `k` is a number too; `k`
 -- is another part of the same word
-abbrev pub number_before : List ℕ → List ℕ → List ℕ → Option (List ℕ)
-number_before start name k = if is_number k then number_after start name else None
+abbrev pub number_before_number : List ℕ → List ℕ → List ℕ → Option (List ℕ)
+number_before_number start name k = if is_number k then number_after_prefix start name else None
 
 -- ---- the probe of a word, from its parts between dots
 
 -- the probe of `romC`, `chainN` or a place that `poke` accepts
 abbrev pub probe_named : List ℕ → Result Probe LineFault
-probe_named word = elim (number_after (codes "rom") word) [
+probe_named word = elim (number_after_prefix (codes "rom") word) [
   | Some c ↦ or_bad_probe (rom_port_probe c)
-  | None ↦ elim (number_after (codes "chain") word) [
+  | None ↦ elim (number_after_prefix (codes "chain") word) [
     | Some n ↦ or_bad_probe (chain_probe n)
     | None ↦ probe_of_poke word
   ]
@@ -124,40 +124,40 @@ probe_named word = elim (number_after (codes "rom") word) [
 
 -- the places that `trace` accepts by name, but `poke` does not
 abbrev pub probe_names : List (List ℕ × Probe)
-probe_names = (codes "lamps", Lamps) ∷ (codes "ret", Returns) ∷ (codes "src", Src) ∷ []
+probe_names = (codes "lamps", Lamps) ∷ (codes "ret", ReturnAddresses) ∷ (codes "src", Src) ∷ []
 
 -- the probe of a word that has one part, or more than three
-abbrev pub probe_whole : List ℕ → Result Probe LineFault
-probe_whole word = elim (asked word probe_names) [ None ↦ probe_named word | Some p ↦ Ok p ]
+abbrev pub probe_of_whole_word : List ℕ → Result Probe LineFault
+probe_of_whole_word word = elim (table_entry word probe_names) [ None ↦ probe_named word | Some p ↦ Ok p ]
 
 -- the probe of a word of two parts: `ramB.C`, or a place that `poke` accepts
-abbrev pub probe_in_bank : List ℕ → List ℕ → List ℕ → Result Probe LineFault
-probe_in_bank word name c = elim (number_before (codes "ram") name c) [
+abbrev pub ram_port_or_place_probe : List ℕ → List ℕ → List ℕ → Result Probe LineFault
+ram_port_or_place_probe word name c = elim (number_before_number (codes "ram") name c) [
   | Some b ↦ or_bad_probe (ram_port_probe b c)
   | None ↦ probe_of_poke word
 ]
 
 -- the probe of a word of two parts
-abbrev pub probe_two : List ℕ → List ℕ → List ℕ → Result Probe LineFault
-probe_two word name k = elim (number_before (codes "rom") name k) [
+abbrev pub probe_of_two_parts : List ℕ → List ℕ → List ℕ → Result Probe LineFault
+probe_of_two_parts word name k = elim (number_before_number (codes "rom") name k) [
   | Some c ↦ or_bad_probe (rom_line_probe c k)
-  | None ↦ elim (number_before (codes "chain") name k) [
+  | None ↦ elim (number_before_number (codes "chain") name k) [
     | Some n ↦ or_bad_probe (chain_line_probe n k)
-    | None ↦ probe_in_bank word name k
+    | None ↦ ram_port_or_place_probe word name k
   ]
 ]
 
 -- the probe of a word of three parts
-abbrev pub probe_three : List ℕ → List ℕ → List ℕ → List ℕ → Result Probe LineFault
-probe_three word name c k = elim (number_before (codes "ram") name k) [
+abbrev pub probe_of_three_parts : List ℕ → List ℕ → List ℕ → List ℕ → Result Probe LineFault
+probe_of_three_parts word name c k = elim (number_before_number (codes "ram") name k) [
   | Some b ↦ if is_number c then or_bad_probe (ram_line_probe b c k) else probe_of_poke word
   | None ↦ probe_of_poke word
 ]
 
 abbrev pub probe_parts : List ℕ → List (List ℕ) → Result Probe LineFault
-probe_parts word (name ∷ k ∷ []) = probe_two word name k
-probe_parts word (name ∷ c ∷ k ∷ []) = probe_three word name c k
-probe_parts word parts = probe_whole word
+probe_parts word (name ∷ k ∷ []) = probe_of_two_parts word name k
+probe_parts word (name ∷ c ∷ k ∷ []) = probe_of_three_parts word name c k
+probe_parts word parts = probe_of_whole_word word
 
 -- the probe that a word names
 abbrev pub probe_of : List ℕ → Result Probe LineFault

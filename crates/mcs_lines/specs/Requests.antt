@@ -1,8 +1,8 @@
 -- The tables of commands and places, and the request that a line makes. (Our own choice.)
 use Rattle.std.specs.Prelude.{◌==◌, ◌&&◌, Bool, ℕ, List, [], ◌∷◌, codes, nat_lt, is_some, if◌then◌else◌, Option, Some, None}
 use Rattle.std.specs.Str.{bytes_eq}
-use Rattle.mcs_model.specs.WordTables.{beside}
-use Rattle.mcs_model.specs.Numerals.{number_written, number_up_to}
+use Rattle.mcs_model.specs.WordTables.{lookup_entry}
+use Rattle.mcs_model.specs.Numerals.{number_in_word, number_up_to}
 use Rattle.mcs_model.specs.declared.command.Command.TheVariants.{Press, Release, Run, Step, Poke, Test, Reset, Break, Unbreak, Watch, Unwatch}
 use Rattle.mcs_model.specs.declared.command.Place.{Place}
 use Rattle.mcs_model.specs.declared.command.Place.TheVariants.{Acc, Cy, Pc, Register, Dcl, Rom, Ram, Status}
@@ -15,16 +15,16 @@ use Rattle.mcs_lines.specs.declared.requests.LineFault.TheVariants.{NotACommand,
 use Rattle.mcs_lines.specs.Words.{parts_of_word}
 
 -- the entry for a word in one of the tables below, if any
-abbrev pub asked : {A : Type 0} → List ℕ → List (List ℕ × A) → Option A
-asked word table = beside (bytes_eq word) table
+abbrev pub table_entry : {A : Type 0} → List ℕ → List (List ℕ × A) → Option A
+table_entry word table = lookup_entry (bytes_eq word) table
 
 abbrev pub is_number : List ℕ → Bool
-is_number word = is_some (number_written word)
+is_number word = is_some (number_in_word word)
 
 -- the request that `ask` makes from the number that a word spells; refusal 11 if the word is not a
 -- number or is above `most`
-abbrev pub with_number : ℕ → List ℕ → (ℕ → Request) → Request
-with_number most word ask =
+abbrev pub request_with_number : ℕ → List ℕ → (ℕ → Request) → Request
+request_with_number most word ask =
     elim (number_up_to most word) [ None ↦ Refused BadNumber | Some n ↦ ask n ]
 
 -- ---- places, and the values that `poke` writes to them
@@ -32,27 +32,27 @@ with_number most word ask =
 -- the request of `poke` for a place and a value; refusal 11 if the value is not a number or is
 -- above `most`
 abbrev pub poke_value : ℕ → List ℕ → (ℕ → Place) → Request
-poke_value most value place = with_number most value (λ v. Change (Poke (place v)))
+poke_value most value place = request_with_number most value (λ v. Change (Poke (place v)))
 
 -- the request of `poke rK`
 abbrev pub poke_register : List ℕ → List ℕ → Request
-poke_register k value = with_number 15 k (λ k. poke_value 15 value (λ n. Register k n))
+poke_register k value = request_with_number 15 k (λ k. poke_value 15 value (λ n. Register k n))
 
 -- the request of `poke rom.A`
 abbrev pub poke_rom : List ℕ → List ℕ → Request
-poke_rom a value = with_number 4095 a (λ at. poke_value 255 value (λ byte. Rom at byte))
+poke_rom a value = request_with_number 4095 a (λ at. poke_value 255 value (λ byte. Rom at byte))
 
 -- the request of `poke ram.B.S`
 abbrev pub poke_ram : List ℕ → List ℕ → List ℕ → Request
 poke_ram b s value =
-    with_number 7 b (λ bank. with_number 255 s (λ src. poke_value 15 value (λ n. Ram bank src n)))
+    request_with_number 7 b (λ bank. request_with_number 255 s (λ src. poke_value 15 value (λ n. Ram bank src n)))
 
 -- the request of `poke st.B.H.K`
 abbrev pub poke_status : List ℕ → List ℕ → List ℕ → List ℕ → Request
 poke_status b h k value =
-    with_number 7 b (λ bank.
-    with_number 15 h (λ high.
-    with_number 3 k (λ k. poke_value 15 value (λ n. Status bank high k n))))
+    request_with_number 7 b (λ bank.
+    request_with_number 15 h (λ high.
+    request_with_number 3 k (λ k. poke_value 15 value (λ n. Status bank high k n))))
 
 -- the request of `poke rK`; any other name is not a place
 abbrev pub poke_numbered : List ℕ → List ℕ → Request
@@ -72,7 +72,7 @@ poke_names =
 -- the request of `poke` for a place without dots
 abbrev pub poke_named : List ℕ → List ℕ → Request
 poke_named name value =
-    elim (asked name poke_names) [ None ↦ poke_numbered name value | Some poke ↦ poke value ]
+    elim (table_entry name poke_names) [ None ↦ poke_numbered name value | Some poke ↦ poke value ]
 
 -- the request of `poke`, from the parts of its place; a place of the wrong form (10) is rejected
 -- before a number out of range (11)
@@ -94,8 +94,8 @@ poke_of place value = poke_parts (parts_of_word place) value
 -- ---- lines
 
 -- the commands of one word, each with its request
-abbrev pub alone : List (List ℕ × Request)
-alone =
+abbrev pub one_word_commands : List (List ℕ × Request)
+one_word_commands =
     (codes "step", Change Step)
     ∷ (codes "reset", Change Reset)
     ∷ (codes "lamps", Ask query.Lamps)
@@ -115,24 +115,24 @@ alone =
 -- The number of cycles in `count` or `trace`: 1 to RUN_CYCLES, or `None` for any other word. For
 -- `run`, the parser accepts any 32-bit number; the bench rejects a number that is out of range
 -- (44).
-abbrev pub cycles_asked : List ℕ → Option ℕ
-cycles_asked word = elim (number_up_to RUN_CYCLES word) [
+abbrev pub cycle_count_of_word : List ℕ → Option ℕ
+cycle_count_of_word word = elim (number_up_to RUN_CYCLES word) [
   | None ↦ None
   | Some n ↦ if nat_lt 0 n then Some n else None
 ]
 
 -- the request of `count` for a number of cycles
 abbrev pub count_request : List ℕ → Request
-count_request n = elim (cycles_asked n) [ None ↦ Refused BadNumber | Some n ↦ Count n ]
+count_request n = elim (cycle_count_of_word n) [ None ↦ Refused BadNumber | Some n ↦ Count n ]
 
 -- the commands with one argument, each with the function from its argument to its request
-abbrev pub with_one : List (List ℕ × (List ℕ → Request))
-with_one =
-    (codes "run", λ a. with_number 4294967295 a (λ n. Change (Run n)))
-    ∷ (codes "test", λ a. with_number 1 a (λ bit. Change (Test bit)))
-    ∷ (codes "break", λ a. with_number 4095 a (λ at. Change (Break at)))
-    ∷ (codes "unbreak", λ a. with_number 4095 a (λ at. Change (Unbreak at)))
-    ∷ (codes "ram", λ a. with_number 7 a (λ bank. Ask (query.Ram bank)))
+abbrev pub one_argument_commands : List (List ℕ × (List ℕ → Request))
+one_argument_commands =
+    (codes "run", λ a. request_with_number 4294967295 a (λ n. Change (Run n)))
+    ∷ (codes "test", λ a. request_with_number 1 a (λ bit. Change (Test bit)))
+    ∷ (codes "break", λ a. request_with_number 4095 a (λ at. Change (Break at)))
+    ∷ (codes "unbreak", λ a. request_with_number 4095 a (λ at. Change (Unbreak at)))
+    ∷ (codes "ram", λ a. request_with_number 7 a (λ bank. Ask (query.Ram bank)))
     ∷ (codes "count", count_request)
     ∷ []
 
@@ -143,26 +143,26 @@ listing at lines = if nat_lt 0 lines then Listing at lines else Refused BadNumbe
 
 -- the request that `ask` makes from the numbers that two words spell; refusal 11 if a word is not a
 -- number or is above its limit
-abbrev pub with_numbers : ℕ → List ℕ → ℕ → List ℕ → (ℕ → ℕ → Request) → Request
-with_numbers most a most' b ask = with_number most a (λ n. with_number most' b (λ m. ask n m))
+abbrev pub request_with_numbers : ℕ → List ℕ → ℕ → List ℕ → (ℕ → ℕ → Request) → Request
+request_with_numbers most a most' b ask = request_with_number most a (λ n. request_with_number most' b (λ m. ask n m))
 
 -- The commands with two arguments, each with the function from its arguments to its request. The
 -- bench rejects rows and columns that the board lacks (41).
-abbrev pub with_two : List (List ℕ × (List ℕ → List ℕ → Request))
-with_two =
+abbrev pub two_argument_commands : List (List ℕ × (List ℕ → List ℕ → Request))
+two_argument_commands =
     (codes "poke", poke_of)
-    ∷ (codes "press", λ a b. with_numbers 255 a 255 b (λ row column. Change (Press row column)))
-    ∷ (codes "release", λ a b. with_numbers 255 a 255 b (λ row column. Change (Release row column)))
-    ∷ (codes "watch", λ a b. with_numbers 7 a 255 b (λ bank src. Change (Watch bank src)))
-    ∷ (codes "unwatch", λ a b. with_numbers 7 a 255 b (λ bank src. Change (Unwatch bank src)))
-    ∷ (codes "list", λ a b. with_numbers 4095 a LISTING_LINES b listing)
+    ∷ (codes "press", λ a b. request_with_numbers 255 a 255 b (λ row column. Change (Press row column)))
+    ∷ (codes "release", λ a b. request_with_numbers 255 a 255 b (λ row column. Change (Release row column)))
+    ∷ (codes "watch", λ a b. request_with_numbers 7 a 255 b (λ bank src. Change (Watch bank src)))
+    ∷ (codes "unwatch", λ a b. request_with_numbers 7 a 255 b (λ bank src. Change (Unwatch bank src)))
+    ∷ (codes "list", λ a b. request_with_numbers 4095 a LISTING_LINES b listing)
     ∷ []
 
 -- the request of a line, from its first word and the words after it; `trace` is not included
 abbrev pub request_of_word : List ℕ → List (List ℕ) → Request
-request_of_word word [] = elim (asked word alone) [ None ↦ Refused NotACommand | Some r ↦ r ]
+request_of_word word [] = elim (table_entry word one_word_commands) [ None ↦ Refused NotACommand | Some r ↦ r ]
 request_of_word word (a ∷ []) =
-    elim (asked word with_one) [ None ↦ Refused NotACommand | Some ask ↦ ask a ]
+    elim (table_entry word one_argument_commands) [ None ↦ Refused NotACommand | Some ask ↦ ask a ]
 request_of_word word (a ∷ b ∷ []) =
-    elim (asked word with_two) [ None ↦ Refused NotACommand | Some ask ↦ ask a b ]
+    elim (table_entry word two_argument_commands) [ None ↦ Refused NotACommand | Some ask ↦ ask a b ]
 request_of_word word words = Refused NotACommand

@@ -3,8 +3,8 @@ use Rattle.std.specs.Prelude.{◌==◌, ◌&&◌, ◌||◌, Bool, ℕ, List, nat
 use Rattle.std.specs.List.{slice_split}
 
 -- true if a byte is a tab or a printable ASCII character
-abbrev pub is_plain_byte : ℕ → Bool
-is_plain_byte b = (b == 9) || (nat_lt 31 b && nat_lt b 127)
+abbrev pub is_allowed_byte : ℕ → Bool
+is_allowed_byte b = (b == 9) || (nat_lt 31 b && nat_lt b 127)
 
 abbrev pub is_dot : ℕ → Bool
 is_dot b = b == 46

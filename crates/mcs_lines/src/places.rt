@@ -18,14 +18,14 @@ fn poke(place: Place) -> Option<Request>
 }
 
 /// Returns the request of `poke rK VALUE`, or `None` if `K` or the value is not a number or is out of range.
-fn read_register(k: &[u8], value: &[u8]) -> Option<Request>
+fn parse_register_poke(k: &[u8], value: &[u8]) -> Option<Request>
     ensures { or_bad_number result ≡ poke_register k.now value.now }
 {
     poke(Place::Register(register(k)?, nibble(value)?))
 }
 
 /// Returns the request of `poke rom.A VALUE`, or `None` if `A` or the value is not a number or is out of range.
-fn read_rom(a: &[u8], value: &[u8]) -> Option<Request>
+fn parse_rom_poke(a: &[u8], value: &[u8]) -> Option<Request>
     ensures { or_bad_number result ≡ poke_rom a.now value.now }
 {
     poke(Place::Rom(address(a)?, byte(value)?))
@@ -33,7 +33,7 @@ fn read_rom(a: &[u8], value: &[u8]) -> Option<Request>
 
 /// Returns the request of `poke ram.B.S VALUE`, or `None` if `B`, `S` or the value is not a number or is out of
 /// range.
-fn read_ram(b: &[u8], s: &[u8], value: &[u8]) -> Option<Request>
+fn parse_ram_poke(b: &[u8], s: &[u8], value: &[u8]) -> Option<Request>
     ensures { or_bad_number result ≡ poke_ram b.now s.now value.now }
 {
     poke(Place::Ram(bank(b)?, byte(s)?, nibble(value)?))
@@ -41,25 +41,25 @@ fn read_ram(b: &[u8], s: &[u8], value: &[u8]) -> Option<Request>
 
 /// Returns the request of `poke st.B.H.K VALUE`, or `None` if `B`, `H`, `K` or the value is not a number or is out of
 /// range.
-fn read_status(b: &[u8], h: &[u8], k: &[u8], value: &[u8]) -> Option<Request>
+fn parse_status_poke(b: &[u8], h: &[u8], k: &[u8], value: &[u8]) -> Option<Request>
     ensures { or_bad_number result ≡ poke_status b.now h.now k.now value.now }
 {
     poke(Place::Status(bank(b)?, nibble(h)?, status(k)?, nibble(value)?))
 }
 
 /// Parses `poke` with the place `rK`. Rejects any other place as `NotACommand`.
-fn read_numbered(name: &[u8], value: &[u8]) -> Request
+fn parse_numbered_poke(name: &[u8], value: &[u8]) -> Request
     ensures { result ≡ poke_numbered name.now value.now }
 {
     match name {
-        [b'r', k @ ..] if is_number(k) => or_bad_number(read_register(k, value)),
+        [b'r', k @ ..] if is_number(k) => or_bad_number(parse_register_poke(k, value)),
         _ => Request::Refused(LineFault::NotACommand),
     }
 }
 
 /// Parses `poke` with a place that has no dots. Returns `None` if the value for `acc`, `cy`, `pc` or `dcl` is not a
 /// number or is out of range.
-fn read_named(name: &[u8], value: &[u8]) -> Option<Request>
+fn parse_named_poke(name: &[u8], value: &[u8]) -> Option<Request>
     ensures { or_bad_number result ≡ poke_named name.now value.now }
 {
     if equals(name, b"acc") {
@@ -71,38 +71,38 @@ fn read_named(name: &[u8], value: &[u8]) -> Option<Request>
     } else if equals(name, b"dcl") {
         poke(Place::Dcl(bank(value)?))
     } else {
-        Some(read_numbered(name, value))
+        Some(parse_numbered_poke(name, value))
     }
 }
 
 /// Parses `poke` with a place of two parts. Rejects any place other than `rom.A`.
-fn read_two_parts(name: &[u8], a: &[u8], value: &[u8]) -> Request
+fn parse_two_part_poke(name: &[u8], a: &[u8], value: &[u8]) -> Request
     ensures { result ≡ poke_parts (name.now ∷ a.now ∷ []) value.now }
 {
     if equals(name, b"rom") && is_number(a) {
-        or_bad_number(read_rom(a, value))
+        or_bad_number(parse_rom_poke(a, value))
     } else {
         Request::Refused(LineFault::NotACommand)
     }
 }
 
 /// Parses `poke` with a place of three parts. Rejects any place other than `ram.B.S`.
-fn read_three_parts(name: &[u8], b: &[u8], s: &[u8], value: &[u8]) -> Request
+fn parse_three_part_poke(name: &[u8], b: &[u8], s: &[u8], value: &[u8]) -> Request
     ensures { result ≡ poke_parts (name.now ∷ b.now ∷ s.now ∷ []) value.now }
 {
     if equals(name, b"ram") && is_number(b) && is_number(s) {
-        or_bad_number(read_ram(b, s, value))
+        or_bad_number(parse_ram_poke(b, s, value))
     } else {
         Request::Refused(LineFault::NotACommand)
     }
 }
 
 /// Parses `poke` with a place of four parts. Rejects any place other than `st.B.H.K`.
-fn read_four_parts(name: &[u8], b: &[u8], h: &[u8], k: &[u8], value: &[u8]) -> Request
+fn parse_four_part_poke(name: &[u8], b: &[u8], h: &[u8], k: &[u8], value: &[u8]) -> Request
     ensures { result ≡ poke_parts (name.now ∷ b.now ∷ h.now ∷ k.now ∷ []) value.now }
 {
     if equals(name, b"st") && is_number(b) && is_number(h) && is_number(k) {
-        or_bad_number(read_status(b, h, k, value))
+        or_bad_number(parse_status_poke(b, h, k, value))
     } else {
         Request::Refused(LineFault::NotACommand)
     }
@@ -110,24 +110,24 @@ fn read_four_parts(name: &[u8], b: &[u8], h: &[u8], k: &[u8], value: &[u8]) -> R
 
 /// Parses the arguments of `poke`: a place, and the value to write there. Returns a refusal if one of them is not
 /// valid.
-pub fn read_poke(place: &[u8], value: &[u8]) -> Request
+pub fn parse_poke(place: &[u8], value: &[u8]) -> Request
     ensures { result ≡ poke_of place.now value.now }
 {
     let (name, after) = next_part(place);
     let Some(rest) = after else {
-        return or_bad_number(read_named(name, value));
+        return or_bad_number(parse_named_poke(name, value));
     };
     let (first, after) = next_part(rest);
     let Some(rest) = after else {
-        return read_two_parts(name, first, value);
+        return parse_two_part_poke(name, first, value);
     };
     let (second, after) = next_part(rest);
     let Some(rest) = after else {
-        return read_three_parts(name, first, second, value);
+        return parse_three_part_poke(name, first, second, value);
     };
     let (third, after) = next_part(rest);
     match after {
-        None => read_four_parts(name, first, second, third, value),
+        None => parse_four_part_poke(name, first, second, third, value),
         Some(_) => Request::Refused(LineFault::NotACommand),
     }
 }

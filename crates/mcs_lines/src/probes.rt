@@ -1,17 +1,17 @@
 //! Parses the places that a `trace` command lists.
 ghost use Rattle.std.specs.Prelude.{◌≡◌, Ok, Err, None, Some, MatchOption, MatchResult};
-ghost use Rattle.mcs_lines.specs.ProbeWords.{after_word, chain_probe, chain_line_probe, is_bad_number, number_after, number_before, or_bad_probe, probe_at, probe_in_bank, probe_named, probe_of, probe_of_command, probe_of_poke, probe_three, probe_two, probe_whole, probes_within, ram_line_probe, ram_port_probe, rom_line_probe, rom_port_probe};
+ghost use Rattle.mcs_lines.specs.ProbeWords.{after_prefix, chain_probe, chain_line_probe, is_bad_number, number_after_prefix, number_before_number, or_bad_probe, probe_at, ram_port_or_place_probe, probe_named, probe_of, probe_of_command, probe_of_poke, probe_of_three_parts, probe_of_two_parts, probe_of_whole_word, probes_within, ram_line_probe, ram_port_probe, rom_line_probe, rom_port_probe};
 ghost use Rattle.mcs_model.specs.TextLines.{words_of};
 
 use crate::numbers::{bank, is_number, nibble, status};
-use crate::places::read_poke;
+use crate::places::parse_poke;
 use crate::requests::{LineFault, Request};
 use crate::words::{equals, next_part, next_word};
 use arrayvec::ArrayVec;
 use mcs_model::board::Line;
 use mcs_model::command::{Command, Place};
 use mcs_model::numeral::number_within;
-use mcs_probe::{PROBES, Probe};
+use mcs_probe::{MAX_PROBES, Probe};
 
 /// Returns the probe that reads a place. The value in `place` is ignored.
 fn probe_at(place: Place) -> Probe
@@ -41,10 +41,10 @@ fn probe_of_command(command: &Command) -> Result<Probe, LineFault>
 
 /// Returns the probe of a place that `poke` accepts. Checks the place by parsing `poke` with this place and the value
 /// 0.
-fn read_place(word: &[u8]) -> Result<Probe, LineFault>
+fn parse_poke_place(word: &[u8]) -> Result<Probe, LineFault>
     ensures { result ≡ probe_of_poke word.now }
 {
-    match read_poke(word, b"0") {
+    match parse_poke(word, b"0") {
         Request::Change(command) => probe_of_command(&command),
         Request::Refused(fault) => Err(fault),
         _ => Err(LineFault::NotACommand),
@@ -107,9 +107,9 @@ fn chain_probe(n: &[u8]) -> Option<Probe>
 }
 
 /// Returns the bytes of `name` after the prefix `start`, or `None` if `name` does not have that prefix.
-fn after_word<'a>(start: &[u8], name: &'a [u8]) -> Option<&'a [u8]>
-    ensures { MatchOption result (after_word start.now name.now ≡ None)
-        (λ rest. after_word start.now name.now ≡ Some rest.now) }
+fn after_prefix<'a>(start: &[u8], name: &'a [u8]) -> Option<&'a [u8]>
+    ensures { MatchOption result (after_prefix start.now name.now ≡ None)
+        (λ rest. after_prefix start.now name.now ≡ Some rest.now) }
 {
     let [p, start @ ..] = start else {
         return Some(name);
@@ -118,113 +118,113 @@ fn after_word<'a>(start: &[u8], name: &'a [u8]) -> Option<&'a [u8]>
         return None;
     };
     if *b == *p {
-        after_word(start, name)
+        after_prefix(start, name)
     } else {
         None
     }
 }
 
 /// Returns the number that follows the prefix `start` in `name`, or `None` if `name` is not that prefix and a number.
-fn number_after<'a>(start: &[u8], name: &'a [u8]) -> Option<&'a [u8]>
-    ensures { MatchOption result (number_after start.now name.now ≡ None)
-        (λ n. number_after start.now name.now ≡ Some n.now) }
+fn number_after_prefix<'a>(start: &[u8], name: &'a [u8]) -> Option<&'a [u8]>
+    ensures { MatchOption result (number_after_prefix start.now name.now ≡ None)
+        (λ n. number_after_prefix start.now name.now ≡ Some n.now) }
 {
-    let n = after_word(start, name)?;
+    let n = after_prefix(start, name)?;
     if is_number(n) { Some(n) } else { None }
 }
 
 /// Returns the number that follows the prefix `start` in `name`, if `name` is that prefix and a number, and `k` is a
 /// number too. `k` is another part of the same word.
-fn number_before<'a>(start: &[u8], name: &'a [u8], k: &[u8]) -> Option<&'a [u8]>
-    ensures { MatchOption result (number_before start.now name.now k.now ≡ None)
-        (λ n. number_before start.now name.now k.now ≡ Some n.now) }
+fn number_before_number<'a>(start: &[u8], name: &'a [u8], k: &[u8]) -> Option<&'a [u8]>
+    ensures { MatchOption result (number_before_number start.now name.now k.now ≡ None)
+        (λ n. number_before_number start.now name.now k.now ≡ Some n.now) }
 {
     if is_number(k) {
-        number_after(start, name)
+        number_after_prefix(start, name)
     } else {
         None
     }
 }
 
 /// Returns the probe of `romC`, `chainN` or a place that `poke` accepts.
-fn read_named(word: &[u8]) -> Result<Probe, LineFault>
+fn parse_named_probe(word: &[u8]) -> Result<Probe, LineFault>
     ensures { result ≡ probe_named word.now }
 {
-    if let Some(c) = number_after(b"rom", word) {
+    if let Some(c) = number_after_prefix(b"rom", word) {
         return or_bad_number(rom_port_probe(c));
     }
-    if let Some(n) = number_after(b"chain", word) {
+    if let Some(n) = number_after_prefix(b"chain", word) {
         return or_bad_number(chain_probe(n));
     }
-    read_place(word)
+    parse_poke_place(word)
 }
 
 /// Returns the probe of a word that has one part, or more than three.
-fn read_whole(word: &[u8]) -> Result<Probe, LineFault>
-    ensures { result ≡ probe_whole word.now }
+fn parse_whole_probe(word: &[u8]) -> Result<Probe, LineFault>
+    ensures { result ≡ probe_of_whole_word word.now }
 {
     if equals(word, b"lamps") {
         Ok(Probe::Lamps)
     } else if equals(word, b"ret") {
-        Ok(Probe::Returns)
+        Ok(Probe::ReturnAddresses)
     } else if equals(word, b"src") {
         Ok(Probe::Src)
     } else {
-        read_named(word)
+        parse_named_probe(word)
     }
 }
 
 /// Returns the probe of a word of two parts: `ramB.C`, or a place that `poke` accepts.
-fn read_in_bank(word: &[u8], name: &[u8], c: &[u8]) -> Result<Probe, LineFault>
-    ensures { result ≡ probe_in_bank word.now name.now c.now }
+fn parse_ram_port_or_place(word: &[u8], name: &[u8], c: &[u8]) -> Result<Probe, LineFault>
+    ensures { result ≡ ram_port_or_place_probe word.now name.now c.now }
 {
-    if let Some(b) = number_before(b"ram", name, c) {
+    if let Some(b) = number_before_number(b"ram", name, c) {
         return or_bad_number(ram_port_probe(b, c));
     }
-    read_place(word)
+    parse_poke_place(word)
 }
 
 /// Returns the probe of a word of two parts.
-fn read_two(word: &[u8], name: &[u8], k: &[u8]) -> Result<Probe, LineFault>
-    ensures { result ≡ probe_two word.now name.now k.now }
+fn parse_two_part_probe(word: &[u8], name: &[u8], k: &[u8]) -> Result<Probe, LineFault>
+    ensures { result ≡ probe_of_two_parts word.now name.now k.now }
 {
-    if let Some(c) = number_before(b"rom", name, k) {
+    if let Some(c) = number_before_number(b"rom", name, k) {
         return or_bad_number(rom_line_probe(c, k));
     }
-    if let Some(n) = number_before(b"chain", name, k) {
+    if let Some(n) = number_before_number(b"chain", name, k) {
         return or_bad_number(chain_line_probe(n, k));
     }
-    read_in_bank(word, name, k)
+    parse_ram_port_or_place(word, name, k)
 }
 
 /// Returns the probe of a word of three parts.
-fn read_three(word: &[u8], name: &[u8], c: &[u8], k: &[u8]) -> Result<Probe, LineFault>
-    ensures { result ≡ probe_three word.now name.now c.now k.now }
+fn parse_three_part_probe(word: &[u8], name: &[u8], c: &[u8], k: &[u8]) -> Result<Probe, LineFault>
+    ensures { result ≡ probe_of_three_parts word.now name.now c.now k.now }
 {
-    if let Some(b) = number_before(b"ram", name, k) {
+    if let Some(b) = number_before_number(b"ram", name, k) {
         if is_number(c) {
             return or_bad_number(ram_line_probe(b, c, k));
         }
     }
-    read_place(word)
+    parse_poke_place(word)
 }
 
 /// Returns the probe of the place that a word names, or the error `NotACommand` or `BadNumber`.
-fn read_probe(word: &[u8]) -> Result<Probe, LineFault>
+fn parse_probe(word: &[u8]) -> Result<Probe, LineFault>
     ensures { result ≡ probe_of word.now }
 {
     let (name, after) = next_part(word);
     let Some(rest) = after else {
-        return read_whole(word);
+        return parse_whole_probe(word);
     };
     let (first, after) = next_part(rest);
     let Some(rest) = after else {
-        return read_two(word, name, first);
+        return parse_two_part_probe(word, name, first);
     };
     let (second, after) = next_part(rest);
     match after {
-        None => read_three(word, name, first, second),
-        Some(_) => read_whole(word),
+        None => parse_three_part_probe(word, name, first, second),
+        Some(_) => parse_whole_probe(word),
     }
 }
 
@@ -239,14 +239,14 @@ fn is_bad_number(fault: LineFault) -> bool
 }
 
 /// Parses the words of a line as places. Returns `NotACommand` if a word is not a place, or if there are more than
-/// [`PROBES`] words. Otherwise, returns `BadNumber` if a place has a bad number.
-pub(crate) fn read_probes(line: &[u8]) -> Result<ArrayVec<Probe, PROBES>, LineFault>
+/// [`MAX_PROBES`] words. Otherwise, returns `BadNumber` if a place has a bad number.
+pub(crate) fn parse_probes(line: &[u8]) -> Result<ArrayVec<Probe, MAX_PROBES>, LineFault>
     ensures { MatchResult result
-        (λ probes. probes_within PROBES (words_of line.now) ≡ Ok probes.items)
-        (λ fault. probes_within PROBES (words_of line.now) ≡ Err fault) }
+        (λ probes. probes_within MAX_PROBES (words_of line.now) ≡ Ok probes.items)
+        (λ fault. probes_within MAX_PROBES (words_of line.now) ≡ Err fault) }
 {
     let mut probes = ArrayVec::new();
-    let mut room = PROBES;
+    let mut room = MAX_PROBES;
     let mut has_bad_number = false;
     let mut rest = line;
     while let Some((word, others)) = next_word(rest) {
@@ -254,7 +254,7 @@ pub(crate) fn read_probes(line: &[u8]) -> Result<ArrayVec<Probe, PROBES>, LineFa
             return Err(LineFault::NotACommand);
         }
         room -= 1;
-        match read_probe(word) {
+        match parse_probe(word) {
             Ok(probe) => probes.push(probe),
             Err(fault) => {
                 if is_bad_number(fault) {

@@ -4,14 +4,14 @@ ghost use Rattle.std.specs.List.{list_all};
 ghost use Rattle.mcs_lines.specs.RefusalNumbers.{line_fault_number};
 ghost use Rattle.mcs_lines.specs.LineRequests.{request_of, request_of_words, trace_request};
 ghost use Rattle.mcs_lines.specs.ReadNumbers.{or_bad_number};
-ghost use Rattle.mcs_lines.specs.Requests.{cycles_asked, listing, request_of_word, with_numbers};
-ghost use Rattle.mcs_lines.specs.Words.{is_plain_byte};
+ghost use Rattle.mcs_lines.specs.Requests.{cycle_count_of_word, listing, request_of_word, request_with_numbers};
+ghost use Rattle.mcs_lines.specs.Words.{is_allowed_byte};
 ghost use Rattle.mcs_model.specs.TextLines.{words_of};
 
 use crate::numbers::{address, bank, bit, byte};
-use crate::places::read_poke;
-use crate::probes::read_probes;
-use crate::words::{equals, is_plain_byte, next_word};
+use crate::places::parse_poke;
+use crate::probes::parse_probes;
+use crate::words::{equals, is_allowed_byte, next_word};
 use arrayvec::ArrayVec;
 use mcs_model::command::Command;
 use mcs_model::limits::{LINE_BYTES, LISTING_LINES, RUN_CYCLES};
@@ -19,7 +19,7 @@ use mcs_model::numeral::number_within;
 use mcs_model::query::Query;
 use mcs_model::refusal_numbers;
 use mcs_nibble::Addr;
-use mcs_probe::{PROBES, Probe};
+use mcs_probe::{MAX_PROBES, Probe};
 use thiserror::Error;
 
 /// The reason that a line is rejected.
@@ -86,7 +86,7 @@ pub enum Request {
     Count(u32),
     /// A trace of a run of 1 to [`RUN_CYCLES`] cycles. It reports each instruction that would change one of the
     /// places, or every instruction if there are no places. It does not change the bench.
-    Trace(u32, ArrayVec<Probe, PROBES>),
+    Trace(u32, ArrayVec<Probe, MAX_PROBES>),
     /// A command that changes the bench.
     Change(Command),
     /// The start of a text. The next lines are that text.
@@ -94,7 +94,7 @@ pub enum Request {
 }
 
 /// Parses a line that has only one word.
-fn read_alone(word: &[u8]) -> Request
+fn parse_one_word(word: &[u8]) -> Request
     ensures { result ≡ request_of_word word.now [] }
 {
     if equals(word, b"step") {
@@ -141,8 +141,8 @@ pub(crate) fn or_bad_number(request: Option<Request>) -> Request
 }
 
 /// Parses a number of cycles from 1 to [`RUN_CYCLES`]. Returns `None` for any other word.
-fn cycles(word: &[u8]) -> Option<u32>
-    ensures { result ≡ cycles_asked word.now }
+fn parse_cycle_count(word: &[u8]) -> Option<u32>
+    ensures { result ≡ cycle_count_of_word word.now }
 {
     let n = number_within(word, RUN_CYCLES)?;
     if n == 0 { None } else { Some(n) }
@@ -150,15 +150,15 @@ fn cycles(word: &[u8]) -> Option<u32>
 
 /// Parses the arguments of `trace`: a number of cycles, then the places. An error in the places takes precedence over
 /// a bad number of cycles.
-fn read_trace(line: &[u8]) -> Request
+fn parse_trace(line: &[u8]) -> Request
     ensures { result ≡ trace_request (words_of line.now) }
 {
     let Some((n, places)) = next_word(line) else {
         return Request::Refused(LineFault::NotACommand);
     };
-    match read_probes(places) {
+    match parse_probes(places) {
         Err(fault) => Request::Refused(fault),
-        Ok(probes) => match cycles(n) {
+        Ok(probes) => match parse_cycle_count(n) {
             None => Request::Refused(LineFault::BadNumber),
             Some(n) => Request::Trace(n, probes),
         },
@@ -166,7 +166,7 @@ fn read_trace(line: &[u8]) -> Request
 }
 
 /// Parses a command with one argument. Returns `None` if the argument is not a number or is out of range.
-fn read_with_one(word: &[u8], a: &[u8]) -> Option<Request>
+fn parse_one_argument(word: &[u8], a: &[u8]) -> Option<Request>
     ensures { or_bad_number result ≡ request_of_word word.now (a.now ∷ []) }
 {
     let request = if equals(word, b"run") {
@@ -180,7 +180,7 @@ fn read_with_one(word: &[u8], a: &[u8]) -> Option<Request>
     } else if equals(word, b"ram") {
         Request::Ask(Query::Ram(bank(a)?))
     } else if equals(word, b"count") {
-        Request::Count(cycles(a)?)
+        Request::Count(parse_cycle_count(a)?)
     } else {
         Request::Refused(LineFault::NotACommand)
     };
@@ -189,8 +189,8 @@ fn read_with_one(word: &[u8], a: &[u8]) -> Option<Request>
 
 /// Parses the arguments of `list`: an address and a number of lines. Returns `None` if an argument is not a number or
 /// is out of range.
-fn read_list(a: &[u8], n: &[u8]) -> Option<Request>
-    ensures { or_bad_number result ≡ with_numbers 4095 a.now LISTING_LINES n.now listing }
+fn parse_list(a: &[u8], n: &[u8]) -> Option<Request>
+    ensures { or_bad_number result ≡ request_with_numbers 4095 a.now LISTING_LINES n.now listing }
 {
     let at = address(a)?;
     let lines = number_within(n, LISTING_LINES)?;
@@ -201,11 +201,11 @@ fn read_list(a: &[u8], n: &[u8]) -> Option<Request>
 }
 
 /// Parses a command with two arguments. Returns `None` if an argument is not a number or is out of range.
-fn read_with_two(word: &[u8], a: &[u8], b: &[u8]) -> Option<Request>
+fn parse_two_arguments(word: &[u8], a: &[u8], b: &[u8]) -> Option<Request>
     ensures { or_bad_number result ≡ request_of_word word.now (a.now ∷ b.now ∷ []) }
 {
     let request = if equals(word, b"poke") {
-        read_poke(a, b)
+        parse_poke(a, b)
     } else if equals(word, b"press") {
         Request::Change(Command::Press(byte(a)?, byte(b)?))
     } else if equals(word, b"release") {
@@ -215,60 +215,60 @@ fn read_with_two(word: &[u8], a: &[u8], b: &[u8]) -> Option<Request>
     } else if equals(word, b"unwatch") {
         Request::Change(Command::Unwatch(bank(a)?, byte(b)?))
     } else if equals(word, b"list") {
-        or_bad_number(read_list(a, b))
+        or_bad_number(parse_list(a, b))
     } else {
         Request::Refused(LineFault::NotACommand)
     };
     Some(request)
 }
 
-/// Parses a line from its first word and the bytes after this word. Rejects `trace`, which [`read_words`] handles.
-fn read_word(word: &[u8], rest: &[u8]) -> Request
+/// Parses a line from its first word and the bytes after this word. Rejects `trace`, which [`parse_words`] handles.
+fn parse_command(word: &[u8], rest: &[u8]) -> Request
     ensures { result ≡ request_of_word word.now (words_of rest.now) }
 {
     let Some((first, rest)) = next_word(rest) else {
-        return read_alone(word);
+        return parse_one_word(word);
     };
     let Some((second, rest)) = next_word(rest) else {
-        return or_bad_number(read_with_one(word, first));
+        return or_bad_number(parse_one_argument(word, first));
     };
     match next_word(rest) {
-        None => or_bad_number(read_with_two(word, first, second)),
+        None => or_bad_number(parse_two_arguments(word, first, second)),
         Some(_) => Request::Refused(LineFault::NotACommand),
     }
 }
 
 /// Parses a line from its words. Does not check the length of the line or its bytes.
-fn read_words(line: &[u8]) -> Request
+fn parse_words(line: &[u8]) -> Request
     ensures { result ≡ request_of_words (words_of line.now) }
 {
     let Some((word, rest)) = next_word(line) else {
         return Request::Nothing;
     };
     if equals(word, b"trace") {
-        read_trace(rest)
+        parse_trace(rest)
     } else {
-        read_word(word, rest)
+        parse_command(word, rest)
     }
 }
 
 /// Returns true if a line consists of tabs and printable ASCII characters.
-fn is_plain(line: &[u8]) -> bool
-    ensures { result ≡ list_all is_plain_byte line.now }
+fn has_only_allowed_bytes(line: &[u8]) -> bool
+    ensures { result ≡ list_all is_allowed_byte line.now }
 {
-    line.iter().all(|b| is_plain_byte(*b))
+    line.iter().all(|b| is_allowed_byte(*b))
 }
 
 /// Parses a command line, given without its line end. Returns a refusal if the line is too long, has a byte that is
 /// not allowed, or is not a command.
 #[tactic(auto, unfolding(crate::specs::LineRequests::request_of))]
-pub fn read_request(line: &[u8]) -> Request
+pub fn parse_request(line: &[u8]) -> Request
     ensures { result ≡ request_of line.now }
 {
     if line.len() > LINE_BYTES {
         Request::Refused(LineFault::LineTooLong)
-    } else if is_plain(line) {
-        read_words(line)
+    } else if has_only_allowed_bytes(line) {
+        parse_words(line)
     } else {
         Request::Refused(LineFault::NotAscii)
     }

@@ -1,8 +1,8 @@
 pub mod Digits
-pub mod Rising
+pub mod ImageLength
 pub mod RunLemmas
 pub mod Cutting
 pub mod LineWords
 pub mod LineLemmas
 pub mod ListLemmas
-pub mod SoundBoards
+pub mod ValidBoardLemmas

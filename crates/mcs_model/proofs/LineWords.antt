@@ -3,68 +3,68 @@ use Rattle.std.proofs.Common.{◌≡◌, ℕ, zero, suc, ◌+◌, ◌<◌, List,
 use Rattle.std.proofs.lemmas.List.{drop_more, append-nil}
 use Rattle.std.specs.List.{slice_split}
 use Rattle.mcs_model.specs.TextLines.{is_blank, words_of}
-use Rattle.mcs_model.specs.Cutting.{BeginsWord, EndsAtFront, EndsPiece, HasNone}
-use Rattle.mcs_model.proofs.Cutting.{before, split-append, split-cut, split-nothing}
+use Rattle.mcs_model.specs.Cutting.{StartsWithoutBlank, IsAtPieceEnd, IsCompletePiece, HasNoSeparator}
+use Rattle.mcs_model.proofs.Cutting.{prepend_to_first, split-append, split-cut, split-nothing}
 
 abbrev pub is_word_piece : List ℕ → Bool
 is_word_piece w = nat_lt 0 (length w)
 
-no_piece : (ps : List (List ℕ)) → filter is_word_piece ([] ∷ ps) ≡ filter is_word_piece ps
-no_piece ps = refl
+empty_piece-skipped : (ps : List (List ℕ)) → filter is_word_piece ([] ∷ ps) ≡ filter is_word_piece ps
+empty_piece-skipped ps = refl
 
 -- a blank in front of a line does not change its words
 pub words_of-blank : (b : ℕ) (bs : List ℕ) → is_blank b ≡ true → words_of (b ∷ bs) ≡ words_of bs
 unfolding words_of
-words_of-blank b bs e = ap (filter is_word_piece) (split-cut is_blank b bs e) ∙ no_piece (slice_split is_blank bs)
+words_of-blank b bs e = ap (filter is_word_piece) (split-cut is_blank b bs e) ∙ empty_piece-skipped (slice_split is_blank bs)
 
 -- a list that is empty or begins with a blank has an empty first piece
-ends_first : (rest : List ℕ) → EndsAtFront is_blank rest → (ps : List (List ℕ)) × (slice_split is_blank rest ≡ [] ∷ ps)
-ends_first [] h = ([], split-nothing is_blank)
-ends_first (b ∷ bs) h = (slice_split is_blank bs, split-cut is_blank b bs h)
+empty_piece-first : (rest : List ℕ) → IsAtPieceEnd is_blank rest → (ps : List (List ℕ)) × (slice_split is_blank rest ≡ [] ∷ ps)
+empty_piece-first [] h = ([], split-nothing is_blank)
+empty_piece-first (b ∷ bs) h = (slice_split is_blank bs, split-cut is_blank b bs h)
 
-split-word : (word rest : List ℕ) (ps : List (List ℕ)) → HasNone is_blank word → slice_split is_blank rest ≡ [] ∷ ps → slice_split is_blank (word ++ rest) ≡ word ∷ ps
-split-word word rest ps h e = split-append is_blank word rest h ∙ ap (before word) e ∙ ap (λ v. v ∷ ps) (append-nil word)
+split-word : (word rest : List ℕ) (ps : List (List ℕ)) → HasNoSeparator is_blank word → slice_split is_blank rest ≡ [] ∷ ps → slice_split is_blank (word ++ rest) ≡ word ∷ ps
+split-word word rest ps h e = split-append is_blank word rest h ∙ ap (prepend_to_first word) e ∙ ap (λ v. v ∷ ps) (append-nil word)
 
 filter_first : (b : ℕ) (word : List ℕ) (ps : List (List ℕ)) → nat_lt 0 (length (b ∷ word)) ≡ true → filter is_word_piece ((b ∷ word) ∷ ps) ≡ (b ∷ word) ∷ filter is_word_piece ps
 filter_first b word ps e = rw e refl
 
-some_bytes : (b : ℕ) (word : List ℕ) → nat_lt 0 (length (b ∷ word)) ≡ true
-some_bytes b word = search rules
+length-positive : (b : ℕ) (word : List ℕ) → nat_lt 0 (length (b ∷ word)) ≡ true
+length-positive b word = search rules
 
 -- a word at the front of a line is the first word of the line
-pub words_of-word : (b : ℕ) (word rest : List ℕ) → EndsPiece is_blank (b ∷ word) rest → words_of ((b ∷ word) ++ rest) ≡ (b ∷ word) ∷ words_of rest
+pub words_of-word : (b : ℕ) (word rest : List ℕ) → IsCompletePiece is_blank (b ∷ word) rest → words_of ((b ∷ word) ++ rest) ≡ (b ∷ word) ∷ words_of rest
 unfolding words_of
 words_of-word b word rest h =
-    let first = ends_first rest h.1 in
+    let first = empty_piece-first rest h.1 in
     ap (filter is_word_piece) (split-word (b ∷ word) rest (first.0) (h.0) (first.1))
-    ∙ filter_first b word (first.0) (some_bytes b word)
-    ∙ ap (λ v. (b ∷ word) ∷ v) (sym (ap (filter is_word_piece) (first.1) ∙ no_piece (first.0)))
+    ∙ filter_first b word (first.0) (length-positive b word)
+    ∙ ap (λ v. (b ∷ word) ∷ v) (sym (ap (filter is_word_piece) (first.1) ∙ empty_piece-skipped (first.0)))
 
 no_front : (b : ℕ) → is_blank b ≡ false → is_blank b ≡ true → ⊥
 no_front b h k = cc (h, k)
 
 -- if a line begins with a word of n bytes, this word is the first word of the line
-pub words_of-front : (line : List ℕ) (n : ℕ) → 0 < length line → BeginsWord line → EndsPiece is_blank (take n line) (drop n line) → words_of line ≡ take n line ∷ words_of (drop n line)
+pub words_of-front : (line : List ℕ) (n : ℕ) → 0 < length line → StartsWithoutBlank line → IsCompletePiece is_blank (take n line) (drop n line) → words_of line ≡ take n line ∷ words_of (drop n line)
 words_of-front [] n some begins ends = absurd (omega arith)
 words_of-front (b ∷ bs) zero some begins ends = absurd (no_front b begins (ends.1))
 words_of-front (b ∷ bs) (suc n) some begins ends =
     ap words_of (sym (take-append-drop (suc n) (b ∷ bs))) ∙ words_of-word b (take n bs) (drop n bs) ends
 
 -- if byte n of a line is a blank, the rest of the line from n on begins with a separator
-pub ends_at : (line : List ℕ) (n : ℕ) → n < length line → is_blank (get_or line n 0) ≡ true → EndsAtFront is_blank (drop n line)
-ends_at [] n inside e = absurd (omega arith)
-ends_at (b ∷ bs) zero inside e = e
-ends_at (b ∷ bs) (suc n) inside e = ends_at bs n (omega arith) e
+pub at_piece_end-blank : (line : List ℕ) (n : ℕ) → n < length line → is_blank (get_or line n 0) ≡ true → IsAtPieceEnd is_blank (drop n line)
+at_piece_end-blank [] n inside e = absurd (omega arith)
+at_piece_end-blank (b ∷ bs) zero inside e = e
+at_piece_end-blank (b ∷ bs) (suc n) inside e = at_piece_end-blank bs n (omega arith) e
 
-pub ends_past : (line : List ℕ) → EndsAtFront is_blank (drop (length line) line)
-ends_past [] = tt
-ends_past (b ∷ bs) = ends_past bs
+pub at_piece_end-past : (line : List ℕ) → IsAtPieceEnd is_blank (drop (length line) line)
+at_piece_end-past [] = tt
+at_piece_end-past (b ∷ bs) = at_piece_end-past bs
 
 pub words_of-past : (line : List ℕ) (at : ℕ) → at < length line → is_blank (get_or line at 0) ≡ true → words_of (drop (at + 1) line) ≡ words_of (drop at line)
 words_of-past line at inside e = sym (ap words_of (drop_more line at 0 inside) ∙ words_of-blank (get_or line at 0) (drop (at + 1) line) e)
 
-pub begins_at : (line : List ℕ) (at : ℕ) → at < length line → is_blank (get_or line at 0) ≡ false → BeginsWord (drop at line)
-begins_at line at inside e = subst BeginsWord (sym (drop_more line at 0 inside)) e
+pub starts_without_blank-at : (line : List ℕ) (at : ℕ) → at < length line → is_blank (get_or line at 0) ≡ false → StartsWithoutBlank (drop at line)
+starts_without_blank-at line at inside e = subst StartsWithoutBlank (sym (drop_more line at 0 inside)) e
 
 pub no_words : (line : List ℕ) → length line ≡ 0 → words_of line ≡ []
 unfolding words_of

@@ -10,11 +10,11 @@ pub none_at : {X : Type 0} (p : X → Bool) (xs : List X) (i : ℕ) (d : X) → 
 none_at p xs i d none l = elim (cases_Bool (p (get_or xs i d))) [ inl y ↦ absurd (let t = list_any_at p xs i d l y in cc) | inr n ↦ n ]
 
 -- a range that is one number longer is the same range, followed by that number
-pub range_more : (a n : ℕ) → range_with_len a (suc n) ≡ range_with_len a n ++ (a + n) ∷ []
-range_more a zero = ap (λ (k : ℕ). k ∷ []) (omega arith)
-range_more a (suc n) =
+pub range-one-more : (a n : ℕ) → range_with_len a (suc n) ≡ range_with_len a n ++ (a + n) ∷ []
+range-one-more a zero = ap (λ (k : ℕ). k ∷ []) (omega arith)
+range-one-more a (suc n) =
     let e : a + 1 + n ≡ a + suc n = omega arith in
-    ap (λ (l : List ℕ). a ∷ l) (range_more (a + 1) n ∙ ap (λ (k : ℕ). range_with_len (a + 1) n ++ k ∷ []) e)
+    ap (λ (l : List ℕ). a ∷ l) (range-one-more (a + 1) n ∙ ap (λ (k : ℕ). range_with_len (a + 1) n ++ k ∷ []) e)
 
 -- `find` gives k if k satisfies p and no number below k does
 pub find_at : (p : ℕ → Bool) (a n k : ℕ) → a ≤ k → k < a + n → ((j : ℕ) → j < k → p j ≡ false) → p k ≡ true → find p (range_with_len a n) ≡ Some k
@@ -26,5 +26,5 @@ find_at p a (suc n) k l h before here =
     ]
 
 -- the slice `&list[at..]` is the list without its first `at` elements
-pub tail_whole : {X : Type 0} (at : ℕ) (xs : List X) → take (length xs - at) (drop at xs) ≡ drop at xs
-tail_whole at xs = take_all (length xs - at) (drop at xs) (omega (arith, length-drop at xs))
+pub take-drop-rest : {X : Type 0} (at : ℕ) (xs : List X) → take (length xs - at) (drop at xs) ≡ drop at xs
+take-drop-rest at xs = take_all (length xs - at) (drop at xs) (omega (arith, length-drop at xs))

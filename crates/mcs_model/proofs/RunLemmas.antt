@@ -8,25 +8,25 @@ use Rattle.mcs_model.specs.declared.regs.Regs.{Regs}
 use Rattle.mcs_model.specs.declared.stop.Stop.TheVariants.{Outside, Breakpoint, Ended}
 use Rattle.mcs_model.specs.Bus.{BusState}
 use Rattle.mcs_model.specs.Effect.{cycle_of}
-use Rattle.mcs_model.specs.Running.{Machine, is_outside, after_cycles, at_break, stop_after, after_run}
+use Rattle.mcs_model.specs.Running.{Machine, is_outside_table, after_cycles, at_break, stop_reason_after, after_run}
 use Rattle.mcs_model.specs.Laws.{no_stops}
 
 -- the machine after one cycle
 abbrev pub next : Machine → Machine
 next s = unwrap_or (cycle_of s.0 s.1) s
 
-stays_for : (o : Option (Regs × BusState)) (s : Machine) → is_none o ≡ true → unwrap_or o s ≡ s
-stays_for None s _ = refl
-stays_for (Some t) s e = cc
+unwrap_or-none : (o : Option (Regs × BusState)) (s : Machine) → is_none o ≡ true → unwrap_or o s ≡ s
+unwrap_or-none None s _ = refl
+unwrap_or-none (Some t) s e = cc
 
 -- a machine does not change if no cycle is possible
-cycled-outside : (k : ℕ) (s : Machine) → is_outside s ≡ true → after_cycles k s ≡ s
-cycled-outside zero s h = refl
-cycled-outside (suc k) s h = ap next (cycled-outside k s h) ∙ stays_for (cycle_of s.0 s.1) s h
+after_cycles-outside : (k : ℕ) (s : Machine) → is_outside_table s ≡ true → after_cycles k s ≡ s
+after_cycles-outside zero s h = refl
+after_cycles-outside (suc k) s h = ap next (after_cycles-outside k s h) ∙ unwrap_or-none (cycle_of s.0 s.1) s h
 
-pub cycled-add : (a b : ℕ) (s : Machine) → after_cycles (a + b) s ≡ after_cycles b (after_cycles a s)
-cycled-add a zero s = ap (λ n. after_cycles n s) (omega arith)
-cycled-add a (suc b) s = ap (λ n. after_cycles n s) (add-suc a b) ∙ ap next (cycled-add a b s)
+pub after_cycles-add : (a b : ℕ) (s : Machine) → after_cycles (a + b) s ≡ after_cycles b (after_cycles a s)
+after_cycles-add a zero s = ap (λ n. after_cycles n s) (omega arith)
+after_cycles-add a (suc b) s = ap (λ n. after_cycles n s) (add-suc a b) ∙ ap next (after_cycles-add a b s)
 
 -- if Q holds for the default, and for each number of the range that satisfies p, then Q holds for the result of the
 -- search
@@ -38,26 +38,26 @@ found p Q d holds a (suc n) h =
       | false ↦ λ _. found p Q d holds (a + 1) n (λ k l e. h k (omega arith) e)
     ] refl
 
-some_stop : (v b w : Bool) → b ≡ false → is_some (cond v (Some Outside) (cond b (Some Breakpoint) (cond w (Some Ended) None))) ≡ true → (v ≡ true) ⊎ (w ≡ true)
-some_stop true b w f e = inl refl
-some_stop false true w f e = cc
-some_stop false false true f e = inr refl
-some_stop false false false f e = cc
+stop_case : (v b w : Bool) → b ≡ false → is_some (cond v (Some Outside) (cond b (Some Breakpoint) (cond w (Some Ended) None))) ≡ true → (v ≡ true) ⊎ (w ≡ true)
+stop_case true b w f e = inl refl
+stop_case false true w f e = cc
+stop_case false false true f e = inr refl
+stop_case false false false f e = cc
 
 -- without breakpoints and watches, a run stops only if no cycle is possible, or at its end
-stop_cases : (n k : ℕ) (s : Machine) → is_some (stop_after no_stops n s k) ≡ true → (is_outside (after_cycles k s) ≡ true) ⊎ (eqb k n ≡ true)
-stop_cases n k s e = some_stop (is_outside (after_cycles k s)) (at_break [] k (after_cycles k s)) (eqb k n) (and-false _) e
+stop_cases : (n k : ℕ) (s : Machine) → is_some (stop_reason_after no_stops n s k) ≡ true → (is_outside_table (after_cycles k s) ≡ true) ⊎ (eqb k n ≡ true)
+stop_cases n k s e = stop_case (is_outside_table (after_cycles k s)) (at_break [] k (after_cycles k s)) (eqb k n) (and-false _) e
 
 pub after_run-nil : (n : ℕ) (s : Machine) → after_run no_stops n s ≡ after_cycles n s
 after_run-nil n s =
-    found (λ k. is_some (stop_after no_stops n s k)) (λ k. after_cycles k s ≡ after_cycles n s) n refl 0 (n + 1)
+    found (λ k. is_some (stop_reason_after no_stops n s k)) (λ k. after_cycles k s ≡ after_cycles n s) n refl 0 (n + 1)
     (λ k l e.
     elim (stop_cases n k s e) [
-      | inl outside ↦ sym (ap (λ m. after_cycles m s) (let same : n ≡ k + (n - k) = omega arith in same) ∙ cycled-add k (n - k) s ∙ cycled-outside (n - k) (after_cycles k s) outside)
+      | inl outside ↦ sym (ap (λ m. after_cycles m s) (let same : n ≡ k + (n - k) = omega arith in same) ∙ after_cycles-add k (n - k) s ∙ after_cycles-outside (n - k) (after_cycles k s) outside)
       | inr ended ↦ ap (λ m. after_cycles m s) (eqb-true k n ended)
     ])
 
 -- without breakpoints and watches, two consecutive runs reach the same machine as one run of all their cycles
 pub after_run-after_run : (a b : ℕ) (s : Machine) → after_run no_stops b (after_run no_stops a s) ≡ after_run no_stops (a + b) s
 after_run-after_run a b s =
-    after_run-nil b (after_run no_stops a s) ∙ ap (after_cycles b) (after_run-nil a s) ∙ sym (cycled-add a b s) ∙ sym (after_run-nil (a + b) s)
+    after_run-nil b (after_run no_stops a s) ∙ ap (after_cycles b) (after_run-nil a s) ∙ sym (after_cycles-add a b s) ∙ sym (after_run-nil (a + b) s)

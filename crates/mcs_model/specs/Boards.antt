@@ -15,12 +15,12 @@ use Rattle.mcs_model.specs.declared.limits.TheConstants.{ROMS, BANKS, BANK_CHIPS
 
 -- The mask options of a ROM's port lines, or none if the board does not have that ROM. (4001 data
 -- sheet: the mask makes each line an input or an output.)
-abbrev pub masks_on : BoardParts → ℕ → Option (List LineMask)
-masks_on b chip = slice_index_or b.roms chip None
+abbrev pub rom_masks : BoardParts → ℕ → Option (List LineMask)
+rom_masks b chip = slice_index_or b.roms chip None
 
 -- true if line k, 0 to 3, of a ROM is an input line; false if the board does not have that ROM
-abbrev pub input_on : BoardParts → ℕ → ℕ → Bool
-input_on b chip k = elim (masks_on b chip) [ Some mask ↦ is_input (mask_at mask k) | None ↦ false ]
+abbrev pub is_rom_input_line : BoardParts → ℕ → ℕ → Bool
+is_rom_input_line b chip k = elim (rom_masks b chip) [ Some mask ↦ is_input (mask_at mask k) | None ↦ false ]
 
 -- The chain that `chain_part` gives if the board has no chain with the given number. It has no
 -- bits, and its two lines have no meaning.
@@ -57,22 +57,22 @@ in_range (Chain n i) = nat_lt n CHAINS && nat_lt i CHAIN_BITS
 
 -- true if the line is on the board: line 0 to 3 of a ROM or RAM chip that is present, or a bit that
 -- a chain has
-abbrev pub exists_on : BoardParts → Line → Bool
-exists_on b (Rom chip k) = is_some (masks_on b chip) && nat_lt k 4
-exists_on b (Ram bank chip k) = nat_lt chip (slice_index b.banks bank) && nat_lt k 4
-exists_on b (Chain n i) = nat_lt i (chain_bits b n)
+abbrev pub is_on_board : BoardParts → Line → Bool
+is_on_board b (Rom chip k) = is_some (rom_masks b chip) && nat_lt k 4
+is_on_board b (Ram bank chip k) = nat_lt chip (slice_index b.banks bank) && nat_lt k 4
+is_on_board b (Chain n i) = nat_lt i (chain_bits b n)
 
 -- true if the line is an input line of the board: a ROM line whose mask makes it an input
 abbrev pub is_input_line : BoardParts → Line → Bool
-is_input_line b (Rom chip k) = exists_on b (Rom chip k) && input_on b chip k
+is_input_line b (Rom chip k) = is_on_board b (Rom chip k) && is_rom_input_line b chip k
 is_input_line b (Ram bank chip k) = false
 is_input_line b (Chain n i) = false
 
 -- true if the line is an output line of the board: a ROM line whose mask makes it an output, or a
 -- line of a RAM chip
 abbrev pub is_output_line : BoardParts → Line → Bool
-is_output_line b (Rom chip k) = exists_on b (Rom chip k) && not (input_on b chip k)
-is_output_line b (Ram bank chip k) = exists_on b (Ram bank chip k)
+is_output_line b (Rom chip k) = is_on_board b (Rom chip k) && not (is_rom_input_line b chip k)
+is_output_line b (Ram bank chip k) = is_on_board b (Ram bank chip k)
 is_output_line b (Chain n i) = false
 
 -- True if p is true for the clock line or the data line of at least one chain. `any_column` and
@@ -123,7 +123,7 @@ lacks_rows b =
 -- true if a line that the parts name is not on the board, or if the key matrix lacks its chain or a
 -- chain bit for a row
 abbrev pub lacks_line : BoardParts → Bool
-lacks_line b = any_line (λ line. not (exists_on b line)) b || lacks_rows b
+lacks_line b = any_line (λ line. not (is_on_board b line)) b || lacks_rows b
 
 -- true if a clock or data line is not an output line, a column is not an input line, or a lamp is
 -- at an input line
@@ -158,9 +158,9 @@ abbrev pub key_index : BoardParts → ℕ → ℕ → ℕ
 key_index b row column = elim b.keys [ Some m ↦ row * length m.columns.items + column | None ↦ 0 ]
 
 -- holds if the lists in the parts have the lengths that their types imply
-pub record IsSized (b : BoardParts) : Type 0 where
+pub record HasDeclaredLengths (b : BoardParts) : Type 0 where
   pub roms : length b.roms ≡ ROMS
-  pub masks : (chip : ℕ) (mask : List LineMask) → masks_on b chip ≡ Some mask → length mask ≡ 4
+  pub masks : (chip : ℕ) (mask : List LineMask) → rom_masks b chip ≡ Some mask → length mask ≡ 4
   pub banks : length b.banks ≡ BANKS
   pub chains : length b.chains.items ≤ CHAINS
   pub columns : (m : KeyMatrix) → b.keys ≡ Some m → length m.columns.items ≤ KEY_COLUMNS

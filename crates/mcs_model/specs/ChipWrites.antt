@@ -7,14 +7,14 @@ use Rattle.mcs_nibble.specs.Tables.{table_of}
 use Rattle.mcs_nibble.specs.Ports.{latch_value}
 use Rattle.mcs_model.specs.declared.board.BoardParts.{BoardParts}
 use Rattle.mcs_model.specs.declared.board.ChainPart.{ChainPart}
-use Rattle.mcs_model.specs.Boards.{masks_on, key_count, key_index}
+use Rattle.mcs_model.specs.Boards.{rom_masks, key_count, key_index}
 use Rattle.mcs_model.specs.Bus.{BusState, chips_of, ram_port_index, zero_bus}
 use Rattle.mcs_model.specs.Levels.{with_rom_ports_at, with_ram_ports_at}
 
 -- the bus after a write to the ROM byte at an address; the write is lost if the ROM is absent
 unfoldable pub with_rom_byte : BusState → ℕ → ℕ → BusState
 with_rom_byte s at byte =
-    if is_some (masks_on s.board (at / 256))
+    if is_some (rom_masks s.board (at / 256))
     then record s { rom = slice_set s.rom at byte }
     else s
 
@@ -35,7 +35,7 @@ with_ram_latch s bank chip n =
 -- n, and input lines 0. The write is lost if the ROM is absent.
 unfoldable pub with_rom_latch : BusState → ℕ → ℕ → BusState
 with_rom_latch s chip n =
-    elim (masks_on s.board chip) [
+    elim (rom_masks s.board chip) [
       | Some mask ↦ with_rom_ports_at s chip (latch_value mask n)
       | None ↦ s
     ]
@@ -58,8 +58,8 @@ abbrev pub with_key : BusState → ℕ → ℕ → ℕ → BusState
 with_key s row column bit = record s { keys = slice_set s.keys (key_index s.board row column) bit }
 
 -- the chains of a board, with all bits 0
-abbrev pub blank_chains : BoardParts → List (List ℕ)
-blank_chains b = map (λ (c : ChainPart). replicate (10 * c.chips) 0) b.chains.items
+abbrev pub zero_chains : BoardParts → List (List ℕ)
+zero_chains b = map (λ (c : ChainPart). replicate (10 * c.chips) 0) b.chains.items
 
 -- the bus after a power cycle: the board, ROM, keys and TEST stay; everything else (RAM, port
 -- latches, SRC bytes, chains) becomes 0, and nothing is shifted
@@ -67,20 +67,20 @@ abbrev pub after_reset : BusState → BusState
 after_reset s = record zero_bus {
   board = s.board;
   rom = s.rom;
-  chains = blank_chains s.board;
+  chains = zero_chains s.board;
   keys = s.keys;
   test = s.test;
 }
 
 -- the ROM bytes, with 0 for all bytes of ROMs that are not on the board
-unfoldable pub kept_rom : BoardParts → List ℕ → List ℕ
-kept_rom b rom =
-    table_of 4096 (λ at. if is_some (masks_on b (at / 256)) then slice_index rom at else 0)
+unfoldable pub rom_of_board : BoardParts → List ℕ → List ℕ
+rom_of_board b rom =
+    table_of 4096 (λ at. if is_some (rom_masks b (at / 256)) then slice_index rom at else 0)
 
 -- The bus after the board is replaced. All keys are up, and everything that a reset clears is 0.
 -- The bytes of ROMs that are not on the new board become 0.
 abbrev pub after_wire : BusState → BoardParts → BusState
 after_wire s b = record (after_reset (record s { board = b })) {
-  rom = kept_rom b s.rom;
+  rom = rom_of_board b s.rom;
   keys = replicate (key_count b) 0;
 }

@@ -13,18 +13,18 @@ use Rattle.mcs_model.specs.declared.limits.TheConstants.{ACCEPTED_COMMANDS, BREA
 use Rattle.mcs_model.specs.declared.refusals.BenchFault.{BenchFault}
 use Rattle.mcs_model.specs.declared.refusals.BenchFault.TheVariants.{NoKey, NoRom, NoSuchPlace, BadCount, BreaksFull, Worn, WatchesFull}
 use Rattle.mcs_model.specs.declared.regs.Regs.{Regs}
-use Rattle.mcs_model.specs.Boards.{has_key, masks_on}
+use Rattle.mcs_model.specs.Boards.{has_key, rom_masks}
 use Rattle.mcs_model.specs.Listed.{is_listed, with_listed, without_listed}
 use Rattle.mcs_model.specs.Bus.{BusState, has_chip, chips_of, ram_index, with_ram, with_status}
 use Rattle.mcs_model.specs.BenchState.{BenchState, new_regs}
 use Rattle.mcs_model.specs.ChipWrites.{with_rom_byte, with_rom_bytes, with_key, after_reset, after_wire}
-use Rattle.mcs_model.specs.Running.{Machine, Stops, run_length, after_run, run_stop, step_length, after_step, step_stop}
+use Rattle.mcs_model.specs.Running.{Machine, StopConditions, run_length, after_run, run_stop_reason, step_length, after_step, step_stop_reason}
 
 -- ---- which commands are accepted
 
 -- true if the ROM that contains the address is not on the board
 abbrev pub lacks_rom : BoardParts → ℕ → Bool
-lacks_rom b at = is_none (masks_on b (at / 256))
+lacks_rom b at = is_none (rom_masks b (at / 256))
 
 -- the reason why the location cannot be set, or none
 abbrev pub place_refusal : BusState → Place → Option BenchFault
@@ -68,7 +68,7 @@ abbrev pub machine_of : BenchState → Machine
 machine_of s = (s.processor, s.bus)
 
 -- the breakpoints and watches of a run that begins in this state
-abbrev pub stops_of : BenchState → Stops
+abbrev pub stops_of : BenchState → StopConditions
 stops_of s = record { breaks = s.breakpoints; watches = s.watches }
 
 abbrev pub with_machine : BenchState → Machine → BenchState
@@ -120,6 +120,6 @@ after s c = record (after_change s c) { seq = s.seq + 1 }
 abbrev pub reply : BenchState → Command → Reply
 reply s (Load image) = Loaded (length image)
 reply s (Run n) =
-    Ran (run_length (stops_of s) n (machine_of s)) (run_stop (stops_of s) n (machine_of s))
-reply s Step = Ran (step_length (machine_of s)) (step_stop (machine_of s))
+    Ran (run_length (stops_of s) n (machine_of s)) (run_stop_reason (stops_of s) n (machine_of s))
+reply s Step = Ran (step_length (machine_of s)) (step_stop_reason (machine_of s))
 reply s _ = Done

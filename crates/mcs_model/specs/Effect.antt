@@ -23,13 +23,13 @@ with_sum s x = record s { acc = x % 16; cy = x / 16 }
 
 -- The address on the page of `address` whose lower eight bits are w. JCN, ISZ, FIN and JIN use the
 -- page of the address after the instruction (Manual, these instructions at the end of a page).
-abbrev pub address_beside : ℕ → ℕ → ℕ
-address_beside address w = word_on_page (page_of address) w
+abbrev pub address_on_page_of : ℕ → ℕ → ℕ
+address_on_page_of address w = word_on_page (page_of address) w
 
 -- The registers after a jump to word w on the program counter's page. In s, the program counter is
 -- already the address after the instruction.
-abbrev pub with_word : Regs → ℕ → Regs
-with_word s w = record s { pc = address_beside s.pc w }
+abbrev pub with_pc_on_page : Regs → ℕ → Regs
+with_pc_on_page s w = record s { pc = address_on_page_of s.pc w }
 
 -- JCN: true if the jump is taken. Condition bit 2 tests whether the accumulator is 0, bit 1 whether
 -- the carry is 1, and bit 0 whether TEST is 0. The jump is taken if at least one of the selected
@@ -44,14 +44,14 @@ is_taken condition s test =
 
 -- JCN: sets the program counter to word w on its page if the jump is taken
 abbrev pub after_jcn : ℕ → ℕ → Regs → ℕ → Regs
-after_jcn condition w s test = if is_taken condition s test then with_word s w else s
+after_jcn condition w s test = if is_taken condition s test then with_pc_on_page s w else s
 
 -- ISZ: increments register r, and sets the program counter to word w on its page if the register is
 -- then not 0
 abbrev pub after_isz : ℕ → ℕ → Regs → Regs
 after_isz r w s =
     let n = (register_of s r + 1) % 16 in
-    if n == 0 then with_register s r n else with_word (with_register s r n) w
+    if n == 0 then with_register s r n else with_pc_on_page (with_register s r n) w
 
 -- JMS: sets the program counter to the target; its old value becomes the first return address, and
 -- the last return address is lost (one list: our own choice)
@@ -96,8 +96,8 @@ registers_after Nop s _ = s
 registers_after (Jcn c b) s m = after_jcn c b s m.test
 registers_after (Fim k b) s _ = with_pair s k b
 registers_after (Src _) s _ = s
-registers_after (Fin k) s m = with_pair s k (fetch_of m (address_beside s.pc (pair_of s 0)))
-registers_after (Jin k) s _ = with_word s (pair_of s k)
+registers_after (Fin k) s m = with_pair s k (fetch_of m (address_on_page_of s.pc (pair_of s 0)))
+registers_after (Jin k) s _ = with_pc_on_page s (pair_of s k)
 registers_after (Jun h b) s _ = record s { pc = word_on_page h b }
 registers_after (Jms h b) s _ = after_jms (word_on_page h b) s
 registers_after (Inc r) s _ = with_register s r ((register_of s r + 1) % 16)
@@ -153,12 +153,12 @@ bus_after _ _ m = m
 
 -- The registers after the program counter moves past the instruction's words. `owed` becomes 1 if
 -- the instruction has a second cycle, otherwise 0.
-abbrev pub after_words : Op → Regs → Regs
-after_words op s = record s { pc = (s.pc + word_count_of op) % 4096; owed = cycles_of op - 1 }
+abbrev pub after_fetch : Op → Regs → Regs
+after_fetch op s = record s { pc = (s.pc + word_count_of op) % 4096; owed = cycles_of op - 1 }
 
 -- the registers and the bus after the first cycle of an instruction, which does all its work
 abbrev pub effect : Op → Regs → BusState → Regs × BusState
-effect op s m = (registers_after op (after_words op s) m, bus_after op s m)
+effect op s m = (registers_after op (after_fetch op s) m, bus_after op s m)
 
 -- the instruction at the program counter, or none if its opcode is outside the table; address 0
 -- follows address 4095

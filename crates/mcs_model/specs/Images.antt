@@ -12,13 +12,13 @@ abbrev pub overlaps : List (ℕ × ℕ) → ℕ → ℕ → Bool
 overlaps pairs at count = list_any (λ p. nat_le at p.0 && nat_lt p.0 (at + count)) pairs
 
 -- holds if the addresses are in strictly ascending order; no address then occurs twice
-abbrev pub IsRising : List (ℕ × ℕ) → Type 0
-IsRising image = AllPairs (λ p q. p.0 < q.0) image
+abbrev pub HasAscendingAddresses : List (ℕ × ℕ) → Type 0
+HasAscendingAddresses image = AllPairs (λ p q. p.0 < q.0) image
 
 -- holds if the list is an image: its addresses are below 4096 and in strictly ascending order, and
 -- its values are below 256
 pub record IsImage (image : List (ℕ × ℕ)) : Type 0 where
-  pub rising : IsRising image
+  pub rising : HasAscendingAddresses image
   pub in_range : All (λ p. (p.0 < 4096) × (p.1 < 256)) image
 
 -- the pairs in ascending order of address, for addresses below 4096; if several pairs have the same

@@ -1,7 +1,7 @@
 -- The theorems of this crate, about the opcode table and about consecutive runs.
 use Rattle.std.specs.Prelude.{◌≡◌, ℕ, ◌+◌, ◌/◌, ◌%◌, Bool, List, [], ◌∷◌, is_none, filter, count_by, nat_le}
 use Rattle.std.specs.List.{range_with_len, list_all}
-use Rattle.mcs_model.specs.Running.{Machine, Stops, after_run}
+use Rattle.mcs_model.specs.Running.{Machine, StopConditions, after_run}
 use Rattle.mcs_model.specs.Table.{Row, covers, row_of}
 
 -- the opcodes that are in no row of the table
@@ -11,8 +11,8 @@ outside_codes =
     ∷ 0xE3 ∷ 0xFE ∷ 0xFF ∷ []
 
 -- holds if `codes` are exactly the opcodes that are in no row of the table
-abbrev pub LeavesOut : List ℕ → Type 0
-LeavesOut codes = filter (λ code. is_none (row_of code)) (range_with_len 0 256) ≡ codes
+abbrev pub AreOutsideTable : List ℕ → Type 0
+AreOutsideTable codes = filter (λ code. is_none (row_of code)) (range_with_len 0 256) ≡ codes
 
 -- true if no opcode is in more than one row of a table
 abbrev pub is_unambiguous : List Row → Bool
@@ -20,7 +20,7 @@ is_unambiguous table =
     list_all (λ code. nat_le (count_by (covers (code / 16) (code % 16)) table) 1) (range_with_len 0 256)
 
 -- no breakpoints and no watches: a run stops only at its end, or at an opcode outside the table
-abbrev pub no_stops : Stops
+abbrev pub no_stops : StopConditions
 no_stops = record { breaks = []; watches = [] }
 
 -- holds if, without breakpoints and watches, two consecutive runs reach the same state as one run

@@ -9,7 +9,7 @@ use Rattle.mcs_nibble.specs.Tables.{table_of}
 use Rattle.mcs_model.specs.declared.board.KeyMatrix.{KeyMatrix}
 use Rattle.mcs_model.specs.declared.board.Line.{Line}
 use Rattle.mcs_model.specs.declared.board.Line.TheVariants.{Rom, Ram, Chain}
-use Rattle.mcs_model.specs.Boards.{masks_on, input_on, chain_part, chain_count}
+use Rattle.mcs_model.specs.Boards.{rom_masks, is_rom_input_line, chain_part, chain_count}
 use Rattle.mcs_model.specs.Bus.{BusState, src_of, has_chip, ram_port_index}
 
 abbrev pub bit_when : Bool → ℕ
@@ -26,8 +26,8 @@ is_rom_line chip k _ = false
 
 -- true if row r drives column j: the chain bit of the row is 1, and the key at that row and column
 -- is down
-abbrev pub drives : List ℕ → List ℕ → KeyMatrix → ℕ → ℕ → Bool
-drives bits keys m j r =
+abbrev pub row_drives_column : List ℕ → List ℕ → KeyMatrix → ℕ → ℕ → Bool
+row_drives_column bits keys m j r =
     slice_index bits (m.first + r) == 1 && slice_index keys (r * length m.columns.items + j) == 1
 
 -- true if at least one row drives a column that is line k of ROM `chip`
@@ -35,7 +35,7 @@ abbrev pub is_pulled_by : List ℕ → List ℕ → KeyMatrix → ℕ → ℕ �
 is_pulled_by bits keys m chip k =
     list_any
     (λ j. is_rom_line chip k (slice_index_or m.columns.items j (Rom 0 0))
-    && list_any (drives bits keys m j) (range_with_len 0 m.rows))
+    && list_any (row_drives_column bits keys m j) (range_with_len 0 m.rows))
     (range_with_len 0 (length m.columns.items))
 
 -- true if a key pulls line k of ROM `chip` to 1 (our own choice: each key has a diode)
@@ -55,7 +55,7 @@ latch_of s _ = 0
 -- The level of a line. An output line has the level of its latch bit, and a chain output that of
 -- its chain bit. An input line is at 1 if a key pulls it, and otherwise at 0.
 unfoldable pub level : BusState → Line → ℕ
-level s (Rom c k) = if input_on s.board c k then bit_when (is_pulled s c k) else latch_of s (Rom c k)
+level s (Rom c k) = if is_rom_input_line s.board c k then bit_when (is_pulled s c k) else latch_of s (Rom c k)
 level s (Ram b c k) = latch_of s (Ram b c k)
 level s (Chain n i) = chain_bit s n i
 
@@ -68,17 +68,17 @@ clock_levels s = table_of (chain_count s.board) (λ i. level s (chain_part s.boa
 -- up by one position. The level of the data line becomes bit 0, and the last bit is lost. (4003
 -- data sheet: a shift register with a serial input. The clock edge, the bit order and the data
 -- level are our own choice.)
-unfoldable pub chain_clocked : BusState → ℕ → ℕ → List ℕ → List ℕ
-chain_clocked s i was bits =
+unfoldable pub chain_bits_after_clock : BusState → ℕ → ℕ → List ℕ → List ℕ
+chain_bits_after_clock s i was bits =
     if was == 0 && level s (chain_part s.board i).clock == 1
     then bits_after_shift (level s (chain_part s.board i).data_in) bits
     else bits
 
 -- the bus after each chain whose clock line rose is shifted; `before` contains the levels of the
 -- clock lines before the port write
-unfoldable pub chains_clocked : List ℕ → BusState → BusState
-chains_clocked before s = record s {
-  chains = table_of (chain_count s.board) (λ i. chain_clocked s i (slice_index before i) (slice_index_or s.chains i []));
+unfoldable pub after_chain_clocks : List ℕ → BusState → BusState
+after_chain_clocks before s = record s {
+  chains = table_of (chain_count s.board) (λ i. chain_bits_after_clock s i (slice_index before i) (slice_index_or s.chains i []));
 }
 
 -- The bus after the port latch of a ROM is set, without clocking. `with_ram_ports_at` sets the
@@ -94,7 +94,7 @@ with_ram_ports_at s i n = record s { ram_ports = slice_set s.ram_ports i n }
 unfoldable pub after_ram_port : BusState → ℕ → ℕ → BusState
 after_ram_port s bank n =
     if has_chip s bank (src_of s bank)
-    then chains_clocked (clock_levels s) (with_ram_ports_at s (ram_port_index bank (src_of s bank / 64)) n)
+    then after_chain_clocks (clock_levels s) (with_ram_ports_at s (ram_port_index bank (src_of s bank / 64)) n)
     else s
 
 -- The bus after a write to the port of the selected ROM (4001 data sheet, WRR). Each chain whose
@@ -102,8 +102,8 @@ after_ram_port s bank n =
 -- lost (our own choice).
 unfoldable pub after_rom_port : BusState → ℕ → BusState
 after_rom_port s n =
-    elim (masks_on s.board (s.rom_src / 16)) [
-      | Some mask ↦ chains_clocked (clock_levels s) (with_rom_ports_at s (s.rom_src / 16) (latch_value mask n))
+    elim (rom_masks s.board (s.rom_src / 16)) [
+      | Some mask ↦ after_chain_clocks (clock_levels s) (with_rom_ports_at s (s.rom_src / 16) (latch_value mask n))
       | None ↦ s
     ]
 
@@ -111,7 +111,7 @@ after_rom_port s n =
 -- reads as 0 (our own choice)
 unfoldable pub port_at : BusState → ℕ → ℕ
 port_at s chip =
-    elim (masks_on s.board chip) [
+    elim (rom_masks s.board chip) [
       | Some mask ↦ read_lines (λ k. bit_when (is_pulled s chip k)) mask
       | None ↦ 0
     ]

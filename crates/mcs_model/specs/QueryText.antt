@@ -7,7 +7,7 @@ use Rattle.mcs_model.specs.declared.query.Query.{Query}
 use Rattle.mcs_model.specs.declared.query.Query.TheVariants as query
 use Rattle.mcs_model.specs.declared.regs.Regs.{Regs}
 use Rattle.mcs_model.specs.declared.limits.TheConstants.{BANKS, ROMS}
-use Rattle.mcs_model.specs.Boards.{chain_bits, chain_count, key_index, masks_on}
+use Rattle.mcs_model.specs.Boards.{chain_bits, chain_count, key_index, rom_masks}
 use Rattle.mcs_model.specs.Bus.{BusState, chips_of, ram_port_index}
 use Rattle.mcs_model.specs.TextLines.{line_feed}
 use Rattle.mcs_model.specs.BenchState.{BenchState}
@@ -95,12 +95,12 @@ abbrev pub breaks_text : List ℕ → List ℕ
 breaks_text breakpoints = codes "breaks " ++ or_dash (join_by address_text (codes " ") breakpoints)
 
 -- a byte as two uppercase hexadecimal digits
-abbrev pub hex_2 : ℕ → List ℕ
-hex_2 b = hex_digit (b / 16) ∷ hex_digit (b % 16) ∷ []
+abbrev pub two_hex_digits : ℕ → List ℕ
+two_hex_digits b = hex_digit (b / 16) ∷ hex_digit (b % 16) ∷ []
 
 -- the text of a watched RAM nibble: its bank number, a dot, and its SRC byte
 abbrev pub watch_text : ℕ → List ℕ
-watch_text w = digit_text (w / 256) ++ codes "." ++ hex_2 (w % 256)
+watch_text w = digit_text (w / 256) ++ codes "." ++ two_hex_digits (w % 256)
 
 -- the answer to `watches`: the watched RAM nibbles in ascending order
 abbrev pub watches_text : List ℕ → List ℕ
@@ -112,14 +112,14 @@ watches_text watches = codes "watches " ++ or_dash (join_by watch_text (codes " 
 abbrev pub bank_items : BusState → ℕ → List (List ℕ)
 bank_items s bank =
     if nat_lt 0 (chips_of s bank)
-    then (digit_text bank ++ codes "." ++ hex_2 (slice_index s.ram_src bank)) ∷ []
+    then (digit_text bank ++ codes "." ++ two_hex_digits (slice_index s.ram_src bank)) ∷ []
     else []
 
 -- the item of a ROM: its number, the contents of its port latch, and the value that the processor
 -- reads at its port; no item if the ROM is absent
 abbrev pub rom_items : BusState → ℕ → List (List ℕ)
 rom_items s chip =
-    elim (masks_on s.board chip) [
+    elim (rom_masks s.board chip) [
       | Some mask ↦
           (decimal chip
           ++ codes "." ++ digit_text (slice_index s.rom_ports chip)
@@ -153,9 +153,9 @@ seq_text seq = codes "seq " ++ decimal seq
 -- ---- the state in one line
 
 -- the items, separated by commas, or a dash if there are no items
-abbrev pub one_word : List (List ℕ) → List ℕ
-one_word [] = codes "-"
-one_word items = join_with_byte 44 items
+abbrev pub comma_list : List (List ℕ) → List ℕ
+comma_list [] = codes "-"
+comma_list items = join_with_byte 44 items
 
 -- the items of the RAM chips of a bank: the contents of each port latch
 abbrev pub ram_items : BusState → ℕ → List (List ℕ)
@@ -171,17 +171,17 @@ abbrev pub state_text : BenchState → List ℕ
 state_text s =
     codes "state " ++ seq_text s.seq
     ++ codes " " ++ registers_text s.processor s.bus.test
-    ++ codes " ret " ++ one_word (map address_text s.processor.ret)
-    ++ codes " src " ++ hex_2 s.bus.rom_src
-    ++ codes " banks " ++ one_word (flat_map (bank_items s.bus) (range_with_len 0 BANKS))
-    ++ codes " roms " ++ one_word (flat_map (rom_items s.bus) (range_with_len 0 ROMS))
-    ++ codes " rams " ++ one_word (flat_map (ram_items s.bus) (range_with_len 0 BANKS))
+    ++ codes " ret " ++ comma_list (map address_text s.processor.ret)
+    ++ codes " src " ++ two_hex_digits s.bus.rom_src
+    ++ codes " banks " ++ comma_list (flat_map (bank_items s.bus) (range_with_len 0 BANKS))
+    ++ codes " roms " ++ comma_list (flat_map (rom_items s.bus) (range_with_len 0 ROMS))
+    ++ codes " rams " ++ comma_list (flat_map (ram_items s.bus) (range_with_len 0 BANKS))
     ++ codes " chains "
-    ++ one_word (map (chain_item s.bus) (range_with_len 0 (chain_count s.bus.board)))
-    ++ codes " keys " ++ one_word (key_items s.bus)
+    ++ comma_list (map (chain_item s.bus) (range_with_len 0 (chain_count s.bus.board)))
+    ++ codes " keys " ++ comma_list (key_items s.bus)
     ++ codes " " ++ lamps_text s.bus
-    ++ codes " breaks " ++ one_word (map address_text s.breakpoints)
-    ++ codes " watches " ++ one_word (map watch_text s.watches)
+    ++ codes " breaks " ++ comma_list (map address_text s.breakpoints)
+    ++ codes " watches " ++ comma_list (map watch_text s.watches)
 
 -- the answer to a query, without the last line feed
 abbrev pub text_of_query : Query → BenchState → List ℕ

@@ -13,8 +13,8 @@ Machine = Regs × BusState
 
 -- true if no cycle is possible: no second cycle is pending, and the opcode at the program counter
 -- is outside the table
-abbrev pub is_outside : Machine → Bool
-is_outside s = is_none (cycle_of s.0 s.1)
+abbrev pub is_outside_table : Machine → Bool
+is_outside_table s = is_none (cycle_of s.0 s.1)
 
 -- the machine after k cycles; it stays the same if no cycle is possible
 abbrev pub after_cycles : ℕ → Machine → Machine
@@ -32,15 +32,15 @@ has_changed watches s t =
     list_any (λ w. not (slice_index s.1.ram w == slice_index t.1.ram w)) watches
 
 -- the breakpoints and the watched RAM nibbles of a run
-pub record Stops : Type 0 where
+pub record StopConditions : Type 0 where
   pub breaks : List ℕ
   pub watches : List ℕ
 
 -- The reason why a run of n cycles stops after k cycles, or none. t is the machine after these k
 -- cycles, and s is the machine before the last of them.
-abbrev pub stop_at : Stops → ℕ → ℕ → Machine → Machine → Option Stop
-stop_at stops n k s t =
-    if is_outside t then Some Outside
+abbrev pub stop_reason_at : StopConditions → ℕ → ℕ → Machine → Machine → Option Stop
+stop_reason_at stops n k s t =
+    if is_outside_table t then Some Outside
     else if at_break stops.breaks k t then Some Breakpoint
     else if has_changed stops.watches s t then Some Watched
     else if k == n then Some Ended
@@ -48,37 +48,37 @@ stop_at stops n k s t =
 
 -- The reason why a run of n cycles from s stops after k cycles, or none. For k = 0 no cycle was
 -- executed, and no watched RAM nibble has changed.
-abbrev pub stop_after : Stops → ℕ → Machine → ℕ → Option Stop
-stop_after stops n s k = stop_at stops n k (after_cycles (k - 1) s) (after_cycles k s)
+abbrev pub stop_reason_after : StopConditions → ℕ → Machine → ℕ → Option Stop
+stop_reason_after stops n s k = stop_reason_at stops n k (after_cycles (k - 1) s) (after_cycles k s)
 
 -- the number of cycles that a run of n cycles executes: the least k after which it stops
-abbrev pub run_length : Stops → ℕ → Machine → ℕ
+abbrev pub run_length : StopConditions → ℕ → Machine → ℕ
 run_length stops n s =
-    unwrap_or (find (λ k. is_some (stop_after stops n s k)) (range_with_len 0 (n + 1))) n
+    unwrap_or (find (λ k. is_some (stop_reason_after stops n s k)) (range_with_len 0 (n + 1))) n
 
 -- the machine after a run of n cycles
-abbrev pub after_run : Stops → ℕ → Machine → Machine
+abbrev pub after_run : StopConditions → ℕ → Machine → Machine
 after_run stops n s = after_cycles (run_length stops n s) s
 
 -- the reason why a run of n cycles stops
-abbrev pub run_stop : Stops → ℕ → Machine → Stop
-run_stop stops n s = unwrap_or (stop_after stops n s (run_length stops n s)) Ended
+abbrev pub run_stop_reason : StopConditions → ℕ → Machine → Stop
+run_stop_reason stops n s = unwrap_or (stop_reason_after stops n s (run_length stops n s)) Ended
 
 -- The reason why a step stops after k cycles, or none; s is the machine after these k cycles. A
 -- step stops at its start if no cycle is possible. Otherwise it stops after the first cycle that
 -- leaves no second cycle pending.
-abbrev pub step_at : ℕ → Machine → Option Stop
-step_at zero s = if is_outside s then Some Outside else None
-step_at (suc k) s = if s.0.owed == 0 then Some Ended else None
+abbrev pub step_stop_reason_at : ℕ → Machine → Option Stop
+step_stop_reason_at zero s = if is_outside_table s then Some Outside else None
+step_stop_reason_at (suc k) s = if s.0.owed == 0 then Some Ended else None
 
 -- the number of cycles that a step executes, at most 2: the least k after which it stops
 abbrev pub step_length : Machine → ℕ
-step_length s = unwrap_or (find (λ k. is_some (step_at k (after_cycles k s))) (range_with_len 0 3)) 2
+step_length s = unwrap_or (find (λ k. is_some (step_stop_reason_at k (after_cycles k s))) (range_with_len 0 3)) 2
 
 -- the machine after a step
 abbrev pub after_step : Machine → Machine
 after_step s = after_cycles (step_length s) s
 
 -- the reason why a step stops
-abbrev pub step_stop : Machine → Stop
-step_stop s = unwrap_or (step_at (step_length s) (after_step s)) Ended
+abbrev pub step_stop_reason : Machine → Stop
+step_stop_reason s = unwrap_or (step_stop_reason_at (step_length s) (after_step s)) Ended

@@ -7,25 +7,25 @@ use Rattle.mcs_model.specs.declared.op.Op.{Op}
 use Rattle.mcs_model.specs.declared.op.Op.TheVariants.{Nop, Jcn, Fim, Src, Fin, Jin, Jun, Jms, Inc, Isz, Add, Sub, Ld, Xch, Bbl, Ldm, Wrm, Wmp, Wrr, Wr0, Wr1, Wr2, Wr3, Sbm, Rdm, Rdr, Adm, Rd0, Rd1, Rd2, Rd3, Clb, Clc, Iac, Cmc, Cma, Ral, Rar, Tcc, Dac, Tcs, Stc, Daa, Kbp, Dcl}
 
 -- the lower nibbles of the opcodes in a row: all, the even ones, the odd ones, or a single one
-pub data Lower : Type 0 where
-  Any : Lower
-  Even : Lower
-  Odd : Lower
-  Only : ℕ → Lower
+pub data LowerNibbles : Type 0 where
+  Any : LowerNibbles
+  Even : LowerNibbles
+  Odd : LowerNibbles
+  Only : ℕ → LowerNibbles
 
 -- a row: the upper nibble of its opcodes, their lower nibbles, and the instruction for one of these
 -- opcodes and the word after it
 pub record Row : Type 0 where
   pub upper : ℕ
-  pub lower : Lower
+  pub lower : LowerNibbles
   pub op : ℕ → ℕ → Op
 
-abbrev pub row : ℕ → Lower → (ℕ → ℕ → Op) → Row
+abbrev pub row : ℕ → LowerNibbles → (ℕ → ℕ → Op) → Row
 row upper lower op = record { upper = upper; lower = lower; op = op }
 
 -- a row with a single opcode, for an instruction without operands
-abbrev pub bare : ℕ → ℕ → Op → Row
-bare upper lower op = row upper (Only lower) (λ _ _. op)
+abbrev pub one_opcode_row : ℕ → ℕ → Op → Row
+one_opcode_row upper lower op = row upper (Only lower) (λ _ _. op)
 
 -- The operand in the lower nibble of an opcode: a condition, a register, a page or a value.
 -- `pair_in` is the register pair in the upper three bits of that nibble.
@@ -37,7 +37,7 @@ pair_in code = code % 16 / 2
 
 abbrev pub rows : List Row
 rows =
-    bare 0x0 0x0 Nop
+    one_opcode_row 0x0 0x0 Nop
     ∷ row 0x1 Any (λ a b. Jcn (nibble_in a) b)
     ∷ row 0x2 Even (λ a b. Fim (pair_in a) b)
     ∷ row 0x2 Odd (λ a _. Src (pair_in a))
@@ -53,46 +53,46 @@ rows =
     ∷ row 0xB Any (λ a _. Xch (nibble_in a))
     ∷ row 0xC Any (λ a _. Bbl (nibble_in a))
     ∷ row 0xD Any (λ a _. Ldm (nibble_in a))
-    ∷ bare 0xE 0x0 Wrm
-    ∷ bare 0xE 0x1 Wmp
-    ∷ bare 0xE 0x2 Wrr
-    ∷ bare 0xE 0x4 Wr0
-    ∷ bare 0xE 0x5 Wr1
-    ∷ bare 0xE 0x6 Wr2
-    ∷ bare 0xE 0x7 Wr3
-    ∷ bare 0xE 0x8 Sbm
-    ∷ bare 0xE 0x9 Rdm
-    ∷ bare 0xE 0xA Rdr
-    ∷ bare 0xE 0xB Adm
-    ∷ bare 0xE 0xC Rd0
-    ∷ bare 0xE 0xD Rd1
-    ∷ bare 0xE 0xE Rd2
-    ∷ bare 0xE 0xF Rd3
-    ∷ bare 0xF 0x0 Clb
-    ∷ bare 0xF 0x1 Clc
-    ∷ bare 0xF 0x2 Iac
-    ∷ bare 0xF 0x3 Cmc
-    ∷ bare 0xF 0x4 Cma
-    ∷ bare 0xF 0x5 Ral
-    ∷ bare 0xF 0x6 Rar
-    ∷ bare 0xF 0x7 Tcc
-    ∷ bare 0xF 0x8 Dac
-    ∷ bare 0xF 0x9 Tcs
-    ∷ bare 0xF 0xA Stc
-    ∷ bare 0xF 0xB Daa
-    ∷ bare 0xF 0xC Kbp
-    ∷ bare 0xF 0xD Dcl
+    ∷ one_opcode_row 0xE 0x0 Wrm
+    ∷ one_opcode_row 0xE 0x1 Wmp
+    ∷ one_opcode_row 0xE 0x2 Wrr
+    ∷ one_opcode_row 0xE 0x4 Wr0
+    ∷ one_opcode_row 0xE 0x5 Wr1
+    ∷ one_opcode_row 0xE 0x6 Wr2
+    ∷ one_opcode_row 0xE 0x7 Wr3
+    ∷ one_opcode_row 0xE 0x8 Sbm
+    ∷ one_opcode_row 0xE 0x9 Rdm
+    ∷ one_opcode_row 0xE 0xA Rdr
+    ∷ one_opcode_row 0xE 0xB Adm
+    ∷ one_opcode_row 0xE 0xC Rd0
+    ∷ one_opcode_row 0xE 0xD Rd1
+    ∷ one_opcode_row 0xE 0xE Rd2
+    ∷ one_opcode_row 0xE 0xF Rd3
+    ∷ one_opcode_row 0xF 0x0 Clb
+    ∷ one_opcode_row 0xF 0x1 Clc
+    ∷ one_opcode_row 0xF 0x2 Iac
+    ∷ one_opcode_row 0xF 0x3 Cmc
+    ∷ one_opcode_row 0xF 0x4 Cma
+    ∷ one_opcode_row 0xF 0x5 Ral
+    ∷ one_opcode_row 0xF 0x6 Rar
+    ∷ one_opcode_row 0xF 0x7 Tcc
+    ∷ one_opcode_row 0xF 0x8 Dac
+    ∷ one_opcode_row 0xF 0x9 Tcs
+    ∷ one_opcode_row 0xF 0xA Stc
+    ∷ one_opcode_row 0xF 0xB Daa
+    ∷ one_opcode_row 0xF 0xC Kbp
+    ∷ one_opcode_row 0xF 0xD Dcl
     ∷ []
 
-abbrev pub fits : Lower → ℕ → Bool
-fits Any n = true
-fits Even n = n % 2 == 0
-fits Odd n = n % 2 == 1
-fits (Only k) n = n == k
+abbrev pub includes_nibble : LowerNibbles → ℕ → Bool
+includes_nibble Any n = true
+includes_nibble Even n = n % 2 == 0
+includes_nibble Odd n = n % 2 == 1
+includes_nibble (Only k) n = n == k
 
 -- true if the opcode with these two nibbles is in the row
 abbrev pub covers : ℕ → ℕ → Row → Bool
-covers upper lower r = upper == r.upper && fits r.lower lower
+covers upper lower r = upper == r.upper && includes_nibble r.lower lower
 
 -- the row of an opcode, or none if the opcode is outside the table
 unfoldable pub row_of : ℕ → Option Row

@@ -6,20 +6,20 @@ use Rattle.mcs_nibble.specs.Ports.{latch_value}
 use Rattle.mcs_model.specs.declared.board.BoardParts.{BoardParts}
 use Rattle.mcs_model.specs.declared.limits.TheConstants.{ACCEPTED_COMMANDS, BREAKPOINTS, WATCHES}
 use Rattle.mcs_model.specs.declared.regs.Regs.{Regs}
-use Rattle.mcs_model.specs.Boards.{IsSized, board_fault_of, masks_on, chain_bits, chain_count, key_count}
+use Rattle.mcs_model.specs.Boards.{HasDeclaredLengths, board_fault_of, rom_masks, chain_bits, chain_count, key_count}
 use Rattle.mcs_model.specs.Bus.{BusState, ram_index, ram_port_index, status_index, chips_of}
 use Rattle.mcs_model.specs.BenchState.{BenchState}
 
 -- holds if the list has `count` numbers, each below `limit`
 pub record AreBelow (count limit : ℕ) (items : List ℕ) : Type 0 where
-  pub count_is : length items ≡ count
+  pub has_count : length items ≡ count
   pub below : All (λ n. n < limit) items
 
 -- ---- the board
 
 -- holds if the parts have no errors, and their lists have the lengths that their types imply
 pub record IsValidBoard (b : BoardParts) : Type 0 where
-  pub sized : IsSized b
+  pub sized : HasDeclaredLengths b
   pub valid : board_fault_of b ≡ None
 
 -- ---- the contents of the chips
@@ -42,15 +42,15 @@ pub record IsInRange (s : BusState) : Type 0 where
 
 -- holds if absent ROMs and RAM chips contain 0, and the SRC bytes of banks without chips and the
 -- latch bits of input lines are 0
-pub record IsAbsentZero (s : BusState) : Type 0 where
-  pub rom : (at : ℕ) → masks_on s.board (at / 256) ≡ None → slice_index s.rom at ≡ 0
+pub record AbsentPartsAreZero (s : BusState) : Type 0 where
+  pub rom : (at : ℕ) → rom_masks s.board (at / 256) ≡ None → slice_index s.rom at ≡ 0
   pub ram : (bank src : ℕ) → src < 256 → chips_of s bank ≤ src / 64 →
       slice_index s.ram (ram_index bank src) ≡ 0
   pub status : (bank high k : ℕ) → high < 16 → k < 4 → chips_of s bank ≤ high / 4 →
       slice_index s.status (status_index bank high k) ≡ 0
   pub ram_ports : (bank chip : ℕ) → chip < 4 → chips_of s bank ≤ chip →
       slice_index s.ram_ports (ram_port_index bank chip) ≡ 0
-  pub rom_ports : (chip : ℕ) → MatchOption (masks_on s.board chip) (slice_index s.rom_ports chip ≡ 0)
+  pub rom_ports : (chip : ℕ) → MatchOption (rom_masks s.board chip) (slice_index s.rom_ports chip ≡ 0)
       (λ mask. latch_value mask (slice_index s.rom_ports chip) ≡ slice_index s.rom_ports chip)
   pub ram_src : (bank : ℕ) → chips_of s bank ≡ 0 → slice_index s.ram_src bank ≡ 0
 
@@ -58,7 +58,7 @@ pub record IsAbsentZero (s : BusState) : Type 0 where
 pub record IsValidBus (s : BusState) : Type 0 where
   pub board : IsValidBoard s.board
   pub in_range : IsInRange s
-  pub absent : IsAbsentZero s
+  pub absent : AbsentPartsAreZero s
 
 -- ---- the processor
 

@@ -2,6 +2,6 @@
 use Rattle.std.specs.Prelude.{Bool, ℕ, List, [], ◌∷◌, Option, Some, None, if◌then◌else◌}
 
 -- the entry in the first row whose word satisfies `is_it`, or none if no word does
-abbrev pub beside : {A : Type 0} → (List ℕ → Bool) → List (List ℕ × A) → Option A
-beside is_it [] = None
-beside is_it (row ∷ rows) = if is_it row.0 then Some row.1 else beside is_it rows
+abbrev pub lookup_entry : {A : Type 0} → (List ℕ → Bool) → List (List ℕ × A) → Option A
+lookup_entry is_it [] = None
+lookup_entry is_it (row ∷ rows) = if is_it row.0 then Some row.1 else lookup_entry is_it rows

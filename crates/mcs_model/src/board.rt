@@ -3,7 +3,7 @@
 ghost use Rattle.std.specs.Prelude.{◌≤◌, ◌≡◌, ◌<◌, ◌*◌, ◌||◌, ℕ, List, not, MatchOption, Ok, Err, Some, None, nat_lt, nat_le, length, slice_get, slice_index};
 ghost use Rattle.std.specs.List.{list_any};
 ghost use Rattle.mcs_nibble.specs.declared.lines.LineMask.{LineMask};
-ghost use Rattle.mcs_model.specs.Boards.{board_fault_of, in_range, exists_on, masks_on, is_input_line, is_output_line, is_chain_size, is_matrix_size, has_bad_matrix, has_bad_value, lacks_rows, lacks_line, has_wrong_direction, any_chain_line, any_column, any_lamp, any_line, input_on, chain_bits, chain_count, chain_part, has_key, key_count, empty_parts, IsSized};
+ghost use Rattle.mcs_model.specs.Boards.{board_fault_of, in_range, is_on_board, rom_masks, is_input_line, is_output_line, is_chain_size, is_matrix_size, has_bad_matrix, has_bad_value, lacks_rows, lacks_line, has_wrong_direction, any_chain_line, any_column, any_lamp, any_line, is_rom_input_line, chain_bits, chain_count, chain_part, has_key, key_count, empty_parts, HasDeclaredLengths};
 ghost use Rattle.mcs_model.specs.RefusalNumbers.{board_fault_number};
 
 use crate::limits::{
@@ -143,14 +143,14 @@ fn has_line_out_of_range(lines: &[Line]) -> bool
 }
 
 /// Returns true if a number that names the clock line or the data line of the chain is out of range.
-fn has_bad_line(chain: ChainPart) -> bool
+fn has_chain_line_out_of_range(chain: ChainPart) -> bool
     ensures { result ≡ (not (in_range chain.clock) || not (in_range chain.data_in)) }
 {
     !is_in_range(chain.clock) || !is_in_range(chain.data_in)
 }
 
 /// Returns true if the chain has 1 to 8 chips.
-fn is_sized(chain: ChainPart) -> bool
+fn has_valid_size(chain: ChainPart) -> bool
     ensures { result ≡ is_chain_size chain }
 {
     0 < chain.chips && chain.chips <= CHAIN_CHIPS
@@ -158,24 +158,24 @@ fn is_sized(chain: ChainPart) -> bool
 
 /// Proves that an array of four mask options has length 4. The array is passed by value because the prover then knows
 /// its length.
-fn is_four(mask: [LineMask; 4])
+fn prove_length_four(mask: [LineMask; 4])
     ensures { length mask ≡ 4 }
 {
     let _mask = mask;
 }
 
-fn are_four(masks: Option<[LineMask; 4]>)
+fn prove_length_four_if_some(masks: Option<[LineMask; 4]>)
     ensures { (mask : List LineMask) → masks ≡ Some mask → length mask ≡ 4 }
 {
     if let Some(mask) = masks {
-        is_four(mask);
+        prove_length_four(mask);
     }
 }
 
 impl KeyMatrix {
     /// Returns true if the chain number, the first bit and the number of rows are in range, and there is at least one
     /// column.
-    fn is_sized(&self) -> bool
+    fn has_valid_size(&self) -> bool
         ensures { result ≡ is_matrix_size self.now }
     {
         if usize::from(self.chain) >= CHAINS {
@@ -191,7 +191,7 @@ impl KeyMatrix {
 impl BoardParts {
     /// Returns the mask options of a ROM, or `None` if the board does not have that ROM.
     fn mask(&self, chip: u8) -> Option<[LineMask; 4]>
-        ensures { result ≡ masks_on self.now chip }
+        ensures { result ≡ rom_masks self.now chip }
     {
         let at = usize::from(chip);
         if at < ROMS { self.roms[at] } else { None }
@@ -216,7 +216,7 @@ impl BoardParts {
     }
 
     fn has_line(&self, line: Line) -> bool
-        ensures { result ≡ exists_on self.now line }
+        ensures { result ≡ is_on_board self.now line }
     {
         match line {
             Line::Rom(chip, k) => self.mask(chip).is_some() && k < 4,
@@ -259,14 +259,14 @@ impl BoardParts {
     fn has_bad_chain(&self) -> bool
         ensures { result ≡ list_any (λ chain. not (is_chain_size chain)) self.now.chains.items }
     {
-        self.chains.iter().any(|chain| !is_sized(*chain))
+        self.chains.iter().any(|chain| !has_valid_size(*chain))
     }
 
     fn has_bad_matrix(&self) -> bool
         ensures { result ≡ has_bad_matrix self.now }
     {
         match &self.keys {
-            Some(keys) => !keys.is_sized(),
+            Some(keys) => !keys.has_valid_size(),
             None => false,
         }
     }
@@ -274,7 +274,9 @@ impl BoardParts {
     fn has_bad_chain_line(&self) -> bool
         ensures { result ≡ any_chain_line (λ line. not (in_range line)) self.now }
     {
-        self.chains.iter().any(|chain| has_bad_line(*chain))
+        self.chains
+            .iter()
+            .any(|chain| has_chain_line_out_of_range(*chain))
     }
 
     fn has_bad_column(&self) -> bool
@@ -315,38 +317,40 @@ impl BoardParts {
     }
 
     /// Returns true if any of the lines is not on the board.
-    fn lacks_one_of(&self, lines: &[Line]) -> bool
-        ensures { result ≡ list_any (λ line. not (exists_on self.now line)) lines.now }
+    fn lacks_any_line(&self, lines: &[Line]) -> bool
+        ensures { result ≡ list_any (λ line. not (is_on_board self.now line)) lines.now }
     {
         lines.iter().any(|line| !self.has_line(*line))
     }
 
-    fn lacks_line_of(&self, chain: ChainPart) -> bool
-        ensures { result ≡ (not (exists_on self.now chain.clock)
-            || not (exists_on self.now chain.data_in)) }
+    fn lacks_line_of_chain(&self, chain: ChainPart) -> bool
+        ensures { result ≡ (not (is_on_board self.now chain.clock)
+            || not (is_on_board self.now chain.data_in)) }
     {
         !self.has_line(chain.clock) || !self.has_line(chain.data_in)
     }
 
     fn lacks_chain_line(&self) -> bool
-        ensures { result ≡ any_chain_line (λ line. not (exists_on self.now line)) self.now }
+        ensures { result ≡ any_chain_line (λ line. not (is_on_board self.now line)) self.now }
     {
-        self.chains.iter().any(|chain| self.lacks_line_of(*chain))
+        self.chains
+            .iter()
+            .any(|chain| self.lacks_line_of_chain(*chain))
     }
 
     fn lacks_column(&self) -> bool
-        ensures { result ≡ any_column (λ line. not (exists_on self.now line)) self.now }
+        ensures { result ≡ any_column (λ line. not (is_on_board self.now line)) self.now }
     {
         match &self.keys {
-            Some(keys) => self.lacks_one_of(keys.columns.as_slice()),
+            Some(keys) => self.lacks_any_line(keys.columns.as_slice()),
             None => false,
         }
     }
 
     fn lacks_lamp(&self) -> bool
-        ensures { result ≡ any_lamp (λ line. not (exists_on self.now line)) self.now }
+        ensures { result ≡ any_lamp (λ line. not (is_on_board self.now line)) self.now }
     {
-        self.lacks_one_of(self.lamps.as_slice())
+        self.lacks_any_line(self.lamps.as_slice())
     }
 
     fn lacks_rows(&self) -> bool
@@ -381,32 +385,32 @@ impl BoardParts {
     }
 
     /// Returns true if any of the lines is not an input line.
-    fn has_other_than_input(&self, lines: &[Line]) -> bool
+    fn has_non_input_line(&self, lines: &[Line]) -> bool
         ensures { result ≡ list_any (λ line. not (is_input_line self.now line)) lines.now }
     {
         lines.iter().any(|line| !self.has_input_line(*line))
     }
 
-    fn has_undriven_line(&self, chain: ChainPart) -> bool
+    fn has_non_output_line(&self, chain: ChainPart) -> bool
         ensures { result ≡ (not (is_output_line self.now chain.clock)
             || not (is_output_line self.now chain.data_in)) }
     {
         !self.has_output_line(chain.clock) || !self.has_output_line(chain.data_in)
     }
 
-    fn has_undriven_chain(&self) -> bool
+    fn has_non_output_chain_line(&self) -> bool
         ensures { result ≡ any_chain_line (λ line. not (is_output_line self.now line)) self.now }
     {
         self.chains
             .iter()
-            .any(|chain| self.has_undriven_line(*chain))
+            .any(|chain| self.has_non_output_line(*chain))
     }
 
-    fn has_unread_column(&self) -> bool
+    fn has_non_input_column(&self) -> bool
         ensures { result ≡ any_column (λ line. not (is_input_line self.now line)) self.now }
     {
         match &self.keys {
-            Some(keys) => self.has_other_than_input(keys.columns.as_slice()),
+            Some(keys) => self.has_non_input_line(keys.columns.as_slice()),
             None => false,
         }
     }
@@ -422,28 +426,28 @@ impl BoardParts {
     fn has_wrong_direction(&self) -> bool
         ensures { result ≡ has_wrong_direction self.now }
     {
-        if self.has_undriven_chain() {
+        if self.has_non_output_chain_line() {
             return true;
         }
-        if self.has_unread_column() {
+        if self.has_non_input_column() {
             return true;
         }
         self.has_input_lamp()
     }
 
     /// Proves that each ROM has four mask options, as its type implies. Callers get this fact from the contract.
-    fn have_four_masks(&self)
-        ensures { (chip : ℕ) (mask : List LineMask) → masks_on self.now chip ≡ Some mask →
+    fn prove_four_masks(&self)
+        ensures { (chip : ℕ) (mask : List LineMask) → rom_masks self.now chip ≡ Some mask →
             length mask ≡ 4 }
     {
         for i in 0..ROMS {
-            are_four(self.roms[i]);
+            prove_length_four_if_some(self.roms[i]);
         }
     }
 
     /// Proves that the lists have the lengths that their types imply. Callers get these facts from the contract.
-    fn are_sized(&self)
-        ensures { IsSized self.now }
+    fn prove_lengths(&self)
+        ensures { HasDeclaredLengths self.now }
     {
         let _bank = self.banks[0];
         let _chains = self.chains.as_slice();
@@ -451,7 +455,7 @@ impl BoardParts {
         if let Some(keys) = &self.keys {
             let _columns = keys.columns.as_slice();
         }
-        self.have_four_masks();
+        self.prove_four_masks();
     }
 
     /// Returns the first error in the parts, or `None` if there is none.
@@ -511,11 +515,11 @@ impl Model for Board {
     ghost Value = { BoardParts };
 
     ghost use Rattle.std.specs.Prelude.{◌≡◌, None};
-    ghost use Rattle.mcs_model.specs.Boards.{board_fault_of, IsSized};
+    ghost use Rattle.mcs_model.specs.Boards.{board_fault_of, HasDeclaredLengths};
 
     ghost view = { λ b. b.parts };
 
-    ghost invariant = { λ b. (board_fault_of b.parts ≡ None) × IsSized b.parts };
+    ghost invariant = { λ b. (board_fault_of b.parts ≡ None) × HasDeclaredLengths b.parts };
 }
 
 impl Board {
@@ -539,7 +543,7 @@ impl Board {
         ensures { MatchOption (board_fault_of parts) (result ≡ Ok parts)
             (λ fault. result ≡ Err fault) }
     {
-        parts.are_sized();
+        parts.prove_lengths();
         match parts.fault() {
             Some(fault) => Err(fault),
             None => Ok(Board { parts }),
@@ -550,7 +554,7 @@ impl Board {
     pub fn parts(&self) -> &BoardParts
         ensures same { result.now ≡ self.now }
         ensures valid { board_fault_of self.now ≡ None }
-        ensures sized { IsSized self.now }
+        ensures sized { HasDeclaredLengths self.now }
     {
         &self.parts
     }
@@ -567,7 +571,7 @@ impl Board {
     /// Returns the mask options of a ROM's four port lines, line 0 first, or `None` if the board does not have that
     /// ROM.
     pub fn mask(&self, chip: u8) -> Option<[LineMask; 4]>
-        ensures { result ≡ masks_on self.now chip }
+        ensures { result ≡ rom_masks self.now chip }
     {
         self.parts.mask(chip)
     }
@@ -615,7 +619,7 @@ impl Board {
     /// Returns true if line `k`, 0 to 3, of a ROM is an input line. Returns false if the board does not have that ROM.
     pub fn is_input(&self, chip: u8, k: u8) -> bool
         requires { k < 4 }
-        ensures { result ≡ input_on self.now chip k }
+        ensures { result ≡ is_rom_input_line self.now chip k }
     {
         match self.parts.mask(chip) {
             Some(mask) => mask[usize::from(k)] == LineMask::Input,
@@ -625,7 +629,7 @@ impl Board {
 
     /// Returns true if the line is on the board.
     pub fn has_line(&self, line: Line) -> bool
-        ensures { result ≡ exists_on self.now line }
+        ensures { result ≡ is_on_board self.now line }
     {
         self.parts.has_line(line)
     }

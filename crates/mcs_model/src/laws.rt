@@ -2,13 +2,13 @@
 ghost use Rattle.std.specs.Prelude.{[], ◌∷◌, ◌≡◌, true};
 ghost use Rattle.mcs_model.specs.declared.limits.TheConstants.{ACCEPTED_COMMANDS, BANKS, BANK_CHIPS, BREAKPOINTS, CHAINS, CHAIN_BITS, CHAIN_CHIPS, CHAIN_SOCKETS, INPUT_BYTES, KEYS, KEY_COLUMNS, KEY_ROWS, LAMPS, LINE_BYTES, LISTING_LINES, NAMES, NAME_BYTES, REPLAY_CYCLES, ROMS, RUN_CYCLES, TEXT_BYTES, WATCHES};
 ghost use Rattle.mcs_model.specs.declared.refusal_numbers.TheConstants.{BAD_COUNT, BAD_NUMBER, BAD_STATEMENT, BAD_TOML, BAD_VALUE, BREAKS_FULL, CLOSED, DAMAGED, DEVICE, DOUBLE_CHIP, DOUBLE_NAME, LINE_TOO_LONG, MISSING_KEY, NOT_ASCII, NOT_A_COMMAND, NOT_A_SESSION, NOT_BLANK, NO_END, NO_KEY, NO_MEMORY, NO_ROM, NO_SUCH_LINE, NO_SUCH_PLACE, OUT_OF_RANGE, OVERLAP, PAST_END, TEXT_TOO_LONG, TOO_MANY_NAMES, TOO_MANY_PARTS, UNKNOWN_KEY, UNKNOWN_NAME, WATCHES_FULL, WORN, WRONG_DIRECTION, WRONG_PAGE};
-ghost use Rattle.mcs_model.specs.Laws.{LeavesOut, RunsCompose, is_unambiguous, outside_codes};
+ghost use Rattle.mcs_model.specs.Laws.{AreOutsideTable, RunsCompose, is_unambiguous, outside_codes};
 ghost use Rattle.mcs_model.specs.Table.{rows};
 
 /// Proves that 18 opcodes are in no row of the opcode table, and that each other opcode is in exactly one row.
 #[tactic(none)]
 pub fn codes_are_in_one_row()
-    ensures outside { LeavesOut outside_codes }
+    ensures outside { AreOutsideTable outside_codes }
     ensures at_most_one { is_unambiguous rows ≡ true }
 {}
 

@@ -1,13 +1,13 @@
 //! Numbers in command lines and source texts.
 ghost use Rattle.std.specs.Prelude.{◌≡◌, ◌⊎◌, min, option_map};
-ghost use Rattle.mcs_model.specs.Numerals.{digits_in, number_written, number_up_to};
+ghost use Rattle.mcs_model.specs.Numerals.{value_of_digits, number_in_word, number_up_to};
 
 /// The largest result of `number`: 2^32, which also represents all larger numbers.
-pub const LARGE: u64 = 4_294_967_296;
+pub const NUMBER_CAP: u64 = 4_294_967_296;
 
 fn digits(ds: &[u8], base: u32) -> Option<u64>
     requires { (base ≡ 10) ⊎ (base ≡ 16) }
-    ensures { result ≡ option_map (λ n. min n LARGE) (digits_in base ds.now) }
+    ensures { result ≡ option_map (λ n. min n NUMBER_CAP) (value_of_digits base ds.now) }
 {
     if ds.is_empty() {
         return None;
@@ -15,7 +15,7 @@ fn digits(ds: &[u8], base: u32) -> Option<u64>
     let mut value = 0u64;
     for c in ds {
         let digit = char::from(*c).to_digit(base)?;
-        value = (value * u64::from(base) + u64::from(digit)).min(LARGE);
+        value = (value * u64::from(base) + u64::from(digit)).min(NUMBER_CAP);
     }
     Some(value)
 }
@@ -25,7 +25,7 @@ fn digits(ds: &[u8], base: u32) -> Option<u64>
 ///
 /// The word can have any length. For every number from 4,294,967,296 on, the result is 4,294,967,296.
 pub fn number(word: &[u8]) -> Option<u64>
-    ensures { result ≡ option_map (λ n. min n LARGE) (number_written word.now) }
+    ensures { result ≡ option_map (λ n. min n NUMBER_CAP) (number_in_word word.now) }
 {
     match word {
         [b'0', b'x', ds @ ..] => digits(ds, 16),

@@ -11,7 +11,7 @@ pub fn is_blank(byte: u8) -> bool
 }
 
 /// Returns the line without its final carriage return, if it has one.
-pub fn without_return(line: &[u8]) -> &[u8]
+pub fn without_carriage_return(line: &[u8]) -> &[u8]
     ensures { result.now ≡ strip_carriage_return line.now }
 {
     match line {

@@ -6,11 +6,11 @@ use Rattle.std.proofs.lemmas.Grind.{get_or-set_at}
 use Rattle.std.proofs.lemmas.Bool.{cases_eq}
 use Rattle.std.proofs.lemmas.List.{get_or-replicate, length-replicate}
 use Rattle.mcs_nibble.specs.Tables.{column, flat_rows}
-use Rattle.mcs_nibble.proofs.TabledLemmas.{set-tabled, same_tabled, get_or-tabled, tabled_from, length-tabled}
+use Rattle.mcs_nibble.proofs.TabledLemmas.{set-tabled, table_of-same, get_or-tabled, table_of-unique, length-tabled}
 
 -- if f is the same for an element and its replacement, the replacement changes f of no element of the list
-pub kept-at : {X Y : Type 0} (f : X → Y) (d : X) (xs : List X) (i j : ℕ) (e : X) → i < length xs → f e ≡ f (get_or xs i d) → f (get_or (slice_set xs i e) j d) ≡ f (get_or xs j d)
-kept-at f d xs i j e l same =
+pub set-same-at : {X Y : Type 0} (f : X → Y) (d : X) (xs : List X) (i j : ℕ) (e : X) → i < length xs → f e ≡ f (get_or xs i d) → f (get_or (slice_set xs i e) j d) ≡ f (get_or xs j d)
+set-same-at f d xs i j e l same =
     elim (cases_eq j i) [
       | inl q ↦ ap f (get_or-set_at xs i j e d q l) ∙ same ∙ ap (λ m. f (get_or xs m d)) (sym q)
       | inr ne ↦ ap f (get_or-set_other xs i j e d ne)
@@ -20,54 +20,54 @@ pub get-column : {X : Type 0} (n : ℕ) (f : X → ℕ) (d : X) (xs : List X) (i
 unfolding column
 get-column n f d xs i h = get_or-tabled n _ i 0 h
 
-pub kept-column : {X : Type 0} (n : ℕ) (f : X → ℕ) (d : X) (xs : List X) (i : ℕ) (e : X) → i < length xs → f e ≡ f (get_or xs i d) → column n f d (slice_set xs i e) ≡ column n f d xs
+pub column-unchanged : {X : Type 0} (n : ℕ) (f : X → ℕ) (d : X) (xs : List X) (i : ℕ) (e : X) → i < length xs → f e ≡ f (get_or xs i d) → column n f d (slice_set xs i e) ≡ column n f d xs
 unfolding column
-kept-column n f d xs i e l same = same_tabled n _ _ (λ k _. kept-at f d xs i k e l same)
+column-unchanged n f d xs i e l same = table_of-same n _ _ (λ k _. set-same-at f d xs i k e l same)
 
 pub set-column : {X : Type 0} (n : ℕ) (f : X → ℕ) (d : X) (xs : List X) (i : ℕ) (e : X) (v : ℕ) → i < n → i < length xs → f e ≡ v → column n f d (slice_set xs i e) ≡ slice_set (column n f d xs) i v
 unfolding column
 set-column n f d xs i e v h l is =
     sym (set-tabled n _ _ i v h (ap f (get_or-set_at xs i i e d refl l) ∙ is) (λ k _ ne. ap f (get_or-set_other xs i k e d ne)))
 
-pub kept-flat : {X : Type 0} (n wide : ℕ) (f : X → List ℕ) (d : X) (xs : List X) (i : ℕ) (e : X) → i < length xs → f e ≡ f (get_or xs i d) → flat_rows n wide f d (slice_set xs i e) ≡ flat_rows n wide f d xs
+pub flat-unchanged : {X : Type 0} (n row_width : ℕ) (f : X → List ℕ) (d : X) (xs : List X) (i : ℕ) (e : X) → i < length xs → f e ≡ f (get_or xs i d) → flat_rows n row_width f d (slice_set xs i e) ≡ flat_rows n row_width f d xs
 unfolding flat_rows
-kept-flat n wide f d xs i e l same = same_tabled (n * wide) _ _ (λ k _. ap (λ ys. slice_index ys (k % wide)) (kept-at f d xs i (k / wide) e l same))
+flat-unchanged n row_width f d xs i e l same = table_of-same (n * row_width) _ _ (λ k _. ap (λ ys. slice_index ys (k % row_width)) (set-same-at f d xs i (k / row_width) e l same))
 
-pub in_flat : (n wide i k : ℕ) → i < n → k < wide → i * wide + k < n * wide
-in_flat n wide i k h l = omega (arith, mul-le-mul_right {m = i + 1} {n = n} wide (omega arith))
+pub flat_index-lt : (n row_width i k : ℕ) → i < n → k < row_width → i * row_width + k < n * row_width
+flat_index-lt n row_width i k h l = omega (arith, mul-le-mul_right {m = i + 1} {n = n} row_width (omega arith))
 
-pub get-flat : {X : Type 0} (n wide : ℕ) (f : X → List ℕ) (d : X) (xs : List X) (i k : ℕ) → i < n → k < wide → slice_index (flat_rows n wide f d xs) (i * wide + k) ≡ slice_index (f (get_or xs i d)) k
+pub get-flat : {X : Type 0} (n row_width : ℕ) (f : X → List ℕ) (d : X) (xs : List X) (i k : ℕ) → i < n → k < row_width → slice_index (flat_rows n row_width f d xs) (i * row_width + k) ≡ slice_index (f (get_or xs i d)) k
 unfolding flat_rows
-get-flat n wide f d xs i k h l =
-    get_or-tabled (n * wide) _ (i * wide + k) 0 (in_flat n wide i k h l)
-    ∙ ap (λ j. slice_index (f (get_or xs j d)) ((i * wide + k) % wide)) (div-mul-add i wide k l)
-    ∙ ap (λ j. slice_index (f (get_or xs i d)) j) (mod-mul-add i wide k l)
+get-flat n row_width f d xs i k h l =
+    get_or-tabled (n * row_width) _ (i * row_width + k) 0 (flat_index-lt n row_width i k h l)
+    ∙ ap (λ j. slice_index (f (get_or xs j d)) ((i * row_width + k) % row_width)) (div-mul-add i row_width k l)
+    ∙ ap (λ j. slice_index (f (get_or xs i d)) j) (mod-mul-add i row_width k l)
 
 -- if the list of element i changes only at index k, flat rows change only at index i * wide + k
-pub set-flat : {X : Type 0} (n wide : ℕ) (f : X → List ℕ) (d : X) (xs : List X) (i k : ℕ) (e : X) (v : ℕ) → i < n → k < wide → i < length xs → k < length (f (get_or xs i d)) → f e ≡ slice_set (f (get_or xs i d)) k v → flat_rows n wide f d (slice_set xs i e) ≡ slice_set (flat_rows n wide f d xs) (i * wide + k) v
+pub set-flat : {X : Type 0} (n row_width : ℕ) (f : X → List ℕ) (d : X) (xs : List X) (i k : ℕ) (e : X) (v : ℕ) → i < n → k < row_width → i < length xs → k < length (f (get_or xs i d)) → f e ≡ slice_set (f (get_or xs i d)) k v → flat_rows n row_width f d (slice_set xs i e) ≡ slice_set (flat_rows n row_width f d xs) (i * row_width + k) v
 unfolding flat_rows
-set-flat n wide f d xs i k e v h l len inner is =
-    let here : slice_index (f (get_or (slice_set xs i e) ((i * wide + k) / wide) d)) ((i * wide + k) % wide) ≡ v =
-    ap (λ j. slice_index (f (get_or (slice_set xs i e) j d)) ((i * wide + k) % wide)) (div-mul-add i wide k l)
-    ∙ ap (λ j. slice_index (f (get_or (slice_set xs i e) i d)) j) (mod-mul-add i wide k l)
+set-flat n row_width f d xs i k e v h l len inner is =
+    let here : slice_index (f (get_or (slice_set xs i e) ((i * row_width + k) / row_width) d)) ((i * row_width + k) % row_width) ≡ v =
+    ap (λ j. slice_index (f (get_or (slice_set xs i e) j d)) ((i * row_width + k) % row_width)) (div-mul-add i row_width k l)
+    ∙ ap (λ j. slice_index (f (get_or (slice_set xs i e) i d)) j) (mod-mul-add i row_width k l)
     ∙ ap (λ x. slice_index (f x) k) (get_or-set_at xs i i e d refl len)
     ∙ ap (λ ys. slice_index ys k) is
     ∙ get_or-set_same (f (get_or xs i d)) k v 0 inner in
-    sym (set-tabled (n * wide) _ _ (i * wide + k) v (in_flat n wide i k h l) here
+    sym (set-tabled (n * row_width) _ _ (i * row_width + k) v (flat_index-lt n row_width i k h l) here
     (λ j _ ne.
-    elim (cases_eq (j / wide) i) [
+    elim (cases_eq (j / row_width) i) [
       | inl q ↦
-          let ne' : j % wide ≢ k = λ r. ne (sym (div-add-mod j wide) ∙ ap (λ m. wide * m + j % wide) q ∙ ap (λ m. wide * i + m) r ∙ omega arith) in
-          ap (λ x. slice_index (f x) (j % wide)) (get_or-set_at xs i (j / wide) e d q len)
-          ∙ ap (λ ys. slice_index ys (j % wide)) is
-          ∙ get_or-set_other (f (get_or xs i d)) k (j % wide) v 0 ne'
-          ∙ ap (λ m. slice_index (f (get_or xs m d)) (j % wide)) (sym q)
-      | inr ne' ↦ ap (λ x. slice_index (f x) (j % wide)) (get_or-set_other xs i (j / wide) e d ne')
+          let ne' : j % row_width ≢ k = λ r. ne (sym (div-add-mod j row_width) ∙ ap (λ m. row_width * m + j % row_width) q ∙ ap (λ m. row_width * i + m) r ∙ omega arith) in
+          ap (λ x. slice_index (f x) (j % row_width)) (get_or-set_at xs i (j / row_width) e d q len)
+          ∙ ap (λ ys. slice_index ys (j % row_width)) is
+          ∙ get_or-set_other (f (get_or xs i d)) k (j % row_width) v 0 ne'
+          ∙ ap (λ m. slice_index (f (get_or xs m d)) (j % row_width)) (sym q)
+      | inr ne' ↦ ap (λ x. slice_index (f x) (j % row_width)) (get_or-set_other xs i (j / row_width) e d ne')
     ]))
 
-pub length-flat : {X : Type 0} (n wide : ℕ) (f : X → List ℕ) (d : X) (xs : List X) → length (flat_rows n wide f d xs) ≡ n * wide
+pub length-flat : {X : Type 0} (n row_width : ℕ) (f : X → List ℕ) (d : X) (xs : List X) → length (flat_rows n row_width f d xs) ≡ n * row_width
 unfolding flat_rows
-length-flat n wide f d xs = length-tabled (n * wide) _
+length-flat n row_width f d xs = length-tabled (n * row_width) _
 
 pub length-column : {X : Type 0} (n : ℕ) (f : X → ℕ) (d : X) (xs : List X) → length (column n f d xs) ≡ n
 unfolding column
@@ -75,15 +75,15 @@ length-column n f d xs = length-tabled n _
 
 pub same_column : {X : Type 0} (n : ℕ) (f : X → ℕ) (d : X) (xs ys : List X) → ((i : ℕ) → i < n → f (get_or xs i d) ≡ f (get_or ys i d)) → column n f d xs ≡ column n f d ys
 unfolding column
-same_column n f d xs ys h = same_tabled n _ _ h
+same_column n f d xs ys h = table_of-same n _ _ h
 
 -- if all numbers of all rows are 0, flat rows are a list of zeros
-pub blank-flat : {X : Type 0} (n wide : ℕ) (f : X → List ℕ) (d : X) (xs : List X) → ((i k : ℕ) → slice_index (f (get_or xs i d)) k ≡ 0) → flat_rows n wide f d xs ≡ replicate (n * wide) 0
+pub zero-flat : {X : Type 0} (n row_width : ℕ) (f : X → List ℕ) (d : X) (xs : List X) → ((i k : ℕ) → slice_index (f (get_or xs i d)) k ≡ 0) → flat_rows n row_width f d xs ≡ replicate (n * row_width) 0
 unfolding flat_rows
-blank-flat n wide f d xs h =
-    sym (tabled_from (n * wide) _ (replicate (n * wide) 0) 0 (length-replicate {A = ℕ} (n * wide) 0) (λ k l. get_or-replicate (n * wide) k 0 0 l ∙ sym (h (k / wide) (k % wide))))
+zero-flat n row_width f d xs h =
+    sym (table_of-unique (n * row_width) _ (replicate (n * row_width) 0) 0 (length-replicate {A = ℕ} (n * row_width) 0) (λ k l. get_or-replicate (n * row_width) k 0 0 l ∙ sym (h (k / row_width) (k % row_width))))
 
-pub blank-column : {X : Type 0} (n : ℕ) (f : X → ℕ) (d : X) (xs : List X) → ((i : ℕ) → f (get_or xs i d) ≡ 0) → column n f d xs ≡ replicate n 0
+pub zero-column : {X : Type 0} (n : ℕ) (f : X → ℕ) (d : X) (xs : List X) → ((i : ℕ) → f (get_or xs i d) ≡ 0) → column n f d xs ≡ replicate n 0
 unfolding column
-blank-column n f d xs h =
-    sym (tabled_from n _ (replicate n 0) 0 (length-replicate {A = ℕ} n 0) (λ k l. get_or-replicate n k 0 0 l ∙ sym (h k)))
+zero-column n f d xs h =
+    sym (table_of-unique n _ (replicate n 0) 0 (length-replicate {A = ℕ} n 0) (λ k l. get_or-replicate n k 0 0 l ∙ sym (h k)))

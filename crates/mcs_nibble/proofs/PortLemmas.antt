@@ -23,8 +23,8 @@ latch_bit-lt mask n k =
       | One ↦ omega arith
     ]
 
-latch_bit-again : (mask : List LineMask) (n kept k : ℕ) → bit_of kept k ≡ latch_bit mask n k → latch_bit mask kept k ≡ latch_bit mask n k
-latch_bit-again mask n kept k =
+latch_bit-latch_bit : (mask : List LineMask) (n kept k : ℕ) → bit_of kept k ≡ latch_bit mask n k → latch_bit mask kept k ≡ latch_bit mask n k
+latch_bit-latch_bit mask n kept k =
     elim (mask_at mask k) as (λ m. bit_of kept k ≡ (if is_input m then 0 else bit_of n k) → (if is_input m then 0 else bit_of kept k) ≡ (if is_input m then 0 else bit_of n k)) [
       | Input ↦ λ _. refl
       | Zero ↦ λ e. e
@@ -36,10 +36,10 @@ unfolding latch_value
 latch_value-latch_value mask n =
     let b = bits (latch_bit mask n 0) (latch_bit mask n 1) (latch_bit mask n 2) (latch_bit mask n 3) (latch_bit-lt mask n 0) (latch_bit-lt mask n 1) (latch_bit-lt mask n 2) (latch_bit-lt mask n 3) in
     let x = nibble_of (latch_bit mask n) in
-    let e0 = latch_bit-again mask n x 0 b.at_0 in
-    let e1 = latch_bit-again mask n x 1 b.at_1 in
-    let e2 = latch_bit-again mask n x 2 b.at_2 in
-    let e3 = latch_bit-again mask n x 3 b.at_3 in
+    let e0 = latch_bit-latch_bit mask n x 0 b.at_0 in
+    let e1 = latch_bit-latch_bit mask n x 1 b.at_1 in
+    let e2 = latch_bit-latch_bit mask n x 2 b.at_2 in
+    let e3 = latch_bit-latch_bit mask n x 3 b.at_3 in
     rw (e0, e1, e2, e3) refl
 
 latch_bit-zero : (mask : List LineMask) (k : ℕ) → bit_of 0 k ≡ 0 → latch_bit mask 0 k ≡ 0
@@ -55,7 +55,7 @@ unfolding latch_value
 latch_value-zero mask = rw (latch_bit-zero mask 0 refl, latch_bit-zero mask 1 refl, latch_bit-zero mask 2 refl, latch_bit-zero mask 3 refl) refl
 
 -- the character that represents a mask option is read as that mask option
-pub mask_again : (m : LineMask) → mask_of (mask_character m) ≡ Some m
-mask_again Input = refl
-mask_again Zero = refl
-mask_again One = refl
+pub mask_of-mask_character : (m : LineMask) → mask_of (mask_character m) ≡ Some m
+mask_of-mask_character Input = refl
+mask_of-mask_character Zero = refl
+mask_of-mask_character One = refl

@@ -15,17 +15,17 @@ unfolding table_of
 get_or-tabled n f k d h = get_or-map-range_with_len f 0 n k k d h (omega arith)
 
 -- a list of n elements that agrees with f at each index is the list that f defines
-pub tabled_from : {A : Type 0} (n : ℕ) (f : ℕ → A) (xs : List A) (d : A) → length xs ≡ n → ((k : ℕ) → k < n → get_or xs k d ≡ f k) → xs ≡ table_of n f
+pub table_of-unique : {A : Type 0} (n : ℕ) (f : ℕ → A) (xs : List A) (d : A) → length xs ≡ n → ((k : ℕ) → k < n → get_or xs k d ≡ f k) → xs ≡ table_of n f
 unfolding table_of
-tabled_from n f xs d l h = fill_by_all f xs n d l h
+table_of-unique n f xs d l h = fill_by_all f xs n d l h
 
-pub same_tabled : {A : Type 0} (n : ℕ) (f g : ℕ → A) → ((k : ℕ) → k < n → f k ≡ g k) → table_of n f ≡ table_of n g
-same_tabled n f g h = tabled_from n g (table_of n f) (f 0) (length-tabled n f) (λ k l. get_or-tabled n f k (f 0) l ∙ h k l)
+pub table_of-same : {A : Type 0} (n : ℕ) (f g : ℕ → A) → ((k : ℕ) → k < n → f k ≡ g k) → table_of n f ≡ table_of n g
+table_of-same n f g h = table_of-unique n g (table_of n f) (f 0) (length-tabled n f) (λ k l. get_or-tabled n f k (f 0) l ∙ h k l)
 
 -- if g differs from f only at i, where it gives v, then writing v at i to the list of f gives the list of g
 pub set-tabled : {A : Type 0} (n : ℕ) (f g : ℕ → A) (i : ℕ) (v : A) → i < n → g i ≡ v → ((k : ℕ) → k < n → k ≢ i → g k ≡ f k) → slice_set (table_of n f) i v ≡ table_of n g
 set-tabled n f g i v h at others =
-    tabled_from n g (slice_set (table_of n f) i v) v (length-set (table_of n f) i v ∙ length-tabled n f)
+    table_of-unique n g (slice_set (table_of n f) i v) v (length-set (table_of n f) i v ∙ length-tabled n f)
     (λ k l.
     elim (cases_eq k i) [
       | inl e ↦ get_or-set_at (table_of n f) i k v v e (let len = length-tabled n f in omega arith) ∙ sym at ∙ ap g (sym e)

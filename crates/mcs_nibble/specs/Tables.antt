@@ -12,9 +12,9 @@ table_of n f = map f (range_with_len 0 n)
 unfoldable pub column : {X : Type 0} → ℕ → (X → ℕ) → X → List X → List ℕ
 column n f d xs = table_of n (λ i. f (slice_index_or xs i d))
 
--- The concatenation of n rows of `wide` numbers. Row i is the list that f gives for element i of
--- xs, or for the default d if xs has no element i. The row is cut, or padded with 0, to `wide`
+-- The concatenation of n rows of `row_width` numbers. Row i is the list that f gives for element i of
+-- xs, or for the default d if xs has no element i. The row is cut, or padded with 0, to `row_width`
 -- numbers.
 unfoldable pub flat_rows : {X : Type 0} → ℕ → ℕ → (X → List ℕ) → X → List X → List ℕ
-flat_rows n wide f d xs =
-    table_of (n * wide) (λ i. slice_index (f (slice_index_or xs (i / wide) d)) (i % wide))
+flat_rows n row_width f d xs =
+    table_of (n * row_width) (λ i. slice_index (f (slice_index_or xs (i / row_width) d)) (i % row_width))

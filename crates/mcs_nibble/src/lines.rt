@@ -30,7 +30,7 @@ impl LineMask {
     }
 
     /// Returns the mask option that a character represents, or `None` if the character is not `i`, `0` or `1`.
-    pub fn of_character(character: u8) -> Option<LineMask>
+    pub fn from_character(character: u8) -> Option<LineMask>
         ensures { result ≡ mask_of character }
     {
         match character {

@@ -36,7 +36,7 @@ impl PairNo {
     }
 
     /// Returns the register pair that bits 1 to 3 of an opcode select.
-    pub fn of_code(byte: u8) -> PairNo
+    pub fn from_opcode(byte: u8) -> PairNo
         ensures { result ≡ byte % 16 / 2 }
     {
         PairNo {

@@ -36,7 +36,7 @@ impl RegNo {
     }
 
     /// Returns the index register that the lower four bits of an opcode select.
-    pub fn of_code(byte: u8) -> RegNo
+    pub fn from_opcode(byte: u8) -> RegNo
         ensures { result ≡ byte % 16 }
     {
         RegNo { value: byte % 16 }

@@ -7,82 +7,82 @@ use Rattle.mcs_model.specs.declared.op.Op.{Op}
 use Rattle.mcs_model.specs.declared.op.Op.TheVariants.{Jcn, Isz}
 use Rattle.mcs_model.specs.declared.stop.Stop.{Stop}
 use Rattle.mcs_model.specs.Effect.{instruction_at}
-use Rattle.mcs_model.specs.Running.{Machine, Stops, after_cycles, after_run, run_length, stop_at}
+use Rattle.mcs_model.specs.Running.{Machine, StopConditions, after_cycles, after_run, run_length, stop_reason_at}
 
 -- an instruction that a run begins: the number of cycles before it, and the machine before and
 -- after its first cycle
-pub record Begun : Type 0 where
+pub record BegunInstruction : Type 0 where
   pub cycles : ℕ
   pub before : Machine
   pub after : Machine
 
 -- cycle k of a run from s, counted from 0, with the machine before and after it
-abbrev pub cycle_at : Machine → ℕ → Begun
+abbrev pub cycle_at : Machine → ℕ → BegunInstruction
 cycle_at s k = record { cycles = k; before = after_cycles k s; after = after_cycles (k + 1) s }
 
 -- true if a cycle begins an instruction: no second cycle is pending before it
-abbrev pub begins : Begun → Bool
+abbrev pub begins : BegunInstruction → Bool
 begins b = b.before.0.owed == 0
 
 -- The instructions that begin in the first k cycles from s, in order. This holds for every k that a
 -- run from s reaches. After an opcode outside the instruction table, the list would contain each
 -- further cycle as an instruction.
-unfoldable pub begun_within : ℕ → Machine → List Begun
-begun_within k s = filter begins (map (cycle_at s) (range_with_len 0 k))
+unfoldable pub instructions_begun_within : ℕ → Machine → List BegunInstruction
+instructions_begun_within k s = filter begins (map (cycle_at s) (range_with_len 0 k))
 
 -- the instructions that a run of n cycles from s would begin
-abbrev pub begun_in : Stops → ℕ → Machine → List Begun
-begun_in stops n s = begun_within (run_length stops n s) s
+abbrev pub instructions_begun_in : StopConditions → ℕ → Machine → List BegunInstruction
+instructions_begun_in stops n s = instructions_begun_within (run_length stops n s) s
 
 -- ---- the number of instructions that begin at each address
 
 -- true if an instruction is at this address
-abbrev pub is_at : ℕ → Begun → Bool
+abbrev pub is_at : ℕ → BegunInstruction → Bool
 is_at at b = b.before.0.pc == at
 
 -- True if the program counter after an instruction is not the address of the instruction plus 2.
 -- Only JCN and ISZ use this definition. A jump to the address that is 2 higher does not count as a
 -- jump.
-abbrev pub jumps : Begun → Bool
+abbrev pub jumps : BegunInstruction → Bool
 jumps b = not (b.after.0.pc == (b.before.0.pc + 2) % 4096)
 
 -- the number of instructions begun at an address
-abbrev pub runs_at : List Begun → ℕ → ℕ
+abbrev pub runs_at : List BegunInstruction → ℕ → ℕ
 runs_at begun at = count_by (is_at at) begun
 
 -- the number of instructions that begin at an address and after which the program counter is not
 -- that address plus 2
-abbrev pub jumps_at : List Begun → ℕ → ℕ
+abbrev pub jumps_at : List BegunInstruction → ℕ → ℕ
 jumps_at begun at = count_by (λ b. is_at at b && jumps b) begun
 
 -- true if an instruction is a conditional jump: JCN or ISZ
-abbrev pub may_jump : Option Op → Bool
-may_jump (Some (Jcn c b)) = true
-may_jump (Some (Isz r b)) = true
-may_jump _ = false
+abbrev pub is_conditional_jump : Option Op → Bool
+is_conditional_jump (Some (Jcn c b)) = true
+is_conditional_jump (Some (Isz r b)) = true
+is_conditional_jump _ = false
 
 -- true if the instruction at an address is JCN or ISZ
 abbrev pub is_branch : Machine → ℕ → Bool
-is_branch s at = may_jump (instruction_at (record s.0 { pc = at }) s.1)
+is_branch s at = is_conditional_jump (instruction_at (record s.0 { pc = at }) s.1)
 
 -- ---- a run, cycle by cycle
 
 -- The reason why a run stops after a cycle from s to t, or none; the end of the run is not
--- considered. With n = 0 and k = 1, `stop_at` never gives `Ended`.
-abbrev pub early_stop : Stops → Machine → Machine → Option Stop
-early_stop stops s t = stop_at stops 0 1 s t
+-- considered. With n = 0 and k = 1, `stop_reason_at` never gives `Ended`.
+abbrev pub early_stop_reason : StopConditions → Machine → Machine → Option Stop
+early_stop_reason stops s t = stop_reason_at stops 0 1 s t
 
 -- ---- a run in two parts
 
 -- the same instruction, if the run starts k cycles earlier
-abbrev pub later : ℕ → Begun → Begun
+abbrev pub later : ℕ → BegunInstruction → BegunInstruction
 later k b = record b { cycles = k + b.cycles }
 
 -- If nothing stops a run of m + n cycles early, it first begins the instructions of a run of m
 -- cycles. Then it begins the instructions of a run of n cycles from the machine after the first
 -- run.
-abbrev pub BegunAddUp : Type 0
-BegunAddUp =
-    (stops : Stops) (m n : ℕ) (s : Machine) → run_length stops (m + n) s ≡ m + n →
-    begun_in stops (m + n) s
-    ≡ begun_in stops m s ++ map (later m) (begun_in stops n (after_run stops m s))
+abbrev pub InstructionsAddUp : Type 0
+InstructionsAddUp =
+    (stops : StopConditions) (m n : ℕ) (s : Machine) → run_length stops (m + n) s ≡ m + n →
+    instructions_begun_in stops (m + n) s
+    ≡ instructions_begun_in stops m s ++ map (later m) (instructions_begun_in stops n (after_run stops m s))

@@ -5,5 +5,5 @@
 mod laws;
 mod probe;
 
-pub use laws::most_probes_are;
-pub use probe::{PROBES, Probe};
+pub use laws::probe_limit_is_fixed;
+pub use probe::{MAX_PROBES, Probe};

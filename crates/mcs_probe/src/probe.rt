@@ -3,7 +3,7 @@ use mcs_model::board::Line;
 use mcs_nibble::{Addr, BankNo, Nibble, RegNo, StatusNo};
 
 /// The maximum number of probes in one trace.
-pub const PROBES: usize = 16;
+pub const MAX_PROBES: usize = 16;
 
 /// A location whose value a trace reports, or a group of locations that it reports as one word.
 #[derive(Clone, Copy, Debug)]
@@ -40,7 +40,7 @@ pub enum Probe {
     /// The board's lamps, in order.
     Lamps,
     /// The three return addresses. BBL returns to the first one.
-    Returns,
+    ReturnAddresses,
 }
 
 impl Default for Probe {

@@ -5,39 +5,39 @@ use Rattle.mcs_model.specs.declared.regs.Regs.{Regs}
 use Rattle.mcs_model.specs.BenchState.{new_regs}
 use Rattle.mcs_model.specs.Bus.{BusState}
 use Rattle.mcs_drive.specs.declared.marks.Mark.{Mark}
-use Rattle.mcs_drive.specs.Opening.{is_open_in_turn}
-use Rattle.mcs_drive.specs.Tracked.{Observer, Tracked, no_observer, without_calls}
+use Rattle.mcs_drive.specs.Opening.{holds_only_after_marks}
+use Rattle.mcs_drive.specs.TrackedMachine.{Observer, TrackedMachine, no_observer, with_zero_counts}
 use Rattle.mcs_check.specs.declared.checking.Outcome.{Outcome}
 use Rattle.mcs_check.specs.declared.checking.Outcome.TheVariants as outcome
 use Rattle.mcs_check.specs.declared.conditions.Condition.{Condition}
-use Rattle.mcs_check.specs.Conditions.{keeps_to, observer_of}
-use Rattle.mcs_check.specs.Promised.{IsProved}
+use Rattle.mcs_check.specs.Conditions.{meets_none, observer_of}
+use Rattle.mcs_check.specs.OutcomeMeaning.{IsProved}
 use Rattle.mcs_prove.specs.MachineOfTexts.{IsRigOfTexts, IsProvedOf, machine_with_program}
 use Rattle.mcs_prove.proofs.Ignoring.{conditions-ignore}
 use Rattle.mcs_prove.specs.declared.refusal.Refusal.{Refusal}
 use Rattle.mcs_prove.specs.Questions.{QuestionSoFar, IsAnswerTo, IsPropertyProvedOf, question_of_text, keeps_property, are_marks_complete, is_consistent, is_stopwatch_complete, is_stopwatch_complete_with, observer_of_question}
 
 -- an outcome that is proved for a property is also proved for an equal property
-pub proved-same : (w : Observer) (p q : Tracked → Bool) (s : Tracked) (found : Outcome) → ((t : Tracked) → p t ≡ q t) → IsProved w p s found → IsProved w q s found
+pub proved-same : (w : Observer) (p q : TrackedMachine → Bool) (s : TrackedMachine) (found : Outcome) → ((t : TrackedMachine) → p t ≡ q t) → IsProved w p s found → IsProved w q s found
 proved-same w p q s (outcome.Holds n) same h = λ f fit k. sym (same _) ∙ h f fit k
 proved-same w p q s (outcome.MayFail values) same h = h
 proved-same w p q s outcome.TooMany same h = h
 proved-same w p q s (outcome.NoMemory n) same h = h
 proved-same w p q s outcome.GaveUp same h = h
 
-pub proved-of : (board program : List ℕ) (w : Observer) (p q : Tracked → Bool) (cpu : Regs) (rig : BusState) (found : Outcome) → IsRigOfTexts board program rig → cpu ≡ new_regs → ((t : Tracked) → p t ≡ q t) → IsProved w p (without_calls (cpu, rig)) found → IsProvedOf board program w q found
+pub proved-of : (board program : List ℕ) (w : Observer) (p q : TrackedMachine → Bool) (cpu : Regs) (rig : BusState) (found : Outcome) → IsRigOfTexts board program rig → cpu ≡ new_regs → ((t : TrackedMachine) → p t ≡ q t) → IsProved w p (with_zero_counts (cpu, rig)) found → IsProvedOf board program w q found
 proved-of board program w p q cpu rig found g new same h = record {
   parts = g.parts;
   loaded = g.loaded;
   accepted = g.accepted;
-  proved = subst (λ (s : Tracked). IsProved w q s found) g.is_machine (subst (λ (r : Regs). IsProved w q (without_calls (r, rig)) found) new (proved-same w p q (without_calls (cpu, rig)) found same h));
+  proved = subst (λ (s : TrackedMachine). IsProved w q s found) g.is_machine (subst (λ (r : Regs). IsProved w q (with_zero_counts (r, rig)) found) new (proved-same w p q (with_zero_counts (cpu, rig)) found same h));
 }
 
 -- ---- marks
 
--- the requirement that `add_opening` adds is that no `open` list is met before all marks were seen
-pub in-turn : (opens : List (List Condition)) (marks : List Mark) (s : Tracked) →
-    not (not (keeps_to opens s) && nat_lt s.2.seen (length marks)) ≡ is_open_in_turn (observer_of [] [] opens marks) s
+-- the requirement that `add_mark_requirement` adds is that no `open` list is met before all marks were seen
+pub in-turn : (opens : List (List Condition)) (marks : List Mark) (s : TrackedMachine) →
+    not (not (meets_none opens s) && nat_lt s.2.seen (length marks)) ≡ holds_only_after_marks (observer_of [] [] opens marks) s
 in-turn opens marks s = ap (λ (b : Bool). not (not b && nat_lt s.2.seen (length marks))) (conditions-ignore opens s)
 
 -- ---- a question without a stopwatch and without marks
@@ -66,28 +66,28 @@ unmarked q false is h some =
     absurd (omega arith)
 
 -- an outcome that is proved for the `never` lists is proved for a question without a stopwatch and marks
-proved-alone : (board program : List ℕ) (q : QuestionSoFar) (found : Outcome) → is_consistent q ≡ true → 0 < q.max_entries → IsProvedOf board program no_observer (keeps_to q.nevers) found →
-    IsPropertyProvedOf board program (observer_of_question q) q.nevers q.limit found
+proved-alone : (board program : List ℕ) (q : QuestionSoFar) (found : Outcome) → is_consistent q ≡ true → 0 < q.max_entries → IsProvedOf board program no_observer (meets_none q.never_lists) found →
+    IsPropertyProvedOf board program (observer_of_question q) q.never_lists q.limit found
 proved-alone board program q found posed some h =
     let both = and_parts (is_stopwatch_complete q) (are_marks_complete q) posed in
     let parts = unlimited q q.limit both.0 some in
     let marks = unmarked q (eqb (length q.marks) 0) refl both.1 some in
-    let kept : IsPropertyProvedOf board program no_observer q.nevers None found = record {
+    let kept : IsPropertyProvedOf board program no_observer q.never_lists None found = record {
       parts = h.parts;
       loaded = h.loaded;
       accepted = h.accepted;
-      proved = proved-same no_observer (keeps_to q.nevers) (keeps_property no_observer q.nevers None) (machine_with_program h.parts h.loaded) found (λ t. sym (and-true (keeps_to q.nevers t && true) ∙ and-true (keeps_to q.nevers t))) h.proved;
+      proved = proved-same no_observer (meets_none q.never_lists) (keeps_property no_observer q.never_lists None) (machine_with_program h.parts h.loaded) found (λ t. sym (and-true (meets_none q.never_lists t && true) ∙ and-true (meets_none q.never_lists t))) h.proved;
     } in
-    subst (λ (o : Option ℕ). IsPropertyProvedOf board program (observer_of_question q) q.nevers o found) (sym parts.0)
-    (subst (λ (ms : List Mark). IsPropertyProvedOf board program (observer_of q.begins q.ends q.opens ms) q.nevers None found) (sym marks.1)
-    (subst (λ (xs : List (List Condition)). IsPropertyProvedOf board program (observer_of q.begins q.ends xs []) q.nevers None found) (sym marks.0)
-    (subst (λ (xs : List (List Condition)). IsPropertyProvedOf board program (observer_of q.begins xs [] []) q.nevers None found) (sym parts.1.1)
-    (subst (λ (xs : List (List Condition)). IsPropertyProvedOf board program (observer_of xs [] [] []) q.nevers None found) (sym parts.1.0) kept))))
+    subst (λ (o : Option ℕ). IsPropertyProvedOf board program (observer_of_question q) q.never_lists o found) (sym parts.0)
+    (subst (λ (ms : List Mark). IsPropertyProvedOf board program (observer_of q.begins q.ends q.opens ms) q.never_lists None found) (sym marks.1)
+    (subst (λ (xs : List (List Condition)). IsPropertyProvedOf board program (observer_of q.begins q.ends xs []) q.never_lists None found) (sym marks.0)
+    (subst (λ (xs : List (List Condition)). IsPropertyProvedOf board program (observer_of q.begins xs [] []) q.never_lists None found) (sym parts.1.1)
+    (subst (λ (xs : List (List Condition)). IsPropertyProvedOf board program (observer_of xs [] [] []) q.never_lists None found) (sym parts.1.0) kept))))
 
-pub answered-alone : (text board program : List ℕ) (q : QuestionSoFar) (nevers : List (List Condition)) (found : Result Outcome Refusal) →
-    question_of_text text ≡ Some q → q.has_prove_line ≡ true → is_consistent q ≡ true → q.board ≡ Some board → q.program ≡ Some program → 0 < q.max_entries → nevers ≡ q.nevers →
-    IfOk found (IsProvedOf board program no_observer (keeps_to nevers)) → IfOk found (IsAnswerTo text)
-answered-alone text board program q nevers (Ok found) spells whole posed has_board has_program some same h = record {
+pub answered-alone : (text board program : List ℕ) (q : QuestionSoFar) (never_lists : List (List Condition)) (found : Result Outcome Refusal) →
+    question_of_text text ≡ Some q → q.has_prove_line ≡ true → is_consistent q ≡ true → q.board ≡ Some board → q.program ≡ Some program → 0 < q.max_entries → never_lists ≡ q.never_lists →
+    IfOk found (IsProvedOf board program no_observer (meets_none never_lists)) → IfOk found (IsAnswerTo text)
+answered-alone text board program q never_lists (Ok found) spells whole posed has_board has_program some same h = record {
   question = q;
   board = board;
   program = program;
@@ -96,6 +96,6 @@ answered-alone text board program q nevers (Ok found) spells whole posed has_boa
   is_consistent = posed;
   has_board = has_board;
   has_program = has_program;
-  proved = proved-alone board program q found posed some (subst (λ (n : List (List Condition)). IsProvedOf board program no_observer (keeps_to n) found) same h);
+  proved = proved-alone board program q found posed some (subst (λ (n : List (List Condition)). IsProvedOf board program no_observer (meets_none n) found) same h);
 }
-answered-alone text board program q nevers (Err why) spells whole posed has_board has_program some same h = h
+answered-alone text board program q never_lists (Err why) spells whole posed has_board has_program some same h = h

@@ -12,23 +12,23 @@ use Rattle.mcs_prove.specs.declared.refusal.Refusal.TheVariants as refusal
 use Rattle.mcs_prove.specs.Questions.{IsAnswerTo}
 
 -- a space and a number in decimal
-abbrev pub spaced : ℕ → List ℕ
-spaced n = codes " " ++ decimal n
+abbrev pub space_and_decimal : ℕ → List ℕ
+space_and_decimal n = codes " " ++ decimal n
 
 abbrev pub outcome_line : Outcome → List ℕ
-outcome_line (outcome.Holds states) = codes "holds" ++ spaced states
-outcome_line (outcome.MayFail values) = codes "may fail" ++ flat_map spaced values.items
+outcome_line (outcome.Holds states) = codes "holds" ++ space_and_decimal states
+outcome_line (outcome.MayFail values) = codes "may fail" ++ flat_map space_and_decimal values.items
 outcome_line outcome.TooMany = codes "too many"
-outcome_line (outcome.NoMemory states) = codes "no room" ++ spaced states
+outcome_line (outcome.NoMemory states) = codes "no room" ++ space_and_decimal states
 outcome_line outcome.GaveUp = codes "gave up"
 
 abbrev pub refusal_line : Refusal → List ℕ
-refusal_line refusal.NoMemory = codes "no" ++ spaced NO_MEMORY
-refusal_line (refusal.Wiring fault) = codes "no" ++ spaced (wiring_fault_number fault)
+refusal_line refusal.NoMemory = codes "no" ++ space_and_decimal NO_MEMORY
+refusal_line (refusal.Wiring fault) = codes "no" ++ space_and_decimal (wiring_fault_number fault)
 refusal_line (refusal.Program line fault) =
-    codes "no" ++ (spaced (source_fault_number fault) ++ spaced line)
-refusal_line refusal.NoRom = codes "no" ++ spaced NO_ROM
-refusal_line (refusal.Line line) = codes "wrong line" ++ spaced line
+    codes "no" ++ (space_and_decimal (source_fault_number fault) ++ space_and_decimal line)
+refusal_line refusal.NoRom = codes "no" ++ space_and_decimal NO_ROM
+refusal_line (refusal.Line line) = codes "wrong line" ++ space_and_decimal line
 refusal_line refusal.Incomplete = codes "no question"
 
 -- the exit status of a refusal: 2 if the text is not a valid question, 3 if the question has no answer

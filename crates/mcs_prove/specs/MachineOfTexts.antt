@@ -8,9 +8,9 @@ use Rattle.mcs_model.specs.Command.{after, machine_of, refusal_of_command}
 use Rattle.mcs_model.specs.Images.{by_address}
 use Rattle.mcs_source.specs.Assembly.{assembly_of_text}
 use Rattle.mcs_wiring.specs.Wiring.{board_of_text}
-use Rattle.mcs_drive.specs.Tracked.{Observer, Tracked, without_calls}
+use Rattle.mcs_drive.specs.TrackedMachine.{Observer, TrackedMachine, with_zero_counts}
 use Rattle.mcs_check.specs.declared.checking.Outcome.{Outcome}
-use Rattle.mcs_check.specs.Promised.{IsProved}
+use Rattle.mcs_check.specs.OutcomeMeaning.{IsProved}
 
 -- a new bench after `wire` with the given board
 abbrev pub bench_with_board : BoardParts → BenchState
@@ -18,8 +18,8 @@ bench_with_board b = after new_bench_state (Wire b)
 
 -- the machine of a new bench after `wire` with a board, `asm` with an image, and `reset`. No call is open
 -- and the stopwatch is at 0.
-abbrev pub machine_with_program : BoardParts → List (ℕ × ℕ) → Tracked
-machine_with_program b image = without_calls (machine_of (after (after (bench_with_board b) (Load image)) Reset))
+abbrev pub machine_with_program : BoardParts → List (ℕ × ℕ) → TrackedMachine
+machine_with_program b image = with_zero_counts (machine_of (after (after (bench_with_board b) (Load image)) Reset))
 
 -- holds if `wire` accepts the board's text, and `asm` then accepts the program's text
 pub record AreTextsAccepted (board program : List ℕ) (b : BoardParts) (image : List (ℕ × ℕ)) : Type 0 where
@@ -34,11 +34,11 @@ pub record IsRigOfTexts (board program : List ℕ) (rig : BusState) : Type 0 whe
   pub parts : BoardParts
   pub loaded : List (ℕ × ℕ)
   pub accepted : AreTextsAccepted board program parts loaded
-  pub is_machine : without_calls (new_regs, rig) ≡ machine_with_program parts loaded
+  pub is_machine : with_zero_counts (new_regs, rig) ≡ machine_with_program parts loaded
 
 -- holds if the promise of an outcome is true of the machine that two texts define, with a given
 -- observer
-pub record IsProvedOf (board program : List ℕ) (w : Observer) (p : Tracked → Bool) (outcome : Outcome) : Type 0 where
+pub record IsProvedOf (board program : List ℕ) (w : Observer) (p : TrackedMachine → Bool) (outcome : Outcome) : Type 0 where
   pub parts : BoardParts
   pub loaded : List (ℕ × ℕ)
   pub accepted : AreTextsAccepted board program parts loaded

@@ -4,21 +4,21 @@ use Rattle.std.specs.Option.{option_map}
 use Rattle.mcs_model.specs.Options.{◌>>=◌}
 use Rattle.std.specs.Str.{bytes_eq}
 use Rattle.mcs_model.specs.Numerals.{number_up_to}
-use Rattle.mcs_model.specs.WordTables.{beside}
-use Rattle.mcs_search.specs.declared.searching.TheConstants.{MOST}
+use Rattle.mcs_model.specs.WordTables.{lookup_entry}
+use Rattle.mcs_search.specs.declared.searching.TheConstants.{MAX_STATES}
 use Rattle.mcs_drive.specs.declared.marks.Mark.{Mark}
 use Rattle.mcs_check.specs.declared.cells.Cell.{Cell}
 use Rattle.mcs_check.specs.declared.cells.CellList.{CellList}
-use Rattle.mcs_check.specs.declared.cells.CellList.TheVariants.{Characters, StatusCharacters, RamPorts, RomPorts, BankSrcs, Registers, Counters, Chain}
+use Rattle.mcs_check.specs.declared.cells.CellList.TheVariants.{RamCharacters, StatusCharacters, RamPorts, RomPorts, BankSrcBytes, Registers, Counters, Chain}
 use Rattle.mcs_check.specs.declared.common_mistakes.Mistakes.{Mistakes}
 use Rattle.mcs_check.specs.declared.conditions.Comparison.{Comparison}
 use Rattle.mcs_check.specs.declared.conditions.Condition.TheVariants as condition
 use Rattle.mcs_check.specs.declared.conditions.Part.{Part}
 use Rattle.mcs_check.specs.declared.conditions.Part.TheVariants.{Whole, Line}
-use Rattle.mcs_check.specs.Cells.{count_of}
+use Rattle.mcs_check.specs.Cells.{max_cell_count}
 use Rattle.mcs_prove.specs.declared.lines.QuestionLine.{QuestionLine}
 use Rattle.mcs_prove.specs.declared.lines.QuestionLine.TheVariants.{Blank, MaxStates, MaxEntries, MaxMemory, Pause, TimeLimit, BoardText, ProgramText, Conditions, OneCondition, NextMark, Prove}
-use Rattle.mcs_prove.specs.declared.lines.Role.TheVariants.{Never, Begin, End, Open}
+use Rattle.mcs_prove.specs.declared.lines.ListRole.TheVariants.{Never, Begin, End, Open}
 use Rattle.mcs_prove.specs.declared.lines.TheConstants.{LAST_INDEX, MAX_TIME_LIMIT, MAX_PAUSE, MAX_ENTRIES, MAX_MEMORY}
 
 -- ---- a comparison: `in ramport 0 line1 1 1`
@@ -28,11 +28,11 @@ comparison_kinds = (codes "in", true) ∷ (codes "out", false) ∷ []
 
 abbrev pub cell_lists : List (List ℕ × CellList)
 cell_lists =
-    (codes "character", Characters)
+    (codes "character", RamCharacters)
     ∷ (codes "status", StatusCharacters)
     ∷ (codes "ramport", RamPorts)
     ∷ (codes "romport", RomPorts)
-    ∷ (codes "banksrc", BankSrcs)
+    ∷ (codes "banksrc", BankSrcBytes)
     ∷ (codes "register", Registers)
     ∷ (codes "counter", Counters)
     ∷ (codes "chain0", Chain 0)
@@ -52,18 +52,18 @@ cell_parts =
 
 -- the cell at an index of a list, if the index is below the maximum number of cells in the list
 abbrev pub cell_at : CellList → ℕ → Option Cell
-cell_at list i = if nat_lt i (count_of list) then Some (record { list = list; index = i }) else None
+cell_at list i = if nat_lt i (max_cell_count list) then Some (record { list = list; index = i }) else None
 
 abbrev pub cell_of : List ℕ → List ℕ → Option Cell
 cell_of list index =
-    beside (bytes_eq list) cell_lists >>= λ l. number_up_to LAST_INDEX index >>= λ i. cell_at l i
+    lookup_entry (bytes_eq list) cell_lists >>= λ l. number_up_to LAST_INDEX index >>= λ i. cell_at l i
 
 -- the comparison of a cell's value, or of one line of it, with a range
 abbrev pub comparison_of : List ℕ → List ℕ → List ℕ → List ℕ → List ℕ → List ℕ → Option Comparison
 comparison_of kind list index part low high =
-    beside (bytes_eq kind) comparison_kinds >>= λ inside.
+    lookup_entry (bytes_eq kind) comparison_kinds >>= λ inside.
     cell_of list index >>= λ cell.
-    beside (bytes_eq part) cell_parts >>= λ p.
+    lookup_entry (bytes_eq part) cell_parts >>= λ p.
     number_up_to 255 low >>= λ least.
     number_up_to 255 high >>= λ most.
     Some (record { cell = cell; part = p; low = least; high = most; inside = inside })
@@ -72,28 +72,28 @@ comparison_of kind list index part low high =
 
 abbrev pub no_mistakes : Mistakes
 no_mistakes = record {
-  no_code = false;
+  invalid_opcode = false;
   fourth_call = false;
-  lone_return = false;
+  unmatched_return = false;
   absent_ram = false;
   absent_rom = false;
-  no_inputs = false;
-  no_outputs = false;
+  port_without_inputs = false;
+  port_without_outputs = false;
 }
 
 abbrev pub mistake_kinds : List (List ℕ × (Mistakes → Mistakes))
 mistake_kinds =
-    (codes "code", λ m. record m { no_code = true })
+    (codes "code", λ m. record m { invalid_opcode = true })
     ∷ (codes "call", λ m. record m { fourth_call = true })
-    ∷ (codes "return", λ m. record m { lone_return = true })
+    ∷ (codes "return", λ m. record m { unmatched_return = true })
     ∷ (codes "ram", λ m. record m { absent_ram = true })
     ∷ (codes "rom", λ m. record m { absent_rom = true })
-    ∷ (codes "rdr", λ m. record m { no_inputs = true })
-    ∷ (codes "wrr", λ m. record m { no_outputs = true })
+    ∷ (codes "rdr", λ m. record m { port_without_inputs = true })
+    ∷ (codes "wrr", λ m. record m { port_without_outputs = true })
     ∷ []
 
 abbrev pub with_mistake : Mistakes → List ℕ → Option Mistakes
-with_mistake m word = option_map (λ adds. adds m) (beside (bytes_eq word) mistake_kinds)
+with_mistake m word = option_map (λ adds. adds m) (lookup_entry (bytes_eq word) mistake_kinds)
 
 abbrev pub with_mistakes : Mistakes → List (List ℕ) → Option Mistakes
 with_mistakes m [] = Some m
@@ -112,7 +112,7 @@ key_levels = (codes "up", false) ∷ (codes "down", true) ∷ []
 -- the mark that three words spell: a level, a row and a column
 abbrev pub mark_of : List ℕ → List ℕ → List ℕ → Option Mark
 mark_of level row column =
-    beside (bytes_eq level) key_levels >>= λ is_down.
+    lookup_entry (bytes_eq level) key_levels >>= λ is_down.
     number_up_to 255 row >>= λ r.
     number_up_to 255 column >>= λ c.
     Some (record { row = r; column = c; is_down = is_down })
@@ -137,7 +137,7 @@ pause_line n = if nat_lt 0 n then Some (Pause n) else None
 -- a line of two words: a name and a number
 abbrev pub number_line : List ℕ → List ℕ → Option QuestionLine
 number_line name word =
-    if bytes_eq name (codes "most") then option_map MaxStates (number_up_to MOST word)
+    if bytes_eq name (codes "most") then option_map MaxStates (number_up_to MAX_STATES word)
     else if bytes_eq name (codes "sets") then option_map MaxEntries (number_up_to MAX_ENTRIES word)
     else if bytes_eq name (codes "memory") then option_map MaxMemory (number_up_to MAX_MEMORY word)
     else if bytes_eq name (codes "within") then option_map TimeLimit (number_up_to MAX_TIME_LIMIT word)
@@ -156,7 +156,7 @@ longer_line name first second [] = option_map NextMark (mark_of name first secon
 longer_line name first second (word ∷ words) = comparison_line name first second (word ∷ words)
 
 abbrev pub line_by_words : List ℕ → List (List ℕ) → Option QuestionLine
-line_by_words name [] = beside (bytes_eq name) one_word_lines
+line_by_words name [] = lookup_entry (bytes_eq name) one_word_lines
 line_by_words name (word ∷ []) = number_line name word
 line_by_words name (first ∷ second ∷ words) = longer_line name first second words
 

@@ -6,15 +6,15 @@ use Rattle.std.specs.Str.{bytes_eq}
 use Rattle.std.specs.Str.Lines.{lines}
 use Rattle.mcs_model.specs.TextLines.{as_line, words_of}
 use Rattle.mcs_drive.specs.declared.marks.Mark.{Mark}
-use Rattle.mcs_drive.specs.Opening.{is_open_in_turn}
-use Rattle.mcs_drive.specs.Tracked.{Observer, Tracked}
+use Rattle.mcs_drive.specs.Opening.{holds_only_after_marks}
+use Rattle.mcs_drive.specs.TrackedMachine.{Observer, TrackedMachine}
 use Rattle.mcs_check.specs.declared.checking.Outcome.{Outcome}
 use Rattle.mcs_check.specs.declared.conditions.Condition.{Condition}
-use Rattle.mcs_check.specs.Conditions.{keeps_to, observer_of}
+use Rattle.mcs_check.specs.Conditions.{meets_none, observer_of}
 use Rattle.mcs_prove.specs.declared.lines.QuestionLine.{QuestionLine}
 use Rattle.mcs_prove.specs.declared.lines.QuestionLine.TheVariants as line
-use Rattle.mcs_prove.specs.declared.lines.Role.{Role}
-use Rattle.mcs_prove.specs.declared.lines.Role.TheVariants.{Never, Begin, End, Open}
+use Rattle.mcs_prove.specs.declared.lines.ListRole.{ListRole}
+use Rattle.mcs_prove.specs.declared.lines.ListRole.TheVariants.{Never, Begin, End, Open}
 use Rattle.mcs_prove.specs.declared.lines.TheConstants.{MAX_MEMORY}
 use Rattle.mcs_prove.specs.declared.question.Section.{Section}
 use Rattle.mcs_prove.specs.declared.question.Section.TheVariants.{Lines, Board, Program}
@@ -22,19 +22,19 @@ use Rattle.mcs_prove.specs.declared.question.TheConstants.{DEFAULT_PAUSE}
 use Rattle.mcs_prove.specs.MachineOfTexts.{IsProvedOf}
 use Rattle.mcs_prove.specs.QuestionLines.{line_of}
 
--- a question as read so far. `nevers`, `begins`, `ends` and `opens` are the complete lists of conditions.
+-- a question as read so far. `never_lists`, `begins`, `ends` and `opens` are the complete lists of conditions.
 -- `conditions` is the current list: that of the last `never`, `begin`, `end` or `open`. `role` is its
 -- role. `section` is the section of the next line. `has_prove_line` is true after `prove`.
 pub record QuestionSoFar : Type 0 where
   pub board : Option (List ℕ)
   pub program : Option (List ℕ)
-  pub nevers : List (List Condition)
+  pub never_lists : List (List Condition)
   pub begins : List (List Condition)
   pub ends : List (List Condition)
   pub limit : Option ℕ
   pub opens : List (List Condition)
   pub marks : List Mark
-  pub role : Role
+  pub role : ListRole
   pub conditions : Option (List Condition)
   pub max_states : ℕ
   pub max_entries : ℕ
@@ -47,7 +47,7 @@ abbrev pub empty_question : QuestionSoFar
 empty_question = record {
   board = None;
   program = None;
-  nevers = [];
+  never_lists = [];
   begins = [];
   ends = [];
   limit = None;
@@ -64,8 +64,8 @@ empty_question = record {
 }
 
 -- a question in which a list of conditions is complete and stored with the lists of its role
-abbrev pub with_list : QuestionSoFar → List Condition → Role → QuestionSoFar
-with_list a cs Never = record a { nevers = a.nevers ++ cs ∷ []; conditions = None }
+abbrev pub with_list : QuestionSoFar → List Condition → ListRole → QuestionSoFar
+with_list a cs Never = record a { never_lists = a.never_lists ++ cs ∷ []; conditions = None }
 with_list a cs Begin = record a { begins = a.begins ++ cs ∷ []; conditions = None }
 with_list a cs End = record a { ends = a.ends ++ cs ∷ []; conditions = None }
 with_list a cs Open = record a { opens = a.opens ++ cs ∷ []; conditions = None }
@@ -168,19 +168,19 @@ abbrev pub observer_of_question : QuestionSoFar → Observer
 observer_of_question a = observer_of a.begins a.ends a.opens a.marks
 
 -- true if the stopwatch shows no more than its limit, or if there is no limit
-abbrev pub is_within_limit : Option ℕ → Tracked → Bool
+abbrev pub is_within_limit : Option ℕ → TrackedMachine → Bool
 is_within_limit None s = true
 is_within_limit (Some limit) s = nat_le s.2.elapsed limit
 
--- the property: true if no list in `nevers` has all its conditions met, the stopwatch is within its
+-- the property: true if no list in `never_lists` has all its conditions met, the stopwatch is within its
 -- limit, and the condition of the observer does not hold before all marks were seen
-abbrev pub keeps_property : Observer → List (List Condition) → Option ℕ → Tracked → Bool
-keeps_property w nevers limit s = keeps_to nevers s && is_within_limit limit s && is_open_in_turn w s
+abbrev pub keeps_property : Observer → List (List Condition) → Option ℕ → TrackedMachine → Bool
+keeps_property w never_lists limit s = meets_none never_lists s && is_within_limit limit s && holds_only_after_marks w s
 
 -- holds if the promise of an outcome is true of the machine that two texts define, for this observer and
 -- this property
 abbrev pub IsPropertyProvedOf : List ℕ → List ℕ → Observer → List (List Condition) → Option ℕ → Outcome → Type 0
-IsPropertyProvedOf board program w nevers limit outcome = IsProvedOf board program w (keeps_property w nevers limit) outcome
+IsPropertyProvedOf board program w never_lists limit outcome = IsProvedOf board program w (keeps_property w never_lists limit) outcome
 
 -- holds if a text contains a complete question and the promise of an outcome is true for it
 pub record IsAnswerTo (text : List ℕ) (outcome : Outcome) : Type 0 where
@@ -192,4 +192,4 @@ pub record IsAnswerTo (text : List ℕ) (outcome : Outcome) : Type 0 where
   pub is_consistent : is_consistent question ≡ true
   pub has_board : question.board ≡ Some board
   pub has_program : question.program ≡ Some program
-  pub proved : IsPropertyProvedOf board program (observer_of_question question) question.nevers question.limit outcome
+  pub proved : IsPropertyProvedOf board program (observer_of_question question) question.never_lists question.limit outcome

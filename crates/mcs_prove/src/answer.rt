@@ -1,7 +1,7 @@
 //! The answer to a question: one line and an exit status.
 ghost use Rattle.std.specs.Prelude.{◌≡◌, ◌++◌, string_bytes, IfOk, OnOk};
 ghost use Rattle.std.specs.List.{flat_map};
-ghost use Rattle.mcs_prove.specs.Answers.{AnswersQuestion, line_of_answer, outcome_line, refusal_line, refusal_status, spaced, status_of_answer};
+ghost use Rattle.mcs_prove.specs.Answers.{AnswersQuestion, line_of_answer, outcome_line, refusal_line, refusal_status, space_and_decimal, status_of_answer};
 ghost use Rattle.mcs_prove.specs.Questions.{IsAnswerTo};
 
 use crate::proving::{Goal, prove, prove_by_sets};
@@ -9,20 +9,20 @@ use crate::question::{Question, question_of};
 use crate::refusal::Refusal;
 use mcs_check::{Marks, Outcome};
 use mcs_model::refusal_numbers;
-use mcs_search::MOST;
+use mcs_search::MAX_STATES;
 use std::alloc::{AllocError, Global};
 
 /// The number of bytes in a megabyte (MB).
 const MB: usize = 1_048_576;
 
 /// The exit status if there is an outcome.
-const ANSWERED: u8 = 0;
+const STATUS_ANSWERED: u8 = 0;
 
 /// The exit status if a line of the question is invalid or the question is incomplete.
-const WRONG_QUESTION: u8 = 2;
+const STATUS_WRONG_QUESTION: u8 = 2;
 
 /// The exit status if the board's text or the program's text is rejected, or memory runs out.
-const REFUSED: u8 = 3;
+const STATUS_REFUSED: u8 = 3;
 
 /// The answer to a question: its line and its exit status.
 #[derive(Drop)]
@@ -33,7 +33,7 @@ pub struct Answer {
 
 /// Appends the values that the machine read, with a space before each value. Fails if memory runs out.
 fn push_values(out: &mut String, values: &[u8]) -> Result<(), AllocError>
-    ensures { OnOk result (string_bytes out.new ≡ string_bytes out.old ++ flat_map spaced values.now) }
+    ensures { OnOk result (string_bytes out.new ≡ string_bytes out.old ++ flat_map space_and_decimal values.now) }
 {
     for value in values {
         write!(out, " {value}")?;
@@ -86,8 +86,8 @@ fn refusal_status(refusal: Refusal) -> u8
     ensures { result ≡ refusal_status refusal }
 {
     match refusal {
-        Refusal::Line(_) | Refusal::Incomplete => WRONG_QUESTION,
-        _ => REFUSED,
+        Refusal::Line(_) | Refusal::Incomplete => STATUS_WRONG_QUESTION,
+        _ => STATUS_REFUSED,
     }
 }
 
@@ -96,7 +96,7 @@ fn status_of(found: &Result<Outcome, Refusal>) -> u8
     ensures { result ≡ status_of_answer found.now }
 {
     match found {
-        Ok(_) => ANSWERED,
+        Ok(_) => STATUS_ANSWERED,
         Err(refusal) => refusal_status(*refusal),
     }
 }
@@ -110,7 +110,7 @@ fn outcome_of(alloc: Global, text: &str) -> Result<Outcome, Refusal>
     let Question {
         board,
         program,
-        nevers,
+        never_lists,
         begins,
         ends,
         limit,
@@ -137,7 +137,7 @@ fn outcome_of(alloc: Global, text: &str) -> Result<Outcome, Refusal>
             alloc,
             board.as_str(),
             program.as_str(),
-            &nevers,
+            &never_lists,
             max_entries as usize,
             memory as usize * MB,
         );
@@ -147,14 +147,14 @@ fn outcome_of(alloc: Global, text: &str) -> Result<Outcome, Refusal>
         board.as_str(),
         program.as_str(),
         Goal {
-            nevers,
+            never_lists,
             begins,
             ends,
             limit,
             opens,
             marks,
         },
-        (max_states as usize).min(MOST),
+        (max_states as usize).min(MAX_STATES),
         memory as usize * MB,
         pause,
     )

@@ -20,13 +20,13 @@ ghost use Rattle.std.specs.Prelude.{◌≡◌};
 ghost use Rattle.std.specs.Str.{bytes_eq};
 ghost use Rattle.mcs_model.specs.Numerals.{number_up_to};
 ghost use Rattle.mcs_model.specs.TextLines.{words_of};
-ghost use Rattle.mcs_model.specs.WordTables.{beside};
+ghost use Rattle.mcs_model.specs.WordTables.{lookup_entry};
 ghost use Rattle.mcs_prove.specs.QuestionLines.{cell_lists, cell_of, cell_parts, comparison_kinds, comparison_line, comparison_of, key_levels, line_by_words, line_of, longer_line, mark_of, mistakes_of, no_mistakes, number_line, one_word_lines, with_mistake, with_mistakes};
 
-use mcs_check::{Cell, CellList, Comparison, Condition, Cycles, Mark, Mistakes, Part};
+use mcs_check::{Cell, CellList, Comparison, Condition, Mark, Mistakes, Part, StopwatchCycles};
 use mcs_lines::words::{equals, next_word};
 use mcs_model::numeral::number_within;
-use mcs_search::MOST;
+use mcs_search::MAX_STATES;
 
 /// The largest index of a cell.
 const LAST_INDEX: u32 = 2047;
@@ -45,7 +45,7 @@ const MAX_TIME_LIMIT: u32 = 16_777_214;
 
 /// The role of a list of conditions in a question.
 #[derive(Clone, Copy, Debug)]
-pub(crate) enum Role {
+pub(crate) enum ListRole {
     /// The conditions must never all be met at once.
     Never,
     /// The stopwatch begins when all conditions are met.
@@ -70,13 +70,13 @@ pub(crate) enum QuestionLine {
     /// The number of cycles after which a search splits a stretch of cycles without reads.
     Pause(u32),
     /// The maximum number of cycles that the stopwatch may show.
-    TimeLimit(Cycles),
+    TimeLimit(StopwatchCycles),
     /// The board's text begins on the next line.
     BoardText,
     /// The program's text begins on the next line.
     ProgramText,
     /// A list of conditions with this role follows.
-    Conditions(Role),
+    Conditions(ListRole),
     /// A condition of the current list.
     OneCondition(Condition),
     /// The next mark.
@@ -87,7 +87,7 @@ pub(crate) enum QuestionLine {
 
 /// Parses the kind of a comparison. Returns true for `in` (inside the range) and false for `out` (outside it).
 fn comparison_kind(word: &[u8]) -> Option<bool>
-    ensures { result ≡ beside (bytes_eq word.now) comparison_kinds }
+    ensures { result ≡ lookup_entry (bytes_eq word.now) comparison_kinds }
 {
     if equals(word, b"in") {
         Some(true)
@@ -100,10 +100,10 @@ fn comparison_kind(word: &[u8]) -> Option<bool>
 
 /// Parses the name of a list of cells.
 fn list_named(word: &[u8]) -> Option<CellList>
-    ensures { result ≡ beside (bytes_eq word.now) cell_lists }
+    ensures { result ≡ lookup_entry (bytes_eq word.now) cell_lists }
 {
     let list = if equals(word, b"character") {
-        CellList::Characters
+        CellList::RamCharacters
     } else if equals(word, b"status") {
         CellList::StatusCharacters
     } else if equals(word, b"ramport") {
@@ -111,7 +111,7 @@ fn list_named(word: &[u8]) -> Option<CellList>
     } else if equals(word, b"romport") {
         CellList::RomPorts
     } else if equals(word, b"banksrc") {
-        CellList::BankSrcs
+        CellList::BankSrcBytes
     } else if equals(word, b"register") {
         CellList::Registers
     } else if equals(word, b"counter") {
@@ -132,7 +132,7 @@ fn list_named(word: &[u8]) -> Option<CellList>
 
 /// Parses the name of a part: `whole`, or `line0` to `line3`.
 fn part_named(word: &[u8]) -> Option<Part>
-    ensures { result ≡ beside (bytes_eq word.now) cell_parts }
+    ensures { result ≡ lookup_entry (bytes_eq word.now) cell_parts }
 {
     if equals(word, b"whole") {
         Some(Part::Whole)
@@ -200,19 +200,19 @@ fn with_mistake(mistakes: Mistakes, word: &[u8]) -> Option<Mistakes>
 {
     let mut more = mistakes;
     if equals(word, b"code") {
-        more.no_code = true;
+        more.invalid_opcode = true;
     } else if equals(word, b"call") {
         more.fourth_call = true;
     } else if equals(word, b"return") {
-        more.lone_return = true;
+        more.unmatched_return = true;
     } else if equals(word, b"ram") {
         more.absent_ram = true;
     } else if equals(word, b"rom") {
         more.absent_rom = true;
     } else if equals(word, b"rdr") {
-        more.no_inputs = true;
+        more.port_without_inputs = true;
     } else if equals(word, b"wrr") {
-        more.no_outputs = true;
+        more.port_without_outputs = true;
     } else {
         return None;
     }
@@ -244,20 +244,20 @@ fn mistakes_of(words: &[u8]) -> Option<Mistakes>
 
 /// Parses a line of one word.
 fn one_word_line(word: &[u8]) -> Option<QuestionLine>
-    ensures { result ≡ beside (bytes_eq word.now) one_word_lines }
+    ensures { result ≡ lookup_entry (bytes_eq word.now) one_word_lines }
 {
     if equals(word, b"wire") {
         Some(QuestionLine::BoardText)
     } else if equals(word, b"asm") {
         Some(QuestionLine::ProgramText)
     } else if equals(word, b"never") {
-        Some(QuestionLine::Conditions(Role::Never))
+        Some(QuestionLine::Conditions(ListRole::Never))
     } else if equals(word, b"begin") {
-        Some(QuestionLine::Conditions(Role::Begin))
+        Some(QuestionLine::Conditions(ListRole::Begin))
     } else if equals(word, b"end") {
-        Some(QuestionLine::Conditions(Role::End))
+        Some(QuestionLine::Conditions(ListRole::End))
     } else if equals(word, b"open") {
-        Some(QuestionLine::Conditions(Role::Open))
+        Some(QuestionLine::Conditions(ListRole::Open))
     } else if equals(word, b"prove") {
         Some(QuestionLine::Prove)
     } else {
@@ -270,7 +270,7 @@ fn number_line(name: &[u8], word: &[u8]) -> Option<QuestionLine>
     ensures { result ≡ number_line name.now word.now }
 {
     if equals(name, b"most") {
-        return Some(QuestionLine::MaxStates(number_within(word, MOST as u32)?));
+        return Some(QuestionLine::MaxStates(number_within(word, MAX_STATES as u32)?));
     }
     if equals(name, b"sets") {
         return Some(QuestionLine::MaxEntries(number_within(word, MAX_ENTRIES)?));
@@ -279,7 +279,7 @@ fn number_line(name: &[u8], word: &[u8]) -> Option<QuestionLine>
         return Some(QuestionLine::MaxMemory(number_within(word, MAX_MEMORY)?));
     }
     if equals(name, b"within") {
-        let limit = Cycles::of(number_within(word, MAX_TIME_LIMIT)?)?;
+        let limit = StopwatchCycles::of(number_within(word, MAX_TIME_LIMIT)?)?;
         return Some(QuestionLine::TimeLimit(limit));
     }
     if equals(name, b"pause") {
@@ -295,7 +295,7 @@ fn number_line(name: &[u8], word: &[u8]) -> Option<QuestionLine>
 
 /// Parses the level of a key in a mark. Returns true for `down` and false for `up`.
 fn key_level(word: &[u8]) -> Option<bool>
-    ensures { result ≡ beside (bytes_eq word.now) key_levels }
+    ensures { result ≡ lookup_entry (bytes_eq word.now) key_levels }
 {
     if equals(word, b"up") {
         Some(false)

@@ -5,7 +5,7 @@ ghost use Rattle.mcs_model.specs.ChipWrites.{with_rom_bytes};
 ghost use Rattle.mcs_model.specs.Command.{lacks_rom, refusal_of_command};
 ghost use Rattle.mcs_model.specs.declared.command.Command.TheVariants.{Load};
 ghost use Rattle.mcs_model.specs.BenchState.{new_regs};
-ghost use Rattle.mcs_drive.specs.Tracked.{without_calls};
+ghost use Rattle.mcs_drive.specs.TrackedMachine.{with_zero_counts};
 ghost use Rattle.mcs_prove.specs.MachineOfTexts.{bench_with_board, machine_with_program};
 
 use mcs_board::{BenchRig, every_board_fits_the_bench};
@@ -42,7 +42,7 @@ pub(crate) fn rig_with_program(
     ensures accepted { IfOk result (λ made. IfSome made (λ rig.
         refusal_of_command (bench_with_board board.now) (Load image.now) ≡ None)) }
     ensures is_machine { IfOk result (λ made. IfSome made (λ rig.
-        without_calls (new_regs, rig) ≡ machine_with_program board.now image.now)) }
+        with_zero_counts (new_regs, rig) ≡ machine_with_program board.now image.now)) }
 {
     if lacks_rom_of_image(board, image) {
         return Ok(None);

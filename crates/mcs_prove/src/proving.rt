@@ -1,8 +1,8 @@
 //! Proves, for all inputs, that the machine that two texts define never meets given conditions.
 ghost use Rattle.std.specs.Prelude.{◌≡◌, ◌≤◌, ◌&&◌, [], IfOk, map};
-ghost use Rattle.mcs_search.specs.declared.searching.TheConstants.{MOST};
-ghost use Rattle.mcs_drive.specs.Tracked.{Tracked, no_observer};
-ghost use Rattle.mcs_check.specs.Conditions.{keeps_to, observer_of};
+ghost use Rattle.mcs_search.specs.declared.searching.TheConstants.{MAX_STATES};
+ghost use Rattle.mcs_drive.specs.TrackedMachine.{TrackedMachine, no_observer};
+ghost use Rattle.mcs_check.specs.Conditions.{meets_none, observer_of};
 ghost use Rattle.mcs_prove.specs.MachineOfTexts.{IsProvedOf, IsRigOfTexts};
 ghost use Rattle.mcs_prove.specs.Questions.{IsPropertyProvedOf, is_within_limit, keeps_property};
 
@@ -11,10 +11,11 @@ use crate::refusal::Refusal;
 use mcs_asm::{AsmFault, FaultKind, assemble};
 use mcs_board::BenchRig;
 use mcs_check::{
-    Aim, Condition, Conjunction, Cycles, Marks, Outcome, Replica, add_limit, add_opening, check_all,
+    Condition, Conjunction, Marks, Outcome, Property, SearchMachine, StopwatchCycles, add_limit,
+    add_mark_requirement, check_all,
 };
 use mcs_cpu4004::Cpu;
-use mcs_search::MOST;
+use mcs_search::MAX_STATES;
 use mcs_sets::check_by_sets;
 use mcs_wiring::{WiringFault, board_of};
 use std::alloc::{AllocError, Global};
@@ -50,13 +51,13 @@ fn rig_of(alloc: Global, board: &str, program: &str) -> Result<BenchRig, Refusal
 #[derive(Drop)]
 pub struct Goal {
     /// Lists of conditions. The conditions of a list must never all be met at once.
-    pub nevers: Vec<Vec<Condition>>,
+    pub never_lists: Vec<Vec<Condition>>,
     /// Lists of conditions. The stopwatch begins when all conditions of a list are met.
     pub begins: Vec<Vec<Condition>>,
     /// Lists of conditions. The stopwatch ends when all conditions of a list are met.
     pub ends: Vec<Vec<Condition>>,
     /// The maximum number of cycles that the stopwatch may show, if there is a limit.
-    pub limit: Option<Cycles>,
+    pub limit: Option<StopwatchCycles>,
     /// Lists of conditions. The conditions of a list must not all be met before the marks were seen.
     pub opens: Vec<Vec<Condition>>,
     /// The marks, in their order.
@@ -77,37 +78,37 @@ fn conjunctions_of(
     Ok(conjunctions)
 }
 
-/// Returns the conjunctions that must never be met: those of `nevers` and, if the stopwatch has a limit, those of the
+/// Returns the conjunctions that must never be met: those of `never_lists` and, if the stopwatch has a limit, those of the
 /// limit.
 fn with_limit(
     alloc: Global,
-    nevers: Vec<Vec<Condition>>,
-    limit: Option<Cycles>,
+    never_lists: Vec<Vec<Condition>>,
+    limit: Option<StopwatchCycles>,
 ) -> Result<Vec<Conjunction>, AllocError>
-    ensures { IfOk result (λ conjunctions. (s : Tracked) →
-        keeps_to conjunctions.items s ≡ (keeps_to (map (λ n. n.items) nevers.items) s && is_within_limit limit s)) }
+    ensures { IfOk result (λ conjunctions. (s : TrackedMachine) →
+        meets_none conjunctions.items s ≡ (meets_none (map (λ n. n.items) never_lists.items) s && is_within_limit limit s)) }
 {
-    let mut conjunctions = conjunctions_of(alloc, nevers)?;
+    let mut conjunctions = conjunctions_of(alloc, never_lists)?;
     if let Some(limit) = limit {
         add_limit(alloc, &mut conjunctions, limit)?;
     }
     Ok(conjunctions)
 }
 
-/// Returns the conjunctions that must never be met: those of `nevers`, those of the marks and, if the stopwatch has a
+/// Returns the conjunctions that must never be met: those of `never_lists`, those of the marks and, if the stopwatch has a
 /// limit, those of the limit.
 fn nevers_of(
     alloc: Global,
-    nevers: Vec<Vec<Condition>>,
-    limit: Option<Cycles>,
+    never_lists: Vec<Vec<Condition>>,
+    limit: Option<StopwatchCycles>,
     opens: &[Conjunction],
     marks: &Marks,
 ) -> Result<Vec<Conjunction>, AllocError>
-    ensures { IfOk result (λ conjunctions. (s : Tracked) →
-        keeps_to conjunctions.items s ≡ keeps_property (observer_of [] [] opens.now marks.now) (map (λ n. n.items) nevers.items) limit s) }
+    ensures { IfOk result (λ conjunctions. (s : TrackedMachine) →
+        meets_none conjunctions.items s ≡ keeps_property (observer_of [] [] opens.now marks.now) (map (λ n. n.items) never_lists.items) limit s) }
 {
-    let mut conjunctions = with_limit(alloc, nevers, limit)?;
-    add_opening(alloc, &mut conjunctions, opens, marks)?;
+    let mut conjunctions = with_limit(alloc, never_lists, limit)?;
+    add_mark_requirement(alloc, &mut conjunctions, opens, marks)?;
     Ok(conjunctions)
 }
 
@@ -123,21 +124,21 @@ pub fn prove(
     memory: usize,
     pause: u32,
 ) -> Result<Outcome, Refusal>
-    requires { max_states ≤ MOST }
+    requires { max_states ≤ MAX_STATES }
     ensures { IfOk result (IsPropertyProvedOf board.now program.now
         (observer_of (map (λ n. n.items) goal.begins.items) (map (λ n. n.items) goal.ends.items)
         (map (λ n. n.items) goal.opens.items) goal.marks)
-        (map (λ n. n.items) goal.nevers.items) goal.limit) }
+        (map (λ n. n.items) goal.never_lists.items) goal.limit) }
 {
     let rig = rig_of(alloc, board, program)?;
     let opens = conjunctions_of(alloc, goal.opens)?;
-    let nevers = nevers_of(alloc, goal.nevers, goal.limit, &opens, &goal.marks)?;
+    let never_lists = nevers_of(alloc, goal.never_lists, goal.limit, &opens, &goal.marks)?;
     let begins = conjunctions_of(alloc, goal.begins)?;
     let ends = conjunctions_of(alloc, goal.ends)?;
     Ok(check_all(
         alloc,
-        Replica::of(Cpu::new(), rig),
-        Aim::of(nevers, begins, ends, opens, goal.marks),
+        SearchMachine::of(Cpu::new(), rig),
+        Property::of(never_lists, begins, ends, opens, goal.marks),
         max_states,
         memory,
         pause,
@@ -150,11 +151,11 @@ pub fn prove_by_sets(
     alloc: Global,
     board: &str,
     program: &str,
-    nevers: &[Vec<Condition>],
+    never_lists: &[Vec<Condition>],
     max_entries: usize,
     memory: usize,
 ) -> Result<Outcome, Refusal>
-    ensures { IfOk result (IsProvedOf board.now program.now no_observer (keeps_to (map (λ n. n.items) nevers.now))) }
+    ensures { IfOk result (IsProvedOf board.now program.now no_observer (meets_none (map (λ n. n.items) never_lists.now))) }
 {
     let mut rig = rig_of(alloc, board, program)?;
     let mut search_rig = rig_of(alloc, board, program)?;
@@ -163,7 +164,7 @@ pub fn prove_by_sets(
         &Cpu::new(),
         &mut rig,
         &mut search_rig,
-        nevers,
+        never_lists,
         max_entries,
         memory,
     );

@@ -5,9 +5,9 @@ ghost use Rattle.mcs_model.specs.TextLines.{words_of};
 ghost use Rattle.mcs_prove.specs.declared.question.Section.TheVariants.{Board, Program};
 ghost use Rattle.mcs_prove.specs.Questions.{QuestionSoFar, after_line, after_line_in, after_parsed_line, after_words, are_marks_complete, begin_board, begin_program, empty_question, if_valid, is_consistent, is_stopwatch_complete, question_of_text, with_condition, with_line, with_list_ended};
 
-use crate::lines::{MAX_MEMORY, QuestionLine, Role, line_of};
+use crate::lines::{ListRole, MAX_MEMORY, QuestionLine, line_of};
 use crate::refusal::Refusal;
-use mcs_check::{Condition, Cycles, Mark};
+use mcs_check::{Condition, Mark, StopwatchCycles};
 use std::alloc::{AllocError, Global};
 use std::marker::Model;
 use std::mem;
@@ -34,13 +34,13 @@ pub(crate) struct Question {
     /// The program's text, if it has begun.
     pub(crate) program: Option<String>,
     /// The complete `never` lists.
-    pub(crate) nevers: Vec<Vec<Condition>>,
+    pub(crate) never_lists: Vec<Vec<Condition>>,
     /// The complete `begin` lists.
     pub(crate) begins: Vec<Vec<Condition>>,
     /// The complete `end` lists.
     pub(crate) ends: Vec<Vec<Condition>>,
     /// The maximum number of cycles that the stopwatch may show, if there is a limit.
-    pub(crate) limit: Option<Cycles>,
+    pub(crate) limit: Option<StopwatchCycles>,
     /// The complete `open` lists.
     pub(crate) opens: Vec<Vec<Condition>>,
     /// The marks, in their order.
@@ -56,7 +56,7 @@ pub(crate) struct Question {
     /// True after the line `prove`.
     pub(crate) has_prove_line: bool,
     /// The role of the current list of conditions.
-    role: Role,
+    role: ListRole,
     /// The current list of conditions, until it is complete.
     conditions: Option<Vec<Condition>>,
     /// The section to which the next line belongs.
@@ -72,7 +72,7 @@ impl Model for Question {
     ghost view = { λ q. record {
       board = option_map string_bytes q.board;
       program = option_map string_bytes q.program;
-      nevers = map (λ n. n.items) q.nevers.items;
+      never_lists = map (λ n. n.items) q.never_lists.items;
       begins = map (λ n. n.items) q.begins.items;
       ends = map (λ n. n.items) q.ends.items;
       limit = q.limit;
@@ -109,7 +109,7 @@ impl Question {
         Question {
             board: None,
             program: None,
-            nevers: Vec::new(alloc),
+            never_lists: Vec::new(alloc),
             begins: Vec::new(alloc),
             ends: Vec::new(alloc),
             limit: None,
@@ -120,7 +120,7 @@ impl Question {
             memory: MAX_MEMORY,
             pause: DEFAULT_PAUSE,
             has_prove_line: false,
-            role: Role::Never,
+            role: ListRole::Never,
             conditions: None,
             section: Section::Lines,
         }
@@ -161,10 +161,10 @@ impl Question {
     {
         if let Some(conditions) = mem::replace(&mut self.conditions, None) {
             match self.role {
-                Role::Never => self.nevers.push(conditions)?,
-                Role::Begin => self.begins.push(conditions)?,
-                Role::End => self.ends.push(conditions)?,
-                Role::Open => self.opens.push(conditions)?,
+                ListRole::Never => self.never_lists.push(conditions)?,
+                ListRole::Begin => self.begins.push(conditions)?,
+                ListRole::End => self.ends.push(conditions)?,
+                ListRole::Open => self.opens.push(conditions)?,
             }
         }
         Ok(())

@@ -9,7 +9,7 @@ use Rattle.mcs_ram4002.specs.declared.Chip.{Chip}
 
 pub record BankState : Type 0 where
   -- the number of chips that are present
-  pub wired : ℕ
+  pub chip_count : ℕ
   -- the last SRC byte
   pub src : ℕ
   -- the 256 main nibbles, indexed by the SRC byte that selects them
@@ -22,17 +22,17 @@ pub record BankState : Type 0 where
 
 -- the index of status character k of the register that `high`, the upper nibble of an SRC byte,
 -- selects
-abbrev pub status_cell : ℕ → ℕ → ℕ
-status_cell high k = high * 4 + k
+abbrev pub status_cell_index : ℕ → ℕ → ℕ
+status_cell_index high k = high * 4 + k
 
 -- the number of the chip that an SRC byte selects
 abbrev pub chip_of : ℕ → ℕ
 chip_of src = src / 64
 
--- a bank whose first `wired` chips are present, with all contents 0
+-- a bank whose first `chip_count` chips are present, with all contents 0
 abbrev pub blank_bank : ℕ → BankState
-blank_bank wired =
-    record { wired = wired; src = 0; main = replicate 256 0; status = replicate 64 0; ports = replicate 4 0 }
+blank_bank chip_count =
+    record { chip_count = chip_count; src = 0; main = replicate 256 0; status = replicate 64 0; ports = replicate 4 0 }
 
 -- ---- writes
 
@@ -45,26 +45,26 @@ IsInBank (Port chip n) = chip < 4
 IsInBank (Src byte) = Unit {0}
 
 -- the number of the chip that a write changes; 0 for an SRC byte
-abbrev pub chip_written : BankWrite → ℕ
-chip_written (Character src n) = chip_of src
-chip_written (Status high k n) = high / 4
-chip_written (Port chip n) = chip
-chip_written (Src byte) = 0
+abbrev pub target_chip : BankWrite → ℕ
+target_chip (Character src n) = chip_of src
+target_chip (Status high k n) = high / 4
+target_chip (Port chip n) = chip
+target_chip (Src byte) = 0
 
 -- the bank after a write to a chip that is present
 abbrev pub with_write : BankState → BankWrite → BankState
 with_write b (Character src n) = record b { main = slice_set b.main src n }
-with_write b (Status high k n) = record b { status = slice_set b.status (status_cell high k) n }
+with_write b (Status high k n) = record b { status = slice_set b.status (status_cell_index high k) n }
 with_write b (Port chip n) = record b { ports = slice_set b.ports chip n }
 with_write b (Src byte) = record b { src = byte }
 
 -- the bank after a write, which has no effect if the chip is absent
 unfoldable pub after_write : BankState → BankWrite → BankState
-after_write b write = if nat_lt (chip_written write) b.wired then with_write b write else b
+after_write b write = if nat_lt (target_chip write) b.chip_count then with_write b write else b
 
 -- ---- the properties of every bank
 
-pub record IsWhole (b : BankState) : Type 0 where
+pub record HasFixedLengths (b : BankState) : Type 0 where
   pub main : length b.main ≡ 256
   pub status : length b.status ≡ 64
   pub ports : length b.ports ≡ 4
@@ -72,16 +72,16 @@ pub record IsWhole (b : BankState) : Type 0 where
 -- Holds if the lists have their lengths, and each number is in its range. The contents of absent
 -- chips are 0. The SRC byte of a bank without chips is 0.
 pub record IsValidBank (b : BankState) : Type 0 where
-  pub whole : IsWhole b
+  pub whole : HasFixedLengths b
   pub main : All (λ n. n < 16) b.main
   pub status : All (λ n. n < 16) b.status
   pub ports : All (λ n. n < 16) b.ports
   pub src : b.src < 256
-  pub absent_main : (src : ℕ) → src < 256 → b.wired ≤ chip_of src → slice_index b.main src ≡ 0
-  pub absent_status : (high k : ℕ) → high < 16 → k < 4 → b.wired ≤ high / 4 →
-      slice_index b.status (status_cell high k) ≡ 0
-  pub absent_port : (chip : ℕ) → chip < 4 → b.wired ≤ chip → slice_index b.ports chip ≡ 0
-  pub absent_src : b.wired ≡ 0 → b.src ≡ 0
+  pub absent_main : (src : ℕ) → src < 256 → b.chip_count ≤ chip_of src → slice_index b.main src ≡ 0
+  pub absent_status : (high k : ℕ) → high < 16 → k < 4 → b.chip_count ≤ high / 4 →
+      slice_index b.status (status_cell_index high k) ≡ 0
+  pub absent_port : (chip : ℕ) → chip < 4 → b.chip_count ≤ chip → slice_index b.ports chip ≡ 0
+  pub absent_src : b.chip_count ≡ 0 → b.src ≡ 0
 
 -- ---- how a bank stores its chips
 
@@ -91,16 +91,16 @@ half_of byte k = byte / 16 ^ k % 16
 
 -- the nibbles in a list of bytes; each byte stores two nibbles, with the first one in its lower
 -- half
-unfoldable pub characters_of : List ℕ → List ℕ
-characters_of bytes = table_of (2 * length bytes) (λ k. half_of (slice_index bytes (k / 2)) (k % 2))
+unfoldable pub unpacked_nibbles : List ℕ → List ℕ
+unpacked_nibbles bytes = table_of (2 * length bytes) (λ k. half_of (slice_index bytes (k / 2)) (k % 2))
 
 -- the main nibbles of a chip, in order of index
 abbrev pub main_cells_of : Chip → List ℕ
-main_cells_of c = characters_of c.main
+main_cells_of c = unpacked_nibbles c.main
 
 -- the status characters of a chip, in order of index
 abbrev pub status_cells_of : Chip → List ℕ
-status_cells_of c = characters_of c.status
+status_cells_of c = unpacked_nibbles c.status
 
 -- the contents of a chip: its main nibbles, its status characters and its port latch
 pub record ChipState : Type 0 where
@@ -111,21 +111,21 @@ pub record ChipState : Type 0 where
   pub port : ℕ
 
 -- the contents of a chip, unpacked from its bytes
-abbrev pub cells_of : Chip → ChipState
-cells_of c = record { main = main_cells_of c; status = status_cells_of c; port = c.port }
+abbrev pub contents_of_chip : Chip → ChipState
+contents_of_chip c = record { main = main_cells_of c; status = status_cells_of c; port = c.port }
 
 -- an absent chip: it has no nibbles, and its port latch is 0
-abbrev pub no_chip : Chip
-no_chip = record { main = []; status = []; port = 0 }
+abbrev pub absent_chip : Chip
+absent_chip = record { main = []; status = []; port = 0 }
 
--- the bank whose chips are the first `wired` chips of the list, with the SRC byte `src`
+-- the bank whose chips are the first `chip_count` chips of the list, with the SRC byte `src`
 abbrev pub bank_of : List Chip → ℕ → ℕ → BankState
-bank_of chips wired src = record {
-  wired = wired;
+bank_of chips chip_count src = record {
+  chip_count = chip_count;
   src = src;
-  main = flat_rows 4 64 main_cells_of no_chip (take wired chips);
-  status = flat_rows 4 16 status_cells_of no_chip (take wired chips);
-  ports = column 4 (λ c. c.port) no_chip (take wired chips);
+  main = flat_rows 4 64 main_cells_of absent_chip (take chip_count chips);
+  status = flat_rows 4 16 status_cells_of absent_chip (take chip_count chips);
+  ports = column 4 (λ c. c.port) absent_chip (take chip_count chips);
 }
 
 pub record IsSizedChip (c : Chip) : Type 0 where

@@ -8,7 +8,7 @@
 #![tactic(auto)]
 
 ghost use Rattle.std.specs.Prelude.{◌≡◌, ℕ, ◌+◌, ◌-◌, ◌*◌, ◌/◌, ◌%◌, ◌<◌, ◌≤◌, All, replicate, slice_index};
-ghost use Rattle.mcs_ram4002.specs.RamBank.{BankState, half_of, cells_of, main_cells_of, status_cells_of, status_cell, chip_of, chip_written, src_after, chip_after, after_write, blank_bank, IsInBank, IsSizedChip, IsValidChip, IsWhole, IsValidBank};
+ghost use Rattle.mcs_ram4002.specs.RamBank.{BankState, half_of, contents_of_chip, main_cells_of, status_cells_of, status_cell_index, chip_of, target_chip, src_after, chip_after, after_write, blank_bank, IsInBank, IsSizedChip, IsValidChip, HasFixedLengths, IsValidBank};
 
 use mcs_nibble::Nibble;
 use std::marker::Model;
@@ -30,7 +30,7 @@ pub enum BankWrite {
 impl BankWrite {
     /// Returns the number of the chip that the write changes. For a new SRC byte, returns 0.
     fn chip(self) -> u8
-        ensures chip { result ≡ chip_written self }
+        ensures chip { result ≡ target_chip self }
         ensures few { IsInBank self → result < 4 }
     {
         match self {
@@ -54,7 +54,7 @@ impl BankWrite {
 
 /// Returns nibble `at` of a chip from the byte that stores it: the lower half if `at` is even, the upper half if `at`
 /// is odd.
-fn half(byte: u8, at: u8) -> Nibble
+fn nibble_in_byte(byte: u8, at: u8) -> Nibble
     ensures { result ≡ half_of byte (at % 2) }
 {
     if at % 2 == 0 {
@@ -66,7 +66,7 @@ fn half(byte: u8, at: u8) -> Nibble
 
 /// Returns the byte with nibble `at` of a chip replaced by `n`. The nibble is the lower half if `at` is even, and the
 /// upper half if `at` is odd.
-fn with_half(byte: u8, at: u8, n: Nibble) -> u8
+fn byte_with_nibble(byte: u8, at: u8, n: Nibble) -> u8
     ensures set { half_of result (at % 2) ≡ n }
     ensures kept { half_of result (1 - at % 2) ≡ half_of byte (1 - at % 2) }
 {
@@ -104,7 +104,7 @@ impl Chip {
         requires { at < 64 }
         ensures { result ≡ slice_index (main_cells_of self.now) at }
     {
-        half(self.main[usize::from(at / 2)], at)
+        nibble_in_byte(self.main[usize::from(at / 2)], at)
     }
 
     /// Returns the status character at index `at`, which is register * 4 + status character number.
@@ -112,7 +112,7 @@ impl Chip {
         requires { at < 16 }
         ensures { result ≡ slice_index (status_cells_of self.now) at }
     {
-        half(self.status[usize::from(at / 2)], at)
+        nibble_in_byte(self.status[usize::from(at / 2)], at)
     }
 
     /// Returns the output port latch of the chip.
@@ -126,19 +126,19 @@ impl Chip {
     #[inline(always)]
     fn store(&mut self, write: BankWrite)
         requires { IsInBank write }
-        ensures stored { cells_of self.new ≡ chip_after (cells_of self.old) write }
+        ensures stored { contents_of_chip self.new ≡ chip_after (contents_of_chip self.old) write }
         ensures sized { IsSizedChip self.old }
     {
         match write {
             BankWrite::Character(src, n) => {
                 let at = src % 64;
                 let i = usize::from(at / 2);
-                self.main[i] = with_half(self.main[i], at, n);
+                self.main[i] = byte_with_nibble(self.main[i], at, n);
             }
             BankWrite::Status(high, k, n) => {
                 let at = high.get() % 4 * 4 + k;
                 let i = usize::from(at / 2);
-                self.status[i] = with_half(self.status[i], at, n);
+                self.status[i] = byte_with_nibble(self.status[i], at, n);
             }
             BankWrite::Port(_, n) => self.port = n,
             BankWrite::Src(_) => {}
@@ -154,7 +154,7 @@ impl Chip {
 }
 
 /// Proves that the port latch, main nibbles and status characters of each chip are 0 to 15.
-fn are_valid(chips: &[Chip])
+fn show_chips_are_valid(chips: &[Chip])
     ensures { All IsValidChip chips.now }
 {
     for i in 0..chips.len() {
@@ -163,7 +163,7 @@ fn are_valid(chips: &[Chip])
 }
 
 /// Returns a copy of the chips.
-fn copied<const CHIPS: usize>(chips: &[Chip; CHIPS]) -> [Chip; CHIPS]
+fn copy_chips<const CHIPS: usize>(chips: &[Chip; CHIPS]) -> [Chip; CHIPS]
     ensures { result ≡ chips.now }
 {
     let mut copy = [Chip::blank(); CHIPS];
@@ -173,7 +173,7 @@ fn copied<const CHIPS: usize>(chips: &[Chip; CHIPS]) -> [Chip; CHIPS]
     copy
 }
 
-/// A bank of RAM chips. The first `wired` chips are present. Main nibbles, status characters and ports of absent
+/// A bank of RAM chips. The first `chip_count` chips are present. Main nibbles, status characters and ports of absent
 /// chips read as 0, and writes to them have no effect. Each bank stores its own SRC byte.
 ///
 /// The upper two bits of an SRC byte select the chip, the next two bits the register, and the lower four bits the main
@@ -181,7 +181,7 @@ fn copied<const CHIPS: usize>(chips: &[Chip; CHIPS]) -> [Chip; CHIPS]
 #[derive(Drop)]
 pub struct Bank<const CHIPS: usize> {
     chips: [Chip; CHIPS],
-    wired: usize,
+    chip_count: usize,
     src: u8,
 }
 
@@ -191,20 +191,20 @@ impl<const CHIPS: usize> Model for Bank<CHIPS> {
 
     ghost Value = { BankState };
 
-    ghost view = { λ b. bank_of b.chips b.wired b.src };
+    ghost view = { λ b. bank_of b.chips b.chip_count b.src };
 
-    ghost invariant = { λ b. (b.wired ≤ CHIPS) × (b.src < 256) × (b.wired ≡ 0 → b.src ≡ 0) };
+    ghost invariant = { λ b. (b.chip_count ≤ CHIPS) × (b.src < 256) × (b.chip_count ≡ 0 → b.src ≡ 0) };
 }
 
 impl<const CHIPS: usize> Bank<CHIPS> {
-    /// Returns a bank whose first `wired` chips are present. All its contents are 0.
-    pub fn new(wired: usize) -> Self
-        requires { wired ≤ CHIPS }
-        ensures { result ≡ blank_bank wired }
+    /// Returns a bank whose first `chip_count` chips are present. All its contents are 0.
+    pub fn new(chip_count: usize) -> Self
+        requires { chip_count ≤ CHIPS }
+        ensures { result ≡ blank_bank chip_count }
     {
         Bank {
             chips: [Chip::blank(); CHIPS],
-            wired,
+            chip_count,
             src: 0,
         }
     }
@@ -214,8 +214,8 @@ impl<const CHIPS: usize> Bank<CHIPS> {
         ensures { result ≡ self.now }
     {
         Bank {
-            chips: copied(&self.chips),
-            wired: self.wired,
+            chips: copy_chips(&self.chips),
+            chip_count: self.chip_count,
             src: self.src,
         }
     }
@@ -225,12 +225,12 @@ impl<const CHIPS: usize> Bank<CHIPS> {
     pub fn store(&mut self, write: BankWrite)
         requires { IsInBank write }
         ensures stored { self.new ≡ after_write self.old write }
-        ensures whole { IsWhole self.old }
-        ensures few { chip_written write < 4 }
+        ensures whole { HasFixedLengths self.old }
+        ensures few { target_chip write < 4 }
     {
         let (placed, kept) = (write, write);
         let chip = usize::from(placed.chip());
-        if chip < self.wired {
+        if chip < self.chip_count {
             self.chips[chip].store(write);
             self.src = kept.src_after(self.src);
         }
@@ -256,7 +256,7 @@ impl<const CHIPS: usize> Bank<CHIPS> {
         ensures { result ≡ slice_index self.now.main src }
     {
         let chip = usize::from(src / 64);
-        if chip < self.wired {
+        if chip < self.chip_count {
             self.chips[chip].character(src % 64)
         } else {
             Nibble::ZERO
@@ -274,11 +274,11 @@ impl<const CHIPS: usize> Bank<CHIPS> {
     /// Returns 0 if its chip is absent.
     pub fn status_at(&self, high: Nibble, k: u8) -> Nibble
         requires { k < 4 }
-        ensures { result ≡ slice_index self.now.status (status_cell high k) }
+        ensures { result ≡ slice_index self.now.status (status_cell_index high k) }
     {
         let register = high.get();
         let chip = usize::from(register / 4);
-        if chip < self.wired {
+        if chip < self.chip_count {
             self.chips[chip].status_character(register % 4 * 4 + k)
         } else {
             Nibble::ZERO
@@ -300,7 +300,7 @@ impl<const CHIPS: usize> Bank<CHIPS> {
         ensures { result ≡ slice_index self.now.ports chip }
     {
         let i = usize::from(chip);
-        if i < self.wired {
+        if i < self.chip_count {
             self.chips[i].port()
         } else {
             Nibble::ZERO
@@ -325,7 +325,7 @@ impl<const CHIPS: usize> Bank<CHIPS> {
     /// Returns status character `k` (0 to 3) of the register that the last SRC selected, or 0 if its chip is absent.
     pub fn read_status(&self, k: u8) -> Nibble
         requires { k < 4 }
-        ensures { result ≡ slice_index self.now.status (status_cell (self.now.src / 16) k) }
+        ensures { result ≡ slice_index self.now.status (status_cell_index (self.now.src / 16) k) }
     {
         self.status_at(Nibble::high_of(self.last_src()), k)
     }
@@ -351,11 +351,11 @@ impl<const CHIPS: usize> Bank<CHIPS> {
     /// Sets all main nibbles, status characters and port latches, and the SRC byte, to 0. The same chips stay
     /// present.
     pub fn clear(&mut self)
-        ensures { self.new ≡ blank_bank self.old.wired }
+        ensures { self.new ≡ blank_bank self.old.chip_count }
     {
         let _chips = &self.chips;
-        let wired = self.wired;
-        *self = Bank::new(wired);
+        let chip_count = self.chip_count;
+        *self = Bank::new(chip_count);
     }
 
     /// Proves that the bank's state is valid: each list has its fixed length, and each main nibble, status character
@@ -363,7 +363,7 @@ impl<const CHIPS: usize> Bank<CHIPS> {
     pub fn show_state_is_valid(&self)
         ensures { IsValidBank self.now }
     {
-        let _kept = (self.wired, self.src);
-        are_valid(&self.chips);
+        let _kept = (self.chip_count, self.src);
+        show_chips_are_valid(&self.chips);
     }
 }

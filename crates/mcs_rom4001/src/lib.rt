@@ -34,7 +34,7 @@ impl Model for RomPort {
 
 /// Returns the latch bit of line `k` (0 to 3) after `n` is written: bit `k` of `n` for an output line, 0 for an input
 /// line.
-fn held_line(mask: &[LineMask; 4], n: Nibble, k: u8) -> Bit
+fn latched_bit(mask: &[LineMask; 4], n: Nibble, k: u8) -> Bit
     requires { k < 4 }
     ensures { result ≡ latch_bit mask.now n k }
 {
@@ -46,7 +46,7 @@ fn held_line(mask: &[LineMask; 4], n: Nibble, k: u8) -> Bit
 
 /// Returns the bit that the processor reads from line `k` (0 to 3). If the line is an input, this is its level, bit
 /// `k` of `inputs`. If it is an output, this is the constant of its mask.
-fn read_line(mask: &[LineMask; 4], inputs: Nibble, k: u8) -> Bit
+fn read_port_line(mask: &[LineMask; 4], inputs: Nibble, k: u8) -> Bit
     requires { k < 4 }
     ensures { result ≡ read_bit (bit_of inputs) mask.now k }
 {
@@ -60,14 +60,14 @@ fn read_line(mask: &[LineMask; 4], inputs: Nibble, k: u8) -> Bit
 /// Returns the latch contents after `n` is written to a port with these line masks: the bits of `n` for output lines,
 /// 0 for input lines.
 #[tactic(auto, unfolding(mcs_nibble::specs::Ports::latch_value))]
-pub fn held_port(mask: &[LineMask; 4], n: Nibble) -> Nibble
+pub fn latched_port(mask: &[LineMask; 4], n: Nibble) -> Nibble
     ensures { result ≡ latch_value mask.now n }
 {
     Nibble::of_bits(
-        held_line(mask, n, 0),
-        held_line(mask, n, 1),
-        held_line(mask, n, 2),
-        held_line(mask, n, 3),
+        latched_bit(mask, n, 0),
+        latched_bit(mask, n, 1),
+        latched_bit(mask, n, 2),
+        latched_bit(mask, n, 3),
     )
 }
 
@@ -78,10 +78,10 @@ pub fn read_port_of(mask: &[LineMask; 4], inputs: Nibble) -> Nibble
     ensures { result ≡ read_lines (bit_of inputs) mask.now }
 {
     Nibble::of_bits(
-        read_line(mask, inputs, 0),
-        read_line(mask, inputs, 1),
-        read_line(mask, inputs, 2),
-        read_line(mask, inputs, 3),
+        read_port_line(mask, inputs, 0),
+        read_port_line(mask, inputs, 1),
+        read_port_line(mask, inputs, 2),
+        read_port_line(mask, inputs, 3),
     )
 }
 
@@ -111,7 +111,7 @@ impl RomPort {
     pub fn write_port(&mut self, n: Nibble)
         ensures { self.new ≡ record self.old { port = latch_value self.old.mask n } }
     {
-        self.port = held_port(&self.mask, n);
+        self.port = latched_port(&self.mask, n);
     }
 
     /// Returns the value that the instruction RDR reads. An input line reads as its level, bit `k` of `inputs` for
@@ -160,7 +160,7 @@ impl Model for Rom {
 }
 
 /// Proves that the array has 256 numbers, each below 256.
-fn are_bytes(bytes: &[u8; 256])
+fn show_bytes_are_valid(bytes: &[u8; 256])
     ensures count { length bytes.now ≡ 256 }
     ensures range { All (λ byte. byte < 256) bytes.now }
 {
@@ -243,7 +243,7 @@ impl Rom {
     pub fn show_state_is_valid(&self)
         ensures { IsValidRom self.now }
     {
-        are_bytes(&self.bytes);
+        show_bytes_are_valid(&self.bytes);
         self.lines.show_state_is_valid();
     }
 }

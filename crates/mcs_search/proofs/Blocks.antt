@@ -3,96 +3,96 @@ use Rattle.std.proofs.Common.{◌≡◌, ℕ, ◌+◌, ◌*◌, ◌-◌, ◌/◌
 use Rattle.std.proofs.Math.Nat.{suc-mul}
 use Rattle.std.proofs.lemmas.List.{append-nil, get_or_append_left, get_or-append_right}
 use Rattle.std.proofs.lemmas.List.Elements.{All-nil, All-push, All-same, All-tail}
-use Rattle.mcs_search.specs.declared.block.TheConstants.{BLOCK}
-use Rattle.mcs_search.specs.Keys.{Stored, keys_of, AreFull, FitsArena}
+use Rattle.mcs_search.specs.declared.block.TheConstants.{KEYS_PER_BLOCK}
+use Rattle.mcs_search.specs.Keys.{KeyStore, keys_of_blocks, AreFull, ArenaInvariant}
 
-abbrev full : (width n : ℕ) → Stored → Type 0
+abbrev full : (width n : ℕ) → KeyStore → Type 0
 full width n b = (b.width ≡ width) × (length b.keys ≡ n)
 
-first-full : (width n : ℕ) (b : Stored) (bs : List Stored) → AreFull width n (b ∷ bs) → length b.keys ≡ n
-first-full width n b bs all = (all 0 b (omega arith)).1
+first_block-length : (width n : ℕ) (b : KeyStore) (bs : List KeyStore) → AreFull width n (b ∷ bs) → length b.keys ≡ n
+first_block-length width n b bs all = (all 0 b (omega arith)).1
 
 -- Full blocks of n keys together have n keys for each block.
-pub length-keys_of : (width n : ℕ) (bs : List Stored) → AreFull width n bs → length (keys_of bs) ≡ length bs * n
-unfolding keys_of
-length-keys_of width n [] all = omega arith
-length-keys_of width n (b ∷ bs) all =
-    let rest = length-keys_of width n bs (All-tail (full width n) b bs all) in
-    let one = first-full width n b bs all in
-    let sum = length-append b.keys (keys_of bs) in
+pub length-keys_of_blocks : (width n : ℕ) (bs : List KeyStore) → AreFull width n bs → length (keys_of_blocks bs) ≡ length bs * n
+unfolding keys_of_blocks
+length-keys_of_blocks width n [] all = omega arith
+length-keys_of_blocks width n (b ∷ bs) all =
+    let rest = length-keys_of_blocks width n bs (All-tail (full width n) b bs all) in
+    let one = first_block-length width n b bs all in
+    let sum = length-append b.keys (keys_of_blocks bs) in
     let q = suc-mul (length bs) n in
     omega arith
 
 -- The key at index q * n + r of the arena is the key at index r of full block q.
-pub key-in-block : (width n q r : ℕ) (bs : List Stored) (ys : List (List ℕ)) (d : Stored) → AreFull width n bs → q < length bs → r < n →
-    get_or (keys_of bs ++ ys) (q * n + r) [] ≡ get_or (get_or bs q d).keys r []
-unfolding keys_of
+pub key-in-block : (width n q r : ℕ) (bs : List KeyStore) (ys : List (List ℕ)) (d : KeyStore) → AreFull width n bs → q < length bs → r < n →
+    get_or (keys_of_blocks bs ++ ys) (q * n + r) [] ≡ get_or (get_or bs q d).keys r []
+unfolding keys_of_blocks
 key-in-block width n q r [] ys d all h k = absurd (omega arith)
 key-in-block width n zero r (b ∷ bs) ys d all h k =
-    let one = first-full width n b bs all in
+    let one = first_block-length width n b bs all in
     let at : zero * n + r ≡ r = omega arith in
-    ap (λ i. get_or ((b.keys ++ keys_of bs) ++ ys) i []) at
-    ∙ ap (λ ks. get_or ks r []) (append_assoc b.keys (keys_of bs) ys)
-    ∙ get_or_append_left b.keys (keys_of bs ++ ys) [] r (omega arith)
+    ap (λ i. get_or ((b.keys ++ keys_of_blocks bs) ++ ys) i []) at
+    ∙ ap (λ ks. get_or ks r []) (append_assoc b.keys (keys_of_blocks bs) ys)
+    ∙ get_or_append_left b.keys (keys_of_blocks bs ++ ys) [] r (omega arith)
 key-in-block width n (suc q) r (b ∷ bs) ys d all h k =
-    let one = first-full width n b bs all in
+    let one = first_block-length width n b bs all in
     let m = suc-mul q n in
     let at : suc q * n + r - n ≡ q * n + r = omega arith in
-    ap (λ ks. get_or ks (suc q * n + r) []) (append_assoc b.keys (keys_of bs) ys)
-    ∙ get_or-append_right b.keys (keys_of bs ++ ys) n (suc q * n + r) [] one (omega arith)
-    ∙ ap (λ i. get_or (keys_of bs ++ ys) i []) at
+    ap (λ ks. get_or ks (suc q * n + r) []) (append_assoc b.keys (keys_of_blocks bs) ys)
+    ∙ get_or-append_right b.keys (keys_of_blocks bs ++ ys) n (suc q * n + r) [] one (omega arith)
+    ∙ ap (λ i. get_or (keys_of_blocks bs ++ ys) i []) at
     ∙ key-in-block width n q r bs ys d (All-tail (full width n) b bs all) (omega arith) k
 
 -- The key at index r after the full blocks is the key at index r of the last block.
-pub key-behind-blocks : (width n r : ℕ) (bs : List Stored) (ys : List (List ℕ)) → AreFull width n bs →
-    get_or (keys_of bs ++ ys) (length bs * n + r) [] ≡ get_or ys r []
-key-behind-blocks width n r bs ys all =
-    let l = length-keys_of width n bs all in
+pub key-after_full_blocks : (width n r : ℕ) (bs : List KeyStore) (ys : List (List ℕ)) → AreFull width n bs →
+    get_or (keys_of_blocks bs ++ ys) (length bs * n + r) [] ≡ get_or ys r []
+key-after_full_blocks width n r bs ys all =
+    let l = length-keys_of_blocks width n bs all in
     let at : length bs * n + r - length bs * n ≡ r = omega arith in
-    get_or-append_right (keys_of bs) ys (length bs * n) (length bs * n + r) [] l (omega arith)
+    get_or-append_right (keys_of_blocks bs) ys (length bs * n) (length bs * n + r) [] l (omega arith)
     ∙ ap (λ i. get_or ys i []) at
 
 -- Appending a block appends its keys.
-pub keys_of-more : (bs : List Stored) (b : Stored) → keys_of (bs ++ b ∷ []) ≡ keys_of bs ++ b.keys
-unfolding keys_of
-keys_of-more [] b = append-nil b.keys
-keys_of-more (a ∷ bs) b = ap (λ ks. a.keys ++ ks) (keys_of-more bs b) ∙ sym (append_assoc a.keys (keys_of bs) b.keys)
+pub keys_of_blocks-more : (bs : List KeyStore) (b : KeyStore) → keys_of_blocks (bs ++ b ∷ []) ≡ keys_of_blocks bs ++ b.keys
+unfolding keys_of_blocks
+keys_of_blocks-more [] b = append-nil b.keys
+keys_of_blocks-more (a ∷ bs) b = ap (λ ks. a.keys ++ ks) (keys_of_blocks-more bs b) ∙ sym (append_assoc a.keys (keys_of_blocks bs) b.keys)
 
 -- ---- the keys of an arena
 
-pub arena-length : (width len : ℕ) (bs : List Stored) (last : Stored) → FitsArena width len bs last → len ≡ length (keys_of bs ++ last.keys)
-arena-length width len bs last fits = fits.count ∙ sym (length-append (keys_of bs) last.keys)
+pub arena-length : (width len : ℕ) (bs : List KeyStore) (last : KeyStore) → ArenaInvariant width len bs last → len ≡ length (keys_of_blocks bs ++ last.keys)
+arena-length width len bs last fits = fits.count ∙ sym (length-append (keys_of_blocks bs) last.keys)
 
-pub key-of-full : (width len i : ℕ) (bs : List Stored) (last d : Stored) → FitsArena width len bs last → i / 65536 < length bs →
-    get_or (get_or bs (i / 65536) d).keys (i % 65536) [] ≡ get_or (keys_of bs ++ last.keys) i []
-key-of-full width len i bs last d fits h =
+pub arena_key-in_full_block : (width len i : ℕ) (bs : List KeyStore) (last d : KeyStore) → ArenaInvariant width len bs last → i / 65536 < length bs →
+    get_or (get_or bs (i / 65536) d).keys (i % 65536) [] ≡ get_or (keys_of_blocks bs ++ last.keys) i []
+arena_key-in_full_block width len i bs last d fits h =
     let at : i / 65536 * 65536 + i % 65536 ≡ i = omega arith in
     sym (key-in-block width 65536 (i / 65536) (i % 65536) bs last.keys d fits.blocks h (omega arith))
-    ∙ ap (λ j. get_or (keys_of bs ++ last.keys) j []) at
+    ∙ ap (λ j. get_or (keys_of_blocks bs ++ last.keys) j []) at
 
 -- An index after the full blocks is an index in the last block.
-pub within-last : (width len i : ℕ) (bs : List Stored) (last : Stored) → FitsArena width len bs last → i < length (keys_of bs ++ last.keys) → length bs ≤ i / 65536 →
+pub index-in_last_block : (width len i : ℕ) (bs : List KeyStore) (last : KeyStore) → ArenaInvariant width len bs last → i < length (keys_of_blocks bs ++ last.keys) → length bs ≤ i / 65536 →
     (i / 65536 ≡ length bs) × (i % 65536 < length last.keys)
-within-last width len i bs last fits h k =
-    let l = length-keys_of width 65536 bs fits.blocks in
-    let sum = length-append (keys_of bs) last.keys in
+index-in_last_block width len i bs last fits h k =
+    let l = length-keys_of_blocks width 65536 bs fits.blocks in
+    let sum = length-append (keys_of_blocks bs) last.keys in
     let few = fits.last_few in
     (omega arith, omega arith)
 
-pub key-of-last : (width len i : ℕ) (bs : List Stored) (last : Stored) → FitsArena width len bs last → i < length (keys_of bs ++ last.keys) → length bs ≤ i / 65536 →
-    get_or last.keys (i % 65536) [] ≡ get_or (keys_of bs ++ last.keys) i []
-key-of-last width len i bs last fits h k =
-    let in-last = within-last width len i bs last fits h k in
+pub arena_key-in_last_block : (width len i : ℕ) (bs : List KeyStore) (last : KeyStore) → ArenaInvariant width len bs last → i < length (keys_of_blocks bs ++ last.keys) → length bs ≤ i / 65536 →
+    get_or last.keys (i % 65536) [] ≡ get_or (keys_of_blocks bs ++ last.keys) i []
+arena_key-in_last_block width len i bs last fits h k =
+    let in-last = index-in_last_block width len i bs last fits h k in
     let e = in-last.0 in
     let at : length bs * 65536 + i % 65536 ≡ i = omega arith in
-    sym (key-behind-blocks width 65536 (i % 65536) bs last.keys fits.blocks)
-    ∙ ap (λ j. get_or (keys_of bs ++ last.keys) j []) at
+    sym (key-after_full_blocks width 65536 (i % 65536) bs last.keys fits.blocks)
+    ∙ ap (λ j. get_or (keys_of_blocks bs ++ last.keys) j []) at
 
 -- ---- an arena after one more key is added
 
-pub arena-more : (width len : ℕ) (bs : List Stored) (last new : Stored) (key : List ℕ) → FitsArena width len bs last →
-    new.width ≡ last.width → new.keys ≡ last.keys ++ key ∷ [] → length new.keys < BLOCK → FitsArena width (len + 1) bs new
-arena-more width len bs last new key fits w k few =
+pub arena-push : (width len : ℕ) (bs : List KeyStore) (last new : KeyStore) (key : List ℕ) → ArenaInvariant width len bs last →
+    new.width ≡ last.width → new.keys ≡ last.keys ++ key ∷ [] → length new.keys < KEYS_PER_BLOCK → ArenaInvariant width (len + 1) bs new
+arena-push width len bs last new key fits w k few =
     let more = ap length k ∙ length-append last.keys (key ∷ []) in
     let count = fits.count in
     record {
@@ -103,43 +103,43 @@ arena-more width len bs last new key fits w k few =
     }
 
 -- The new key fills the last block, and a new empty block becomes the last.
-pub arena-turned : (width len : ℕ) (bs : List Stored) (last new next : Stored) (key : List ℕ) → FitsArena width len bs last →
-    new.width ≡ last.width → new.keys ≡ last.keys ++ key ∷ [] → BLOCK ≤ length new.keys → next ≡ record { width = width; keys = [] } →
-    FitsArena width (len + 1) (bs ++ new ∷ []) next
-arena-turned width len bs last new next key fits w k full-now is =
+pub arena-block_filled : (width len : ℕ) (bs : List KeyStore) (last new next : KeyStore) (key : List ℕ) → ArenaInvariant width len bs last →
+    new.width ≡ last.width → new.keys ≡ last.keys ++ key ∷ [] → KEYS_PER_BLOCK ≤ length new.keys → next ≡ record { width = width; keys = [] } →
+    ArenaInvariant width (len + 1) (bs ++ new ∷ []) next
+arena-block_filled width len bs last new next key fits w k full-now is =
     let more = ap length k ∙ length-append last.keys (key ∷ []) in
     let few = fits.last_few in
     let count = fits.count in
-    let all = ap length (keys_of-more bs new) ∙ length-append (keys_of bs) new.keys in
-    let none : length next.keys ≡ 0 = ap (λ (s : Stored). length s.keys) is in
+    let all = ap length (keys_of_blocks-more bs new) ∙ length-append (keys_of_blocks bs) new.keys in
+    let none : length next.keys ≡ 0 = ap (λ (s : KeyStore). length s.keys) is in
     record {
-      blocks = All-push (full width BLOCK) bs new fits.blocks (w ∙ fits.last_width, omega arith);
-      last_width = ap (λ (s : Stored). s.width) is;
+      blocks = All-push (full width KEYS_PER_BLOCK) bs new fits.blocks (w ∙ fits.last_width, omega arith);
+      last_width = ap (λ (s : KeyStore). s.width) is;
       last_few = omega arith;
       count = omega arith;
     }
 
-pub keys-more : (bs : List Stored) (last new : Stored) (key : List ℕ) → new.keys ≡ last.keys ++ key ∷ [] → keys_of bs ++ new.keys ≡ (keys_of bs ++ last.keys) ++ key ∷ []
-keys-more bs last new key k = ap (λ ks. keys_of bs ++ ks) k ∙ sym (append_assoc (keys_of bs) last.keys (key ∷ []))
+pub keys-push : (bs : List KeyStore) (last new : KeyStore) (key : List ℕ) → new.keys ≡ last.keys ++ key ∷ [] → keys_of_blocks bs ++ new.keys ≡ (keys_of_blocks bs ++ last.keys) ++ key ∷ []
+keys-push bs last new key k = ap (λ ks. keys_of_blocks bs ++ ks) k ∙ sym (append_assoc (keys_of_blocks bs) last.keys (key ∷ []))
 
-pub keys-turned : (width : ℕ) (bs : List Stored) (last new next : Stored) (key : List ℕ) → new.keys ≡ last.keys ++ key ∷ [] → next ≡ record { width = width; keys = [] } →
-    keys_of (bs ++ new ∷ []) ++ next.keys ≡ (keys_of bs ++ last.keys) ++ key ∷ []
-keys-turned width bs last new next key k is =
-    ap (λ (s : Stored). keys_of (bs ++ new ∷ []) ++ s.keys) is
-    ∙ append-nil (keys_of (bs ++ new ∷ []))
-    ∙ keys_of-more bs new
-    ∙ keys-more bs last new key k
+pub keys-block_filled : (width : ℕ) (bs : List KeyStore) (last new next : KeyStore) (key : List ℕ) → new.keys ≡ last.keys ++ key ∷ [] → next ≡ record { width = width; keys = [] } →
+    keys_of_blocks (bs ++ new ∷ []) ++ next.keys ≡ (keys_of_blocks bs ++ last.keys) ++ key ∷ []
+keys-block_filled width bs last new next key k is =
+    ap (λ (s : KeyStore). keys_of_blocks (bs ++ new ∷ []) ++ s.keys) is
+    ∙ append-nil (keys_of_blocks (bs ++ new ∷ []))
+    ∙ keys_of_blocks-more bs new
+    ∙ keys-push bs last new key k
 
 -- ---- an empty arena
 
-pub arena-none : (width : ℕ) (bs : List Stored) (last : Stored) → bs ≡ [] → last ≡ record { width = width; keys = [] } → FitsArena width 0 bs last
-unfolding keys_of
-arena-none width bs last empty is =
-    let none : length last.keys ≡ 0 = ap (λ (s : Stored). length s.keys) is in
-    let all : length (keys_of bs) ≡ 0 = ap (λ xs. length (keys_of xs)) empty in
+pub arena-empty : (width : ℕ) (bs : List KeyStore) (last : KeyStore) → bs ≡ [] → last ≡ record { width = width; keys = [] } → ArenaInvariant width 0 bs last
+unfolding keys_of_blocks
+arena-empty width bs last empty is =
+    let none : length last.keys ≡ 0 = ap (λ (s : KeyStore). length s.keys) is in
+    let all : length (keys_of_blocks bs) ≡ 0 = ap (λ xs. length (keys_of_blocks xs)) empty in
     record {
-      blocks = All-same (full width BLOCK) bs [] empty (All-nil (full width BLOCK));
-      last_width = ap (λ (s : Stored). s.width) is;
+      blocks = All-same (full width KEYS_PER_BLOCK) bs [] empty (All-nil (full width KEYS_PER_BLOCK));
+      last_width = ap (λ (s : KeyStore). s.width) is;
       last_few = omega arith;
       count = omega arith;
     }

@@ -4,55 +4,55 @@ use Rattle.std.specs.List.{Contains, All}
 use Rattle.std.proofs.lemmas.List.{append-nil, get_or_append_left, length-append}
 use Rattle.std.proofs.lemmas.List.Elements.{All-from_get_or, All-push, All-same, Contains-append_left, Contains-get_or}
 use Rattle.mcs_search.specs.Rules.{Rules, LeadsInto, IsFollowed, Closure}
-use Rattle.mcs_search.specs.Keys.{Stored, Grows, Adds}
-use Rattle.mcs_search.specs.Verdicts.{IsUnderWay, WasAdded}
-use Rattle.mcs_search.specs.declared.visited.Added.{Added}
-use Rattle.mcs_search.specs.declared.visited.Added.TheVariants as added
+use Rattle.mcs_search.specs.Keys.{KeyStore, Grows, Adds}
+use Rattle.mcs_search.specs.Verdicts.{IsUnderWay, IsAddOutcome}
+use Rattle.mcs_search.specs.declared.visited.AddOutcome.{AddOutcome}
+use Rattle.mcs_search.specs.declared.visited.AddOutcome.TheVariants as added
 
-pub grows-none : (s : Stored) → Grows s s
-grows-none s = record { width = refl; keys = ([], sym (append-nil s.keys)) }
+pub grows-refl : (s : KeyStore) → Grows s s
+grows-refl s = record { width = refl; keys = ([], sym (append-nil s.keys)) }
 
-more-keys : (old new : List (List ℕ)) (key : List ℕ) → (new ≡ old) ⊎ (new ≡ old ++ key ∷ []) → (more : List (List ℕ)) × (new ≡ old ++ more)
-more-keys old new key (inl same) = ([], same ∙ sym (append-nil old))
-more-keys old new key (inr more) = (key ∷ [], more)
+add-as_append : (old new : List (List ℕ)) (key : List ℕ) → (new ≡ old) ⊎ (new ≡ old ++ key ∷ []) → (more : List (List ℕ)) × (new ≡ old ++ more)
+add-as_append old new key (inl same) = ([], same ∙ sym (append-nil old))
+add-as_append old new key (inr more) = (key ∷ [], more)
 
-pub adds-grows : {old new : Stored} {key : List ℕ} → Adds old key new → Grows old new
-adds-grows {old = old} {new = new} {key = key} a = record { width = a.width; keys = more-keys old.keys new.keys key a.keys }
+pub adds-grows : {old new : KeyStore} {key : List ℕ} → Adds old key new → Grows old new
+adds-grows {old = old} {new = new} {key = key} a = record { width = a.width; keys = add-as_append old.keys new.keys key a.keys }
 
-pub grows-grows : {a b d : Stored} → Grows a b → Grows b d → Grows a d
-grows-grows {a = a} {b = b} {d = d} g h = record {
+pub grows-trans : {a b d : KeyStore} → Grows a b → Grows b d → Grows a d
+grows-trans {a = a} {b = b} {d = d} g h = record {
   width = h.width ∙ g.width;
   keys = (g.keys.0 ++ h.keys.0, h.keys.1 ∙ ap (λ ks. ks ++ h.keys.0) g.keys.1 ∙ append_assoc a.keys g.keys.0 h.keys.0);
 }
 
-states-when : (P : List ℕ → Type 0) (old new : List (List ℕ)) (key : List ℕ) → All P old → P key → (new ≡ old) ⊎ (new ≡ old ++ key ∷ []) → All P new
-states-when P old new key all k (inl same) = All-same P new old same all
-states-when P old new key all k (inr more) = All-same P new (old ++ key ∷ []) more (All-push P old key all k)
+all-after_add : (P : List ℕ → Type 0) (old new : List (List ℕ)) (key : List ℕ) → All P old → P key → (new ≡ old) ⊎ (new ≡ old ++ key ∷ []) → All P new
+all-after_add P old new key all k (inl same) = All-same P new old same all
+all-after_add P old new key all k (inr more) = All-same P new (old ++ key ∷ []) more (All-push P old key all k)
 
 -- If a property holds for all keys and for the key that is added, it holds for all keys afterwards.
-pub adds-states : (P : List ℕ → Type 0) {old new : Stored} {key : List ℕ} → All P old.keys → P key → Adds old key new → All P new.keys
-adds-states P {old = old} {new = new} {key = key} all k a = states-when P old.keys new.keys key all k a.keys
+pub adds-states : (P : List ℕ → Type 0) {old new : KeyStore} {key : List ℕ} → All P old.keys → P key → Adds old key new → All P new.keys
+adds-states P {old = old} {new = new} {key = key} all k a = all-after_add P old.keys new.keys key all k a.keys
 
-pub grows-contains : {old new : Stored} (x : List ℕ) → Grows old new → Contains old.keys x → Contains new.keys x
+pub grows-contains : {old new : KeyStore} (x : List ℕ) → Grows old new → Contains old.keys x → Contains new.keys x
 grows-contains {old = old} {new = new} x g h = subst (λ (ks : List (List ℕ)). Contains ks x) (sym g.keys.1) (Contains-append_left old.keys g.keys.0 x h)
 
-pub grows-leads : (r : Rules) {old new : Stored} (key : List ℕ) (c : ℕ) → Grows old new → LeadsInto r old.keys key c → LeadsInto r new.keys key c
+pub grows-leads : (r : Rules) {old new : KeyStore} (key : List ℕ) (c : ℕ) → Grows old new → LeadsInto r old.keys key c → LeadsInto r new.keys key c
 grows-leads r key c g to = (to.0, to.1, grows-contains to.0 g to.2)
 
-pub grows-followed : (r : Rules) {old new : Stored} (key : List ℕ) → Grows old new → IsFollowed r old.keys key → IsFollowed r new.keys key
+pub grows-followed : (r : Rules) {old new : KeyStore} (key : List ℕ) → Grows old new → IsFollowed r old.keys key → IsFollowed r new.keys key
 grows-followed r key g f = (f.0, f.1, λ k d l. grows-leads r key (get_or f.0 k d) g (f.2 k d l))
 
-pub grows-length : {old new : Stored} → Grows old new → length old.keys ≤ length new.keys
+pub grows-length : {old new : KeyStore} → Grows old new → length old.keys ≤ length new.keys
 grows-length {old = old} {new = new} g = let e = ap length g.keys.1 in let l = length-append old.keys g.keys.0 in omega arith
 
-pub grows-key : {old new : Stored} (k : ℕ) → Grows old new → k < length old.keys → get_or new.keys k [] ≡ get_or old.keys k []
+pub grows-key : {old new : KeyStore} (k : ℕ) → Grows old new → k < length old.keys → get_or new.keys k [] ≡ get_or old.keys k []
 grows-key {old = old} {new = new} k g h = ap (λ (ks : List (List ℕ)). get_or ks k []) g.keys.1 ∙ get_or_append_left old.keys g.keys.0 [] k h
 
 -- If the first `next` keys and the key after them are followed, the first next + 1 keys are.
-pub followed-more : (r : Rules) {old new : Stored} (next : ℕ) → Grows old new → next < length old.keys →
+pub followed-next : (r : Rules) {old new : KeyStore} (next : ℕ) → Grows old new → next < length old.keys →
     ((k : ℕ) → k < next → IsFollowed r old.keys (get_or old.keys k [])) → IsFollowed r new.keys (get_or old.keys next []) →
     (k : ℕ) → k < next + 1 → IsFollowed r new.keys (get_or new.keys k [])
-followed-more r {old = old} {new = new} next g l before now =
+followed-next r {old = old} {new = new} next g l before now =
     let P : ℕ → Type 0 = λ k. IsFollowed r new.keys (get_or new.keys k []) in
     below_more P next
     (λ k h. subst (IsFollowed r new.keys) (sym (grows-key k g (omega arith))) (grows-followed r (get_or old.keys k []) g (before k h)))
@@ -61,7 +61,7 @@ followed-more r {old = old} {new = new} next g l before now =
 -- ---- the invariant of a search
 
 -- The invariant still holds if keys of states are added.
-pub under-way-grows : (r : Rules) {old new : Stored} (n : ℕ) → Grows old new → n ≤ length old.keys → All r.is_state new.keys →
+pub under-way-grows : (r : Rules) {old new : KeyStore} (n : ℕ) → Grows old new → n ≤ length old.keys → All r.is_state new.keys →
     IsUnderWay r (record { keys = old.keys; followed = n }) → IsUnderWay r (record { keys = new.keys; followed = n })
 under-way-grows r {old = old} {new = new} n g l states u = record {
   states = states;
@@ -69,11 +69,11 @@ under-way-grows r {old = old} {new = new} n g l states u = record {
 }
 
 -- The invariant still holds if keys of states are added and the next key is followed.
-pub under-way-more : (r : Rules) {old new : Stored} (n : ℕ) → Grows old new → n < length old.keys → All r.is_state new.keys →
+pub under-way-next : (r : Rules) {old new : KeyStore} (n : ℕ) → Grows old new → n < length old.keys → All r.is_state new.keys →
     IsUnderWay r (record { keys = old.keys; followed = n }) → IsFollowed r new.keys (get_or old.keys n []) → IsUnderWay r (record { keys = new.keys; followed = n + 1 })
-under-way-more r {old = old} {new = new} n g l states u now = record {
+under-way-next r {old = old} {new = new} n g l states u now = record {
   states = states;
-  followed = followed-more r n g l u.followed now;
+  followed = followed-next r n g l u.followed now;
 }
 
 -- If all keys are followed, they are a closure.
@@ -88,12 +88,12 @@ closure r keys n some all u = record {
 
 -- ---- the first key of a search
 
-first-key : (start : List ℕ) (old new : List (List ℕ)) → old ≡ [] → (new ≡ old) ⊎ (new ≡ old ++ start ∷ []) → Contains new start → new ≡ start ∷ []
-first-key start old new e (inl same) at = absurd (let none : length new ≡ 0 = ap length (same ∙ e) in let l = at.1 in omega arith)
-first-key start old new e (inr more) at = more ∙ ap (λ ks. ks ++ start ∷ []) e
+first_add-only_key : (start : List ℕ) (old new : List (List ℕ)) → old ≡ [] → (new ≡ old) ⊎ (new ≡ old ++ start ∷ []) → Contains new start → new ≡ start ∷ []
+first_add-only_key start old new e (inl same) at = absurd (let none : length new ≡ 0 = ap length (same ∙ e) in let l = at.1 in omega arith)
+first_add-only_key start old new e (inr more) at = more ∙ ap (λ ks. ks ++ start ∷ []) e
 
 -- After a key is added to an empty store, it is the only key.
-pub begun-keys : (start : List ℕ) (old new : Stored) (a : Added) → old.keys ≡ [] → Adds old start new → WasAdded 1 old.keys new.keys start a → new.keys ≡ start ∷ []
-begun-keys start old new added.New e adds was = first-key start old.keys new.keys e adds.keys was
-begun-keys start old new added.Known e adds was = first-key start old.keys new.keys e adds.keys was
-begun-keys start old new added.Full e adds was = absurd (let none : length old.keys ≡ 0 = ap length e in omega arith)
+pub keys-after_first_add : (start : List ℕ) (old new : KeyStore) (a : AddOutcome) → old.keys ≡ [] → Adds old start new → IsAddOutcome 1 old.keys new.keys start a → new.keys ≡ start ∷ []
+keys-after_first_add start old new added.New e adds was = first_add-only_key start old.keys new.keys e adds.keys was
+keys-after_first_add start old new added.Known e adds was = first_add-only_key start old.keys new.keys e adds.keys was
+keys-after_first_add start old new added.Full e adds was = absurd (let none : length old.keys ≡ 0 = ap length e in omega arith)

@@ -3,12 +3,12 @@ use Rattle.std.proofs.Common.{◌≡◌, ℕ, ◌+◌, ◌*◌, ◌<◌, ◌≤�
 use Rattle.std.proofs.Math.Nat.{suc-mul, mul-le-mul_right}
 use Rattle.std.proofs.Math.Seq.{take-length}
 use Rattle.std.proofs.lemmas.List.{take-append-le, drop-append-le, drop-drop}
-use Rattle.mcs_search.specs.Keys.{keys_in}
+use Rattle.mcs_search.specs.Keys.{keys_in_bytes}
 
-pub length-keys_in : (width n : ℕ) (bytes : List ℕ) → length (keys_in width n bytes) ≡ n
-unfolding keys_in
-length-keys_in width zero bytes = refl
-length-keys_in width (suc n) bytes = ap suc (length-keys_in width n (drop width bytes))
+pub length-keys_in_bytes : (width n : ℕ) (bytes : List ℕ) → length (keys_in_bytes width n bytes) ≡ n
+unfolding keys_in_bytes
+length-keys_in_bytes width zero bytes = refl
+length-keys_in_bytes width (suc n) bytes = ap suc (length-keys_in_bytes width n (drop width bytes))
 
 -- Each key ends within the list of bytes.
 pub key-within : (width n i len : ℕ) → i < n → len ≡ n * width → i * width + width ≤ len
@@ -18,8 +18,8 @@ key-within width n i len h e =
     omega arith
 
 -- Key i has the `width` bytes that begin at byte i * width.
-pub key-at : (width n i : ℕ) (bytes : List ℕ) → i < n → get_or (keys_in width n bytes) i [] ≡ take width (drop (i * width) bytes)
-unfolding keys_in
+pub key-at : (width n i : ℕ) (bytes : List ℕ) → i < n → get_or (keys_in_bytes width n bytes) i [] ≡ take width (drop (i * width) bytes)
+unfolding keys_in_bytes
 key-at width zero i bytes h = absurd (omega arith)
 key-at width (suc n) zero bytes h = (let e : zero * width ≡ 0 = omega arith in rw e refl)
 key-at width (suc n) (suc i) bytes h =
@@ -27,17 +27,17 @@ key-at width (suc n) (suc i) bytes h =
     ∙ ap (take width) (drop-drop (i * width) width bytes ∙ ap (λ k. drop k bytes) (let q = suc-mul i width in omega arith))
 
 -- Appending the bytes of a key appends the key.
-pub key-more : (width n : ℕ) (bytes key : List ℕ) → length bytes ≡ n * width → length key ≡ width → keys_in width (n + 1) (bytes ++ key) ≡ keys_in width n bytes ++ key ∷ []
-unfolding keys_in
-key-more width zero [] key e w = ap (λ k. k ∷ []) (ap (λ m. take m key) (sym w) ∙ take-length key)
-key-more width zero (x ∷ bytes) key e w = absurd (let z : zero * width ≡ 0 = omega arith in omega arith)
-key-more width (suc n) bytes key e w =
+pub append-key : (width n : ℕ) (bytes key : List ℕ) → length bytes ≡ n * width → length key ≡ width → keys_in_bytes width (n + 1) (bytes ++ key) ≡ keys_in_bytes width n bytes ++ key ∷ []
+unfolding keys_in_bytes
+append-key width zero [] key e w = ap (λ k. k ∷ []) (ap (λ m. take m key) (sym w) ∙ take-length key)
+append-key width zero (x ∷ bytes) key e w = absurd (let z : zero * width ≡ 0 = omega arith in omega arith)
+append-key width (suc n) bytes key e w =
     let q = suc-mul n width in
     let long : width ≤ length bytes = omega arith in
     let d = length-drop width bytes in
     let rest : length (drop width bytes) ≡ n * width = omega arith in
     let one : suc n + 1 ≡ suc (n + 1) = omega arith in
-    ap (λ m. keys_in width m (bytes ++ key)) one
-    ∙ ap (λ k. k ∷ keys_in width (n + 1) (drop width (bytes ++ key))) (take-append-le width bytes key long)
-    ∙ ap (λ ds. take width bytes ∷ keys_in width (n + 1) ds) (drop-append-le width bytes key long)
-    ∙ ap (λ ks. take width bytes ∷ ks) (key-more width n (drop width bytes) key rest w)
+    ap (λ m. keys_in_bytes width m (bytes ++ key)) one
+    ∙ ap (λ k. k ∷ keys_in_bytes width (n + 1) (drop width (bytes ++ key))) (take-append-le width bytes key long)
+    ∙ ap (λ ds. take width bytes ∷ keys_in_bytes width (n + 1) ds) (drop-append-le width bytes key long)
+    ∙ ap (λ ks. take width bytes ∷ ks) (append-key width n (drop width bytes) key rest w)

@@ -1,42 +1,42 @@
 -- The way in which a search stores keys of one width.
 use Rattle.std.specs.Prelude.{◌≡◌, ◌<◌, ◌⊎◌, ◌+◌, ℕ, zero, suc, List, [], ◌∷◌, ◌++◌, take, drop, length}
 use Rattle.std.specs.List.{All}
-use Rattle.mcs_search.specs.declared.block.TheConstants.{BLOCK}
+use Rattle.mcs_search.specs.declared.block.TheConstants.{KEYS_PER_BLOCK}
 
 -- the first n keys in a list of bytes; each key has `width` bytes, and the next one follows it
 -- directly
-unfoldable pub keys_in : ℕ → ℕ → List ℕ → List (List ℕ)
-keys_in width zero bytes = []
-keys_in width (suc n) bytes = take width bytes ∷ keys_in width n (drop width bytes)
+unfoldable pub keys_in_bytes : ℕ → ℕ → List ℕ → List (List ℕ)
+keys_in_bytes width zero bytes = []
+keys_in_bytes width (suc n) bytes = take width bytes ∷ keys_in_bytes width n (drop width bytes)
 
 -- a store of keys: the number of bytes of each key, and the keys in order
-pub record Stored : Type 0 where
+pub record KeyStore : Type 0 where
   pub width : ℕ
   pub keys : List (List ℕ)
 
 -- the keys of several blocks, in order
-unfoldable pub keys_of : List Stored → List (List ℕ)
-keys_of [] = []
-keys_of (b ∷ bs) = b.keys ++ keys_of bs
+unfoldable pub keys_of_blocks : List KeyStore → List (List ℕ)
+keys_of_blocks [] = []
+keys_of_blocks (b ∷ bs) = b.keys ++ keys_of_blocks bs
 
 -- holds if each block has n keys of the given width
-abbrev pub AreFull : ℕ → ℕ → List Stored → Type 0
-AreFull width n = All (λ (b : Stored). (b.width ≡ width) × (length b.keys ≡ n))
+abbrev pub AreFull : ℕ → ℕ → List KeyStore → Type 0
+AreFull width n = All (λ (b : KeyStore). (b.width ≡ width) × (length b.keys ≡ n))
 
 -- the invariant of an arena: all blocks but the last are full, the last is not full, and `len` is
 -- the number of keys
-pub record FitsArena (width len : ℕ) (full : List Stored) (last : Stored) : Type 0 where
-  pub blocks : AreFull width BLOCK full
+pub record ArenaInvariant (width len : ℕ) (full : List KeyStore) (last : KeyStore) : Type 0 where
+  pub blocks : AreFull width KEYS_PER_BLOCK full
   pub last_width : last.width ≡ width
-  pub last_few : length last.keys < BLOCK
-  pub count : len ≡ length (keys_of full) + length last.keys
+  pub last_few : length last.keys < KEYS_PER_BLOCK
+  pub count : len ≡ length (keys_of_blocks full) + length last.keys
 
 -- holds if the new store has the keys of the old one, followed by any number of others
-pub record Grows (old new : Stored) : Type 0 where
+pub record Grows (old new : KeyStore) : Type 0 where
   pub width : new.width ≡ old.width
   pub keys : (more : List (List ℕ)) × (new.keys ≡ old.keys ++ more)
 
 -- holds if the new store has the keys of the old one, followed by the given key or by none
-pub record Adds (old : Stored) (key : List ℕ) (new : Stored) : Type 0 where
+pub record Adds (old : KeyStore) (key : List ℕ) (new : KeyStore) : Type 0 where
   pub width : new.width ≡ old.width
   pub keys : (new.keys ≡ old.keys) ⊎ (new.keys ≡ old.keys ++ key ∷ [])

@@ -33,6 +33,6 @@ pub record Closure (r : Rules) (start : List ℕ) (n : ℕ) : Type 0 where
   pub followed : All (IsFollowed r keys) keys
 
 -- holds if the property fails when the choices are followed one after another from the given state
-abbrev pub Breaks : Rules → List ℕ → List ℕ → Type 0
-Breaks r key [] = ⊥
-Breaks r key (c ∷ cs) = r.fails key c ⊎ ((next : List ℕ) × r.leads key c next × Breaks r next cs)
+abbrev pub IsCounterexample : Rules → List ℕ → List ℕ → Type 0
+IsCounterexample r key [] = ⊥
+IsCounterexample r key (c ∷ cs) = r.fails key c ⊎ ((next : List ℕ) × r.leads key c next × IsCounterexample r next cs)

@@ -1,8 +1,8 @@
 //! An arena that stores the keys found by a search, in blocks.
 ghost use Rattle.std.specs.Prelude.{◌≡◌, ◌<◌, ◌*◌, ◌+◌, [], ◌∷◌, ◌++◌, length, OnOk, OnErr, slice_index_or};
-ghost use Rattle.mcs_search.specs.Keys.{Stored};
+ghost use Rattle.mcs_search.specs.Keys.{KeyStore};
 
-use crate::block::{BLOCK, KeyBlock, Parent};
+use crate::block::{KEYS_PER_BLOCK, KeyBlock, Parent};
 use std::alloc::{AllocError, Global};
 use std::marker::Model;
 use std::mem;
@@ -20,13 +20,13 @@ pub(crate) struct Arena {
 
 impl Model for Arena {
     ghost use Rattle.std.specs.Prelude.{◌++◌};
-    ghost use Rattle.mcs_search.specs.Keys.{Stored, FitsArena, keys_of};
+    ghost use Rattle.mcs_search.specs.Keys.{KeyStore, ArenaInvariant, keys_of_blocks};
 
-    ghost Value = { Stored };
+    ghost Value = { KeyStore };
 
-    ghost view = { λ a. record { width = a.width; keys = keys_of a.full.items ++ a.last.keys } };
+    ghost view = { λ a. record { width = a.width; keys = keys_of_blocks a.full.items ++ a.last.keys } };
 
-    ghost invariant = { λ a. FitsArena a.width a.len a.full.items a.last };
+    ghost invariant = { λ a. ArenaInvariant a.width a.len a.full.items a.last };
 }
 
 impl Arena {
@@ -56,18 +56,18 @@ impl Arena {
         ensures key { result.now ≡ slice_index_or self.now.keys i [] }
         ensures width { length result.now ≡ self.now.width }
     {
-        if i / BLOCK < self.full.len() {
-            self.full[i / BLOCK].key(i % BLOCK)
+        if i / KEYS_PER_BLOCK < self.full.len() {
+            self.full[i / KEYS_PER_BLOCK].key(i % KEYS_PER_BLOCK)
         } else {
-            self.last.key(i % BLOCK)
+            self.last.key(i % KEYS_PER_BLOCK)
         }
     }
 
     /// Returns the parent of the key at index `i`, or `None` if no parent is stored there.
     pub(crate) fn parent(&self, i: usize) -> Option<Parent> {
-        match self.full.get(i / BLOCK) {
-            Some(block) => block.parent(i % BLOCK),
-            None => self.last.parent(i % BLOCK),
+        match self.full.get(i / KEYS_PER_BLOCK) {
+            Some(block) => block.parent(i % KEYS_PER_BLOCK),
+            None => self.last.parent(i % KEYS_PER_BLOCK),
         }
     }
 
@@ -84,7 +84,7 @@ impl Arena {
         self.full.reserve(1)?;
         self.last.push(key, parent)?;
         self.len += 1;
-        if self.last.len() < BLOCK {
+        if self.last.len() < KEYS_PER_BLOCK {
             return Ok(());
         }
         let block = mem::replace(&mut self.last, KeyBlock::new(self.alloc, self.width));

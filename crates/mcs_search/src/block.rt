@@ -1,12 +1,12 @@
 //! A block of keys of one width, stored back to back.
 ghost use Rattle.std.specs.Prelude.{◌≡◌, ◌<◌, ◌*◌, [], ◌∷◌, ◌++◌, length, OnOk, OnErr, slice_index_or};
-ghost use Rattle.mcs_search.specs.Keys.{Stored};
+ghost use Rattle.mcs_search.specs.Keys.{KeyStore};
 
 use std::alloc::{AllocError, Global};
 use std::marker::Model;
 
 /// The number of keys in a full block.
-pub(crate) const BLOCK: usize = 65_536;
+pub(crate) const KEYS_PER_BLOCK: usize = 65_536;
 
 /// The origin of a state: the index of the state from which the search first reached it, and the choice that it
 /// followed there.
@@ -27,11 +27,11 @@ pub(crate) struct KeyBlock {
 
 impl Model for KeyBlock {
     ghost use Rattle.std.specs.Prelude.{◌≡◌, ◌*◌, length};
-    ghost use Rattle.mcs_search.specs.Keys.{Stored, keys_in};
+    ghost use Rattle.mcs_search.specs.Keys.{KeyStore, keys_in_bytes};
 
-    ghost Value = { Stored };
+    ghost Value = { KeyStore };
 
-    ghost view = { λ b. record { width = b.width; keys = keys_in b.width b.len b.bytes.items } };
+    ghost view = { λ b. record { width = b.width; keys = keys_in_bytes b.width b.len b.bytes.items } };
 
     ghost invariant = { λ b. length b.bytes.items ≡ b.len * b.width };
 }
@@ -74,7 +74,7 @@ impl KeyBlock {
     /// Appends a key and its parent. Fails if memory cannot be allocated; the keys are then unchanged.
     pub(crate) fn push(&mut self, key: &[u8], parent: Parent) -> Result<(), AllocError>
         requires width { length key.now ≡ self.old.width }
-        requires few { length self.old.keys < BLOCK }
+        requires few { length self.old.keys < KEYS_PER_BLOCK }
         ensures keys { OnOk result (self.new.keys ≡ self.old.keys ++ key.now ∷ []) }
         ensures width { self.new.width ≡ self.old.width }
         ensures err { OnErr result (self.new ≡ self.old) }

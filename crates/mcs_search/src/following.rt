@@ -1,18 +1,18 @@
 //! Functions that follow the choices of one state, and that replay the choices that led to it.
 ghost use Rattle.std.specs.Prelude.{◌≡◌, ◌<◌, ◌≤◌, length, IfOk, IsTrue};
 ghost use Rattle.std.specs.List.{All};
-ghost use Rattle.mcs_search.specs.Rules.{Rules, Breaks};
+ghost use Rattle.mcs_search.specs.Rules.{Rules, IsCounterexample};
 ghost use Rattle.mcs_search.specs.Keys.{Grows};
-ghost use Rattle.mcs_search.specs.Verdicts.{CameOf};
+ghost use Rattle.mcs_search.specs.Verdicts.{IsFollowOutcome};
 
 use crate::block::Parent;
 use crate::system::System;
-use crate::visited::{Added, Visited};
+use crate::visited::{AddOutcome, VisitedSet};
 use std::alloc::{AllocError, Global};
 
 /// The result of following the choices of one state.
 #[derive(Clone, Copy)]
-pub(crate) enum Followed {
+pub(crate) enum FollowOutcome {
     /// Every choice was followed, and all next states are among the visited states.
     All,
     /// The property fails while this choice is followed.
@@ -24,18 +24,18 @@ pub(crate) enum Followed {
 }
 
 /// Follows the given choices of the state `key`, whose index is `at`, and adds the next states to `visited`. Stops at
-/// the first choice that breaks the property, exceeds the limit of `most` states, or makes the system give up. Fails
+/// the first choice that breaks the property, exceeds the limit of `max_states` states, or makes the system give up. Fails
 /// if memory cannot be allocated.
-pub(crate) fn follow<S: System>(
+pub(crate) fn follow_choices<S: System>(
     system: &mut S,
-    visited: &mut Visited,
-    most: usize,
+    visited: &mut VisitedSet,
+    max_states: usize,
     at: usize,
     key: &[u8],
     choices: &[u8],
     into: &mut [u8],
-) -> Result<Followed, AllocError>
-    requires most { most < 4294967295 }
+) -> Result<FollowOutcome, AllocError>
+    requires max_states { max_states < 4294967295 }
     requires few { length visited.old.keys < 4294967295 }
     requires at { at < 4294967295 }
     requires state { (S.rules (S.setting system.old)).is_state key.now }
@@ -46,26 +46,26 @@ pub(crate) fn follow<S: System>(
     ensures grows { Grows visited.old visited.new }
     ensures states { All (S.rules (S.setting system.old)).is_state visited.new.keys }
     ensures few { length visited.new.keys < 4294967295 }
-    ensures came { IfOk result (CameOf (S.rules (S.setting system.old)) visited.new.keys key.now choices.now) }
+    ensures outcome { IfOk result (IsFollowOutcome (S.rules (S.setting system.old)) visited.new.keys key.now choices.now) }
 {
     for i in 0..choices.len() {
         let choice = choices[i];
-        match system.go(key, choice, into) {
-            None => return Ok(Followed::GaveUp),
-            Some(false) => return Ok(Followed::Broken(choice)),
+        match system.apply_choice(key, choice, into) {
+            None => return Ok(FollowOutcome::GaveUp),
+            Some(false) => return Ok(FollowOutcome::Broken(choice)),
             Some(true) => {}
         }
         let parent = Parent {
             state: at as u32,
             choice,
         };
-        match visited.add(into, parent, most)? {
-            Added::New => {}
-            Added::Known => {}
-            Added::Full => return Ok(Followed::TooMany),
+        match visited.add(into, parent, max_states)? {
+            AddOutcome::New => {}
+            AddOutcome::Known => {}
+            AddOutcome::Full => return Ok(FollowOutcome::TooMany),
         }
     }
-    Ok(Followed::All)
+    Ok(FollowOutcome::All)
 }
 
 /// Returns the choices that led to the state at index `state`, followed by the choice `last`. Reads them from the
@@ -73,7 +73,7 @@ pub(crate) fn follow<S: System>(
 /// allocated.
 pub(crate) fn choices_to(
     alloc: Global,
-    visited: &Visited,
+    visited: &VisitedSet,
     state: usize,
     last: u8,
 ) -> Result<Vec<u8>, AllocError> {
@@ -95,7 +95,7 @@ pub(crate) fn choices_to(
 }
 
 /// Returns true only if the property fails when the choices are followed one after another from the state `key`.
-pub(crate) fn breaks<S: System>(
+pub(crate) fn is_counterexample<S: System>(
     system: &mut S,
     key: &mut [u8],
     into: &mut [u8],
@@ -104,10 +104,10 @@ pub(crate) fn breaks<S: System>(
     requires state { (S.rules (S.setting system.old)).is_state key.old }
     requires into { length into.old ≡ length key.old }
     ensures setting { S.setting system.new ≡ S.setting system.old }
-    ensures breaks { IsTrue result → Breaks (S.rules (S.setting system.old)) key.old choices.now }
+    ensures is_counterexample { IsTrue result → IsCounterexample (S.rules (S.setting system.old)) key.old choices.now }
 {
     for choice in choices {
-        match system.go(key, *choice, into) {
+        match system.apply_choice(key, *choice, into) {
             None => return false,
             Some(false) => return true,
             Some(true) => {}

@@ -9,5 +9,5 @@ mod searching;
 mod system;
 mod visited;
 
-pub use searching::{MOST, Search, Verdict, search_all};
+pub use searching::{MAX_STATES, Search, Verdict, search_all};
 pub use system::System;

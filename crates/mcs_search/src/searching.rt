@@ -1,17 +1,17 @@
 //! The search. It runs in one call or in several, each for a limited number of steps.
 ghost use Rattle.std.specs.Prelude.{◌≡◌, ◌<◌, ◌≤◌, [], ◌∷◌, length, IfOk, IfSome, slice_index_or};
 ghost use Rattle.mcs_search.specs.Rules.{Rules};
-ghost use Rattle.mcs_search.specs.Verdicts.{IsProved, IsUnderWay, Progress, start_of};
+ghost use Rattle.mcs_search.specs.Verdicts.{IsProved, IsUnderWay, SearchProgress, start_of};
 
 use crate::block::Parent;
-use crate::following::{Followed, breaks, choices_to, follow};
+use crate::following::{FollowOutcome, choices_to, follow_choices, is_counterexample};
 use crate::system::System;
-use crate::visited::Visited;
+use crate::visited::VisitedSet;
 use std::alloc::{AllocError, Global};
 use std::marker::Model;
 
 /// The maximum number of states that a search may visit.
-pub const MOST: usize = 4_000_000_000;
+pub const MAX_STATES: usize = 4_000_000_000;
 
 /// The result of a search.
 #[derive(Drop)]
@@ -31,9 +31,9 @@ pub enum Verdict {
 /// A breadth-first search in progress: the states found, and the number of those whose choices were followed.
 #[derive(Drop)]
 pub struct Search {
-    visited: Visited,
+    visited: VisitedSet,
     followed: usize,
-    most: usize,
+    max_states: usize,
     key: Vec<u8>,
     into: Vec<u8>,
     choices: Vec<u8>,
@@ -42,27 +42,27 @@ pub struct Search {
 
 impl Model for Search {
     ghost use Rattle.std.specs.Prelude.{◌≡◌, ◌<◌, ◌≤◌, length, vec_len};
-    ghost use Rattle.mcs_search.specs.declared.searching.TheConstants.{MOST};
-    ghost use Rattle.mcs_search.specs.Verdicts.{Progress, FitsSearch};
+    ghost use Rattle.mcs_search.specs.declared.searching.TheConstants.{MAX_STATES};
+    ghost use Rattle.mcs_search.specs.Verdicts.{SearchProgress, SearchInvariant};
 
-    ghost Value = { Progress };
+    ghost Value = { SearchProgress };
 
     ghost view = { λ s. record { keys = s.visited.keys; followed = s.followed } };
 
-    ghost invariant = { λ s. FitsSearch s.visited s.followed s.most (vec_len s.key) (vec_len s.into) };
+    ghost invariant = { λ s. SearchInvariant s.visited s.followed s.max_states (vec_len s.key) (vec_len s.into) };
 }
 
 impl Search {
-    /// Begins a search from the state with the key `start`. The search may visit at most `most` states. Fails if
+    /// Begins a search from the state with the key `start`. The search may visit at most `max_states` states. Fails if
     /// memory cannot be allocated.
-    pub fn begin(alloc: Global, start: &[u8], most: usize) -> Result<Search, AllocError>
-        requires { most ≤ MOST }
+    pub fn begin(alloc: Global, start: &[u8], max_states: usize) -> Result<Search, AllocError>
+        requires { max_states ≤ MAX_STATES }
         ensures { IfOk result (λ search.
             search ≡ record { keys = start.now ∷ []; followed = 0 }) }
     {
         let key = vec![in alloc; 0u8; start.len()]?;
         let into = vec![in alloc; 0u8; start.len()]?;
-        let mut visited = Visited::new(alloc, start.len())?;
+        let mut visited = VisitedSet::new(alloc, start.len())?;
         let parent = Parent {
             state: 0,
             choice: 0,
@@ -71,7 +71,7 @@ impl Search {
         Ok(Search {
             visited,
             followed: 0,
-            most,
+            max_states,
             key,
             into,
             choices: Vec::new(alloc),
@@ -80,7 +80,7 @@ impl Search {
     }
 
     /// Returns the number of states found so far.
-    pub fn states(&self) -> usize
+    pub fn state_count(&self) -> usize
         ensures { result ≡ length self.now.keys }
     {
         self.visited.len()
@@ -115,7 +115,7 @@ impl Search {
     {
         let choices = choices_to(self.alloc, &self.visited, self.followed, choice)?;
         self.key.copy_from_slice(self.visited.key(0));
-        if breaks(system, &mut self.key, &mut self.into, &choices) {
+        if is_counterexample(system, &mut self.key, &mut self.into, &choices) {
             Ok(Verdict::Broken(choices))
         } else {
             Ok(Verdict::GaveUp)
@@ -124,7 +124,10 @@ impl Search {
 
     /// Follows the choices of the next state in the frontier. Returns a verdict if the frontier is empty, if the
     /// limit on states is exceeded, or if a choice ends the search. Fails if memory cannot be allocated.
-    fn follow_next<S: System>(&mut self, system: &mut S) -> Result<Option<Verdict>, AllocError>
+    fn follow_next_state<S: System>(
+        &mut self,
+        system: &mut S,
+    ) -> Result<Option<Verdict>, AllocError>
         requires under_way { IsUnderWay (S.rules (S.setting system.old)) self.old }
         ensures setting { S.setting system.new ≡ S.setting system.old }
         ensures under_way { IsUnderWay (S.rules (S.setting system.old)) self.new }
@@ -133,7 +136,7 @@ impl Search {
             IfSome verdict (IsProved (S.rules (S.setting system.old)) (start_of self.old))) }
     {
         let len = self.visited.len();
-        if self.most < len {
+        if self.max_states < len {
             return Ok(Some(Verdict::TooMany));
         }
         if self.followed == len {
@@ -141,28 +144,28 @@ impl Search {
         }
         self.key.copy_from_slice(self.visited.key(self.followed));
         system.choices(&self.key, &mut self.choices)?;
-        match follow(
+        match follow_choices(
             system,
             &mut self.visited,
-            self.most,
+            self.max_states,
             self.followed,
             &self.key,
             &self.choices,
             &mut self.into,
         )? {
-            Followed::All => {
+            FollowOutcome::All => {
                 self.followed += 1;
                 Ok(None)
             }
-            Followed::TooMany => Ok(Some(Verdict::TooMany)),
-            Followed::GaveUp => Ok(Some(Verdict::GaveUp)),
-            Followed::Broken(choice) => Ok(Some(self.counterexample(system, choice)?)),
+            FollowOutcome::TooMany => Ok(Some(Verdict::TooMany)),
+            FollowOutcome::GaveUp => Ok(Some(Verdict::GaveUp)),
+            FollowOutcome::Broken(choice) => Ok(Some(self.counterexample(system, choice)?)),
         }
     }
 
     /// Follows the choices of at most `steps` states. Returns `None` if the search has not ended. Fails if memory
     /// cannot be allocated. The next call resumes the search, even after an error.
-    pub fn go_on<S: System>(
+    pub fn resume<S: System>(
         &mut self,
         system: &mut S,
         steps: usize,
@@ -175,7 +178,7 @@ impl Search {
             IfSome verdict (IsProved (S.rules (S.setting system.old)) (start_of self.old))) }
     {
         for _ in 0..steps {
-            match self.follow_next(system)? {
+            match self.follow_next_state(system)? {
                 None => {}
                 Some(verdict) => return Ok(Some(verdict)),
             }
@@ -184,25 +187,25 @@ impl Search {
     }
 }
 
-/// Searches all states that a system can reach from `start`, up to `most` states. Fails only if memory for the first
+/// Searches all states that a system can reach from `start`, up to `max_states` states. Fails only if memory for the first
 /// state cannot be allocated.
 pub fn search_all<S: System>(
     alloc: Global,
     system: &mut S,
     start: &[u8],
-    most: usize,
+    max_states: usize,
 ) -> Result<Verdict, AllocError>
-    requires most { most ≤ MOST }
+    requires max_states { max_states ≤ MAX_STATES }
     requires start { (S.rules (S.setting system.old)).is_state start.now }
     ensures setting { S.setting system.new ≡ S.setting system.old }
     ensures proved { IfOk result (IsProved (S.rules (S.setting system.old)) start.now) }
 {
-    let mut search = Search::begin(alloc, start, most)?;
-    // Each step follows one state, and there are at most `most` states. One more step detects that the frontier is
+    let mut search = Search::begin(alloc, start, max_states)?;
+    // Each step follows one state, and there are at most `max_states` states. One more step detects that the frontier is
     // empty.
-    match search.go_on(system, most + 1) {
+    match search.resume(system, max_states + 1) {
         Ok(Some(verdict)) => Ok(verdict),
         Ok(None) => Ok(Verdict::TooMany),
-        Err(_) => Ok(Verdict::NoMemory(search.states())),
+        Err(_) => Ok(Verdict::NoMemory(search.state_count())),
     }
 }

@@ -24,7 +24,7 @@ pub trait System {
 
     /// Follows `choice` from the state `key`. Returns true if the property holds at every step, and stores the key of
     /// the next state in `into`. Returns false if the property fails. Returns `None` if the system gives up.
-    fn go(&mut self, key: &[u8], choice: u8, into: &mut [u8]) -> Option<bool>
+    fn apply_choice(&mut self, key: &[u8], choice: u8, into: &mut [u8]) -> Option<bool>
         requires state { (rules (setting self.old)).is_state key.now }
         requires into { length into.old ≡ length key.now }
         ensures setting { setting self.new ≡ setting self.old }

@@ -1,8 +1,8 @@
 //! The set of states that a search has found, with a hash table that looks up a state by its key.
 ghost use Rattle.std.specs.Prelude.{◌≡◌, ◌≢◌, ◌<◌, ◌≤◌, ◌+◌, ℕ, List, [], ◌∷◌, ◌++◌, length, vec_len, IfOk, OnOk, MatchOption, slice_index_or};
 ghost use Rattle.std.specs.List.{Contains};
-ghost use Rattle.mcs_search.specs.Keys.{Stored, Adds};
-ghost use Rattle.mcs_search.specs.Verdicts.{WasAdded};
+ghost use Rattle.mcs_search.specs.Keys.{KeyStore, Adds};
+ghost use Rattle.mcs_search.specs.Verdicts.{IsAddOutcome};
 
 use crate::arena::Arena;
 use crate::block::Parent;
@@ -11,11 +11,11 @@ use std::hash::{FoldHasher, Hasher};
 use std::marker::Model;
 
 /// The number of slots in the hash table of a new set.
-const FIRST_SLOTS: usize = 1_024;
+const INITIAL_SLOTS: usize = 1_024;
 
 /// The result of adding a key to the set.
 #[derive(Clone, Copy)]
-pub(crate) enum Added {
+pub(crate) enum AddOutcome {
     /// The key was new and was added.
     New,
     /// The key was already in the set.
@@ -40,7 +40,7 @@ fn first_slot(count: usize, key: &[u8]) -> usize
 }
 
 /// Returns the slot to probe after `at`. The first slot follows the last.
-fn slot_behind(count: usize, at: usize) -> usize
+fn next_slot(count: usize, at: usize) -> usize
     requires { at < count }
     ensures { result < count }
 {
@@ -49,7 +49,7 @@ fn slot_behind(count: usize, at: usize) -> usize
 
 /// Looks up a key. Returns `None` if the arena has the key, and otherwise a slot for the key. A slot holds the index
 /// of a key plus 1, or 0 if it is free.
-fn slot_for(slots: &[u32], arena: &Arena, key: &[u8]) -> Option<usize>
+fn slot_if_new(slots: &[u32], arena: &Arena, key: &[u8]) -> Option<usize>
     requires { 0 < length slots.now }
     ensures { MatchOption result (Contains arena.now.keys key.now) (λ at. at < length slots.now) }
 {
@@ -63,7 +63,7 @@ fn slot_for(slots: &[u32], arena: &Arena, key: &[u8]) -> Option<usize>
         if slot <= arena.len() && arena.key(slot - 1) == key {
             return None;
         }
-        at = slot_behind(count, at);
+        at = next_slot(count, at);
     }
     Some(at)
 }
@@ -79,13 +79,13 @@ fn free_slot(slots: &[u32], key: &[u8]) -> usize
         if slots[at] == 0 {
             return at;
         }
-        at = slot_behind(count, at);
+        at = next_slot(count, at);
     }
     at
 }
 
 /// Inserts all keys of an arena into an empty hash table.
-fn enter_all(slots: &mut [u32], arena: &Arena)
+fn insert_all(slots: &mut [u32], arena: &Arena)
     requires room { 0 < length slots.old }
     requires few { length arena.now.keys < 4294967295 }
 {
@@ -100,30 +100,30 @@ fn enter_all(slots: &mut [u32], arena: &Arena)
 /// The proofs do not rely on the table. A key counts as known only if its bytes equal those of a key in the arena. If
 /// the table misses a key, the key is stored twice.
 #[derive(Drop)]
-pub(crate) struct Visited {
+pub(crate) struct VisitedSet {
     arena: Arena,
     slots: Vec<u32>,
     alloc: Global,
 }
 
-impl Model for Visited {
+impl Model for VisitedSet {
     ghost use Rattle.std.specs.Prelude.{◌<◌, vec_len};
-    ghost use Rattle.mcs_search.specs.Keys.{Stored};
+    ghost use Rattle.mcs_search.specs.Keys.{KeyStore};
 
-    ghost Value = { Stored };
+    ghost Value = { KeyStore };
 
     ghost view = { λ v. v.arena };
 
     ghost invariant = { λ v. 0 < vec_len v.slots };
 }
 
-impl Visited {
+impl VisitedSet {
     /// Creates an empty set for keys of `width` bytes. Fails if memory cannot be allocated.
-    pub(crate) fn new(alloc: Global, width: usize) -> Result<Visited, AllocError>
+    pub(crate) fn new(alloc: Global, width: usize) -> Result<VisitedSet, AllocError>
         ensures { IfOk result (λ visited. visited ≡ record { width = width; keys = [] }) }
     {
-        let slots = vec![in alloc; 0u32; FIRST_SLOTS]?;
-        Ok(Visited {
+        let slots = vec![in alloc; 0u32; INITIAL_SLOTS]?;
+        Ok(VisitedSet {
             arena: Arena::new(alloc, width),
             slots,
             alloc,
@@ -164,36 +164,36 @@ impl Visited {
         let count = (len * 4).next_power_of_two();
         self.slots = vec![in self.alloc; 0u32; 1]?;
         let mut slots = vec![in self.alloc; 0u32; count]?;
-        enter_all(&mut slots, &self.arena);
+        insert_all(&mut slots, &self.arena);
         self.slots = slots;
         Ok(())
     }
 
-    /// Adds a key unless it is present or the set already has `most` keys. Fails if memory cannot be allocated; no
+    /// Adds a key unless it is present or the set already has `max_states` keys. Fails if memory cannot be allocated; no
     /// key is then lost.
     pub(crate) fn add(
         &mut self,
         key: &[u8],
         parent: Parent,
-        most: usize,
-    ) -> Result<Added, AllocError>
+        max_states: usize,
+    ) -> Result<AddOutcome, AllocError>
         requires width { length key.now ≡ self.old.width }
-        requires most { most < 4294967295 }
+        requires max_states { max_states < 4294967295 }
         requires few { length self.old.keys < 4294967295 }
-        ensures added { IfOk result (WasAdded most self.old.keys self.new.keys key.now) }
+        ensures added { IfOk result (IsAddOutcome max_states self.old.keys self.new.keys key.now) }
         ensures adds { Adds self.old key.now self.new }
         ensures few { length self.new.keys < 4294967295 }
     {
         self.make_room()?;
-        match slot_for(&self.slots, &self.arena, key) {
-            None => Ok(Added::Known),
+        match slot_if_new(&self.slots, &self.arena, key) {
+            None => Ok(AddOutcome::Known),
             Some(at) => {
-                if self.arena.len() >= most {
-                    return Ok(Added::Full);
+                if self.arena.len() >= max_states {
+                    return Ok(AddOutcome::Full);
                 }
                 self.arena.push(key, parent)?;
                 self.slots[at] = self.arena.len() as u32;
-                Ok(Added::New)
+                Ok(AddOutcome::New)
             }
         }
     }

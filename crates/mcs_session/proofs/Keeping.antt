@@ -3,18 +3,18 @@ use Rattle.std.proofs.Common.{◌≡◌, inl, inr, ◌≤◌, ⊎_elim, ℕ, Lis
 use Rattle.std.proofs.lemmas.Bool.{cases_lt}
 use Rattle.mcs_disk.proofs.CallLaws.{lawful}
 use Rattle.mcs_disk.specs.Disk.{DiskState, IsLater, bytes_of, time_of, images_since}
-use Rattle.mcs_disk.specs.Calls.{DiskCall, bytes_after, clock_of, since_after}
-use Rattle.mcs_disk.proofs.Composing.{later_then, later_time, later_before}
+use Rattle.mcs_disk.specs.Calls.{DiskCall, bytes_after, clock_of, images_after_since}
+use Rattle.mcs_disk.proofs.StretchComposition.{later_then, later_time, later_before}
 use Rattle.mcs_model.specs.declared.command.Command.{Command}
 use Rattle.mcs_model.specs.BenchState.{BenchState}
 use Rattle.mcs_model.specs.Command.{after}
 use Rattle.mcs_model.specs.Fold.{fold}
-use Rattle.mcs_session.specs.StandsFor.{StandsFor, DiskStandsFor}
+use Rattle.mcs_session.specs.Represents.{Represents, DiskRepresents}
 use Rattle.mcs_session.specs.Acknowledgements.{Acknowledgements, acknowledged_by, last_moment, moments_of}
 use Rattle.mcs_session.specs.CommandCalls.{AcknowledgesCommand, LeavesEitherState}
 use Rattle.mcs_session.specs.Log.{LogHolds, log_after_all}
-use Rattle.mcs_session.specs.KeptCommands.{KeepsCommands, KeepsAllCommands, StandsForPrefix}
-use Rattle.mcs_session.proofs.Using.{counted, log_append, log_in, rising, same_held, stands_held, timed_more}
+use Rattle.mcs_session.specs.KeptCommands.{KeepsCommands, KeepsAllCommands, RepresentsPrefix}
+use Rattle.mcs_session.proofs.LogCommands.{counted, log_append, log_in, rising, same_held, stands_held, timed_more}
 use Rattle.mcs_session.proofs.Prefixes.{acknowledged-append, acknowledged_all, acknowledged_before, acknowledged_few, acknowledged_none, last_append, prefix_all, prefix_more, prefix_none, prefix_one, prefix_past, rising_le}
 
 -- ---- two runs
@@ -36,7 +36,7 @@ both d e f s cs ds a b =
 -- each image since a time of either run represents the state after a prefix that has every command
 -- acknowledged by that time
 each_more : (d e f : DiskState) (s t : BenchState) (cs done ds : List Command) (a : KeepsAllCommands d e s cs) → t ≡ fold s cs → (b : KeepsCommands e f t done ds)
-    → (u : ℕ) (image : List ℕ) → time_of d ≤ u → images_since u f image → StandsForPrefix s (cs ++ ds) (acknowledged_by u (a.kept.acknowledged.moments ++ b.acknowledged.moments)) image
+    → (u : ℕ) (image : List ℕ) → time_of d ≤ u → images_since u f image → RepresentsPrefix s (cs ++ ds) (acknowledged_by u (a.kept.acknowledged.moments ++ b.acknowledged.moments)) image
 each_more d e f s t cs done ds a same b u image le now =
     let ms = a.kept.acknowledged.moments in
     let ns = b.acknowledged.moments in
@@ -76,8 +76,8 @@ whole_more d e f s t cs ds a same b =
     }
 
 -- after a run in which no call failed, each image represents the state after all commands
-pub settled_after : (d e : DiskState) (s t : BenchState) (cs : List Command) → t ≡ fold s cs → KeepsAllCommands d e s cs → DiskStandsFor e t
-settled_after d e s t cs same a image now =
+pub represented_after_run : (d e : DiskState) (s t : BenchState) (cs : List Command) → t ≡ fold s cs → KeepsAllCommands d e s cs → DiskRepresents e t
+represented_after_run d e s t cs same a image now =
     let ms = a.kept.acknowledged.moments in
     let rises = rising d e cs a.kept.acknowledged in
     let behind = rising_le (time_of d) ms rises in
@@ -92,36 +92,36 @@ goes_nowhere : (d e : DiskState) → e.start ≡ d.start → e.calls ≡ d.calls
 goes_nowhere d e start calls = record { start = start; added = []; all = calls }
 
 -- the current bytes of a disk represent the same state as its images
-pub stands_now : (d : DiskState) (s : BenchState) → DiskStandsFor d s → StandsFor (bytes_of d) s
+pub stands_now : (d : DiskState) (s : BenchState) → DiskRepresents d s → Represents (bytes_of d) s
 stands_now d s h = h (bytes_of d) (lawful d).current
 
 -- a run without commands has acknowledged nothing
-none_acknowledged : (d e : DiskState) (s : BenchState) → StandsFor (bytes_of d) s → time_of d ≤ time_of e → Acknowledgements d e []
-none_acknowledged d e s stands le = record {
-  log = log_in (bytes_of d) s stands;
-  held = stands_held (bytes_of d) s stands;
+none_acknowledged : (d e : DiskState) (s : BenchState) → Represents (bytes_of d) s → time_of d ≤ time_of e → Acknowledgements d e []
+none_acknowledged d e s represents le = record {
+  log = log_in (bytes_of d) s represents;
+  held = stands_held (bytes_of d) s represents;
   moments = [];
   timed = refl;
   within = le;
 }
 
-pub stays_keeps : (d e : DiskState) (s : BenchState) → e.start ≡ d.start → e.calls ≡ d.calls → DiskStandsFor d s → KeepsAllCommands d e s []
+pub stays_keeps : (d e : DiskState) (s : BenchState) → e.start ≡ d.start → e.calls ≡ d.calls → DiskRepresents d s → KeepsAllCommands d e s []
 unfolding none_acknowledged
 stays_keeps d e s start calls h =
-    let stands = stands_now d s h in
+    let represents = stands_now d s h in
     record {
       kept = record {
-        acknowledged = none_acknowledged d e s stands (later_time d e (goes_nowhere d e start calls));
-        each = λ u image le now. prefix_none s [] image (h image ((lawful d).only_now image ((lawful d).longer (time_of d) u image le (subst (λ (x : List DiskCall). since_after d.start x u image) calls (subst (λ (x : List ℕ). since_after x e.calls u image) start now)))));
+        acknowledged = none_acknowledged d e s represents (later_time d e (goes_nowhere d e start calls));
+        each = λ u image le now. prefix_none s [] image (h image ((lawful d).only_now image ((lawful d).longer (time_of d) u image le (subst (λ (x : List DiskCall). images_after_since d.start x u image) calls (subst (λ (x : List ℕ). images_after_since x e.calls u image) start now)))));
         failed = [];
         reached_are = refl;
         later = goes_nowhere d e start calls;
       };
       clock = ap clock_of calls;
-      holds = subst (λ (file : List ℕ). LogHolds file (log_in (bytes_of d) s stands)) (sym (λ k. bytes_after (start k) (calls k))) (stands_held (bytes_of d) s stands);
+      holds = subst (λ (file : List ℕ). LogHolds file (log_in (bytes_of d) s represents)) (sym (λ k. bytes_after (start k) (calls k))) (stands_held (bytes_of d) s represents);
     }
 
-pub whole_nothing : (d : DiskState) (s : BenchState) → DiskStandsFor d s → KeepsAllCommands d d s []
+pub whole_nothing : (d : DiskState) (s : BenchState) → DiskRepresents d s → KeepsAllCommands d d s []
 whole_nothing d s h = stays_keeps d d s refl refl h
 
 -- ---- runs of one command
@@ -140,10 +140,10 @@ acknowledged_keeps d e s c a = record {
       | inl early ↦
           let none : acknowledged_by u (time_of e ∷ []) ≡ 0 = acknowledged_before u (time_of e) early in
           ⊎_elim
-          (λ (old : StandsFor image s). rw none (prefix_none s (c ∷ []) image old))
-          (λ (new : StandsFor image (after s c)). prefix_one s (after s c) c _ image refl (acknowledged_few u (time_of e ∷ [])) new)
+          (λ (old : Represents image s). rw none (prefix_none s (c ∷ []) image old))
+          (λ (new : Represents image (after s c)). prefix_one s (after s c) c _ image refl (acknowledged_few u (time_of e ∷ [])) new)
           (a.leaves.each image ((lawful e).longer (time_of d) u image le now))
-      | inr late ↦ prefix_one s (after s c) c _ image refl (acknowledged_few u (time_of e ∷ [])) (a.stands image ((lawful e).only_now image ((lawful e).longer (time_of e) u image late now)))
+      | inr late ↦ prefix_one s (after s c) c _ image refl (acknowledged_few u (time_of e ∷ [])) (a.represents image ((lawful e).only_now image ((lawful e).longer (time_of e) u image late now)))
     ];
     failed = [];
     reached_are = refl;
@@ -153,14 +153,14 @@ acknowledged_keeps d e s c a = record {
   holds = a.holds;
 }
 
-pub failed_keeps : (d e : DiskState) (s : BenchState) (c : Command) → DiskStandsFor d s → LeavesEitherState d e s (after s c) → KeepsCommands d e s [] (c ∷ [])
+pub failed_keeps : (d e : DiskState) (s : BenchState) (c : Command) → DiskRepresents d s → LeavesEitherState d e s (after s c) → KeepsCommands d e s [] (c ∷ [])
 unfolding none_acknowledged
 failed_keeps d e s c h a = record {
   acknowledged = none_acknowledged d e s (stands_now d s h) (later_time d e a.later);
   each = λ u image le now.
       ⊎_elim
-      (λ (old : StandsFor image s). prefix_none s (c ∷ []) image old)
-      (λ (new : StandsFor image (after s c)). prefix_one s (after s c) c 0 image refl (omega arith) new)
+      (λ (old : Represents image s). prefix_none s (c ∷ []) image old)
+      (λ (new : Represents image (after s c)). prefix_one s (after s c) c 0 image refl (omega arith) new)
       (a.each image ((lawful e).longer (time_of d) u image le now));
   failed = c ∷ [];
   reached_are = refl;

@@ -3,6 +3,6 @@ pub mod Prefixes
 pub mod Keeping
 pub mod Records
 pub mod Files
-pub mod Using
+pub mod LogCommands
 pub mod Room
 pub mod Reopening

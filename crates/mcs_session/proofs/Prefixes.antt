@@ -9,10 +9,10 @@ use Rattle.mcs_model.specs.declared.command.Command.{Command}
 use Rattle.mcs_model.specs.BenchState.{BenchState}
 use Rattle.mcs_model.specs.Fold.{fold}
 use Rattle.mcs_session.specs.Acknowledgements.{acknowledged_by, last_moment}
-use Rattle.mcs_session.specs.KeptCommands.{IsAfterPrefix, StandsForPrefix}
-use Rattle.mcs_session.specs.StandsFor.{StandsFor}
+use Rattle.mcs_session.specs.KeptCommands.{IsAfterPrefix, RepresentsPrefix}
+use Rattle.mcs_session.specs.Represents.{Represents}
 use Rattle.mcs_session.proofs.Folds.{fold-append}
-use Rattle.mcs_session.proofs.Using.{AreRising}
+use Rattle.mcs_session.proofs.LogCommands.{AreRising}
 
 -- ---- moments
 
@@ -109,24 +109,24 @@ after_past s t cs ds i j u e few h = record {
 after_fewer : (s : BenchState) (cs : List Command) (i j : ℕ) (t : BenchState) → i ≤ j → IsAfterPrefix s cs j t → IsAfterPrefix s cs i t
 after_fewer s cs i j t le h = record { count = h.count; at_least = omega (arith, le, h.at_least); at_most = h.at_most; state = h.state }
 
-pub prefix_more : (s : BenchState) (cs ds : List Command) (j : ℕ) (file : List ℕ) → StandsForPrefix s cs j file → StandsForPrefix s (cs ++ ds) j file
-prefix_more s cs ds j file h = record { state = h.state; stands = h.stands; after = after_more s cs ds j h.state h.after }
+pub prefix_more : (s : BenchState) (cs ds : List Command) (j : ℕ) (file : List ℕ) → RepresentsPrefix s cs j file → RepresentsPrefix s (cs ++ ds) j file
+prefix_more s cs ds j file h = record { state = h.state; represents = h.represents; after = after_more s cs ds j h.state h.after }
 
-pub prefix_past : (s t : BenchState) (cs ds : List Command) (i j : ℕ) (file : List ℕ) → t ≡ fold s cs → i ≤ length cs + j → StandsForPrefix t ds j file → StandsForPrefix s (cs ++ ds) i file
-prefix_past s t cs ds i j file e few h = record { state = h.state; stands = h.stands; after = after_past s t cs ds i j h.state e few h.after }
+pub prefix_past : (s t : BenchState) (cs ds : List Command) (i j : ℕ) (file : List ℕ) → t ≡ fold s cs → i ≤ length cs + j → RepresentsPrefix t ds j file → RepresentsPrefix s (cs ++ ds) i file
+prefix_past s t cs ds i j file e few h = record { state = h.state; represents = h.represents; after = after_past s t cs ds i j h.state e few h.after }
 
-pub prefix_fewer : (s : BenchState) (cs : List Command) (i j : ℕ) (file : List ℕ) → i ≤ j → StandsForPrefix s cs j file → StandsForPrefix s cs i file
-prefix_fewer s cs i j file le h = record { state = h.state; stands = h.stands; after = after_fewer s cs i j h.state le h.after }
+pub prefix_fewer : (s : BenchState) (cs : List Command) (i j : ℕ) (file : List ℕ) → i ≤ j → RepresentsPrefix s cs j file → RepresentsPrefix s cs i file
+prefix_fewer s cs i j file le h = record { state = h.state; represents = h.represents; after = after_fewer s cs i j h.state le h.after }
 
 -- a prefix with at least as many commands as there are has all commands
-pub prefix_all : (s : BenchState) (cs : List Command) (j : ℕ) (file : List ℕ) → length cs ≤ j → StandsForPrefix s cs j file → StandsFor file (fold s cs)
+pub prefix_all : (s : BenchState) (cs : List Command) (j : ℕ) (file : List ℕ) → length cs ≤ j → RepresentsPrefix s cs j file → Represents file (fold s cs)
 prefix_all s cs j file all h =
     let same : h.state ≡ fold s cs = h.after.state ∙ ap (fold s) (take_all h.after.count cs (omega (arith, all, h.after.at_least))) in
-    rw (← same) h.stands
+    rw (← same) h.represents
 
 -- the empty prefix leaves the state unchanged
-pub prefix_none : (s : BenchState) (cs : List Command) (file : List ℕ) → StandsFor file s → StandsForPrefix s cs 0 file
-prefix_none s cs file h = record { state = s; stands = h; after = record { count = 0; at_least = omega arith; at_most = omega arith; state = refl } }
+pub prefix_none : (s : BenchState) (cs : List Command) (file : List ℕ) → Represents file s → RepresentsPrefix s cs 0 file
+prefix_none s cs file h = record { state = s; represents = h; after = record { count = 0; at_least = omega arith; at_most = omega arith; state = refl } }
 
-pub prefix_one : (s t : BenchState) (c : Command) (j : ℕ) (file : List ℕ) → t ≡ fold s (c ∷ []) → j ≤ 1 → StandsFor file t → StandsForPrefix s (c ∷ []) j file
-prefix_one s t c j file e le h = record { state = t; stands = h; after = record { count = 1; at_least = le; at_most = omega arith; state = e } }
+pub prefix_one : (s t : BenchState) (c : Command) (j : ℕ) (file : List ℕ) → t ≡ fold s (c ∷ []) → j ≤ 1 → Represents file t → RepresentsPrefix s (c ∷ []) j file
+prefix_one s t c j file e le h = record { state = t; represents = h; after = record { count = 1; at_least = le; at_most = omega arith; state = e } }

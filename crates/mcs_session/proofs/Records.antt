@@ -7,22 +7,22 @@ use Rattle.mcs_model.specs.declared.command.Command.{Command}
 use Rattle.mcs_model.specs.BenchState.{BenchState}
 use Rattle.mcs_model.specs.Command.{refusal, after}
 use Rattle.mcs_model.specs.Fold.{fold}
-use Rattle.mcs_codec.specs.Codec.{SpellsBy, SpellsStateBy}
+use Rattle.mcs_codec.specs.Codec.{EncodesBy, EncodesStateBy}
 use Rattle.mcs_codec.specs.declared.versions.Version.{Version}
 use Rattle.mcs_codec.proofs.CommandCodec.{same_command}
 use Rattle.mcs_codec.proofs.StateCodec.{same_state}
 use Rattle.mcs_model.specs.declared.limits.TheConstants.{REPLAY_CYCLES}
 use Rattle.mcs_session.specs.Invariant.{IsReplayed}
 use Rattle.mcs_session.specs.Cycles.{log_cycles, replay_cycles}
-use Rattle.mcs_session.specs.StandsFor.{ReplaysCommands, RecordsStandFor}
+use Rattle.mcs_session.specs.Represents.{ReplaysCommands, RecordsRepresent}
 use Rattle.mcs_session.proofs.Folds.{fold-append}
 
 -- a snapshot encodes at most one state
-same_start : (v : Version) (snap : List ℕ) (s t : BenchState) → SpellsStateBy v snap s → SpellsStateBy v snap t → s ≡ t
+same_start : (v : Version) (snap : List ℕ) (s t : BenchState) → EncodesStateBy v snap s → EncodesStateBy v snap t → s ≡ t
 same_start v snap s t a b = (same_state snap v v s t a b).1
 
 -- one more record, which encodes an accepted command, replays as one more command
-pub replays-more : (v : Version) (s : BenchState) (rs : List (List ℕ)) (cs : List Command) (r : List ℕ) (c : Command) → ReplaysCommands v s rs cs → SpellsBy v r c → refusal (fold s cs) c ≡ None → ReplaysCommands v s (rs ++ r ∷ []) (cs ++ c ∷ [])
+pub replays-more : (v : Version) (s : BenchState) (rs : List (List ℕ)) (cs : List Command) (r : List ℕ) (c : Command) → ReplaysCommands v s rs cs → EncodesBy v r c → refusal (fold s cs) c ≡ None → ReplaysCommands v s (rs ++ r ∷ []) (cs ++ c ∷ [])
 replays-more v s [] [] r c h spells accepted = (spells, accepted, tt)
 replays-more v s [] (d ∷ cs) r c h spells accepted = absurd h
 replays-more v s (q ∷ rs) [] r c h spells accepted = absurd h
@@ -30,7 +30,7 @@ replays-more v s (q ∷ rs) (d ∷ cs) r c h spells accepted = (h.0, h.1, replay
 
 -- if the next record encodes no accepted command, the records encode no list of commands
 pub no_replay : (v : Version) (s : BenchState) (rs : List (List ℕ)) (cs ds : List Command) (r : List ℕ) (more : List (List ℕ)) → ReplaysCommands v s rs cs
-    → ((c : Command) → SpellsBy v r c → refusal (fold s cs) c ≡ None → ⊥) → ReplaysCommands v s (rs ++ r ∷ more) ds → ⊥
+    → ((c : Command) → EncodesBy v r c → refusal (fold s cs) c ≡ None → ⊥) → ReplaysCommands v s (rs ++ r ∷ more) ds → ⊥
 no_replay v s [] [] [] r more h none k = k
 no_replay v s [] [] (d ∷ ds) r more h none k = none d k.0 k.1
 no_replay v s [] (c ∷ cs) ds r more h none k = h
@@ -53,15 +53,15 @@ same_commands v s (q ∷ rs) (c ∷ cs) (d ∷ ds) h k =
     rw (same, rest) refl
 
 -- the same snapshot and records represent the same list of commands
-pub same_list : (v : Version) (snap other : List ℕ) (records more : List (List ℕ)) (s t : BenchState) → snap ≡ other → records ≡ more → (a : RecordsStandFor v snap records s) (b : RecordsStandFor v other more t)
+pub same_list : (v : Version) (snap other : List ℕ) (records more : List (List ℕ)) (s t : BenchState) → snap ≡ other → records ≡ more → (a : RecordsRepresent v snap records s) (b : RecordsRepresent v other more t)
     → (a.start ≡ b.start) × (a.commands ≡ b.commands)
 same_list v snap other records more s t e f a b =
-    let start : a.start ≡ b.start = same_start v snap a.start b.start a.snapshot (subst (λ (x : List ℕ). SpellsStateBy v x b.start) (sym e) b.snapshot) in
+    let start : a.start ≡ b.start = same_start v snap a.start b.start a.snapshot (subst (λ (x : List ℕ). EncodesStateBy v x b.start) (sym e) b.snapshot) in
     let replays : ReplaysCommands v a.start records b.commands = subst (λ (x : BenchState). ReplaysCommands v x records b.commands) (sym start) (subst (λ (x : List (List ℕ)). ReplaysCommands v b.start x b.commands) (sym f) b.replays) in
     (start, same_commands v a.start records a.commands b.commands a.replays replays)
 
 -- the same snapshot and records represent the same state
-pub same_pair_state : (v : Version) (snap other : List ℕ) (records more : List (List ℕ)) (s t : BenchState) → snap ≡ other → records ≡ more → RecordsStandFor v snap records s → RecordsStandFor v other more t → s ≡ t
+pub same_pair_state : (v : Version) (snap other : List ℕ) (records more : List (List ℕ)) (s t : BenchState) → snap ≡ other → records ≡ more → RecordsRepresent v snap records s → RecordsRepresent v other more t → s ≡ t
 same_pair_state v snap other records more s t e f a b =
     let same = same_list v snap other records more s t e f a b in
     a.state ∙ ap (fold a.start) same.1 ∙ ap (λ (x : BenchState). fold x b.commands) same.0 ∙ sym b.state
@@ -76,8 +76,8 @@ one_at xs r i e =
 pub one_more : {A : Type 0} (xs : List A) (r : A) (i : ℕ) → slice_get xs i ≡ Some r → take (i + 1) xs ≡ take i xs ++ r ∷ []
 one_more xs r i e = take_more xs i r (slice_get_within xs i r e) ∙ ap (λ v. take i xs ++ v ∷ []) (get_or_from_slice_get xs i r r e)
 
-pub no_pair : (v : Version) (snap : List ℕ) (records : List (List ℕ)) (r : List ℕ) (i : ℕ) (s t : BenchState) → slice_get records i ≡ Some r → RecordsStandFor v snap (take i records) s
-    → ((c : Command) → SpellsBy v r c → refusal s c ≡ None → ⊥) → RecordsStandFor v snap records t → ⊥
+pub no_pair : (v : Version) (snap : List ℕ) (records : List (List ℕ)) (r : List ℕ) (i : ℕ) (s t : BenchState) → slice_get records i ≡ Some r → RecordsRepresent v snap (take i records) s
+    → ((c : Command) → EncodesBy v r c → refusal s c ≡ None → ⊥) → RecordsRepresent v snap records t → ⊥
 no_pair v snap records r i s t e a none b =
     let start = same_start v snap b.start a.start b.snapshot a.snapshot in
     let replays : ReplaysCommands v a.start records b.commands = subst (λ (x : BenchState). ReplaysCommands v x records b.commands) start b.replays in
@@ -89,7 +89,7 @@ no_pair v snap records r i s t e a none b =
 -- ---- the cycle count of a log
 
 -- a log that begins with these records and the next one has at least their cycle count
-front_cycles : (v : Version) (s : BenchState) (rs : List (List ℕ)) (cs ds : List Command) (r : List ℕ) (c : Command) (more : List (List ℕ)) → ReplaysCommands v s rs cs → SpellsBy v r c → ReplaysCommands v s (rs ++ r ∷ more) ds
+front_cycles : (v : Version) (s : BenchState) (rs : List (List ℕ)) (cs ds : List Command) (r : List ℕ) (c : Command) (more : List (List ℕ)) → ReplaysCommands v s rs cs → EncodesBy v r c → ReplaysCommands v s (rs ++ r ∷ more) ds
     → log_cycles cs + replay_cycles c ≤ log_cycles ds
 front_cycles v s [] [] [] r c more h spells k = absurd k
 front_cycles v s [] [] (d ∷ ds) r c more h spells k =
@@ -107,20 +107,20 @@ front_cycles v s (q ∷ rs) (d ∷ cs) (e ∷ ds) r c more h spells k =
 
 -- if the cycles of the next command exceed the limit of a log, the records represent no state
 pub too_long : (v : Version) (snap : List ℕ) (records : List (List ℕ)) (r : List ℕ) (i cycles : ℕ) (s t : BenchState) (c : Command) → slice_get records i ≡ Some r → IsReplayed v snap (take i records) cycles s
-    → SpellsBy v r c → REPLAY_CYCLES < cycles + replay_cycles c → RecordsStandFor v snap records t → ⊥
+    → EncodesBy v r c → REPLAY_CYCLES < cycles + replay_cycles c → RecordsRepresent v snap records t → ⊥
 too_long v snap records r i cycles s t c e a spells over b =
-    let start = same_start v snap b.start a.stand.start b.snapshot a.stand.snapshot in
-    let replays : ReplaysCommands v a.stand.start records b.commands = subst (λ (x : BenchState). ReplaysCommands v x records b.commands) start b.replays in
+    let start = same_start v snap b.start a.records_represent.start b.snapshot a.records_represent.snapshot in
+    let replays : ReplaysCommands v a.records_represent.start records b.commands = subst (λ (x : BenchState). ReplaysCommands v x records b.commands) start b.replays in
     let split = one_at records r i e in
-    let whole : ReplaysCommands v a.stand.start (take i records ++ r ∷ split.0) b.commands = subst (λ (x : List (List ℕ)). ReplaysCommands v a.stand.start x b.commands) split.1 replays in
-    let least = front_cycles v a.stand.start (take i records) a.stand.commands b.commands r c (split.0) a.stand.replays spells whole in
+    let whole : ReplaysCommands v a.records_represent.start (take i records ++ r ∷ split.0) b.commands = subst (λ (x : List (List ℕ)). ReplaysCommands v a.records_represent.start x b.commands) split.1 replays in
+    let least = front_cycles v a.records_represent.start (take i records) a.records_represent.commands b.commands r c (split.0) a.records_represent.replays spells whole in
     let count = a.count in
     let bounded = b.bounded in
     let none : ⊥ = omega (arith, least, count, bounded, over) in none
 
 -- one more record, which encodes an accepted command, represents the state after the command
-unfoldable pub pair_more : (v : Version) (snap r : List ℕ) (records : List (List ℕ)) (s : BenchState) (c : Command) (p : RecordsStandFor v snap records s) → SpellsBy v r c → refusal s c ≡ None
-    → log_cycles p.commands + replay_cycles c ≤ REPLAY_CYCLES → RecordsStandFor v snap (records ++ r ∷ []) (after s c)
+unfoldable pub pair_more : (v : Version) (snap r : List ℕ) (records : List (List ℕ)) (s : BenchState) (c : Command) (p : RecordsRepresent v snap records s) → EncodesBy v r c → refusal s c ≡ None
+    → log_cycles p.commands + replay_cycles c ≤ REPLAY_CYCLES → RecordsRepresent v snap (records ++ r ∷ []) (after s c)
 pair_more v snap r records s c p spells accepted room = record {
   start = p.start;
   snapshot = p.snapshot;
@@ -130,23 +130,23 @@ pair_more v snap r records s c p spells accepted room = record {
   state = ap (λ (t : BenchState). after t c) p.state ∙ sym (fold-append p.start p.commands (c ∷ []));
 }
 
-pub replayed_more : (v : Version) (snap r : List ℕ) (records : List (List ℕ)) (cycles more : ℕ) (s : BenchState) (c : Command) → IsReplayed v snap records cycles s → SpellsBy v r c → refusal s c ≡ None
+pub replayed_more : (v : Version) (snap r : List ℕ) (records : List (List ℕ)) (cycles more : ℕ) (s : BenchState) (c : Command) → IsReplayed v snap records cycles s → EncodesBy v r c → refusal s c ≡ None
     → more ≡ replay_cycles c → cycles + more ≤ REPLAY_CYCLES → IsReplayed v snap (records ++ r ∷ []) (cycles + more) (after s c)
 unfolding pair_more
 replayed_more v snap r records cycles more s c p spells accepted is room =
     let count = p.count in
     record {
-      stand = pair_more v snap r records s c p.stand spells accepted (omega (arith, count, is, room));
-      count = let whole = sum_by_push replay_cycles p.stand.commands c in omega (arith, whole, count, is);
+      records_represent = pair_more v snap r records s c p.records_represent spells accepted (omega (arith, count, is, room));
+      count = let whole = sum_by_push replay_cycles p.records_represent.commands c in omega (arith, whole, count, is);
     }
 
 -- a snapshot without records is replayed in its own state, with a cycle count of 0
-pub replayed_none : (v : Version) (snap : List ℕ) (s : BenchState) → SpellsStateBy v snap s → IsReplayed v snap [] 0 s
+pub replayed_none : (v : Version) (snap : List ℕ) (s : BenchState) → EncodesStateBy v snap s → IsReplayed v snap [] 0 s
 replayed_none v snap s spells = record {
-  stand = record { start = s; snapshot = spells; commands = []; replays = tt; bounded = omega arith; state = refl };
+  records_represent = record { start = s; snapshot = spells; commands = []; replays = tt; bounded = omega arith; state = refl };
   count = refl;
 }
 
 -- records that represent a state have the version of their snapshot
-pub at_version : (v version : Version) (snap : List ℕ) (records : List (List ℕ)) (start s : BenchState) → SpellsStateBy version snap start → RecordsStandFor v snap records s → RecordsStandFor version snap records s
-at_version v version snap records start s spells pair = subst (λ w. RecordsStandFor w snap records s) (same_state snap v version pair.start start pair.snapshot spells).0 pair
+pub at_version : (v version : Version) (snap : List ℕ) (records : List (List ℕ)) (start s : BenchState) → EncodesStateBy version snap start → RecordsRepresent v snap records s → RecordsRepresent version snap records s
+at_version v version snap records start s spells pair = subst (λ w. RecordsRepresent w snap records s) (same_state snap v version pair.start start pair.snapshot spells).0 pair

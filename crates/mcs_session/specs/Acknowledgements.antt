@@ -6,7 +6,7 @@
 use Rattle.std.specs.Prelude.{◌≡◌, ◌+◌, ◌≤◌, ℕ, List, [], ◌∷◌, count_by, nat_le}
 use Rattle.mcs_disk.specs.Disk.{DiskState, bytes_of, time_of}
 use Rattle.mcs_model.specs.declared.command.Command.{Command}
-use Rattle.mcs_session.specs.Log.{LogHolds, log_after, ticks_of}
+use Rattle.mcs_session.specs.Log.{LogHolds, log_after, recording_ticks}
 
 -- The moments at which these commands are acknowledged, if they are recorded one after another. The
 -- clock and the log are those before the first command. Each moment is four ticks after the one
@@ -14,7 +14,7 @@ use Rattle.mcs_session.specs.Log.{LogHolds, log_after, ticks_of}
 abbrev pub moments_of : ℕ → List Command → List Command → List ℕ
 moments_of clock log [] = []
 moments_of clock log (c ∷ cs) =
-    (clock + ticks_of log c) ∷ moments_of (clock + ticks_of log c) (log_after log c) cs
+    (clock + recording_ticks log c) ∷ moments_of (clock + recording_ticks log c) (log_after log c) cs
 
 -- the last of these moments, or the clock if there are no moments
 abbrev pub last_moment : ℕ → List ℕ → ℕ

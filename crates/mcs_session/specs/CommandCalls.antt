@@ -1,15 +1,15 @@
 -- The results of a session's `apply` and `settle`, and the effect of both on the disk.
 use Rattle.std.specs.Prelude.{◌≡◌, ◌+◌, min, Bool, true, false, ℕ, List, None, Some, Result, Ok, Err}
-use Rattle.mcs_disk.specs.Disk.{DiskState, most_faults, bytes_of, time_of}
-use Rattle.mcs_disk.specs.Stretches.{Either, LeavesOnly}
+use Rattle.mcs_disk.specs.Disk.{DiskState, max_fault_count, bytes_of, time_of}
+use Rattle.mcs_disk.specs.Stretches.{SatisfiesEither, LeavesOnly}
 use Rattle.mcs_model.specs.declared.command.Command.{Command}
 use Rattle.mcs_model.specs.declared.command.Reply.{Reply}
 use Rattle.mcs_model.specs.BenchState.{BenchState}
 use Rattle.mcs_model.specs.Command.{refusal, after, reply}
 use Rattle.mcs_session.specs.declared.fault.SessionFault.{SessionFault}
 use Rattle.mcs_session.specs.declared.fault.SessionFault.TheVariants.{Refused, Device, Closed}
-use Rattle.mcs_session.specs.Log.{LogHolds, log_after, ticks_of}
-use Rattle.mcs_session.specs.StandsFor.{DiskStandsFor, HoldsState, StandsFor}
+use Rattle.mcs_session.specs.Log.{LogHolds, log_after, recording_ticks}
+use Rattle.mcs_session.specs.Represents.{DiskRepresents, HoldsState, Represents}
 
 -- ---- `apply`
 
@@ -29,7 +29,7 @@ abbrev pub ClosesAtDeviceFault : {T : Type 0} → Bool → ℕ → Result T Sess
 ClosesAtDeviceFault live faults (Ok r) new_live new_faults =
     (new_live ≡ live) × (new_faults ≡ faults)
 ClosesAtDeviceFault live faults (Err Device) new_live new_faults =
-    (new_live ≡ false) × (new_faults ≡ min (faults + 1) most_faults)
+    (new_live ≡ false) × (new_faults ≡ min (faults + 1) max_fault_count)
 ClosesAtDeviceFault live faults (Err fault) new_live new_faults =
     (new_live ≡ live) × (new_faults ≡ faults)
 
@@ -37,18 +37,18 @@ ClosesAtDeviceFault live faults (Err fault) new_live new_faults =
 -- of the two bench states
 abbrev pub LeavesEitherState : DiskState → DiskState → BenchState → BenchState → Type 0
 LeavesEitherState old new s other =
-    LeavesOnly old new (Either (λ file. StandsFor file s) (λ file. StandsFor file other))
+    LeavesOnly old new (SatisfiesEither (λ file. Represents file s) (λ file. Represents file other))
 
 -- Holds if a command was acknowledged. Until then, a power cut leaves the state before the command
 -- or the state after it. From then on, a power cut leaves the state after it. The log now has the
--- command's record, which took `ticks_of` ticks.
+-- command's record, which took `recording_ticks` ticks.
 pub record AcknowledgesCommand (old new : DiskState) (s : BenchState) (c : Command) : Type 0 where
   pub leaves : LeavesEitherState old new s (after s c)
   pub log : List Command
   pub held : LogHolds (bytes_of old) log
-  pub ticks : time_of new ≡ time_of old + ticks_of log c
+  pub ticks : time_of new ≡ time_of old + recording_ticks log c
   pub holds : LogHolds (bytes_of new) (log_after log c)
-  pub stands : DiskStandsFor new (after s c)
+  pub represents : DiskRepresents new (after s c)
 
 -- the effect of a command on an honest disk, for each result of the command
 abbrev pub RecordsOrFails : Result Reply SessionFault → DiskState → DiskState → BenchState
@@ -70,21 +70,21 @@ MayAnswerSettle live result = ⊥
 -- holds if a power cut at any moment between the two disk states leaves a file that represents this
 -- bench state
 abbrev pub KeepsState : DiskState → DiskState → BenchState → Type 0
-KeepsState old new s = LeavesOnly old new (λ file. StandsFor file s)
+KeepsState old new s = LeavesOnly old new (λ file. Represents file s)
 
 -- Holds if `settle` succeeded. The bytes of the disk `old` represented this state. Four ticks
 -- later, the disk `new` holds a snapshot of the state and no records. A power cut at any moment in
 -- between leaves this state.
 pub record SettlesSession (old new : DiskState) (s : BenchState) : Type 0 where
-  pub stood : StandsFor (bytes_of old) s
+  pub represented_before : Represents (bytes_of old) s
   pub holds : HoldsState (bytes_of new) s
   pub leaves : KeepsState old new s
   pub ticks : time_of new ≡ time_of old + 4
-  pub stands : DiskStandsFor new s
+  pub represents : DiskRepresents new s
 
 -- the effect of `settle` on an honest disk, for each result of the call
 abbrev pub SettlesOrFails : {T : Type 0} → Result T SessionFault → DiskState → DiskState
     → BenchState → Type 0
 SettlesOrFails (Ok x) old new s = SettlesSession old new s
-SettlesOrFails (Err Device) old new s = StandsFor (bytes_of old) s × KeepsState old new s
+SettlesOrFails (Err Device) old new s = Represents (bytes_of old) s × KeepsState old new s
 SettlesOrFails (Err fault) old new s = new.calls ≡ old.calls

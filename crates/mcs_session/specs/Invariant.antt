@@ -2,7 +2,7 @@
 use Rattle.std.specs.Prelude.{◌≡◌, ◌+◌, ◌≤◌, ℕ, List, [], Bool, IsTrue, Result, length, if◌then◌else◌}
 use Rattle.mcs_disk.specs.Disk.{DiskState, bytes_of, time_of}
 use Rattle.mcs_disk.specs.Changes.{Changes}
-use Rattle.mcs_disk.specs.Stretches.{Either, LeavesOnly}
+use Rattle.mcs_disk.specs.Stretches.{SatisfiesEither, LeavesOnly}
 use Rattle.mcs_disk.specs.PowerCut.{IsDurable}
 use Rattle.mcs_journal.specs.File.{Holds}
 use Rattle.mcs_journal.specs.declared.format.TheConstants.{MOST_RECORD, MOST_SNAPSHOT}
@@ -11,21 +11,21 @@ use Rattle.mcs_model.specs.BenchState.{BenchState}
 use Rattle.mcs_model.specs.declared.command.Command.{Command}
 use Rattle.mcs_codec.specs.declared.versions.Version.{Version}
 use Rattle.mcs_session.specs.Cycles.{log_cycles}
-use Rattle.mcs_session.specs.Log.{LogHolds, has_room_for, ticks_of}
-use Rattle.mcs_session.specs.StandsFor.{HoldsState, RecordsStandFor, StandsFor}
+use Rattle.mcs_session.specs.Log.{LogHolds, has_room_for, recording_ticks}
+use Rattle.mcs_session.specs.Represents.{HoldsState, RecordsRepresent, Represents}
 
 -- The invariant of the honest disk of an open session. The disk is durable, and its bytes represent
 -- the state `s` of the bench. `cycles` is the cycle count of its log.
 pub record IsRecorded (disk : DiskState) (cycles : ℕ) (s : BenchState) : Type 0 where
   pub durable : IsDurable disk
-  pub stands : StandsFor (bytes_of disk) s
-  pub count : cycles ≡ log_cycles stands.stand.commands
+  pub represents : Represents (bytes_of disk) s
+  pub count : cycles ≡ log_cycles represents.records_represent.commands
 
 -- holds if the buffers have the sizes of a record and of a snapshot, and the cycle count is within
 -- the limit of a log
 pub record IsReady (cycles : ℕ) (payload snapshot : List ℕ) : Type 0 where
-  pub payload_lent : length payload ≡ MOST_RECORD
-  pub snapshot_lent : length snapshot ≡ MOST_SNAPSHOT
+  pub payload_size : length payload ≡ MOST_RECORD
+  pub snapshot_size : length snapshot ≡ MOST_SNAPSHOT
   pub within : cycles ≤ REPLAY_CYCLES
 
 -- The invariant of a session. Its buffers are ready (`IsReady`). If the session is open and its
@@ -41,8 +41,8 @@ pub record IsSession
 pub record IsReplayed
     (version : Version) (snap : List ℕ) (records : List (List ℕ)) (cycles : ℕ)
     (s : BenchState) : Type 0 where
-  pub stand : RecordsStandFor version snap records s
-  pub count : cycles ≡ log_cycles stand.commands
+  pub records_represent : RecordsRepresent version snap records s
+  pub count : cycles ≡ log_cycles records_represent.commands
 
 -- Holds if the log has room for the record of the command `c`. If there was room before, no ticks
 -- have passed. Otherwise, a snapshot of the state replaced all records in four ticks. The disk
@@ -50,7 +50,7 @@ pub record IsReplayed
 pub record HasMadeRoom (old new : DiskState) (c : Command) (cycles : ℕ) (s : BenchState) : Type 0 where
   pub log : List Command
   pub held : LogHolds (bytes_of old) log
-  pub ticks : time_of new + 4 ≡ time_of old + ticks_of log c
+  pub ticks : time_of new + 4 ≡ time_of old + recording_ticks log c
   pub holds : LogHolds (bytes_of new) (if has_room_for log c then log else [])
   pub recorded : IsRecorded new cycles s
 
@@ -64,7 +64,7 @@ pub record HasContents (disk : DiskState) : Type 0 where
 -- and records, or a snapshot of this bench state and no records.
 abbrev pub MayReplaceContents : DiskState → DiskState → List ℕ → List (List ℕ) → BenchState → Type 0
 MayReplaceContents old new snap records s =
-    LeavesOnly old new (Either (λ c. Holds c snap records) (λ c. HoldsState c s))
+    LeavesOnly old new (SatisfiesEither (λ c. Holds c snap records) (λ c. HoldsState c s))
 
 -- holds if the contents were replaced: `MayReplaceContents` holds, and the disk `new` is durable
 -- and holds a snapshot of this state and no records
@@ -76,19 +76,19 @@ pub record ReplacedContents
 
 -- holds if a call that returns Ok replaces whatever the disk holds with a snapshot of this state,
 -- in four ticks
-abbrev pub ReplacesWhatIsHeld : {T E : Type 0} → DiskState → DiskState → BenchState → Result T E → Type 0
-ReplacesWhatIsHeld old new s result =
+abbrev pub ReplacesAnyContents : {T E : Type 0} → DiskState → DiskState → BenchState → Result T E → Type 0
+ReplacesAnyContents old new s result =
     (snap : List ℕ) (records : List (List ℕ)) → Holds (bytes_of old) snap records
     → Changes 4 old new (λ c. Holds c snap records) (λ c. HoldsState c s) result
 
 -- holds if `MayReplaceContents` holds for whatever snapshot and records the disk held
-abbrev pub MayReplaceWhatIsHeld : DiskState → DiskState → BenchState → Type 0
-MayReplaceWhatIsHeld old new s =
+abbrev pub MayReplaceAnyContents : DiskState → DiskState → BenchState → Type 0
+MayReplaceAnyContents old new s =
     (snap : List ℕ) (records : List (List ℕ)) → Holds (bytes_of old) snap records
     → MayReplaceContents old new snap records s
 
 -- holds if `ReplacedContents` holds for whatever snapshot and records the disk held
-abbrev pub ReplacedWhatWasHeld : DiskState → DiskState → BenchState → Type 0
-ReplacedWhatWasHeld old new s =
+abbrev pub ReplacedAnyContents : DiskState → DiskState → BenchState → Type 0
+ReplacedAnyContents old new s =
     (snap : List ℕ) (records : List (List ℕ)) → Holds (bytes_of old) snap records
     → ReplacedContents old new snap records s

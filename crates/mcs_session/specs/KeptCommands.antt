@@ -7,7 +7,7 @@ use Rattle.mcs_model.specs.Fold.{AreAccepted, fold}
 use Rattle.mcs_session.specs.Acknowledgements.{Acknowledgements, acknowledged_by, last_moment}
 use Rattle.mcs_session.specs.Log.{LogHolds, log_after_all}
 use Rattle.mcs_session.specs.SessionState.{Premise, SessionState}
-use Rattle.mcs_session.specs.StandsFor.{StandsFor}
+use Rattle.mcs_session.specs.Represents.{Represents}
 
 -- ---- prefixes
 
@@ -22,10 +22,10 @@ pub record IsAfterPrefix
 
 -- holds if the file represents a state after a prefix of these commands, as `IsAfterPrefix` defines
 -- it
-pub record StandsForPrefix
+pub record RepresentsPrefix
     (s : BenchState) (commands : List Command) (least : ℕ) (file : List ℕ) : Type 0 where
   pub state : BenchState
-  pub stands : StandsFor file state
+  pub represents : Represents file state
   pub after : IsAfterPrefix s commands least state
 
 -- ---- a run
@@ -43,7 +43,7 @@ pub record KeepsCommands
   -- each image that a power cut since `time` can leave represents the state after a prefix; the
   -- prefix has every command that was acknowledged by `time`
   pub each : (time : ℕ) (image : List ℕ) → time_of old ≤ time → images_since time new image
-      → StandsForPrefix s reached (acknowledged_by time acknowledged.moments) image
+      → RepresentsPrefix s reached (acknowledged_by time acknowledged.moments) image
   pub later : IsLater old new
 
 -- `KeepsCommands` for a run in which no call failed. At the end, the disk's clock is at the last of

@@ -1,6 +1,6 @@
 pub mod Cycles
 pub mod Version1
-pub mod StandsFor
+pub mod Represents
 pub mod Log
 pub mod Acknowledgements
 pub mod SessionState

@@ -6,13 +6,13 @@ use Rattle.mcs_model.specs.declared.command.Command.{Command}
 use Rattle.mcs_model.specs.declared.limits.TheConstants.{REPLAY_CYCLES}
 use Rattle.mcs_model.specs.BenchState.{BenchState}
 use Rattle.mcs_session.specs.Cycles.{log_cycles}
-use Rattle.mcs_session.specs.StandsFor.{StandsFor}
+use Rattle.mcs_session.specs.Represents.{Represents}
 
 -- holds if the file represents some state, and `log` is the list of commands in its log
 pub record LogHolds (file : List ℕ) (log : List Command) : Type 0 where
   pub state : BenchState
-  pub stands : StandsFor file state
-  pub commands : log ≡ stands.stand.commands
+  pub represents : Represents file state
+  pub commands : log ≡ represents.records_represent.commands
 
 -- true if a log of these commands has room for the record and for the cycles of the command `c`
 abbrev pub has_room_for : List Command → Command → Bool
@@ -31,5 +31,5 @@ log_after_all log [] = log
 log_after_all log (c ∷ cs) = log_after_all (log_after log c) cs
 
 -- the number of ticks of the disk's clock that it takes to record a command
-abbrev pub ticks_of : List Command → Command → ℕ
-ticks_of log c = if has_room_for log c then 4 else 8
+abbrev pub recording_ticks : List Command → Command → ℕ
+recording_ticks log c = if has_room_for log c then 4 else 8

@@ -4,21 +4,21 @@ use Rattle.mcs_journal.specs.File.{IsNoSession}
 use Rattle.mcs_journal.specs.declared.fault.StoreFault.{StoreFault}
 use Rattle.mcs_journal.specs.declared.fault.StoreFault.TheVariants as store_fault
 use Rattle.mcs_model.specs.BenchState.{BenchState}
-use Rattle.mcs_session.specs.StandsFor.{DiskStandsFor, StandsByEither}
+use Rattle.mcs_session.specs.Represents.{DiskRepresents, RepresentsInEitherVersion}
 
 -- Holds if `open` succeeded with the state `s`. The bytes of the disk `old` represented this state,
 -- in either version. Each image that a power cut can leave on the disk `new` represents it in
 -- version 2.
 pub record OpensSession (old new : DiskState) (s : BenchState) : Type 0 where
-  pub stood : StandsByEither (bytes_of old) s
-  pub stands : DiskStandsFor new s
+  pub represented_before : RepresentsInEitherVersion (bytes_of old) s
+  pub represents : DiskRepresents new s
 
 -- What an error of `open` guarantees about the disk: its bytes are not a session file, or they
 -- represent no state. After a lack of memory or a device fault, nothing is guaranteed.
-abbrev pub RefusesSession : StoreFault → DiskState → Type 0
-RefusesSession store_fault.NotASession disk = IsNoSession disk
-RefusesSession store_fault.Damaged disk =
-    ¬ (IsNoSession disk) × ((s : BenchState) → ¬ (StandsByEither (bytes_of disk) s))
-RefusesSession store_fault.Device disk = Unit {0}
-RefusesSession store_fault.NoMemory disk = Unit {0}
-RefusesSession store_fault.NotBlank disk = ⊥
+abbrev pub SessionErrorImplies : StoreFault → DiskState → Type 0
+SessionErrorImplies store_fault.NotASession disk = IsNoSession disk
+SessionErrorImplies store_fault.Damaged disk =
+    ¬ (IsNoSession disk) × ((s : BenchState) → ¬ (RepresentsInEitherVersion (bytes_of disk) s))
+SessionErrorImplies store_fault.Device disk = Unit {0}
+SessionErrorImplies store_fault.NoMemory disk = Unit {0}
+SessionErrorImplies store_fault.NotBlank disk = ⊥

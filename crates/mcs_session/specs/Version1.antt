@@ -1,6 +1,6 @@
 -- The state that a file of version 1 represents, according to the definitions of version 1.
 use Rattle.std.specs.Prelude.{◌≡◌, ◌≤◌, ℕ, true, List, [], ◌∷◌, None}
-use Rattle.mcs_codec.specs.Codec.{Spells, SpellsState1}
+use Rattle.mcs_codec.specs.Codec.{Encodes, EncodesState1}
 use Rattle.mcs_journal.specs.File.{Holds}
 use Rattle.mcs_model.specs.declared.command.Command.{Command}
 use Rattle.mcs_model.specs.declared.limits.TheConstants.{REPLAY_CYCLES}
@@ -18,24 +18,24 @@ ReplaysCommands1 s [] [] = Unit {0}
 ReplaysCommands1 s [] (c ∷ cs) = ⊥
 ReplaysCommands1 s (r ∷ rs) [] = ⊥
 ReplaysCommands1 s (r ∷ rs) (c ∷ cs) =
-    (Spells r c × (in_version_1 c ≡ true)) × (refusal_1 s c ≡ None)
+    (Encodes r c × (in_version_1 c ≡ true)) × (refusal_1 s c ≡ None)
     × ReplaysCommands1 (after_1 s c) rs cs
 
 -- holds if a snapshot and the records after it represent the version 1 state `s`
-pub record RecordsStandFor1
+pub record RecordsRepresent1
     (snap : List ℕ) (records : List (List ℕ)) (s : BenchState1) : Type 0 where
   pub start : BenchState1
-  pub snapshot : SpellsState1 snap start
+  pub snapshot : EncodesState1 snap start
   pub commands : List Command
   pub replays : ReplaysCommands1 start records commands
   pub bounded : log_cycles commands ≤ REPLAY_CYCLES
   pub state : s ≡ fold_1 start commands
 
 -- holds if a file of version 1 represents a state that `lift` converts to the state `s`
-pub record StandsForLifted (file : List ℕ) (s : BenchState) : Type 0 where
+pub record RepresentsConverted (file : List ℕ) (s : BenchState) : Type 0 where
   pub snap : List ℕ
   pub records : List (List ℕ)
   pub holds : Holds file snap records
   pub version_1 : BenchState1
-  pub stand : RecordsStandFor1 snap records version_1
+  pub records_represent : RecordsRepresent1 snap records version_1
   pub lifted : s ≡ lift version_1

@@ -8,24 +8,24 @@ ghost use Rattle.mcs_model.specs.declared.command.Command.{Command};
 ghost use Rattle.mcs_model.specs.BenchState.{BenchState};
 ghost use Rattle.mcs_model.specs.Fold.{fold};
 ghost use Rattle.mcs_session.specs.Acknowledgements.{acknowledged_by};
-ghost use Rattle.mcs_session.specs.SessionCalls.{MigratesSession, RefusalLeaves};
-ghost use Rattle.mcs_session.specs.Opening.{OpensSession, RefusesSession};
-ghost use Rattle.mcs_session.specs.KeptCommands.{IsAfterPrefix, KeepsCommands, StandsForPrefix};
-ghost use Rattle.mcs_session.specs.StandsFor.{HoldsState, DiskStandsForLifted, StandsByEither, StandsFor, DiskStandsSince};
+ghost use Rattle.mcs_session.specs.SessionCalls.{MigratesSession, FailedOpenLeaves};
+ghost use Rattle.mcs_session.specs.Opening.{OpensSession, SessionErrorImplies};
+ghost use Rattle.mcs_session.specs.KeptCommands.{IsAfterPrefix, KeepsCommands, RepresentsPrefix};
+ghost use Rattle.mcs_session.specs.Represents.{HoldsState, DiskRepresentsConverted, RepresentsInEitherVersion, Represents, DiskRepresentsSince};
 
 use mcs_disk::Disk;
 use mcs_journal::StoreFault;
 
 /// Shows that a file represents at most one state, in whichever version.
-pub fn file_stands_for_one_state()
+pub fn file_represents_one_state()
     ensures { (file : List ℕ) (s other : BenchState)
-        → StandsByEither file s → StandsByEither file other → s ≡ other }
+        → RepresentsInEitherVersion file s → RepresentsInEitherVersion file other → s ≡ other }
 {}
 
 /// Shows the state of a session that is opened after a power cut during a run, at time `time` or
 /// later. It is the state after a prefix of the commands that can have reached the disk. The prefix
 /// includes each command that was acknowledged by `time`.
-pub fn reopened_bench_holds_what_was_acknowledged<D: Disk, E: Disk>()
+pub fn reopened_session_has_acknowledged_commands<D: Disk, E: Disk>()
     ensures { (time : ℕ) (old new : D) (found opened : E) (s state : BenchState)
         (done reached : List Command)
         (kept : KeepsCommands (D.state old) (D.state new) s done reached)
@@ -37,33 +37,33 @@ pub fn reopened_bench_holds_what_was_acknowledged<D: Disk, E: Disk>()
 
 /// Shows that the disk that a power cut during a run left can be opened. Only a lack of memory or a
 /// device fault can prevent this.
-pub fn what_a_power_cut_left_is_opened<D: Disk, E: Disk>()
+pub fn disk_left_by_cut_can_be_opened<D: Disk, E: Disk>()
     ensures { (time : ℕ) (old new : D) (found : E) (s : BenchState) (done reached : List Command)
         (fault : StoreFault)
         → KeepsCommands (D.state old) (D.state new) s done reached → time_of (D.state old) ≤ time
-        → IsLeftByCut time (D.state new) (E.state found) → RefusesSession fault (E.state found)
+        → IsLeftByCut time (D.state new) (E.state found) → SessionErrorImplies fault (E.state found)
         → (fault ≡ StoreFault.Device) ⊎ (fault ≡ StoreFault.NoMemory) }
 {}
 
 /// Shows that a power cut at any moment after a command was acknowledged leaves a disk that keeps
 /// the command and all commands before it.
-pub fn since_an_acknowledgement_its_commands_are_kept<D: Disk>()
+pub fn acknowledged_commands_are_kept<D: Disk>()
     ensures { (old new : D) (s : BenchState) (done reached : List Command)
         (kept : KeepsCommands (D.state old) (D.state new) s done reached)
         (j moment : ℕ) (image : List ℕ)
         → slice_get kept.acknowledged.moments j ≡ Some moment → images_since moment (D.state new) image
-        → StandsForPrefix s reached (j + 1) image }
+        → RepresentsPrefix s reached (j + 1) image }
 {}
 
 /// Shows that a power cut at the end of a run leaves a disk that keeps all acknowledged commands.
 /// If no call failed, that disk represents the state after all commands.
-pub fn at_the_end_all_is_kept<D: Disk>()
+pub fn run_end_keeps_all_commands<D: Disk>()
     ensures acknowledged { (old new : D) (s : BenchState) (done reached : List Command)
         (image : List ℕ) → KeepsCommands (D.state old) (D.state new) s done reached
-        → images_of (D.state new) image → StandsForPrefix s reached (length done) image }
+        → images_of (D.state new) image → RepresentsPrefix s reached (length done) image }
     ensures whole { (old new : D) (s : BenchState) (commands : List Command) (image : List ℕ)
         → KeepsCommands (D.state old) (D.state new) s commands commands → images_of (D.state new) image
-        → StandsFor image (fold s commands) }
+        → Represents image (fold s commands) }
 {}
 
 /// Shows that opening a session of version 1 keeps its state. The disk must be honest.
@@ -72,13 +72,13 @@ pub fn at_the_end_all_is_kept<D: Disk>()
 /// that a power cut can leave since the start of the call represents that state, in either version.
 /// This also holds if the call fails, be it before, during or after its writes. Once the session is
 /// open, the disk holds a snapshot of version 2 and no records.
-pub fn a_file_of_version_1_keeps_its_state<D: Disk>()
+pub fn version_1_file_keeps_its_state<D: Disk>()
     ensures opened { (old new : D) (s state : BenchState) → (D.state old).honest
-        → DiskStandsForLifted (D.state old) s → OpensSession (D.state old) (D.state new) state
+        → DiskRepresentsConverted (D.state old) s → OpensSession (D.state old) (D.state new) state
         → MigratesSession (D.state old) (D.state new) state
         → (state ≡ s) × (HoldsState (bytes_of (D.state new)) s
-        × DiskStandsSince (time_of (D.state old)) (D.state new) s) }
+        × DiskRepresentsSince (time_of (D.state old)) (D.state new) s) }
     ensures refused { (old new : D) (s : BenchState) (fault : StoreFault) → (D.state old).honest
-        → DiskStandsForLifted (D.state old) s → RefusalLeaves fault (D.state old) (D.state new)
-        → DiskStandsSince (time_of (D.state old)) (D.state new) s }
+        → DiskRepresentsConverted (D.state old) s → FailedOpenLeaves fault (D.state old) (D.state new)
+        → DiskRepresentsSince (time_of (D.state old)) (D.state new) s }
 {}

@@ -1,9 +1,9 @@
 //! The log of a session: the records of its commands. If the log has no room for one more record, a
 //! snapshot replaces all records.
 ghost use Rattle.std.specs.Prelude.{◌≡◌, ◌+◌, ◌≤◌, None, IfOk, IsErr, IsTrue, OnOk, is_ok, length, take};
-ghost use Rattle.mcs_codec.specs.Codec.{Spells, SpellsState};
+ghost use Rattle.mcs_codec.specs.Codec.{Encodes, EncodesState};
 ghost use Rattle.mcs_codec.specs.CommandBytes.{command_bytes};
-ghost use Rattle.mcs_disk.specs.CallList.{OneUnsynced};
+ghost use Rattle.mcs_disk.specs.CallList.{AtMostOneUnsynced};
 ghost use Rattle.mcs_disk.specs.Stretches.{LeavesOnly};
 ghost use Rattle.mcs_disk.specs.Disk.{CountsFault};
 ghost use Rattle.mcs_journal.specs.File.{HasRoom};
@@ -11,8 +11,8 @@ ghost use Rattle.mcs_model.specs.Command.{after, refusal};
 ghost use Rattle.mcs_model.specs.declared.command.Command.{Command};
 ghost use Rattle.mcs_session.specs.Cycles.{replay_cycles};
 ghost use Rattle.mcs_session.specs.CommandCalls.{AcknowledgesCommand, LeavesEitherState};
-ghost use Rattle.mcs_session.specs.Invariant.{HasMadeRoom, IsReady, IsRecorded, ReplacesWhatIsHeld};
-ghost use Rattle.mcs_session.specs.StandsFor.{StandsFor};
+ghost use Rattle.mcs_session.specs.Invariant.{HasMadeRoom, IsReady, IsRecorded, ReplacesAnyContents};
+ghost use Rattle.mcs_session.specs.Represents.{Represents};
 
 use crate::replaying::replay_cycles;
 use mcs_bench::Bench;
@@ -48,8 +48,8 @@ pub(crate) fn log_buffers(alloc: Global) -> Result<(Vec<u8>, Vec<u8>), AllocErro
 /// Encodes a command at the start of a buffer, and returns the number of bytes that it wrote.
 fn encode_command(payload: &mut Vec<u8>, command: &Command) -> usize
     requires { length payload.old.items ≡ MOST_RECORD }
-    ensures lent { length payload.new.items ≡ MOST_RECORD }
-    ensures spells { Spells (take result payload.new.items) command.now }
+    ensures buffer_size { length payload.new.items ≡ MOST_RECORD }
+    ensures spells { Encodes (take result payload.new.items) command.now }
     ensures count { result ≡ length (command_bytes command.now) }
     ensures record { (1 ≤ result) × (result ≤ MOST_RECORD) }
 {
@@ -60,9 +60,9 @@ fn encode_command(payload: &mut Vec<u8>, command: &Command) -> usize
 /// snapshot.
 pub(crate) fn encode_state(snapshot: &mut Vec<u8>, bench: &Bench) -> usize
     requires { length snapshot.old.items ≡ MOST_SNAPSHOT }
-    ensures lent { length snapshot.new.items ≡ MOST_SNAPSHOT }
-    ensures spells { SpellsState (take result snapshot.new.items) bench.now }
-    ensures short { result ≤ MOST_SNAPSHOT }
+    ensures buffer_size { length snapshot.new.items ≡ MOST_SNAPSHOT }
+    ensures spells { EncodesState (take result snapshot.new.items) bench.now }
+    ensures within_limit { result ≤ MOST_SNAPSHOT }
 {
     state_bytes(bench, snapshot.as_mut_slice())
 }
@@ -76,13 +76,13 @@ impl<D: Disk + Drop> CommandLog<D> {
         ensures live { self.new.store.live ≡ is_ok result }
         ensures counts { CountsFault (D.state self.old.store.disk) (D.state self.new.store.disk)
             (IsErr result) }
-        ensures one_unsynced { OneUnsynced (D.state self.old.store.disk).calls
+        ensures one_unsynced { AtMostOneUnsynced (D.state self.old.store.disk).calls
             (D.state self.new.store.disk).calls }
         ensures payload { self.new.payload ≡ self.old.payload }
         ensures used { OnOk result ((self.new.store.used ≡ 0) × (self.new.cycles ≡ 0)) }
         ensures ready { IsReady self.new.cycles self.new.payload.items self.new.snapshot.items }
         ensures replaces { (D.state self.old.store.disk).honest
-            → ReplacesWhatIsHeld (D.state self.old.store.disk) (D.state self.new.store.disk)
+            → ReplacesAnyContents (D.state self.old.store.disk) (D.state self.new.store.disk)
             bench.now result }
     {
         let length = encode_state(&mut self.snapshot, bench);
@@ -106,7 +106,7 @@ impl<D: Disk + Drop> CommandLog<D> {
         ensures live { self.new.store.live ≡ is_ok result }
         ensures counts { CountsFault (D.state self.old.store.disk) (D.state self.new.store.disk)
             (IsErr result) }
-        ensures one_unsynced { OneUnsynced (D.state self.old.store.disk).calls
+        ensures one_unsynced { AtMostOneUnsynced (D.state self.old.store.disk).calls
             (D.state self.new.store.disk).calls }
         ensures payload { self.new.payload ≡ self.old.payload }
         ensures ready { IsReady self.new.cycles self.new.payload.items self.new.snapshot.items }
@@ -115,7 +115,7 @@ impl<D: Disk + Drop> CommandLog<D> {
         ensures moments { (D.state self.old.store.disk).honest
             → IsRecorded (D.state self.old.store.disk) self.old.cycles bench.now
             → LeavesOnly (D.state self.old.store.disk) (D.state self.new.store.disk)
-            (λ file. StandsFor file bench.now) }
+            (λ file. Represents file bench.now) }
         ensures made { (D.state self.old.store.disk).honest
             → IsRecorded (D.state self.old.store.disk) self.old.cycles bench.now
             → (c : Command) → count ≡ length (command_bytes c) → more ≡ replay_cycles c
@@ -137,7 +137,7 @@ impl<D: Disk + Drop> CommandLog<D> {
         ensures live { self.new.store.live ≡ is_ok result }
         ensures counts { CountsFault (D.state self.old.store.disk) (D.state self.new.store.disk)
             (IsErr result) }
-        ensures one_unsynced { OneUnsynced (D.state self.old.store.disk).calls
+        ensures one_unsynced { AtMostOneUnsynced (D.state self.old.store.disk).calls
             (D.state self.new.store.disk).calls }
         ensures ready { IsReady self.new.cycles self.new.payload.items self.new.snapshot.items }
         ensures moments { (D.state self.old.store.disk).honest

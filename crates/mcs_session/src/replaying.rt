@@ -3,7 +3,7 @@ ghost use Rattle.std.specs.Prelude.{◌≡◌, IfOk, IfSome, IfNone};
 ghost use Rattle.mcs_model.specs.BenchState.{BenchState};
 ghost use Rattle.mcs_session.specs.Invariant.{IsReplayed};
 ghost use Rattle.mcs_session.specs.Cycles.{replay_cycles};
-ghost use Rattle.mcs_session.specs.StandsFor.{RecordsStandFor};
+ghost use Rattle.mcs_session.specs.Represents.{RecordsRepresent};
 
 use mcs_bench::Bench;
 use mcs_codec::{Version, command_of, versioned_bench_of};
@@ -43,7 +43,7 @@ pub(crate) fn replay(
     ensures some { IfOk result (λ found.
         IfSome found (λ r. IsReplayed r.version snap.now records.now r.cycles r.bench)) }
     ensures none { IfOk result (λ found.
-        IfNone found ((v : Version) (s : BenchState) → RecordsStandFor v snap.now records.now s → ⊥)) }
+        IfNone found ((v : Version) (s : BenchState) → RecordsRepresent v snap.now records.now s → ⊥)) }
 {
     let (version, mut bench) = match versioned_bench_of(alloc, snap) {
         Ok(Some(read)) => read,

@@ -1,15 +1,15 @@
 //! A session: a bench that records its commands on a disk.
 ghost use Rattle.std.specs.Prelude.{◌≡◌, ◌≢◌, ◌⊎◌, ◌↔◌, IsTrue, true, false, IsErrAnd, IfOk, IfErr};
 ghost use Rattle.mcs_disk.specs.Disk.{bytes_of, size_of, CountsFault};
-ghost use Rattle.mcs_disk.specs.CallList.{OneUnsynced, unsynced};
+ghost use Rattle.mcs_disk.specs.CallList.{AtMostOneUnsynced, unsynced_writes};
 ghost use Rattle.mcs_disk.specs.Stretches.{WritesNothing};
-ghost use Rattle.mcs_journal.specs.StoreCalls.{IsCreateFault, IsOpenFault, RefusesCreate};
+ghost use Rattle.mcs_journal.specs.StoreCalls.{IsCreateFault, IsOpenFault, CreateErrorImplies};
 ghost use Rattle.mcs_model.specs.BenchState.{new_bench_state};
-ghost use Rattle.mcs_session.specs.StandsFor.{StandsFor, DiskStandsFor};
+ghost use Rattle.mcs_session.specs.Represents.{Represents, DiskRepresents};
 ghost use Rattle.mcs_session.specs.CommandCalls.{AppliesCommand, ClosesAtDeviceFault, MayAnswerSettle, RecordsOrFails, SettlesOrFails};
-ghost use Rattle.mcs_session.specs.SessionCalls.{CreatesSession, MigratesSession, RefusalLeaves};
-ghost use Rattle.mcs_session.specs.Opening.{OpensSession, RefusesSession};
-ghost use Rattle.mcs_session.specs.Invariant.{HasContents, IsReady, IsRecorded, MayReplaceWhatIsHeld, ReplacedWhatWasHeld};
+ghost use Rattle.mcs_session.specs.SessionCalls.{CreatesSession, MigratesSession, FailedOpenLeaves};
+ghost use Rattle.mcs_session.specs.Opening.{OpensSession, SessionErrorImplies};
+ghost use Rattle.mcs_session.specs.Invariant.{HasContents, IsReady, IsRecorded, MayReplaceAnyContents, ReplacedAnyContents};
 
 use crate::fault::SessionFault;
 use crate::recording::{CommandLog, encode_state, log_buffers};
@@ -56,27 +56,27 @@ impl<D: Disk + Drop> Session<D> {
         ensures open { IfOk result (λ s. IsTrue s.live) }
         ensures new { IfOk result (λ s. s.state ≡ new_bench_state) }
         ensures counts { IfOk result (λ s. CountsFault (D.state disk) (D.state s.disk) ⊥) }
-        ensures refusal_counts { IfErr result (λ refused.
+        ensures error_counts_fault { IfErr result (λ refused.
             CountsFault (D.state disk) (D.state refused.1) (refused.0 ≡ StoreFault.Device)) }
         ensures no_memory { IfErr result (λ refused.
             refused.0 ≡ StoreFault.NoMemory → refused.1 ≡ disk) }
-        ensures cases { IfErr result (λ refused. IsCreateFault refused.0) }
-        ensures unwritten { IfErr result (λ refused. refused.0 ≢ StoreFault.Device
+        ensures possible_errors { IfErr result (λ refused. IsCreateFault refused.0) }
+        ensures writes_nothing { IfErr result (λ refused. refused.0 ≢ StoreFault.Device
             → WritesNothing (D.state disk) (D.state refused.1)) }
         ensures wrong_size { size_of (D.state disk) ≢ FILE_SIZE → IsErrAnd result (λ refused.
             ((refused.0 ≡ StoreFault.NotBlank) ⊎ (refused.0 ≡ StoreFault.NoMemory))
             × (refused.1 ≡ disk)) }
-        ensures one_unsynced { unsynced (D.state disk).calls ≡ 0
-            → IfOk result (λ s. OneUnsynced (D.state disk).calls (D.state s.disk).calls) }
-        ensures refused_one_unsynced { unsynced (D.state disk).calls ≡ 0
-            → IfErr result (λ refused. OneUnsynced (D.state disk).calls
+        ensures one_unsynced { unsynced_writes (D.state disk).calls ≡ 0
+            → IfOk result (λ s. AtMostOneUnsynced (D.state disk).calls (D.state s.disk).calls) }
+        ensures error_one_unsynced { unsynced_writes (D.state disk).calls ≡ 0
+            → IfErr result (λ refused. AtMostOneUnsynced (D.state disk).calls
             (D.state refused.1).calls) }
 
         // the next clauses hold on an honest disk
         ensures created { (D.state disk).honest → IfOk result (λ s.
             CreatesSession (D.state disk) (D.state s.disk)) }
         ensures refused { (D.state disk).honest → IfErr result (λ refused.
-            RefusesCreate refused.0 (D.state disk) (D.state refused.1)) }
+            CreateErrorImplies refused.0 (D.state disk) (D.state refused.1)) }
     {
         let Ok((payload, mut snapshot)) = log_buffers(alloc) else {
             return Err((StoreFault::NoMemory, disk));
@@ -110,18 +110,18 @@ impl<D: Disk + Drop> Session<D> {
         // the next clauses hold on any disk
         ensures open { IfOk result (λ s. IsTrue s.live) }
         ensures counts { IfOk result (λ s. CountsFault (D.state disk) (D.state s.disk) ⊥) }
-        ensures refusal_counts { IfErr result (λ refused.
+        ensures error_counts_fault { IfErr result (λ refused.
             CountsFault (D.state disk) (D.state refused.1) (refused.0 ≡ StoreFault.Device)) }
-        ensures cases { IfErr result (λ refused. IsOpenFault refused.0) }
-        ensures unwritten { IfErr result (λ refused. refused.0 ≢ StoreFault.Device
+        ensures possible_errors { IfErr result (λ refused. IsOpenFault refused.0) }
+        ensures writes_nothing { IfErr result (λ refused. refused.0 ≢ StoreFault.Device
             → WritesNothing (D.state disk) (D.state refused.1)) }
         ensures wrong_size { size_of (D.state disk) ≢ FILE_SIZE → IsErrAnd result (λ refused.
             ((refused.0 ≡ StoreFault.NotASession) ⊎ (refused.0 ≡ StoreFault.NoMemory))
             × (refused.1 ≡ disk)) }
         ensures one_unsynced { IfOk result (λ s.
-            OneUnsynced (D.state disk).calls (D.state s.disk).calls) }
-        ensures refused_one_unsynced { IfErr result (λ refused.
-            OneUnsynced (D.state disk).calls (D.state refused.1).calls) }
+            AtMostOneUnsynced (D.state disk).calls (D.state s.disk).calls) }
+        ensures error_one_unsynced { IfErr result (λ refused.
+            AtMostOneUnsynced (D.state disk).calls (D.state refused.1).calls) }
 
         // the next clauses hold on an honest disk
         ensures opened { (D.state disk).honest → IfOk result (λ s.
@@ -129,8 +129,8 @@ impl<D: Disk + Drop> Session<D> {
         ensures migrated { (D.state disk).honest → IfOk result (λ s.
             MigratesSession (D.state disk) (D.state s.disk) s.state) }
         ensures refused { (D.state disk).honest → IfErr result (λ refused.
-            RefusesSession refused.0 (D.state disk)
-            × RefusalLeaves refused.0 (D.state disk) (D.state refused.1)) }
+            SessionErrorImplies refused.0 (D.state disk)
+            × FailedOpenLeaves refused.0 (D.state disk) (D.state refused.1)) }
     {
         let Ok(buffers) = log_buffers(alloc) else {
             return Err((StoreFault::NoMemory, disk));
@@ -143,7 +143,7 @@ impl<D: Disk + Drop> Session<D> {
                     records,
                 },
             ) => match replay(alloc, snap.bytes(), &records) {
-                Ok(Some(replayed)) => match begin(store, buffers, replayed) {
+                Ok(Some(replayed)) => match start_session(store, buffers, replayed) {
                     Ok(session) => Ok(session),
                     Err(refused) => Err(refused),
                 },
@@ -164,8 +164,8 @@ impl<D: Disk + Drop> Session<D> {
     /// Returns the bench. Its state is the state after all commands that were answered `Ok`.
     pub fn bench(&self) -> &Bench
         ensures is { result.now ≡ self.now.state }
-        ensures stands { IsTrue self.now.live → (D.state self.now.disk).honest
-            → DiskStandsFor (D.state self.now.disk) self.now.state }
+        ensures represents { IsTrue self.now.live → (D.state self.now.disk).honest
+            → DiskRepresents (D.state self.now.disk) self.now.state }
     {
         &self.bench
     }
@@ -195,7 +195,7 @@ impl<D: Disk + Drop> Session<D> {
         ensures honest { (D.state self.new.disk).honest ↔ (D.state self.old.disk).honest }
         ensures untouched { IfErr result (λ fault.
             fault ≢ SessionFault.Device → self.new.disk ≡ self.old.disk) }
-        ensures one_unsynced { OneUnsynced (D.state self.old.disk).calls
+        ensures one_unsynced { AtMostOneUnsynced (D.state self.old.disk).calls
             (D.state self.new.disk).calls }
 
         // the next clauses hold on an honest disk
@@ -228,7 +228,7 @@ impl<D: Disk + Drop> Session<D> {
         ensures honest { (D.state self.new.disk).honest ↔ (D.state self.old.disk).honest }
         ensures untouched { IfErr result (λ fault.
             fault ≢ SessionFault.Device → self.new.disk ≡ self.old.disk) }
-        ensures one_unsynced { OneUnsynced (D.state self.old.disk).calls
+        ensures one_unsynced { AtMostOneUnsynced (D.state self.old.disk).calls
             (D.state self.new.disk).calls }
 
         // the next clauses hold on an honest disk
@@ -248,8 +248,8 @@ impl<D: Disk + Drop> Session<D> {
     /// state of its bench.
     pub fn into_disk(self) -> D
         ensures is { result ≡ self.disk }
-        ensures stands { IsTrue self.live → (D.state result).honest
-            → StandsFor (bytes_of (D.state result)) self.state }
+        ensures represents { IsTrue self.live → (D.state result).honest
+            → Represents (bytes_of (D.state result)) self.state }
     {
         let Session { log, bench: _ } = self;
         let CommandLog {
@@ -264,7 +264,7 @@ impl<D: Disk + Drop> Session<D> {
 
 /// Starts a session on a store whose log was replayed. If the log has version 1, a snapshot of the
 /// bench replaces the contents of the disk. Fails if the device fails.
-fn begin<D: Disk + Drop>(
+fn start_session<D: Disk + Drop>(
     store: Store<D>,
     buffers: (Vec<u8>, Vec<u8>),
     replayed: Replayed,
@@ -277,16 +277,16 @@ fn begin<D: Disk + Drop>(
     ensures open { IfOk result (λ s. IsTrue s.live × (s.state ≡ replayed.bench)) }
     ensures counts { IfOk result (λ s. CountsFault (D.state store.disk) (D.state s.disk) ⊥) }
     ensures one_unsynced { IfOk result (λ s.
-        OneUnsynced (D.state store.disk).calls (D.state s.disk).calls) }
-    ensures refused_one_unsynced { IfErr result (λ r.
-        OneUnsynced (D.state store.disk).calls (D.state r.1).calls) }
+        AtMostOneUnsynced (D.state store.disk).calls (D.state s.disk).calls) }
+    ensures error_one_unsynced { IfErr result (λ r.
+        AtMostOneUnsynced (D.state store.disk).calls (D.state r.1).calls) }
     ensures same { replayed.version ≡ Version.Two → IfOk result (λ s. s.disk ≡ store.disk) }
     ensures version_1 { replayed.version ≡ Version.One → (D.state store.disk).honest
-        → IfOk result (λ s. ReplacedWhatWasHeld (D.state store.disk) (D.state s.disk) replayed.bench) }
+        → IfOk result (λ s. ReplacedAnyContents (D.state store.disk) (D.state s.disk) replayed.bench) }
     ensures refused { IfErr result (λ r. (r.0 ≡ StoreFault.Device) × ((replayed.version ≡ Version.One)
         × CountsFault (D.state store.disk) (D.state r.1) (Unit {0}))) }
     ensures failed { (D.state store.disk).honest
-        → IfErr result (λ r. MayReplaceWhatIsHeld (D.state store.disk) (D.state r.1) replayed.bench) }
+        → IfErr result (λ r. MayReplaceAnyContents (D.state store.disk) (D.state r.1) replayed.bench) }
 {
     let (payload, snapshot) = buffers;
     let (bench, version) = (replayed.bench, replayed.version);

@@ -1,7 +1,7 @@
 -- A property that holds in each entry of a certificate holds for all inputs.
 use Rattle.std.proofs.Common.{ℕ, zero, suc, List}
-use Rattle.mcs_drive.specs.Driven.{Levels, FitBoard}
-use Rattle.mcs_drive.specs.Tracked.{Tracked, under, driven, no_observer}
+use Rattle.mcs_drive.specs.DrivenRuns.{Levels, FitsBoard}
+use Rattle.mcs_drive.specs.TrackedMachine.{TrackedMachine, with_levels, driven, no_observer}
 use Rattle.mcs_sets.specs.declared.entries.Entry.{Entry}
 use Rattle.mcs_sets.specs.Entries.{acc_values_of}
 use Rattle.mcs_sets.specs.Excluding.{EntriesSuffice}
@@ -9,13 +9,13 @@ use Rattle.mcs_sets.specs.Closure.{IsBusOf, StaysCovered}
 use Rattle.mcs_sets.proofs.Memory.{has-lt, cycle-of_board}
 
 -- at every moment, the board and the ROM bytes are unchanged and all RAM values are nibbles
-driven-of : (entries : List Entry) (s : Tracked) → IsBusOf s.1.board s.1.rom s.1 → StaysCovered entries s →
-    (f : ℕ → Levels) → ((k : ℕ) → FitBoard s.1.board (f k)) → (k : ℕ) → IsBusOf s.1.board s.1.rom (driven no_observer f k s).1
+driven-of : (entries : List Entry) (s : TrackedMachine) → IsBusOf s.1.board s.1.rom s.1 → StaysCovered entries s →
+    (f : ℕ → Levels) → ((k : ℕ) → FitsBoard s.1.board (f k)) → (k : ℕ) → IsBusOf s.1.board s.1.rom (driven no_observer f k s).1
 driven-of entries s of stays f fit zero = of
 driven-of entries s of stays f fit (suc k) =
     let was = driven-of entries s of stays f fit k in
     let among = stays f fit k in
-    cycle-of_board s.1.board s.1.rom (under (f k) (driven no_observer f k s)) (has-lt (acc_values_of among.0 (driven no_observer f k s).0.cy) (driven no_observer f k s).0.acc among.2.acc)
+    cycle-of_board s.1.board s.1.rom (with_levels (f k) (driven no_observer f k s)) (has-lt (acc_values_of among.0 (driven no_observer f k s).0.cy) (driven no_observer f k s).0.acc among.2.acc)
     (record { board = was.board; rom = was.rom; ram = was.ram; status = was.status; test = (fit k).test })
 
 pub entries-suffice : EntriesSuffice

@@ -5,17 +5,17 @@ use Rattle.mcs_model.specs.declared.board.BoardParts.{BoardParts}
 use Rattle.mcs_model.specs.declared.regs.Regs.{Regs}
 use Rattle.mcs_model.specs.declared.op.Op.{Op}
 use Rattle.mcs_model.specs.declared.op.Op.TheVariants.{Jcn, Fim, Fin, Jun, Jms, Isz, Bbl}
-use Rattle.mcs_model.specs.Boards.{masks_on}
+use Rattle.mcs_model.specs.Boards.{rom_masks}
 use Rattle.mcs_model.specs.Command.{lacks_rom}
 use Rattle.mcs_model.specs.Effect.{instruction_at}
-use Rattle.mcs_drive.specs.Tracked.{Tracked}
+use Rattle.mcs_drive.specs.TrackedMachine.{TrackedMachine}
 use Rattle.mcs_check.specs.declared.common_mistakes.Mistakes.{Mistakes}
 use Rattle.mcs_check.specs.declared.conditions.Condition.{Condition}
 use Rattle.mcs_check.specs.Conditions.{is_met, are_met}
-use Rattle.mcs_check.specs.Mistaken.{errs_in_calls, errs_in_chips, errs_in_lines, has_input, has_output, is_fourth_call, is_lone_return, is_mistaken, is_rdr, is_wrr, lacks_ram, lacks_word, last_read, makes, uses_ram}
+use Rattle.mcs_check.specs.Mistaken.{makes_call_mistake, makes_chip_mistake, makes_port_mistake, has_input, has_output, is_fourth_call, is_unmatched_return, cycle_makes_mistake, is_rdr, is_wrr, lacks_selected_ram, reads_absent_rom, last_address_read, op_makes_mistake, uses_ram}
 use Rattle.mcs_sets.specs.declared.entries.Entry.{Entry}
 use Rattle.mcs_sets.specs.Entries.{has, value_at, Covers}
-use Rattle.mcs_sets.specs.Excluding.{ForAllIn, HasChipsOfBank, MakesNoMistake, reads_next}
+use Rattle.mcs_sets.specs.Excluding.{ForAllIn, HasChipsOfBank, MakesNoMistake, reads_next_address}
 use Rattle.mcs_sets.specs.Landing.{CallsAllow}
 use Rattle.mcs_sets.proofs.Memory.{has-lt}
 
@@ -35,17 +35,17 @@ no-fourth : (op : Op) (calls : ℕ) → CallsAllow op calls → is_fourth_call o
 no-fourth (Jms h b) calls fits = let few : calls < 3 = fits in le-ltb 2 calls (omega arith)
 no-fourth _ calls fits = refl
 
-no-lone : (op : Op) (calls : ℕ) → CallsAllow op calls → is_lone_return op calls ≡ false
+no-lone : (op : Op) (calls : ℕ) → CallsAllow op calls → is_unmatched_return op calls ≡ false
 no-lone (Bbl d) calls fits = let some : 0 < calls = fits in ne_eqb calls 0 (λ e. omega arith)
 no-lone _ calls fits = refl
 
-calls-kept : (mistakes : Mistakes) (op : Op) (s : Tracked) → CallsAllow op s.2.calls → errs_in_calls mistakes op s ≡ false
+calls-kept : (mistakes : Mistakes) (op : Op) (s : TrackedMachine) → CallsAllow op s.2.calls → makes_call_mistake mistakes op s ≡ false
 calls-kept mistakes op s fits =
-    or_from _ _ (and_right mistakes.fourth_call _ (no-fourth op s.2.calls fits)) (and_right mistakes.lone_return _ (no-lone op s.2.calls fits))
+    or_from _ _ (and_right mistakes.fourth_call _ (no-fourth op s.2.calls fits)) (and_right mistakes.unmatched_return _ (no-lone op s.2.calls fits))
 
 -- ---- RAM
 
-value_at-src : (s : Tracked) (k bank : ℕ) → k ≡ 18 + bank → value_at s k ≡ slice_index s.1.ram_src bank / 16
+value_at-src : (s : TrackedMachine) (k bank : ℕ) → k ≡ 18 + bank → value_at s k ≡ slice_index s.1.ram_src bank / 16
 value_at-src s k bank e =
     let a : eqb k 16 ≡ false = ne_eqb k 16 (λ x. omega arith) in
     let b : nat_lt k 16 ≡ false = le-ltb k 16 (omega arith) in
@@ -56,7 +56,7 @@ value_at-src s k bank e =
 quarter : (n chips : ℕ) → n / 16 / 4 < chips → n / 64 < chips
 quarter n chips h = omega arith
 
-ram-kept : (board : BoardParts) (e : Entry) (s : Tracked) → s.1.board ≡ board → Covers e s → ForAllIn (slice_index e.sets 16) (HasChipsOfBank board e) → lacks_ram s.0 s.1 ≡ false
+ram-kept : (board : BoardParts) (e : Entry) (s : TrackedMachine) → s.1.board ≡ board → Covers e s → ForAllIn (slice_index e.sets 16) (HasChipsOfBank board e) → lacks_selected_ram s.0 s.1 ≡ false
 ram-kept board e s same is all =
     let bank = all s.0.dcl (is.locations 16 (omega arith)) in
     let n = slice_index s.1.ram_src s.0.dcl in
@@ -72,22 +72,22 @@ ram-kept board e s same is all =
 on-page : (p a b : ℕ) → a < 16 → b < 16 → (256 * p + (a * 16 + b)) / 256 ≡ p
 on-page p a b u v = omega arith
 
-last-there : (board : BoardParts) (op : Op) (s : Regs) → slice_index s.r 0 < 16 → slice_index s.r 1 < 16 → lacks_rom board s.pc ≡ false → (reads_next op ≡ true → lacks_rom board ((s.pc + 1) % 4096) ≡ false) → lacks_rom board (last_read op s) ≡ false
+last-there : (board : BoardParts) (op : Op) (s : Regs) → slice_index s.r 0 < 16 → slice_index s.r 1 < 16 → lacks_rom board s.pc ≡ false → (reads_next_address op ≡ true → lacks_rom board ((s.pc + 1) % 4096) ≡ false) → lacks_rom board (last_address_read op s) ≡ false
 last-there board (Jcn c b) s u v here next = next refl
 last-there board (Fim k b) s u v here next = next refl
 last-there board (Fin k) s u v here next =
-    ap (λ (p : ℕ). is_none (masks_on board p)) (on-page ((s.pc + 1) % 4096 / 256) (slice_index s.r 0) (slice_index s.r 1) u v) ∙ next refl
+    ap (λ (p : ℕ). is_none (rom_masks board p)) (on-page ((s.pc + 1) % 4096 / 256) (slice_index s.r 0) (slice_index s.r 1) u v) ∙ next refl
 last-there board (Jun h b) s u v here next = next refl
 last-there board (Jms h b) s u v here next = next refl
 last-there board (Isz r b) s u v here next = next refl
 last-there board _ s u v here next = here
 
-words-kept : (board : BoardParts) (e : Entry) (op : Op) (s : Tracked) → Covers e s → lacks_rom board e.at ≡ false → (reads_next op ≡ true → lacks_rom board ((e.at + 1) % 4096) ≡ false) → lacks_word op s.0 board ≡ false
+words-kept : (board : BoardParts) (e : Entry) (op : Op) (s : TrackedMachine) → Covers e s → lacks_rom board e.at ≡ false → (reads_next_address op ≡ true → lacks_rom board ((e.at + 1) % 4096) ≡ false) → reads_absent_rom op s.0 board ≡ false
 words-kept board e op s is here next =
     let first = has-lt (slice_index e.sets 0) (slice_index s.0.r 0) (is.locations 0 (omega arith)) in
     let second = has-lt (slice_index e.sets 1) (slice_index s.0.r 1) (is.locations 1 (omega arith)) in
     let at : lacks_rom board s.0.pc ≡ false = subst (λ (a : ℕ). lacks_rom board a ≡ false) (sym is.at) here in
-    let behind : reads_next op ≡ true → lacks_rom board ((s.0.pc + 1) % 4096) ≡ false = subst (λ (a : ℕ). reads_next op ≡ true → lacks_rom board ((a + 1) % 4096) ≡ false) (sym is.at) next in
+    let behind : reads_next_address op ≡ true → lacks_rom board ((s.0.pc + 1) % 4096) ≡ false = subst (λ (a : ℕ). reads_next_address op ≡ true → lacks_rom board ((a + 1) % 4096) ≡ false) (sym is.at) next in
     or_from _ _ at (last-there board op s.0 first second at behind)
 
 -- ---- all mistakes
@@ -97,24 +97,24 @@ pub record PassesChecks (board : BoardParts) (e : Entry) (op : Op) (mistakes : M
   pub calls : CallsAllow op e.calls
   pub ram : mistakes.absent_ram ≡ true → uses_ram op ≡ true → ForAllIn (slice_index e.sets 16) (HasChipsOfBank board e)
   pub here : mistakes.absent_rom ≡ true → lacks_rom board e.at ≡ false
-  pub next : mistakes.absent_rom ≡ true → reads_next op ≡ true → lacks_rom board ((e.at + 1) % 4096) ≡ false
-  pub inputs : mistakes.no_inputs ≡ true → is_rdr op ≡ true → ForAllIn (slice_index e.sets 17) (λ n. has_input board n ≡ true)
-  pub outputs : mistakes.no_outputs ≡ true → is_wrr op ≡ true → ForAllIn (slice_index e.sets 17) (λ n. has_output board n ≡ true)
+  pub next : mistakes.absent_rom ≡ true → reads_next_address op ≡ true → lacks_rom board ((e.at + 1) % 4096) ≡ false
+  pub inputs : mistakes.port_without_inputs ≡ true → is_rdr op ≡ true → ForAllIn (slice_index e.sets 17) (λ n. has_input board n ≡ true)
+  pub outputs : mistakes.port_without_outputs ≡ true → is_wrr op ≡ true → ForAllIn (slice_index e.sets 17) (λ n. has_output board n ≡ true)
 
-chips-kept : (board : BoardParts) (e : Entry) (op : Op) (mistakes : Mistakes) (s : Tracked) → s.1.board ≡ board → Covers e s → PassesChecks board e op mistakes → errs_in_chips mistakes op s ≡ false
+chips-kept : (board : BoardParts) (e : Entry) (op : Op) (mistakes : Mistakes) (s : TrackedMachine) → s.1.board ≡ board → Covers e s → PassesChecks board e op mistakes → makes_chip_mistake mistakes op s ≡ false
 chips-kept board e op mistakes s same is h =
     or_from _ _
-    (guarded mistakes.absent_ram (uses_ram op) (lacks_ram s.0 s.1) (λ a u. ram-kept board e s same is (h.ram a u)))
-    (guarded-once mistakes.absent_rom (lacks_word op s.0 s.1.board)
-    (λ a. subst (λ (b : BoardParts). lacks_word op s.0 b ≡ false) (sym same) (words-kept board e op s is (h.here a) (h.next a))))
+    (guarded mistakes.absent_ram (uses_ram op) (lacks_selected_ram s.0 s.1) (λ a u. ram-kept board e s same is (h.ram a u)))
+    (guarded-once mistakes.absent_rom (reads_absent_rom op s.0 s.1.board)
+    (λ a. subst (λ (b : BoardParts). reads_absent_rom op s.0 b ≡ false) (sym same) (words-kept board e op s is (h.here a) (h.next a))))
 
-lines-kept : (board : BoardParts) (e : Entry) (op : Op) (mistakes : Mistakes) (s : Tracked) → s.1.board ≡ board → Covers e s → PassesChecks board e op mistakes → errs_in_lines mistakes op s ≡ false
+lines-kept : (board : BoardParts) (e : Entry) (op : Op) (mistakes : Mistakes) (s : TrackedMachine) → s.1.board ≡ board → Covers e s → PassesChecks board e op mistakes → makes_port_mistake mistakes op s ≡ false
 lines-kept board e op mistakes s same is h =
     let n = s.1.rom_src / 16 in
     let inside : has (slice_index e.sets 17) n ≡ true = is.locations 17 (omega arith) in
     or_from _ _
-    (guarded mistakes.no_inputs (is_rdr op) (not (has_input s.1.board n)) (λ a r. not_from_true _ (subst (λ (b : BoardParts). has_input b n ≡ true) (sym same) (h.inputs a r n inside))))
-    (guarded mistakes.no_outputs (is_wrr op) (not (has_output s.1.board n)) (λ a r. not_from_true _ (subst (λ (b : BoardParts). has_output b n ≡ true) (sym same) (h.outputs a r n inside))))
+    (guarded mistakes.port_without_inputs (is_rdr op) (not (has_input s.1.board n)) (λ a r. not_from_true _ (subst (λ (b : BoardParts). has_input b n ≡ true) (sym same) (h.inputs a r n inside))))
+    (guarded mistakes.port_without_outputs (is_wrr op) (not (has_output s.1.board n)) (λ a r. not_from_true _ (subst (λ (b : BoardParts). has_output b n ≡ true) (sym same) (h.outputs a r n inside))))
 
 pub no-mistake-made : (board : BoardParts) (e : Entry) (op : Op) (mistakes : Mistakes) → PassesChecks board e op mistakes → MakesNoMistake board e op mistakes
 no-mistake-made board e op mistakes h = λ s same is.
@@ -122,15 +122,15 @@ no-mistake-made board e op mistakes h = λ s same is.
     (or_from _ _ (calls-kept mistakes op s (subst (CallsAllow op) (sym is.calls) h.calls)) (chips-kept board e op mistakes s same is h))
     (lines-kept board e op mistakes s same is h)
 
-mistaken-when : (b : Bool) (o : Option Op) (mistakes : Mistakes) (op : Op) (s : Tracked) → o ≡ Some op → makes mistakes op s ≡ false → (b && elim o as (λ _. Bool) [ Some op ↦ makes mistakes op s | None ↦ mistakes.no_code ]) ≡ false
+mistaken-when : (b : Bool) (o : Option Op) (mistakes : Mistakes) (op : Op) (s : TrackedMachine) → o ≡ Some op → op_makes_mistake mistakes op s ≡ false → (b && elim o as (λ _. Bool) [ Some op ↦ op_makes_mistake mistakes op s | None ↦ mistakes.invalid_opcode ]) ≡ false
 mistaken-when b o mistakes op s there none = rw there (and_right b _ none)
 
-pub not-mistaken : (mistakes : Mistakes) (op : Op) (s : Tracked) → instruction_at s.0 s.1 ≡ Some op → makes mistakes op s ≡ false → is_mistaken mistakes s ≡ false
+pub not-mistaken : (mistakes : Mistakes) (op : Op) (s : TrackedMachine) → instruction_at s.0 s.1 ≡ Some op → op_makes_mistake mistakes op s ≡ false → cycle_makes_mistake mistakes s ≡ false
 not-mistaken mistakes op s there none = mistaken-when (not (eqb s.0.owed 1)) (instruction_at s.0 s.1) mistakes op s there none
 
 -- ---- conditions
 
-pub unmet : (t : Tracked) (cs : List Condition) (i : ℕ) (d : Condition) → i < length cs → is_met t (get_or cs i d) ≡ false → are_met t cs ≡ false
+pub unmet : (t : TrackedMachine) (cs : List Condition) (i : ℕ) (d : Condition) → i < length cs → is_met t (get_or cs i d) ≡ false → are_met t cs ≡ false
 unmet t [] i d inside h = absurd (omega arith)
 unmet t (c ∷ cs) zero d inside h = and_left (is_met t c) (are_met t cs) h
 unmet t (c ∷ cs) (suc i) d inside h = and_right (is_met t c) (are_met t cs) (unmet t cs i d (omega arith) h)

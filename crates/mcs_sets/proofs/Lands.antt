@@ -8,12 +8,12 @@ use Rattle.mcs_model.specs.declared.regs.Regs.{Regs}
 use Rattle.mcs_model.specs.declared.op.Op.{Op}
 use Rattle.mcs_model.specs.declared.op.Op.TheVariants.{Jcn, Fim, Src, Fin, Jin, Jms, Inc, Isz, Add, Sub, Ld, Xch, Bbl, Wrm, Wmp, Wrr, Wr0, Wr1, Wr2, Wr3, Daa}
 use Rattle.mcs_model.specs.declared.board.BoardParts.{BoardParts}
-use Rattle.mcs_model.specs.Boards.{masks_on}
+use Rattle.mcs_model.specs.Boards.{rom_masks}
 use Rattle.mcs_model.specs.Bus.{BusState, fetch_of, ram_of, status_of, chips_of, src_of, has_chip, after_src, with_ram, after_ram, with_status, after_status}
-use Rattle.mcs_model.specs.Effect.{registers_after, after_words, with_word, address_beside, is_taken, after_daa}
-use Rattle.mcs_model.specs.Levels.{clock_levels, chains_clocked, with_rom_ports_at, after_ram_port, after_rom_port}
+use Rattle.mcs_model.specs.Effect.{registers_after, after_fetch, with_pc_on_page, address_on_page_of, is_taken, after_daa}
+use Rattle.mcs_model.specs.Levels.{clock_levels, after_chain_clocks, with_rom_ports_at, after_ram_port, after_rom_port}
 use Rattle.mcs_model.specs.Registers.{register_of, with_register}
-use Rattle.mcs_drive.specs.Tracked.{Tracked, calls_after}
+use Rattle.mcs_drive.specs.TrackedMachine.{TrackedMachine, calls_after}
 use Rattle.mcs_sets.specs.declared.landing.Landing.{Landing}
 use Rattle.mcs_sets.specs.Entries.{value_at}
 use Rattle.mcs_sets.specs.Landing.{LandingIsCorrect, StandInFits, stand_in_before, landing, machine_after, choice_of, value_after, LandingLeads}
@@ -34,17 +34,17 @@ unfolding with_status
 status-src m bank high k n = either-src (nat_lt (high / 4) (chips_of m bank)) m _ m refl refl refl refl
 
 ram_port-src : (m : BusState) (bank n : ℕ) → ((after_ram_port m bank n).rom_src ≡ m.rom_src) × ((after_ram_port m bank n).ram_src ≡ m.ram_src)
-unfolding after_ram_port chains_clocked
+unfolding after_ram_port after_chain_clocks
 ram_port-src m bank n = either-src (has_chip m bank (src_of m bank)) m _ m refl refl refl refl
 
-rom_port-src-when : (m : BusState) (n : ℕ) (o : Option (List LineMask)) → ((elim o as (λ _. BusState) [ Some mask ↦ chains_clocked (clock_levels m) (with_rom_ports_at m (m.rom_src / 16) (latch_value mask n)) | None ↦ m ]).rom_src ≡ m.rom_src) × ((elim o as (λ _. BusState) [ Some mask ↦ chains_clocked (clock_levels m) (with_rom_ports_at m (m.rom_src / 16) (latch_value mask n)) | None ↦ m ]).ram_src ≡ m.ram_src)
-unfolding chains_clocked
+rom_port-src-when : (m : BusState) (n : ℕ) (o : Option (List LineMask)) → ((elim o as (λ _. BusState) [ Some mask ↦ after_chain_clocks (clock_levels m) (with_rom_ports_at m (m.rom_src / 16) (latch_value mask n)) | None ↦ m ]).rom_src ≡ m.rom_src) × ((elim o as (λ _. BusState) [ Some mask ↦ after_chain_clocks (clock_levels m) (with_rom_ports_at m (m.rom_src / 16) (latch_value mask n)) | None ↦ m ]).ram_src ≡ m.ram_src)
+unfolding after_chain_clocks
 rom_port-src-when m n (Some mask) = (refl, refl)
 rom_port-src-when m n None = (refl, refl)
 
 rom_port-src : (m : BusState) (n : ℕ) → ((after_rom_port m n).rom_src ≡ m.rom_src) × ((after_rom_port m n).ram_src ≡ m.ram_src)
 unfolding after_rom_port
-rom_port-src m n = rom_port-src-when m n (masks_on m.board (m.rom_src / 16))
+rom_port-src m n = rom_port-src-when m n (rom_masks m.board (m.rom_src / 16))
 
 after_ram-src : (m : BusState) (bank n : ℕ) → ((after_ram m bank n).rom_src ≡ m.rom_src) × ((after_ram m bank n).ram_src ≡ m.ram_src)
 unfolding after_ram
@@ -57,12 +57,12 @@ after_status-src m bank k n = status-src m bank (src_of m bank / 16) k n
 -- ---- the registers
 
 -- a conditional jump keeps all registers except the program counter and `owed`
-jump-acc : (b : Bool) (s : Regs) (w : ℕ) → ((cond b (with_word s w) s).acc ≡ s.acc) × ((cond b (with_word s w) s).cy ≡ s.cy) × ((cond b (with_word s w) s).dcl ≡ s.dcl) × ((cond b (with_word s w) s).r ≡ s.r) × ((cond b (with_word s w) s).ret ≡ s.ret) × ((cond b (with_word s w) s).pc ≡ cond b (address_beside s.pc w) s.pc)
+jump-acc : (b : Bool) (s : Regs) (w : ℕ) → ((cond b (with_pc_on_page s w) s).acc ≡ s.acc) × ((cond b (with_pc_on_page s w) s).cy ≡ s.cy) × ((cond b (with_pc_on_page s w) s).dcl ≡ s.dcl) × ((cond b (with_pc_on_page s w) s).r ≡ s.r) × ((cond b (with_pc_on_page s w) s).ret ≡ s.ret) × ((cond b (with_pc_on_page s w) s).pc ≡ cond b (address_on_page_of s.pc w) s.pc)
 jump-acc true s w = (refl, refl, refl, refl, refl, refl)
 jump-acc false s w = (refl, refl, refl, refl, refl, refl)
 
 -- the jump of an ISZ keeps all registers except the program counter and `owed`
-isz-acc : (b : Bool) (s : Regs) (w : ℕ) → ((cond b s (with_word s w)).acc ≡ s.acc) × ((cond b s (with_word s w)).cy ≡ s.cy) × ((cond b s (with_word s w)).dcl ≡ s.dcl) × ((cond b s (with_word s w)).r ≡ s.r) × ((cond b s (with_word s w)).ret ≡ s.ret) × ((cond b s (with_word s w)).pc ≡ cond b s.pc (address_beside s.pc w))
+isz-acc : (b : Bool) (s : Regs) (w : ℕ) → ((cond b s (with_pc_on_page s w)).acc ≡ s.acc) × ((cond b s (with_pc_on_page s w)).cy ≡ s.cy) × ((cond b s (with_pc_on_page s w)).dcl ≡ s.dcl) × ((cond b s (with_pc_on_page s w)).r ≡ s.r) × ((cond b s (with_pc_on_page s w)).ret ≡ s.ret) × ((cond b s (with_pc_on_page s w)).pc ≡ cond b s.pc (address_on_page_of s.pc w))
 isz-acc true s w = (refl, refl, refl, refl, refl, refl)
 isz-acc false s w = (refl, refl, refl, refl, refl, refl)
 
@@ -85,8 +85,8 @@ stands : (v r : ℕ) → r < 16 → slice_index (replicate 16 v) r ≡ v
 stands v r h = get_or-replicate 16 r v 0 h
 
 -- the value of a stand-in register after a write to it
-put-in : (v r x : ℕ) → r < 16 → cond (nat_lt r 16) (slice_index (slice_set (replicate 16 v) r x) r) 0 ≡ x
-put-in v r x h = let lt : nat_lt r 16 ≡ true = lt-ltb r 16 h in rw lt (get_or-set_same (replicate 16 v) r x 0 h)
+stand_in-set : (v r x : ℕ) → r < 16 → cond (nat_lt r 16) (slice_index (slice_set (replicate 16 v) r x) r) 0 ≡ x
+stand_in-set v r x h = let lt : nat_lt r 16 ≡ true = lt-ltb r 16 h in rw lt (get_or-set_same (replicate 16 v) r x 0 h)
 
 -- ---- the return addresses
 
@@ -161,7 +161,7 @@ second-far : (b : Bool) (bank k : ℕ) → k < 18 → eqb k (cond b (18 + bank) 
 second-far true bank k h = ne_eqb k (18 + bank) (λ e. omega arith)
 second-far false bank k h = ne_eqb k 26 (λ e. omega arith)
 
-src-locations : (b : Bool) (s t : Tracked) (byte v : ℕ) (o : Landing) → byte / 16 ≡ v → t.1 ≡ sent b s.1 s.0.dcl byte → t.0.dcl ≡ o.regs.dcl → t.0.r ≡ s.0.r →
+src-locations : (b : Bool) (s t : TrackedMachine) (byte v : ℕ) (o : Landing) → byte / 16 ≡ v → t.1 ≡ sent b s.1 s.0.dcl byte → t.0.dcl ≡ o.regs.dcl → t.0.r ≡ s.0.r →
     o.first_location ≡ 17 → o.first_value ≡ v → o.second_location ≡ cond b (18 + s.0.dcl) 26 → o.second_value ≡ v → s.0.dcl < 8 → length s.1.ram_src ≡ 8 →
     (k : ℕ) → k < 26 → value_at t k ≡ value_after o k (value_at s k)
 src-locations b s t byte v o upper bus bank regs first first_value second second_value small len k h =
@@ -194,7 +194,7 @@ src-locations b s t byte v o upper bus bank regs first first_value second second
           ]
     ]
 
-src-lands : (k : ℕ) (s : Tracked) (m : BusState) (ret : List ℕ) → StandInFits (Src k) s m ret → LandingLeads s (machine_after (Src k) s) (landing (Src k) s.0.pc ret s.2.calls m (choice_of (Src k) s))
+src-lands : (k : ℕ) (s : TrackedMachine) (m : BusState) (ret : List ℕ) → StandInFits (Src k) s m ret → LandingLeads s (machine_after (Src k) s) (landing (Src k) s.0.pc ret s.2.calls m (choice_of (Src k) s))
 unfolding after_src
 src-lands k s m ret fit =
     let small = fit.valid in
@@ -218,9 +218,9 @@ src-lands k s m ret fit =
 
 -- ---- instructions that change no register
 
-simple : (op : Op) (s : Tracked) (m : BusState) (ret : List ℕ) → StandInFits op s m ret → KeepsSrc s (machine_after op s) →
+simple : (op : Op) (s : TrackedMachine) (m : BusState) (ret : List ℕ) → StandInFits op s m ret → KeepsSrc s (machine_after op s) →
     Agrees (machine_after op s) (landing op s.0.pc ret s.2.calls m (choice_of op s)) →
-    (registers_after op (after_words op s.0) s.1).r ≡ s.0.r →
+    (registers_after op (after_fetch op s.0) s.1).r ≡ s.0.r →
     (landing op s.0.pc ret s.2.calls m (choice_of op s)).first_location ≡ 26 → (landing op s.0.pc ret s.2.calls m (choice_of op s)).second_location ≡ 26 →
     LandingLeads s (machine_after op s) (landing op s.0.pc ret s.2.calls m (choice_of op s))
 simple op s m ret fit src agrees r first second = lands-kept s (machine_after op s) (landing op s.0.pc ret s.2.calls m (choice_of op s)) fit.registers fit.banks agrees src r first second
@@ -229,13 +229,13 @@ pub lands : LandingIsCorrect
 unfolding fetch_of ram_of status_of
 lands (Jcn c w) s m ret fit =
     let level : s.1.test % 2 ≡ s.1.test = let small = fit.test in omega arith in
-    let x = after_words (Jcn c w) s.0 in
-    let y = after_words (Jcn c w) (stand_in_before (Jcn c w) s.0.pc ret (choice_of (Jcn c w) s)) in
+    let x = after_fetch (Jcn c w) s.0 in
+    let y = after_fetch (Jcn c w) (stand_in_before (Jcn c w) s.0.pc ret (choice_of (Jcn c w) s)) in
     let e = jump-acc (is_taken c x s.1.test) x w in
     let f = jump-acc (is_taken c y (s.1.test % 2)) y w in
     simple (Jcn c w) s m ret fit (record { rom = refl; ram = refl })
     (record {
-      pc = e.5 ∙ ap (λ (t : ℕ). cond (is_taken c x t) (address_beside x.pc w) x.pc) (sym level) ∙ sym f.5;
+      pc = e.5 ∙ ap (λ (t : ℕ). cond (is_taken c x t) (address_on_page_of x.pc w) x.pc) (sym level) ∙ sym f.5;
       calls = refl;
       ret = λ k h l. ap (λ (xs : List ℕ). slice_index xs k) e.4 ∙ fit.ret k h l ∙ ap (λ (xs : List ℕ). slice_index xs k) (sym f.4);
       acc = e.0 ∙ sym f.0;
@@ -244,8 +244,8 @@ lands (Jcn c w) s m ret fit =
     })
     e.3 refl refl
 lands Daa s m ret fit =
-    let e = daa-is (after_words Daa s.0) in
-    let f = daa-is (after_words Daa (stand_in_before Daa s.0.pc ret (choice_of Daa s))) in
+    let e = daa-is (after_fetch Daa s.0) in
+    let f = daa-is (after_fetch Daa (stand_in_before Daa s.0.pc ret (choice_of Daa s))) in
     simple Daa s m ret fit (record { rom = refl; ram = refl })
     (record {
       pc = e.5 ∙ sym f.5;
@@ -295,7 +295,7 @@ lands (Jin k) s m ret fit =
     let lower : slice_index (slice_set (replicate 16 a) (2 * k + 1) b) (2 * k + 1) ≡ b = get_or-set_same (replicate 16 a) (2 * k + 1) b 0 high in
     simple (Jin k) s m ret fit (record { rom = refl; ram = refl })
     (record {
-      pc = ap (λ (x : ℕ). address_beside ((s.0.pc + 1) % 4096) (x * 16 + b)) (sym upper) ∙ ap (λ (y : ℕ). address_beside ((s.0.pc + 1) % 4096) (slice_index (slice_set (replicate 16 a) (2 * k + 1) b) (2 * k) * 16 + y)) (sym lower);
+      pc = ap (λ (x : ℕ). address_on_page_of ((s.0.pc + 1) % 4096) (x * 16 + b)) (sym upper) ∙ ap (λ (y : ℕ). address_on_page_of ((s.0.pc + 1) % 4096) (slice_index (slice_set (replicate 16 a) (2 * k + 1) b) (2 * k) * 16 + y)) (sym lower);
       calls = refl;
       ret = fit.ret;
       dcl = refl;
@@ -339,7 +339,7 @@ lands (Fin k) s m ret fit =
     let small = fit.valid in
     let a = register_of s.0 0 in
     let b = register_of s.0 1 in
-    let from = address_beside ((s.0.pc + 1) % 4096) (a * 16 + b) in
+    let from = address_on_page_of ((s.0.pc + 1) % 4096) (a * 16 + b) in
     let byte = slice_index s.1.rom from in
     let other = slice_index m.rom from in
     let same : byte ≡ other = ap (λ (xs : List ℕ). slice_index xs from) (sym fit.rom) in
@@ -351,28 +351,28 @@ lands (Inc r) s m ret fit =
     let v = register_of s.0 r in
     lands-one s (machine_after (Inc r) s) (landing (Inc r) s.0.pc ret s.2.calls m (choice_of (Inc r) s)) r small fit.registers fit.banks
     (record { pc = refl; calls = refl; ret = fit.ret; dcl = refl; cy = refl; acc = refl }) (record { rom = refl; ram = refl })
-    (ap (slice_set s.0.r r) (ap (λ (x : ℕ). (x + 1) % 16) (sym (stands v r small)) ∙ sym (put-in v r ((slice_index (replicate 16 v) r + 1) % 16) small))) refl refl
+    (ap (slice_set s.0.r r) (ap (λ (x : ℕ). (x + 1) % 16) (sym (stands v r small)) ∙ sym (stand_in-set v r ((slice_index (replicate 16 v) r + 1) % 16) small))) refl refl
 lands (Xch r) s m ret fit =
     let small = fit.valid in
     let v = register_of s.0 r in
     lands-one s (machine_after (Xch r) s) (landing (Xch r) s.0.pc ret s.2.calls m (choice_of (Xch r) s)) r small fit.registers fit.banks
     (record { pc = refl; calls = refl; ret = fit.ret; dcl = refl; cy = refl; acc = sym (stands v r small) }) (record { rom = refl; ram = refl })
-    (ap (slice_set s.0.r r) (sym (put-in v r s.0.acc small))) refl refl
+    (ap (slice_set s.0.r r) (sym (stand_in-set v r s.0.acc small))) refl refl
 lands (Isz r w) s m ret fit =
     let small = fit.valid in
     let v = register_of s.0 r in
-    let x = after_words (Isz r w) s.0 in
-    let y = after_words (Isz r w) (stand_in_before (Isz r w) s.0.pc ret (choice_of (Isz r w) s)) in
+    let x = after_fetch (Isz r w) s.0 in
+    let y = after_fetch (Isz r w) (stand_in_before (Isz r w) s.0.pc ret (choice_of (Isz r w) s)) in
     let n = (v + 1) % 16 in
     let i = (slice_index (replicate 16 v) r + 1) % 16 in
     let same : n ≡ i = ap (λ (z : ℕ). (z + 1) % 16) (sym (stands v r small)) in
     let e = isz-acc (eqb n 0) (with_register x r n) w in
     let f = isz-acc (eqb i 0) (with_register y r i) w in
     let o = landing (Isz r w) s.0.pc ret s.2.calls m (choice_of (Isz r w) s) in
-    let value : o.first_value ≡ i = ap (λ (xs : List ℕ). cond (nat_lt r 16) (slice_index xs r) 0) f.3 ∙ put-in v r i small in
+    let value : o.first_value ≡ i = ap (λ (xs : List ℕ). cond (nat_lt r 16) (slice_index xs r) 0) f.3 ∙ stand_in-set v r i small in
     lands-one s (machine_after (Isz r w) s) o r small fit.registers fit.banks
     (record {
-      pc = e.5 ∙ ap (λ (z : ℕ). cond (eqb z 0) x.pc (address_beside x.pc w)) same ∙ sym f.5;
+      pc = e.5 ∙ ap (λ (z : ℕ). cond (eqb z 0) x.pc (address_on_page_of x.pc w)) same ∙ sym f.5;
       calls = refl;
       ret = λ k h l. ap (λ (xs : List ℕ). slice_index xs k) e.4 ∙ fit.ret k h l ∙ ap (λ (xs : List ℕ). slice_index xs k) (sym f.4);
       acc = e.0 ∙ sym f.0;

@@ -2,7 +2,7 @@
 use Rattle.std.proofs.Common.{◌≡◌, ◌≢◌, ◌<◌, ◌+◌, ◌*◌, ℕ, List, length, true, false, cond, inl, inr, slice_index, slice_set, nat_lt, sym, ap, ◌∙◌, arith, eqb}
 use Rattle.std.proofs.lemmas.Bool.{cases_eq, cases_lt, eq-eqb, ne_eqb, lt-ltb, le-ltb}
 use Rattle.std.proofs.lemmas.List.{get_or-set_same, get_or-set_other, length-set}
-use Rattle.mcs_drive.specs.Tracked.{Tracked}
+use Rattle.mcs_drive.specs.TrackedMachine.{TrackedMachine}
 use Rattle.mcs_sets.specs.declared.landing.Landing.{Landing}
 use Rattle.mcs_sets.specs.Entries.{value_at}
 use Rattle.mcs_sets.specs.Landing.{value_after, LandingLeads}
@@ -11,7 +11,7 @@ use Rattle.mcs_sets.specs.Landing.{value_after, LandingLeads}
 abbrev pub written : Landing → ℕ → ℕ → ℕ
 written o k v = cond (eqb k o.first_location) o.first_value (cond (eqb k o.second_location) o.second_value v)
 
-pub locations-from : (s t : Tracked) (o : Landing) → t.0.dcl ≡ o.regs.dcl → t.1.rom_src ≡ s.1.rom_src → t.1.ram_src ≡ s.1.ram_src →
+pub locations-from : (s t : TrackedMachine) (o : Landing) → t.0.dcl ≡ o.regs.dcl → t.1.rom_src ≡ s.1.rom_src → t.1.ram_src ≡ s.1.ram_src →
     ((k : ℕ) → k < 16 → slice_index t.0.r k ≡ written o k (slice_index s.0.r k)) →
     ((k : ℕ) → 16 < k → k < 26 → (k ≢ o.first_location) × (k ≢ o.second_location)) →
     (k : ℕ) → k < 26 → value_at t k ≡ value_after o k (value_at s k)
@@ -32,7 +32,7 @@ locations-from s t o bank src srcs regs beyond k h =
     ]
 
 -- the value at each location after an instruction that changes no location
-kept-locations : (s t : Tracked) (o : Landing) → t.0.dcl ≡ o.regs.dcl → t.1.rom_src ≡ s.1.rom_src → t.1.ram_src ≡ s.1.ram_src → t.0.r ≡ s.0.r → o.first_location ≡ 26 → o.second_location ≡ 26 →
+kept-locations : (s t : TrackedMachine) (o : Landing) → t.0.dcl ≡ o.regs.dcl → t.1.rom_src ≡ s.1.rom_src → t.1.ram_src ≡ s.1.ram_src → t.0.r ≡ s.0.r → o.first_location ≡ 26 → o.second_location ≡ 26 →
     (k : ℕ) → k < 26 → value_at t k ≡ value_after o k (value_at s k)
 kept-locations s t o bank src srcs r first second =
     locations-from s t o bank src srcs
@@ -43,7 +43,7 @@ kept-locations s t o bank src srcs r first second =
     (λ k up below. (λ e. omega arith, λ e. omega arith))
 
 -- the value at each location after an instruction that changes one register
-one-location : (s t : Tracked) (o : Landing) (i : ℕ) → i < 16 → length s.0.r ≡ 16 → t.0.dcl ≡ o.regs.dcl → t.1.rom_src ≡ s.1.rom_src → t.1.ram_src ≡ s.1.ram_src → t.0.r ≡ slice_set s.0.r i o.first_value → o.first_location ≡ i → o.second_location ≡ 26 →
+one-location : (s t : TrackedMachine) (o : Landing) (i : ℕ) → i < 16 → length s.0.r ≡ 16 → t.0.dcl ≡ o.regs.dcl → t.1.rom_src ≡ s.1.rom_src → t.1.ram_src ≡ s.1.ram_src → t.0.r ≡ slice_set s.0.r i o.first_value → o.first_location ≡ i → o.second_location ≡ 26 →
     (k : ℕ) → k < 26 → value_at t k ≡ value_after o k (value_at s k)
 one-location s t o i small len bank src srcs r first second =
     locations-from s t o bank src srcs
@@ -62,7 +62,7 @@ one-location s t o i small len bank src srcs r first second =
     (λ k up below. (λ e. omega arith, λ e. omega arith))
 
 -- the value at each location after an instruction that changes both registers of a pair
-two-locations : (s t : Tracked) (o : Landing) (i : ℕ) → i < 8 → length s.0.r ≡ 16 → t.0.dcl ≡ o.regs.dcl → t.1.rom_src ≡ s.1.rom_src → t.1.ram_src ≡ s.1.ram_src → t.0.r ≡ slice_set (slice_set s.0.r (2 * i) o.first_value) (2 * i + 1) o.second_value → o.first_location ≡ 2 * i → o.second_location ≡ 2 * i + 1 →
+two-locations : (s t : TrackedMachine) (o : Landing) (i : ℕ) → i < 8 → length s.0.r ≡ 16 → t.0.dcl ≡ o.regs.dcl → t.1.rom_src ≡ s.1.rom_src → t.1.ram_src ≡ s.1.ram_src → t.0.r ≡ slice_set (slice_set s.0.r (2 * i) o.first_value) (2 * i + 1) o.second_value → o.first_location ≡ 2 * i → o.second_location ≡ 2 * i + 1 →
     (k : ℕ) → k < 26 → value_at t k ≡ value_after o k (value_at s k)
 two-locations s t o i small len bank src srcs r first second =
     let upper = slice_set s.0.r (2 * i) o.first_value in
@@ -94,7 +94,7 @@ two-locations s t o i small len bank src srcs r first second =
 -- ---- the landings of these instructions
 
 -- holds if a machine has the addresses, accumulator, carry and bank of a landing
-pub record Agrees (t : Tracked) (o : Landing) : Type 0 where
+pub record Agrees (t : TrackedMachine) (o : Landing) : Type 0 where
   pub pc : t.0.pc ≡ o.regs.pc
   pub calls : t.2.calls ≡ o.calls
   pub ret : (k : ℕ) → k < 3 → k < o.calls → slice_index t.0.ret k ≡ slice_index o.regs.ret k
@@ -103,11 +103,11 @@ pub record Agrees (t : Tracked) (o : Landing) : Type 0 where
   pub dcl : t.0.dcl ≡ o.regs.dcl
 
 -- holds if two machines have the same SRC bytes
-pub record KeepsSrc (s t : Tracked) : Type 0 where
+pub record KeepsSrc (s t : TrackedMachine) : Type 0 where
   pub rom : t.1.rom_src ≡ s.1.rom_src
   pub ram : t.1.ram_src ≡ s.1.ram_src
 
-pub lands-kept : (s t : Tracked) (o : Landing) → length s.0.r ≡ 16 → length s.1.ram_src ≡ 8 → Agrees t o → KeepsSrc s t → t.0.r ≡ s.0.r → o.first_location ≡ 26 → o.second_location ≡ 26 → LandingLeads s t o
+pub lands-kept : (s t : TrackedMachine) (o : Landing) → length s.0.r ≡ 16 → length s.1.ram_src ≡ 8 → Agrees t o → KeepsSrc s t → t.0.r ≡ s.0.r → o.first_location ≡ 26 → o.second_location ≡ 26 → LandingLeads s t o
 lands-kept s t o registers banks a src r first second = record {
   pc = a.pc;
   calls = a.calls;
@@ -119,7 +119,7 @@ lands-kept s t o registers banks a src r first second = record {
   banks = ap (λ (l : List ℕ). length l) src.ram ∙ banks;
 }
 
-pub lands-one : (s t : Tracked) (o : Landing) (i : ℕ) → i < 16 → length s.0.r ≡ 16 → length s.1.ram_src ≡ 8 → Agrees t o → KeepsSrc s t → t.0.r ≡ slice_set s.0.r i o.first_value → o.first_location ≡ i → o.second_location ≡ 26 → LandingLeads s t o
+pub lands-one : (s t : TrackedMachine) (o : Landing) (i : ℕ) → i < 16 → length s.0.r ≡ 16 → length s.1.ram_src ≡ 8 → Agrees t o → KeepsSrc s t → t.0.r ≡ slice_set s.0.r i o.first_value → o.first_location ≡ i → o.second_location ≡ 26 → LandingLeads s t o
 lands-one s t o i small registers banks a src r first second = record {
   pc = a.pc;
   calls = a.calls;
@@ -131,7 +131,7 @@ lands-one s t o i small registers banks a src r first second = record {
   banks = ap (λ (l : List ℕ). length l) src.ram ∙ banks;
 }
 
-pub lands-two : (s t : Tracked) (o : Landing) (i : ℕ) → i < 8 → length s.0.r ≡ 16 → length s.1.ram_src ≡ 8 → Agrees t o → KeepsSrc s t → t.0.r ≡ slice_set (slice_set s.0.r (2 * i) o.first_value) (2 * i + 1) o.second_value → o.first_location ≡ 2 * i → o.second_location ≡ 2 * i + 1 → LandingLeads s t o
+pub lands-two : (s t : TrackedMachine) (o : Landing) (i : ℕ) → i < 8 → length s.0.r ≡ 16 → length s.1.ram_src ≡ 8 → Agrees t o → KeepsSrc s t → t.0.r ≡ slice_set (slice_set s.0.r (2 * i) o.first_value) (2 * i + 1) o.second_value → o.first_location ≡ 2 * i → o.second_location ≡ 2 * i + 1 → LandingLeads s t o
 lands-two s t o i small registers banks a src r first second = record {
   pc = a.pc;
   calls = a.calls;

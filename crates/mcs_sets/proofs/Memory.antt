@@ -8,12 +8,12 @@ use Rattle.mcs_model.specs.declared.board.BoardParts.{BoardParts}
 use Rattle.mcs_model.specs.declared.regs.Regs.{Regs}
 use Rattle.mcs_model.specs.declared.op.Op.{Op}
 use Rattle.mcs_model.specs.declared.op.Op.TheVariants.{Src, Wrm, Wmp, Wrr, Wr0, Wr1, Wr2, Wr3}
-use Rattle.mcs_model.specs.Boards.{masks_on}
+use Rattle.mcs_model.specs.Boards.{rom_masks}
 use Rattle.mcs_model.specs.Bus.{BusState, after_src, chips_of, src_of, has_chip, with_ram, after_ram, with_status, after_status}
-use Rattle.mcs_model.specs.Levels.{clock_levels, chains_clocked, with_rom_ports_at, after_ram_port, after_rom_port}
+use Rattle.mcs_model.specs.Levels.{clock_levels, after_chain_clocks, with_rom_ports_at, after_ram_port, after_rom_port}
 use Rattle.mcs_model.specs.Effect.{bus_after, cycle_of, effect, instruction_at}
 use Rattle.mcs_model.specs.Running.{Machine}
-use Rattle.mcs_drive.specs.Tracked.{Tracked, machine_in, cycled, no_observer}
+use Rattle.mcs_drive.specs.TrackedMachine.{TrackedMachine, machine_in, cycled, no_observer}
 use Rattle.mcs_sets.specs.Entries.{has}
 use Rattle.mcs_sets.specs.Closure.{IsBusOf}
 
@@ -39,11 +39,11 @@ module _ (board : BoardParts) (rom : List ℕ) where
   src-of m bank byte h = either-of (nat_lt 0 (chips_of m bank)) _ _ (record { board = h.board; rom = h.rom; ram = h.ram; status = h.status; test = h.test }) (record { board = h.board; rom = h.rom; ram = h.ram; status = h.status; test = h.test })
 
   ram_port-of : (m : BusState) (bank n : ℕ) → IsBusOf board rom m → IsBusOf board rom (after_ram_port m bank n)
-  unfolding after_ram_port chains_clocked
+  unfolding after_ram_port after_chain_clocks
   ram_port-of m bank n h = either-of (has_chip m bank (src_of m bank)) _ m (record { board = h.board; rom = h.rom; ram = h.ram; status = h.status; test = h.test }) h
 
-  rom_port-when : (m : BusState) (n : ℕ) (o : Option (List LineMask)) → IsBusOf board rom m → IsBusOf board rom (elim o as (λ _. BusState) [ Some mask ↦ chains_clocked (clock_levels m) (with_rom_ports_at m (m.rom_src / 16) (latch_value mask n)) | None ↦ m ])
-  unfolding chains_clocked
+  rom_port-when : (m : BusState) (n : ℕ) (o : Option (List LineMask)) → IsBusOf board rom m → IsBusOf board rom (elim o as (λ _. BusState) [ Some mask ↦ after_chain_clocks (clock_levels m) (with_rom_ports_at m (m.rom_src / 16) (latch_value mask n)) | None ↦ m ])
+  unfolding after_chain_clocks
   rom_port-when m n (Some mask) h = record { board = h.board; rom = h.rom; ram = h.ram; status = h.status; test = h.test }
   rom_port-when m n None h = h
 
@@ -52,7 +52,7 @@ module _ (board : BoardParts) (rom : List ℕ) where
   bus-of (Src k) s m small h = src-of m s.dcl _ h
   bus-of Wrm s m small h = ram-of m s.dcl (src_of m s.dcl) s.acc small h
   bus-of Wmp s m small h = ram_port-of m s.dcl s.acc h
-  bus-of Wrr s m small h = rom_port-when m s.acc (masks_on m.board (m.rom_src / 16)) h
+  bus-of Wrr s m small h = rom_port-when m s.acc (rom_masks m.board (m.rom_src / 16)) h
   bus-of Wr0 s m small h = status-of m s.dcl (src_of m s.dcl / 16) 0 s.acc small h
   bus-of Wr1 s m small h = status-of m s.dcl (src_of m s.dcl / 16) 1 s.acc small h
   bus-of Wr2 s m small h = status-of m s.dcl (src_of m s.dcl / 16) 2 s.acc small h
@@ -64,6 +64,6 @@ module _ (board : BoardParts) (rom : List ℕ) where
   cycle-when s false None small h = h
   cycle-when s false (Some op) small h = bus-of op s.0 s.1 small h
 
-  pub cycle-of_board : (s : Tracked) → s.0.acc < 16 → IsBusOf board rom s.1 → IsBusOf board rom (cycled no_observer s).1
+  pub cycle-of_board : (s : TrackedMachine) → s.0.acc < 16 → IsBusOf board rom s.1 → IsBusOf board rom (cycled no_observer s).1
   unfolding cycle_of
   cycle-of_board s small h = cycle-when (machine_in s) (eqb s.0.owed 1) (instruction_at s.0 s.1) small h

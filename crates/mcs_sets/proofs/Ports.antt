@@ -3,7 +3,7 @@ use Rattle.std.proofs.Common.{◌<◌, ◌/◌, ℕ, Bool, true, false, List, Op
 use Rattle.mcs_nibble.specs.declared.lines.LineMask.{LineMask}
 use Rattle.mcs_nibble.specs.declared.lines.LineMask.TheVariants.{Input, Zero, One}
 use Rattle.mcs_nibble.specs.Ports.{mask_at, read_bit, read_lines}
-use Rattle.mcs_model.specs.Boards.{masks_on}
+use Rattle.mcs_model.specs.Boards.{rom_masks}
 use Rattle.mcs_model.specs.Bus.{BusState}
 use Rattle.mcs_model.specs.Levels.{bit_when, is_pulled, port_at, port_of}
 
@@ -31,4 +31,4 @@ port-lt-when f None = omega arith
 
 pub port-lt : (s : BusState) → port_of s < 16
 unfolding port_at
-port-lt s = port-lt-when (λ k. is_pulled s (s.rom_src / 16) k) (masks_on s.board (s.rom_src / 16))
+port-lt s = port-lt-when (λ k. is_pulled s (s.rom_src / 16) k) (rom_masks s.board (s.rom_src / 16))

@@ -5,9 +5,9 @@ use Rattle.mcs_nibble.specs.Ports.{latch_value}
 use Rattle.mcs_model.specs.declared.regs.Regs.{Regs}
 use Rattle.mcs_model.specs.declared.op.Op.{Op}
 use Rattle.mcs_model.specs.declared.op.Op.TheVariants.{Src, Wrm, Wmp, Wrr, Wr0, Wr1, Wr2, Wr3}
-use Rattle.mcs_model.specs.Boards.{masks_on}
+use Rattle.mcs_model.specs.Boards.{rom_masks}
 use Rattle.mcs_model.specs.Bus.{BusState, fetch_of, after_src, chips_of, src_of, has_chip, with_ram, after_ram, with_status, after_status}
-use Rattle.mcs_model.specs.Levels.{clock_levels, chains_clocked, with_rom_ports_at, after_ram_port, after_rom_port}
+use Rattle.mcs_model.specs.Levels.{clock_levels, after_chain_clocks, with_rom_ports_at, after_ram_port, after_rom_port}
 use Rattle.mcs_model.specs.Effect.{bus_after, cycle_of, effect, instruction_at}
 use Rattle.mcs_sets.specs.Landing.{op_at}
 
@@ -42,11 +42,11 @@ unfolding after_src
 src-same m bank byte = either-same (nat_lt 0 (chips_of m bank)) m _ _ (record { rom = refl; board = refl }) (record { rom = refl; board = refl })
 
 ram_port-same : (m : BusState) (bank n : ℕ) → SameProgram m (after_ram_port m bank n)
-unfolding after_ram_port chains_clocked
+unfolding after_ram_port after_chain_clocks
 ram_port-same m bank n = either-same (has_chip m bank (src_of m bank)) m _ m (record { rom = refl; board = refl }) (record { rom = refl; board = refl })
 
-rom_port-same-when : (m : BusState) (n : ℕ) (o : Option (List LineMask)) → SameProgram m (elim o as (λ _. BusState) [ Some mask ↦ chains_clocked (clock_levels m) (with_rom_ports_at m (m.rom_src / 16) (latch_value mask n)) | None ↦ m ])
-unfolding chains_clocked
+rom_port-same-when : (m : BusState) (n : ℕ) (o : Option (List LineMask)) → SameProgram m (elim o as (λ _. BusState) [ Some mask ↦ after_chain_clocks (clock_levels m) (with_rom_ports_at m (m.rom_src / 16) (latch_value mask n)) | None ↦ m ])
+unfolding after_chain_clocks
 rom_port-same-when m n (Some mask) = record { rom = refl; board = refl }
 rom_port-same-when m n None = record { rom = refl; board = refl }
 
@@ -55,7 +55,7 @@ unfolding after_ram after_status after_rom_port
 bus-same (Src k) s m = src-same m s.dcl _
 bus-same Wrm s m = ram-same m s.dcl (src_of m s.dcl) s.acc
 bus-same Wmp s m = ram_port-same m s.dcl s.acc
-bus-same Wrr s m = rom_port-same-when m s.acc (masks_on m.board (m.rom_src / 16))
+bus-same Wrr s m = rom_port-same-when m s.acc (rom_masks m.board (m.rom_src / 16))
 bus-same Wr0 s m = status-same m s.dcl (src_of m s.dcl / 16) 0 s.acc
 bus-same Wr1 s m = status-same m s.dcl (src_of m s.dcl / 16) 1 s.acc
 bus-same Wr2 s m = status-same m s.dcl (src_of m s.dcl / 16) 2 s.acc

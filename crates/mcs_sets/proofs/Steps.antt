@@ -11,7 +11,7 @@ use Rattle.mcs_model.specs.Bus.{BusState, ram_of, status_of}
 use Rattle.mcs_model.specs.Effect.{effect, cycle_of, instruction_at}
 use Rattle.mcs_model.specs.Levels.{port_of}
 use Rattle.mcs_model.specs.Registers.{register_of}
-use Rattle.mcs_drive.specs.Tracked.{Tracked, machine_in, cycled, calls_after, elapsed_after, seen_after, counts_after, no_observer}
+use Rattle.mcs_drive.specs.TrackedMachine.{TrackedMachine, machine_in, cycled, calls_after, elapsed_after, seen_after, counts_after, no_observer}
 use Rattle.mcs_sets.proofs.Ports.{port-lt}
 use Rattle.mcs_sets.specs.declared.entries.Entry.{Entry}
 use Rattle.mcs_sets.specs.declared.landing.Choice.{Choice}
@@ -26,7 +26,7 @@ use Rattle.mcs_sets.proofs.Lands.{lands}
 
 -- ---- an entry that covers a landing covers the machine after it
 
-pub landing-covered : (e to : Entry) (s t : Tracked) (o : Landing) → Covers e s → LandingLeads s t o → CoversLanding e to o → Covers to t
+pub landing-covered : (e to : Entry) (s t : TrackedMachine) (o : Landing) → Covers e s → LandingLeads s t o → CoversLanding e to o → Covers to t
 landing-covered e to s t o is l k = record {
   at = l.pc ∙ sym k.at;
   calls = l.calls ∙ sym k.calls;
@@ -40,7 +40,7 @@ landing-covered e to s t o is l k = record {
 
 -- ---- an entry allows the choices of its machines
 
-register-in : (e : Entry) (s : Tracked) (r : ℕ) → r < 16 → Covers e s → has (slice_index e.sets r) (register_of s.0 r) ≡ true
+register-in : (e : Entry) (s : TrackedMachine) (r : ℕ) → r < 16 → Covers e s → has (slice_index e.sets r) (register_of s.0 r) ≡ true
 register-in e s r small is =
     let far : r ≢ 16 = λ z. omega arith in
     let no : eqb r 16 ≡ false = ne_eqb r 16 far in
@@ -69,7 +69,7 @@ status-lt : (m : BusState) (bank k : ℕ) → All (λ n. n < 16) m.status → st
 unfolding status_of
 status-lt m bank k h = nibble-at m.status _ h
 
-first-in : (board : BoardParts) (rom : List ℕ) (op : Op) (e : Entry) (s : Tracked) → IsValidOp op → IsBusOf board rom s.1 → Covers e s → has (first_operand_set op e) (first_operand_of op s.0 s.1) ≡ true
+first-in : (board : BoardParts) (rom : List ℕ) (op : Op) (e : Entry) (s : TrackedMachine) → IsValidOp op → IsBusOf board rom s.1 → Covers e s → has (first_operand_set op e) (first_operand_of op s.0 s.1) ≡ true
 first-in board rom (Src k) e s small of is = register-in e s (2 * k) (omega arith) is
 first-in board rom (Fin k) e s small of is = register-in e s 0 (omega arith) is
 first-in board rom (Jin k) e s small of is = register-in e s (2 * k) (omega arith) is
@@ -89,13 +89,13 @@ first-in board rom Rd2 e s small of is = any-nibble (status_of s.1 s.0.dcl 2) (s
 first-in board rom Rd3 e s small of is = any-nibble (status_of s.1 s.0.dcl 3) (status-lt s.1 s.0.dcl 3 of.status)
 first-in board rom _ e s small of is = refl
 
-second-in : (board : BoardParts) (rom : List ℕ) (op : Op) (e : Entry) (s : Tracked) → IsValidOp op → IsBusOf board rom s.1 → Covers e s → has (second_operand_set op e) (second_operand_of op s.0 s.1) ≡ true
+second-in : (board : BoardParts) (rom : List ℕ) (op : Op) (e : Entry) (s : TrackedMachine) → IsValidOp op → IsBusOf board rom s.1 → Covers e s → has (second_operand_set op e) (second_operand_of op s.0 s.1) ≡ true
 second-in board rom (Jcn c b) e s small of is = any-level s.1.test of.test
 second-in board rom (Fin k) e s small of is = register-in e s 1 (omega arith) is
 second-in board rom (Jin k) e s small of is = register-in e s (2 * k + 1) (omega arith) is
 second-in board rom _ e s small of is = refl
 
-pub allows-own : (board : BoardParts) (rom : List ℕ) (op : Op) (e : Entry) (s : Tracked) → IsValidOp op → IsBusOf board rom s.1 → Covers e s → AllowsChoice e op (choice_of op s)
+pub allows-own : (board : BoardParts) (rom : List ℕ) (op : Op) (e : Entry) (s : TrackedMachine) → IsValidOp op → IsBusOf board rom s.1 → Covers e s → AllowsChoice e op (choice_of op s)
 allows-own board rom op e s valid of is = record {
   acc = is.acc;
   bank = is.locations 16 (omega arith);
@@ -105,14 +105,14 @@ allows-own board rom op e s valid of is = record {
 
 -- ---- the cycle
 
-cycled-when : (b : Bool) (o : Option Op) (op : Op) (s : Tracked) → b ≡ false → o ≡ Some op →
+cycled-when : (b : Bool) (o : Option Op) (op : Op) (s : TrackedMachine) → b ≡ false → o ≡ Some op →
     (unwrap_or (cond b (Some (record s.0 { owed = 0 }, s.1)) (elim o as (λ _. Option (Regs × BusState)) [ Some op ↦ Some (effect op s.0 s.1) | None ↦ None ])) (machine_in s)) ≡ effect op s.0 s.1
 cycled-when b o op s e f = rw (e, f) refl
 
 opens-when : (b : Bool) (o : Option Op) (op : Op) (n : ℕ) → b ≡ false → o ≡ Some op → calls_after (cond b None o) n ≡ calls_after (Some op) n
 opens-when b o op n e f = rw (e, f) refl
 
-pub cycled-op : (op : Op) (s : Tracked) → eqb s.0.owed 1 ≡ false → instruction_at s.0 s.1 ≡ Some op → cycled no_observer s ≡ machine_after op s
+pub cycled-op : (op : Op) (s : TrackedMachine) → eqb s.0.owed 1 ≡ false → instruction_at s.0 s.1 ≡ Some op → cycled no_observer s ≡ machine_after op s
 unfolding cycle_of
 cycled-op op s free next =
     let work = cycled-when (eqb s.0.owed 1) (instruction_at s.0 s.1) op s free next in
@@ -121,36 +121,36 @@ cycled-op op s free next =
     ∙ ap (λ (n : ℕ). ((effect op s.0 s.1).0, (effect op s.0 s.1).1, record s.2 { calls = n; elapsed = elapsed_after no_observer s; seen = seen_after no_observer s })) opened
 
 -- a machine after the second cycle of an instruction, which does no work
-abbrev idle : Tracked → Tracked
+abbrev idle : TrackedMachine → TrackedMachine
 idle s = (record s.0 { owed = 0 }, s.1, record s.2 { elapsed = elapsed_after no_observer s; seen = seen_after no_observer s })
 
-idle-when : (b : Bool) (o : Option Op) (s : Tracked) → b ≡ true →
+idle-when : (b : Bool) (o : Option Op) (s : TrackedMachine) → b ≡ true →
     (unwrap_or (cond b (Some (record s.0 { owed = 0 }, s.1)) (elim o as (λ _. Option (Regs × BusState)) [ Some op ↦ Some (effect op s.0 s.1) | None ↦ None ])) (machine_in s)) ≡ machine_in (idle s)
 idle-when b o s e = rw e refl
 
 idle-opens : (b : Bool) (o : Option Op) (n : ℕ) → b ≡ true → calls_after (cond b None o) n ≡ n
 idle-opens b o n e = rw e refl
 
-cycled-idle : (s : Tracked) → eqb s.0.owed 1 ≡ true → cycled no_observer s ≡ idle s
+cycled-idle : (s : TrackedMachine) → eqb s.0.owed 1 ≡ true → cycled no_observer s ≡ idle s
 unfolding cycle_of
 cycled-idle s owed =
     ap (λ (m : Regs × BusState). (m.0, m.1, counts_after no_observer s)) (idle-when (eqb s.0.owed 1) (instruction_at s.0 s.1) s owed)
     ∙ ap (λ (n : ℕ). ((idle s).0, (idle s).1, record s.2 { calls = n; elapsed = elapsed_after no_observer s; seen = seen_after no_observer s })) (idle-opens (eqb s.0.owed 1) (instruction_at s.0 s.1) s.2.calls owed)
 
-idle-in : (e : Entry) (s : Tracked) → Covers e s → Covers e (idle s)
+idle-in : (e : Entry) (s : TrackedMachine) → Covers e s → Covers e (idle s)
 idle-in e s is = record { at = is.at; calls = is.calls; ret = is.ret; acc = is.acc; locations = is.locations; carry = is.carry; registers = is.registers; banks = is.banks }
 
 -- ---- the law
 
 -- a machine's own choice, with accumulator and carry in one number
-choice-flags : (op : Op) (s : Tracked) → s.0.acc < 16 → s.0.cy < 2 → choice_of op s ≡ choice_at (s.0.acc + 16 * s.0.cy) s.0.dcl (first_operand_of op s.0 s.1) (second_operand_of op s.0 s.1)
+choice-flags : (op : Op) (s : TrackedMachine) → s.0.acc < 16 → s.0.cy < 2 → choice_of op s ≡ choice_at (s.0.acc + 16 * s.0.cy) s.0.dcl (first_operand_of op s.0 s.1) (second_operand_of op s.0 s.1)
 choice-flags op s small carry =
     let acc : s.0.acc ≡ (s.0.acc + 16 * s.0.cy) % 16 = omega arith in
     let cy : s.0.cy ≡ (s.0.acc + 16 * s.0.cy) / 16 % 2 = omega arith in
     ap (λ (n : ℕ). let c : Choice = record { acc = n; cy = s.0.cy; bank = s.0.dcl; first_operand = first_operand_of op s.0 s.1; second_operand = second_operand_of op s.0 s.1 } in c) acc
     ∙ ap (λ (n : ℕ). let c : Choice = record { acc = (s.0.acc + 16 * s.0.cy) % 16; cy = n; bank = s.0.dcl; first_operand = first_operand_of op s.0 s.1; second_operand = second_operand_of op s.0 s.1 } in c) cy
 
-own-covered : (board : BoardParts) (rom : List ℕ) (entries : List Entry) (op : Op) (e : Entry) (s : Tracked) → IsValidOp op → IsBusOf board rom s.1 → Covers e s → AllChoicesCovered rom board entries e op → IsChoiceCovered rom board entries e op (choice_of op s)
+own-covered : (board : BoardParts) (rom : List ℕ) (entries : List Entry) (op : Op) (e : Entry) (s : TrackedMachine) → IsValidOp op → IsBusOf board rom s.1 → Covers e s → AllChoicesCovered rom board entries e op → IsChoiceCovered rom board entries e op (choice_of op s)
 own-covered board rom entries op e s valid of is all =
     let own = allows-own board rom op e s valid of is in
     let small = has-lt (acc_values_of e s.0.cy) s.0.acc own.acc in
@@ -162,7 +162,7 @@ own-covered board rom entries op e s valid of is all =
     subst (IsChoiceCovered rom board entries e op) (sym same)
     (all (s.0.acc + 16 * s.0.cy) s.0.dcl (first_operand_of op s.0 s.1) (second_operand_of op s.0 s.1) (omega arith) bank first second (subst (AllowsChoice e op) same own))
 
-fits-own : (board : BoardParts) (rom : List ℕ) (op : Op) (e : Entry) (s : Tracked) (bus : BusState) → IsValidOp op → CallsAllow op e.calls → IsBusOf board rom s.1 → Covers e s → s.0.dcl < 8 → bus.rom ≡ rom → bus.board ≡ board → StandInFits op s bus e.ret
+fits-own : (board : BoardParts) (rom : List ℕ) (op : Op) (e : Entry) (s : TrackedMachine) (bus : BusState) → IsValidOp op → CallsAllow op e.calls → IsBusOf board rom s.1 → Covers e s → s.0.dcl < 8 → bus.rom ≡ rom → bus.board ≡ board → StandInFits op s bus e.ret
 fits-own board rom op e s bus valid calls of is few same_rom same_board = record {
   valid = valid;
   calls = subst (CallsAllow op) (sym is.calls) calls;
@@ -176,7 +176,7 @@ fits-own board rom op e s bus valid calls of is few same_rom same_board = record
   nibbles = λ k h. has-lt (slice_index e.sets k) (register_of s.0 k) (register-in e s k h is);
 }
 
-pub next-among : (board : BoardParts) (rom : List ℕ) (entries : List Entry) (op : Op) (e : Entry) (s : Tracked) → IsValidOp op → CallsAllow op e.calls → op_at rom e.at ≡ Some op → IsBusOf board rom s.1 → Covers e s → eqb s.0.owed 1 ≡ false → AllChoicesCovered rom board entries e op → IsCovered entries (cycled no_observer s)
+pub next-among : (board : BoardParts) (rom : List ℕ) (entries : List Entry) (op : Op) (e : Entry) (s : TrackedMachine) → IsValidOp op → CallsAllow op e.calls → op_at rom e.at ≡ Some op → IsBusOf board rom s.1 → Covers e s → eqb s.0.owed 1 ≡ false → AllChoicesCovered rom board entries e op → IsCovered entries (cycled no_observer s)
 next-among board rom entries op e s valid calls there of is free all =
     let by = own-covered board rom entries op e s valid of is all in
     let next : instruction_at s.0 s.1 ≡ Some op = instruction-in s.0 s.1 ∙ ap (λ (l : List ℕ). op_at l s.0.pc) of.rom ∙ ap (op_at rom) is.at ∙ there in

@@ -4,8 +4,8 @@ use Rattle.std.specs.Prelude.{◌≡◌, ◌<◌, ℕ, List, All}
 use Rattle.std.specs.List.{Contains}
 use Rattle.mcs_model.specs.declared.board.BoardParts.{BoardParts}
 use Rattle.mcs_model.specs.Bus.{BusState}
-use Rattle.mcs_drive.specs.Driven.{Levels, FitBoard}
-use Rattle.mcs_drive.specs.Tracked.{Tracked, cycled, driven, no_observer}
+use Rattle.mcs_drive.specs.DrivenRuns.{Levels, FitsBoard}
+use Rattle.mcs_drive.specs.TrackedMachine.{TrackedMachine, cycled, driven, no_observer}
 use Rattle.mcs_sets.specs.declared.entries.Entry.{Entry}
 use Rattle.mcs_sets.specs.Entries.{Covers, IsCovered}
 
@@ -19,19 +19,19 @@ pub record IsBusOf (parts : BoardParts) (program : List ℕ) (m : BusState) : Ty
   pub test : m.test < 2
 
 -- holds if the certificate covers each machine of an entry after one more cycle
-abbrev pub StaysOneCycle : BoardParts → List ℕ → List Entry → Entry → Type 0
-StaysOneCycle board rom entries e =
-    (s : Tracked) → IsBusOf board rom s.1 → Covers e s → Contains entries e → IsCovered entries (cycled no_observer s)
+abbrev pub StaysCoveredOneCycle : BoardParts → List ℕ → List Entry → Entry → Type 0
+StaysCoveredOneCycle board rom entries e =
+    (s : TrackedMachine) → IsBusOf board rom s.1 → Covers e s → Contains entries e → IsCovered entries (cycled no_observer s)
 
 -- holds if the certificate covers the machine at every moment, for all inputs
-abbrev pub StaysCovered : List Entry → Tracked → Type 0
+abbrev pub StaysCovered : List Entry → TrackedMachine → Type 0
 StaysCovered entries s =
-    (f : ℕ → Levels) → ((k : ℕ) → FitBoard s.1.board (f k)) → (k : ℕ) → IsCovered entries (driven no_observer f k s)
+    (f : ℕ → Levels) → ((k : ℕ) → FitsBoard s.1.board (f k)) → (k : ℕ) → IsCovered entries (driven no_observer f k s)
 
 -- the induction: if the certificate covers the machines of each entry after one more cycle, it covers the
 -- machine at every moment
 abbrev pub ClosureSuffices : Type 0
 ClosureSuffices =
-    (board : BoardParts) (rom : List ℕ) (entries : List Entry) (s : Tracked) →
-    ((e : Entry) → Contains entries e → StaysOneCycle board rom entries e) →
+    (board : BoardParts) (rom : List ℕ) (entries : List Entry) (s : TrackedMachine) →
+    ((e : Entry) → Contains entries e → StaysCoveredOneCycle board rom entries e) →
     IsBusOf board rom s.1 → IsCovered entries s → StaysCovered entries s

@@ -8,7 +8,7 @@ use Rattle.mcs_sets.specs.declared.entries.Entry.{Entry}
 use Rattle.mcs_sets.specs.declared.landing.Choice.{Choice}
 use Rattle.mcs_sets.specs.declared.landing.Landing.{Landing}
 use Rattle.mcs_sets.specs.Entries.{has, acc_values_of}
-use Rattle.mcs_sets.specs.Closure.{StaysOneCycle}
+use Rattle.mcs_sets.specs.Closure.{StaysCoveredOneCycle}
 use Rattle.mcs_sets.specs.Landing.{op_at, first_operand_set, second_operand_set, value_after, landing, CallsAllow, IsValidOp, CoversLanding}
 
 -- holds if the target entry allows the value at location k of every machine that a landing reaches
@@ -58,4 +58,4 @@ abbrev pub LandingsSuffice : Type 0
 LandingsSuffice =
     (board : BoardParts) (rom : List ℕ) (entries : List Entry) (op : Op) (e : Entry) →
     IsValidOp op → CallsAllow op e.calls → op_at rom e.at ≡ Some op → AllChoicesCovered rom board entries e op →
-    StaysOneCycle board rom entries e
+    StaysCoveredOneCycle board rom entries e

@@ -3,7 +3,7 @@
 use Rattle.std.specs.Prelude.{◌≡◌, ◌<◌, ◌-◌, ◌/◌, ◌%◌, ◌^◌, ◌&&◌, ◌==◌, ℕ, List, length, Bool, true, nat_lt, slice_index, if◌then◌else◌}
 use Rattle.std.specs.List.{Contains}
 use Rattle.mcs_model.specs.declared.regs.Regs.{Regs}
-use Rattle.mcs_drive.specs.Tracked.{Tracked}
+use Rattle.mcs_drive.specs.TrackedMachine.{TrackedMachine}
 use Rattle.mcs_sets.specs.declared.entries.Entry.{Entry}
 
 -- true if a set of nibbles contains the number n: bit n of the set is 1
@@ -21,7 +21,7 @@ acc_values_of e carry = if carry == 0 then e.acc_if_carry_0 else if carry == 1 t
 -- the value that a machine holds at location k. Locations 0 to 15 are the index registers, 16 is the
 -- bank number, and 17 is the upper nibble of the SRC byte that the ROMs store. Locations 18 to 25 are
 -- the upper nibbles of the SRC bytes that the banks store.
-abbrev pub value_at : Tracked → ℕ → ℕ
+abbrev pub value_at : TrackedMachine → ℕ → ℕ
 value_at s k =
     if k == 16 then s.0.dcl
     else if nat_lt k 16 then slice_index s.0.r k
@@ -29,7 +29,7 @@ value_at s k =
     else slice_index s.1.ram_src (k - 18) / 16
 
 -- holds if an entry covers a machine
-pub record Covers (e : Entry) (s : Tracked) : Type 0 where
+pub record Covers (e : Entry) (s : TrackedMachine) : Type 0 where
   pub at : s.0.pc ≡ e.at
   pub calls : s.2.calls ≡ e.calls
   pub ret : (k : ℕ) → k < 3 → k < e.calls → slice_index s.0.ret k ≡ slice_index e.ret k
@@ -40,7 +40,7 @@ pub record Covers (e : Entry) (s : Tracked) : Type 0 where
   pub banks : length s.1.ram_src ≡ 8
 
 -- holds if some entry of a certificate covers a machine
-abbrev pub IsCovered : List Entry → Tracked → Type 0
+abbrev pub IsCovered : List Entry → TrackedMachine → Type 0
 IsCovered entries s = (e : Entry) × Contains entries e × Covers e s
 
 -- holds if a processor is at the address of an entry, and the entry has no open calls

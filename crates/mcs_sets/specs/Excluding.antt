@@ -5,32 +5,32 @@ use Rattle.std.specs.List.{Contains}
 use Rattle.mcs_model.specs.declared.board.BoardParts.{BoardParts}
 use Rattle.mcs_model.specs.declared.op.Op.{Op}
 use Rattle.mcs_model.specs.declared.op.Op.TheVariants.{Jcn, Fim, Fin, Jun, Jms, Isz}
-use Rattle.mcs_drive.specs.Tracked.{Tracked, Holds, no_observer}
+use Rattle.mcs_drive.specs.TrackedMachine.{TrackedMachine, Holds, no_observer}
 use Rattle.mcs_check.specs.declared.common_mistakes.Mistakes.{Mistakes}
 use Rattle.mcs_check.specs.declared.conditions.Condition.{Condition}
 use Rattle.mcs_check.specs.Conditions.{are_met, is_met}
-use Rattle.mcs_check.specs.Mistaken.{makes}
+use Rattle.mcs_check.specs.Mistaken.{op_makes_mistake}
 use Rattle.mcs_sets.specs.declared.entries.Entry.{Entry}
 use Rattle.mcs_sets.specs.Entries.{has, Covers}
 use Rattle.mcs_sets.specs.Closure.{IsBusOf, StaysCovered}
 
 -- holds if every machine that an entry covers, with this board and ROM, has a property
-abbrev pub HoldsInEntry : BoardParts → List ℕ → (Tracked → Bool) → Entry → Type 0
-HoldsInEntry board rom p e = (s : Tracked) → IsBusOf board rom s.1 → Covers e s → p s ≡ true
+abbrev pub HoldsInEntry : BoardParts → List ℕ → (TrackedMachine → Bool) → Entry → Type 0
+HoldsInEntry board rom p e = (s : TrackedMachine) → IsBusOf board rom s.1 → Covers e s → p s ≡ true
 
 -- holds if no machine that an entry covers, with this board and ROM, meets a condition
 abbrev pub Excludes : BoardParts → List ℕ → Condition → Entry → Type 0
-Excludes board rom c e = (s : Tracked) → IsBusOf board rom s.1 → Covers e s → is_met s c ≡ false
+Excludes board rom c e = (s : TrackedMachine) → IsBusOf board rom s.1 → Covers e s → is_met s c ≡ false
 
 -- holds if no machine that an entry covers, with this board and ROM, meets all of these conditions
 abbrev pub ExcludesConjunction : BoardParts → List ℕ → List Condition → Entry → Type 0
-ExcludesConjunction board rom cs e = (s : Tracked) → IsBusOf board rom s.1 → Covers e s → are_met s cs ≡ false
+ExcludesConjunction board rom cs e = (s : TrackedMachine) → IsBusOf board rom s.1 → Covers e s → are_met s cs ≡ false
 
 -- the theorem: a property that holds in each entry of a certificate holds for all inputs, if the machine
 -- stays in the certificate
 abbrev pub EntriesSuffice : Type 0
 EntriesSuffice =
-    (p : Tracked → Bool) (entries : List Entry) (s : Tracked) →
+    (p : TrackedMachine → Bool) (entries : List Entry) (s : TrackedMachine) →
     ((e : Entry) → Contains entries e → HoldsInEntry s.1.board s.1.rom p e) →
     IsBusOf s.1.board s.1.rom s.1 → StaysCovered entries s → Holds no_observer p s
 
@@ -50,16 +50,16 @@ pub record HasChipsOfBank (board : BoardParts) (e : Entry) (bank : ℕ) : Type 0
 
 -- true if an instruction reads a second word, or is FIN, which reads a byte on the page of the next
 -- address
-abbrev pub reads_next : Op → Bool
-reads_next (Jcn c b) = true
-reads_next (Fim k b) = true
-reads_next (Fin k) = true
-reads_next (Jun h b) = true
-reads_next (Jms h b) = true
-reads_next (Isz r b) = true
-reads_next _ = false
+abbrev pub reads_next_address : Op → Bool
+reads_next_address (Jcn c b) = true
+reads_next_address (Fim k b) = true
+reads_next_address (Fin k) = true
+reads_next_address (Jun h b) = true
+reads_next_address (Jms h b) = true
+reads_next_address (Isz r b) = true
+reads_next_address _ = false
 
 -- holds if no machine that an entry covers makes a mistake that `mistakes` includes when it executes
 -- `op`
 abbrev pub MakesNoMistake : BoardParts → Entry → Op → Mistakes → Type 0
-MakesNoMistake board e op mistakes = (s : Tracked) → s.1.board ≡ board → Covers e s → makes mistakes op s ≡ false
+MakesNoMistake board e op mistakes = (s : TrackedMachine) → s.1.board ≡ board → Covers e s → op_makes_mistake mistakes op s ≡ false

@@ -6,11 +6,11 @@ use Rattle.mcs_model.specs.declared.op.Op.{Op}
 use Rattle.mcs_model.specs.declared.op.Op.TheVariants.{Jcn, Fim, Src, Fin, Jin, Jms, Inc, Isz, Add, Sub, Ld, Xch, Bbl, Sbm, Rdm, Rdr, Adm, Rd0, Rd1, Rd2, Rd3}
 use Rattle.mcs_model.specs.declared.regs.Regs.{Regs}
 use Rattle.mcs_model.specs.Bus.{BusState, ram_of, status_of}
-use Rattle.mcs_model.specs.Effect.{after_words, registers_after, bus_after, with_acc, with_sum}
+use Rattle.mcs_model.specs.Effect.{after_fetch, registers_after, bus_after, with_acc, with_sum}
 use Rattle.mcs_model.specs.Levels.{port_of}
 use Rattle.mcs_model.specs.Registers.{register_of}
 use Rattle.mcs_model.specs.Table.{instruction_of}
-use Rattle.mcs_drive.specs.Tracked.{Tracked, calls_after, elapsed_after, seen_after, no_observer}
+use Rattle.mcs_drive.specs.TrackedMachine.{TrackedMachine, calls_after, elapsed_after, seen_after, no_observer}
 use Rattle.mcs_sets.specs.declared.entries.Entry.{Entry}
 use Rattle.mcs_sets.specs.declared.landing.Choice.{Choice}
 use Rattle.mcs_sets.specs.declared.landing.Landing.{Landing}
@@ -126,7 +126,7 @@ value_written _ first t location = if nat_lt location 16 then slice_index t.r lo
 abbrev pub stand_in_after : Op → ℕ → List ℕ → BusState → Choice → Regs
 stand_in_after op at ret m c =
     with_value_read op c.first_operand (stand_in_before op at ret c)
-    (registers_after op (after_words op (stand_in_before op at ret c)) (record m { test = c.second_operand % 2 }))
+    (registers_after op (after_fetch op (stand_in_before op at ret c)) (record m { test = c.second_operand % 2 }))
 
 abbrev pub landing : Op → ℕ → List ℕ → ℕ → BusState → Choice → Landing
 landing op at ret calls m c =
@@ -165,9 +165,9 @@ CallsAllow (Bbl d) calls = 0 < calls
 CallsAllow _ calls = Unit {0}
 
 -- a machine after an instruction
-abbrev pub machine_after : Op → Tracked → Tracked
+abbrev pub machine_after : Op → TrackedMachine → TrackedMachine
 machine_after op s = (
-  registers_after op (after_words op s.0) s.1,
+  registers_after op (after_fetch op s.0) s.1,
   bus_after op s.0 s.1,
   record {
     calls = calls_after (Some op) s.2.calls;
@@ -177,7 +177,7 @@ machine_after op s = (
 )
 
 -- the choice that consists of a machine's own values
-abbrev pub choice_of : Op → Tracked → Choice
+abbrev pub choice_of : Op → TrackedMachine → Choice
 choice_of op s = record { acc = s.0.acc; cy = s.0.cy; bank = s.0.dcl; first_operand = first_operand_of op s.0 s.1; second_operand = second_operand_of op s.0 s.1 }
 
 -- ---- the meaning of a landing
@@ -191,7 +191,7 @@ value_after o k v =
     else v
 
 -- holds if a landing leads from machine s to machine t
-pub record LandingLeads (s t : Tracked) (o : Landing) : Type 0 where
+pub record LandingLeads (s t : TrackedMachine) (o : Landing) : Type 0 where
   pub pc : t.0.pc ≡ o.regs.pc
   pub calls : t.2.calls ≡ o.calls
   pub ret : (k : ℕ) → k < 3 → k < o.calls → slice_index t.0.ret k ≡ slice_index o.regs.ret k
@@ -214,7 +214,7 @@ pub record CoversLanding (source target : Entry) (o : Landing) : Type 0 where
 
 -- holds if the premises of the law below are met: the bus m and the return addresses `rets` of the
 -- stand-in processor fit the machine s
-pub record StandInFits (op : Op) (s : Tracked) (m : BusState) (rets : List ℕ) : Type 0 where
+pub record StandInFits (op : Op) (s : TrackedMachine) (m : BusState) (rets : List ℕ) : Type 0 where
   pub valid : IsValidOp op
   pub calls : CallsAllow op s.2.calls
   pub registers : length s.0.r ≡ 16
@@ -229,5 +229,5 @@ pub record StandInFits (op : Op) (s : Tracked) (m : BusState) (rets : List ℕ) 
 -- the law of one step: the landing of a machine's own choice describes the machine after the instruction
 abbrev pub LandingIsCorrect : Type 0
 LandingIsCorrect =
-    (op : Op) (s : Tracked) (m : BusState) (rets : List ℕ) → StandInFits op s m rets →
+    (op : Op) (s : TrackedMachine) (m : BusState) (rets : List ℕ) → StandInFits op s m rets →
     LandingLeads s (machine_after op s) (landing op s.0.pc rets s.2.calls m (choice_of op s))

@@ -1,8 +1,8 @@
 //! Checks that a certificate covers a machine at every moment, for all inputs.
 ghost use Rattle.std.specs.Prelude.{◌≡◌, ◌<◌, ℕ, IsTrue, length, slice_index, slice_index_or, true};
-ghost use Rattle.mcs_drive.specs.Tracked.{without_calls};
+ghost use Rattle.mcs_drive.specs.TrackedMachine.{with_zero_counts};
 ghost use Rattle.mcs_sets.specs.declared.entries.Entry.{Entry};
-ghost use Rattle.mcs_sets.specs.Closure.{IsBusOf, StaysCovered, StaysOneCycle};
+ghost use Rattle.mcs_sets.specs.Closure.{IsBusOf, StaysCovered, StaysCoveredOneCycle};
 ghost use Rattle.mcs_sets.specs.Entries.{Covers, IsAtEntry, IsCovered, acc_values_of, has, value_at};
 ghost use Rattle.mcs_sets.specs.Landing.{CallsAllow, IsValidOp};
 
@@ -42,8 +42,13 @@ fn op_is_valid(op: &Op)
 }
 
 /// Returns true only if the certificate covers the machines of an entry after one more cycle.
-fn stays_one_cycle(rig: &mut BenchRig, entries: &[Entry], links: &[usize], entry: &Entry) -> bool
-    ensures stays_one_cycle { IsTrue result → StaysOneCycle rig.old.board rig.old.rom entries.now entry.now }
+fn stays_covered_one_cycle(
+    rig: &mut BenchRig,
+    entries: &[Entry],
+    links: &[usize],
+    entry: &Entry,
+) -> bool
+    ensures stays_covered_one_cycle { IsTrue result → StaysCoveredOneCycle rig.old.board rig.old.rom entries.now entry.now }
     ensures rom { rig.new.rom ≡ rig.old.rom }
     ensures board { rig.new.board ≡ rig.old.board }
 {
@@ -59,7 +64,7 @@ fn stays_one_cycle(rig: &mut BenchRig, entries: &[Entry], links: &[usize], entry
 /// Returns the value that a machine holds at a location.
 fn value_at(cpu: &Cpu, rig: &BenchRig, location: u8) -> u8
     requires { location < 26 }
-    ensures { result ≡ value_at (without_calls (cpu.now, rig.now)) location }
+    ensures { result ≡ value_at (with_zero_counts (cpu.now, rig.now)) location }
 {
     let regs = cpu.regs();
     if location == 16 {
@@ -97,7 +102,7 @@ pub(crate) fn entry_of(cpu: &Cpu, rig: &BenchRig) -> Entry {
 /// Returns whether an entry allows the value that a machine holds at a location.
 fn allows_value(entry: &Entry, cpu: &Cpu, rig: &BenchRig, location: u8) -> bool
     requires { location < 26 }
-    ensures { IsTrue result → has (slice_index entry.now.sets location) (value_at (without_calls (cpu.now, rig.now)) location) ≡ true }
+    ensures { IsTrue result → has (slice_index entry.now.sets location) (value_at (with_zero_counts (cpu.now, rig.now)) location) ≡ true }
 {
     has(
         entry.sets[usize::from(location)],
@@ -107,7 +112,7 @@ fn allows_value(entry: &Entry, cpu: &Cpu, rig: &BenchRig, location: u8) -> bool
 
 /// Returns whether an entry allows the values that a machine holds at all locations.
 fn allows_all_values(entry: &Entry, cpu: &Cpu, rig: &BenchRig) -> bool
-    ensures { IsTrue result → (k : ℕ) → k < 26 → has (slice_index entry.now.sets k) (value_at (without_calls (cpu.now, rig.now)) k) ≡ true }
+    ensures { IsTrue result → (k : ℕ) → k < 26 → has (slice_index entry.now.sets k) (value_at (with_zero_counts (cpu.now, rig.now)) k) ≡ true }
 {
     for location in 0..26u8 {
         if !allows_value(entry, cpu, rig, location) {
@@ -145,7 +150,7 @@ fn allows_acc(entry: &Entry, cpu: &Cpu) -> bool
 
 /// Returns true only if an entry covers this machine, which has no open calls.
 fn covers(entry: &Entry, cpu: &Cpu, rig: &BenchRig) -> bool
-    ensures { IsTrue result → Covers entry.now (without_calls (cpu.now, rig.now)) }
+    ensures { IsTrue result → Covers entry.now (with_zero_counts (cpu.now, rig.now)) }
 {
     machine_is_sized(cpu, rig);
     if !is_at_entry(entry, cpu) {
@@ -159,7 +164,7 @@ fn covers(entry: &Entry, cpu: &Cpu, rig: &BenchRig) -> bool
 
 /// Returns true only if the certificate's first entry covers this machine, which has no open calls.
 fn first_covers(cpu: &Cpu, rig: &BenchRig, entries: &[Entry]) -> bool
-    ensures { IsTrue result → IsCovered entries.now (without_calls (cpu.now, rig.now)) }
+    ensures { IsTrue result → IsCovered entries.now (with_zero_counts (cpu.now, rig.now)) }
 {
     !entries.is_empty() && covers(&entries[0], cpu, rig)
 }
@@ -172,27 +177,32 @@ pub(crate) fn rig_is_valid(rig: &BenchRig)
 }
 
 /// Returns true only if the certificate covers the machines of entry `i` after one more cycle.
-fn stays_one_cycle_at(rig: &mut BenchRig, entries: &[Entry], links: &[usize], i: usize) -> bool
+fn stays_covered_one_cycle_at(
+    rig: &mut BenchRig,
+    entries: &[Entry],
+    links: &[usize],
+    i: usize,
+) -> bool
     requires { i < length entries.now }
-    ensures stays_one_cycle { IsTrue result → (d : Entry) →
-        StaysOneCycle rig.old.board rig.old.rom entries.now (slice_index_or entries.now i d) }
+    ensures stays_covered_one_cycle { IsTrue result → (d : Entry) →
+        StaysCoveredOneCycle rig.old.board rig.old.rom entries.now (slice_index_or entries.now i d) }
     ensures rom { rig.new.rom ≡ rig.old.rom }
     ensures board { rig.new.board ≡ rig.old.board }
 {
-    stays_one_cycle(rig, entries, links, &entries[i])
+    stays_covered_one_cycle(rig, entries, links, &entries[i])
 }
 
 /// Returns true only if a certificate covers this machine at every moment, for all inputs. The machine has no open
 /// calls. The first entry must cover the machine in its present state.
 pub fn stays_covered(cpu: &Cpu, rig: &mut BenchRig, entries: &[Entry], links: &[usize]) -> bool
-    ensures { IsTrue result → StaysCovered entries.now (without_calls (cpu.now, rig.old)) }
+    ensures { IsTrue result → StaysCovered entries.now (with_zero_counts (cpu.now, rig.old)) }
 {
     rig_is_valid(rig);
     if !first_covers(cpu, rig, entries) {
         return false;
     }
     for i in 0..entries.len() {
-        if !stays_one_cycle_at(rig, entries, links, i) {
+        if !stays_covered_one_cycle_at(rig, entries, links, i) {
             return false;
         }
     }

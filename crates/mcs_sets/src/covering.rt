@@ -4,7 +4,7 @@ ghost use Rattle.mcs_sets.specs.Landing.{CoversLanding, op_at};
 ghost use Rattle.mcs_sets.specs.Covering.{AgreeOnOpenCalls, AllowsChoice, CoversLocation, IsChoiceCovered, IsLandingCovered, choice_at};
 
 use crate::entries::{Entry, has, is_subset};
-use crate::landing::{Choice, Landing, first_operand_set, land, second_operand_set};
+use crate::landing::{Choice, Landing, compute_landing, first_operand_set, second_operand_set};
 use mcs_board::BenchRig;
 use mcs_model::op::Op;
 use mcs_nibble::{Addr, Bit, Nibble};
@@ -105,7 +105,7 @@ fn is_choice_covered(
     if !has(second_operand_set(op, entry), choice.second_operand.get()) {
         return true;
     }
-    let landing = land(rig, op, entry, choice);
+    let landing = compute_landing(rig, op, entry, choice);
     is_landing_covered(entries, links, entry, &landing)
 }
 

@@ -2,10 +2,10 @@
 ghost use Rattle.std.specs.Prelude.{◌≡◌, ◌<◌, ◌/◌, ◌%◌, ◌+◌, IsTrue, false, true, slice_index, map};
 ghost use Rattle.mcs_model.specs.Command.{lacks_rom};
 ghost use Rattle.mcs_check.specs.declared.conditions.Condition.TheVariants.{Mistaken};
-ghost use Rattle.mcs_check.specs.Conditions.{keeps_to};
+ghost use Rattle.mcs_check.specs.Conditions.{meets_none};
 ghost use Rattle.mcs_check.specs.Mistaken.{has_input, has_output, is_rdr, is_wrr, uses_ram};
 ghost use Rattle.mcs_sets.specs.Entries.{has};
-ghost use Rattle.mcs_sets.specs.Excluding.{Excludes, ExcludesConjunction, ForAllIn, HasChipsOfBank, HasSelectableChips, HoldsInEntry, MakesNoMistake, reads_next};
+ghost use Rattle.mcs_sets.specs.Excluding.{Excludes, ExcludesConjunction, ForAllIn, HasChipsOfBank, HasSelectableChips, HoldsInEntry, MakesNoMistake, reads_next_address};
 
 use crate::certifying::calls_allow;
 use crate::entries::{Entry, has};
@@ -28,8 +28,8 @@ fn uses_ram(op: &Op) -> bool
 }
 
 /// Returns whether an instruction reads a second word, or is FIN, which reads a byte on the page of the next address.
-fn reads_next(op: &Op) -> bool
-    ensures { result ≡ reads_next op.now }
+fn reads_next_address(op: &Op) -> bool
+    ensures { result ≡ reads_next_address op.now }
 {
     match op {
         Op::Jcn(_, _) | Op::Fim(_, _) | Op::Fin(_) => true,
@@ -170,9 +170,9 @@ fn has_outputs(board: &Board, set: u16) -> bool
 /// Returns whether a board has the ROM of each word that an instruction reads.
 fn has_roms_of_words(board: &Board, at: Addr, op: &Op) -> bool
     ensures here { IsTrue result → lacks_rom board.now at ≡ false }
-    ensures next { IsTrue result → reads_next op.now ≡ true → lacks_rom board.now ((at + 1) % 4096) ≡ false }
+    ensures next { IsTrue result → reads_next_address op.now ≡ true → lacks_rom board.now ((at + 1) % 4096) ≡ false }
 {
-    !lacks_rom(board, at) && (!reads_next(op) || !lacks_rom(board, at.plus(1)))
+    !lacks_rom(board, at) && (!reads_next_address(op) || !lacks_rom(board, at.plus(1)))
 }
 
 /// Returns true only if no machine of an entry uses an absent RAM chip, or `mistakes` does not include that mistake.
@@ -186,7 +186,7 @@ fn avoids_absent_ram(board: &Board, entry: &Entry, op: &Op, mistakes: &Mistakes)
 /// Returns true only if no machine of an entry reads from an absent ROM, or `mistakes` does not include that mistake.
 fn avoids_absent_rom(board: &Board, entry: &Entry, op: &Op, mistakes: &Mistakes) -> bool
     ensures here { IsTrue result → mistakes.now.absent_rom ≡ true → lacks_rom board.now entry.now.at ≡ false }
-    ensures next { IsTrue result → mistakes.now.absent_rom ≡ true → reads_next op.now ≡ true →
+    ensures next { IsTrue result → mistakes.now.absent_rom ≡ true → reads_next_address op.now ≡ true →
         lacks_rom board.now ((entry.now.at + 1) % 4096) ≡ false }
 {
     !mistakes.absent_rom || has_roms_of_words(board, entry.at, op)
@@ -195,19 +195,19 @@ fn avoids_absent_rom(board: &Board, entry: &Entry, op: &Op, mistakes: &Mistakes)
 /// Returns true only if no machine of an entry reads a port without input lines, or `mistakes` does not include that
 /// mistake.
 fn avoids_missing_inputs(board: &Board, entry: &Entry, op: &Op, mistakes: &Mistakes) -> bool
-    ensures { IsTrue result → mistakes.now.no_inputs ≡ true → is_rdr op.now ≡ true →
+    ensures { IsTrue result → mistakes.now.port_without_inputs ≡ true → is_rdr op.now ≡ true →
         ForAllIn (slice_index entry.now.sets 17) (λ n. has_input board.now n ≡ true) }
 {
-    !mistakes.no_inputs || !is_rdr(op) || has_inputs(board, entry.sets[17])
+    !mistakes.port_without_inputs || !is_rdr(op) || has_inputs(board, entry.sets[17])
 }
 
 /// Returns true only if no machine of an entry writes to a port without output lines, or `mistakes` does not include
 /// that mistake.
 fn avoids_missing_outputs(board: &Board, entry: &Entry, op: &Op, mistakes: &Mistakes) -> bool
-    ensures { IsTrue result → mistakes.now.no_outputs ≡ true → is_wrr op.now ≡ true →
+    ensures { IsTrue result → mistakes.now.port_without_outputs ≡ true → is_wrr op.now ≡ true →
         ForAllIn (slice_index entry.now.sets 17) (λ n. has_output board.now n ≡ true) }
 {
-    !mistakes.no_outputs || !is_wrr(op) || has_outputs(board, entry.sets[17])
+    !mistakes.port_without_outputs || !is_wrr(op) || has_outputs(board, entry.sets[17])
 }
 
 /// Returns true only if no machine of an entry makes a mistake that `mistakes` includes when it executes `op`.
@@ -262,12 +262,16 @@ fn excludes_conjunction(rig: &BenchRig, entry: &Entry, conditions: &[Condition])
     false
 }
 
-/// Returns true only if no machine of an entry meets all conditions of a list in `nevers`.
-pub(crate) fn avoids_all(rig: &BenchRig, entry: &Entry, nevers: &[Vec<Condition>]) -> bool
-    ensures { IsTrue result → HoldsInEntry rig.now.board rig.now.rom (keeps_to (map (λ n. n.items) nevers.now)) entry.now }
+/// Returns true only if no machine of an entry meets all conditions of a list in `never_lists`.
+pub(crate) fn avoids_all_lists(
+    rig: &BenchRig,
+    entry: &Entry,
+    never_lists: &[Vec<Condition>],
+) -> bool
+    ensures { IsTrue result → HoldsInEntry rig.now.board rig.now.rom (meets_none (map (λ n. n.items) never_lists.now)) entry.now }
 {
-    for i in 0..nevers.len() {
-        if !excludes_conjunction(rig, entry, nevers[i].as_slice()) {
+    for i in 0..never_lists.len() {
+        if !excludes_conjunction(rig, entry, never_lists[i].as_slice()) {
             return false;
         }
     }
@@ -275,18 +279,21 @@ pub(crate) fn avoids_all(rig: &BenchRig, entry: &Entry, nevers: &[Vec<Condition>
 }
 
 /// Returns whether sets of values can decide a condition: whether it looks for mistakes.
-fn is_decidable(condition: &Condition) -> bool {
+fn is_decidable_by_sets(condition: &Condition) -> bool {
     match condition {
         Condition::Compare(_) => false,
         Condition::Mistaken(_) => true,
     }
 }
 
-/// Returns whether each list in `nevers` has a condition that sets of values can decide. Otherwise no certificate can
+/// Returns whether each list in `never_lists` has a condition that sets of values can decide. Otherwise no certificate can
 /// prove the property.
-pub(crate) fn are_decidable(nevers: &[Vec<Condition>]) -> bool {
-    for i in 0..nevers.len() {
-        if !nevers[i].iter().any(|condition| is_decidable(condition)) {
+pub(crate) fn are_decidable(never_lists: &[Vec<Condition>]) -> bool {
+    for i in 0..never_lists.len() {
+        if !never_lists[i]
+            .iter()
+            .any(|condition| is_decidable_by_sets(condition))
+        {
             return false;
         }
     }

@@ -6,8 +6,8 @@
 ghost use Rattle.std.specs.Prelude.{◌≡◌};
 
 use crate::entries::{Entry, has};
-use crate::excluding::avoids_all;
-use crate::landing::{Choice, Landing, first_operand_set, land, second_operand_set};
+use crate::excluding::avoids_all_lists;
+use crate::landing::{Choice, Landing, compute_landing, first_operand_set, second_operand_set};
 use crate::sampling::{join, sample, successor_entry};
 use mcs_board::BenchRig;
 use mcs_check::Condition;
@@ -84,7 +84,7 @@ fn landing_of(rig: &mut BenchRig, entry: &Entry, choice: &Choice) -> Option<Land
     }
     match mcs_board::instruction(&Cpu::new(), rig, entry.at) {
         None => None,
-        Some(op) => Some(land(rig, &op, entry, choice)),
+        Some(op) => Some(compute_landing(rig, &op, entry, choice)),
     }
 }
 
@@ -222,10 +222,10 @@ impl Finder {
         Ok(())
     }
 
-    /// Returns true only if no machine of entry `i` meets all conditions of a list in `nevers`, or there is no entry
+    /// Returns true only if no machine of entry `i` meets all conditions of a list in `never_lists`, or there is no entry
     /// `i`.
-    fn avoids_all_at(&self, rig: &BenchRig, nevers: &[Vec<Condition>], i: usize) -> bool {
-        i >= self.entries.len() || avoids_all(rig, &self.entries[i], nevers)
+    fn avoids_all_at(&self, rig: &BenchRig, never_lists: &[Vec<Condition>], i: usize) -> bool {
+        i >= self.entries.len() || avoids_all_lists(rig, &self.entries[i], never_lists)
     }
 
     /// Follows entry `i`: stores the entries to which its choices lead, and records them as successors.
@@ -246,7 +246,7 @@ impl Finder {
     fn follow_pending(
         &mut self,
         rig: &mut BenchRig,
-        nevers: &[Vec<Condition>],
+        never_lists: &[Vec<Condition>],
     ) -> Result<bool, Stop> {
         let mut found = false;
         for i in 0..self.max_entries {
@@ -254,7 +254,7 @@ impl Finder {
                 break;
             }
             if self.pending[i] {
-                if !self.avoids_all_at(rig, nevers, i) {
+                if !self.avoids_all_at(rig, never_lists, i) {
                     return Err(Stop::MayMeet);
                 }
                 self.pending[i] = false;
@@ -269,10 +269,10 @@ impl Finder {
     fn follow_until_stable(
         &mut self,
         rig: &mut BenchRig,
-        nevers: &[Vec<Condition>],
+        never_lists: &[Vec<Condition>],
     ) -> Result<(), Stop> {
         for _ in 0..self.max_entries.saturating_mul(MAX_SWEEPS) {
-            if !self.follow_pending(rig, nevers)? {
+            if !self.follow_pending(rig, never_lists)? {
                 return Ok(());
             }
         }
@@ -300,27 +300,27 @@ impl Finder {
         alloc: Global,
         rig: &mut BenchRig,
         begin: &Entry,
-        nevers: &[Vec<Condition>],
+        never_lists: &[Vec<Condition>],
     ) -> Result<Vec<usize>, Stop> {
         self.store(begin)?;
-        self.follow_until_stable(rig, nevers)?;
+        self.follow_until_stable(rig, never_lists)?;
         self.collect_links(alloc, rig)
     }
 }
 
 /// Finds a certificate of at most `max_entries` entries. It covers the machines of the entry `begin`, and none of its
-/// machines meets all conditions of a list in `nevers`. `exact` has the exact registers at each address, with
+/// machines meets all conditions of a list in `never_lists`. `exact` has the exact registers at each address, with
 /// register r as bit r. Each exact register must have a single value in `begin`.
-pub(crate) fn find(
+pub(crate) fn find_certificate(
     alloc: Global,
     rig: &mut BenchRig,
     begin: &Entry,
-    nevers: &[Vec<Condition>],
+    never_lists: &[Vec<Condition>],
     exact: Vec<u16>,
     max_entries: usize,
 ) -> Result<Certificate, Stop> {
     let mut finder = Finder::new(alloc, exact, max_entries);
-    match finder.search(alloc, rig, begin, nevers) {
+    match finder.search(alloc, rig, begin, never_lists) {
         Ok(links) => Ok(Certificate {
             entries: finder.entries,
             links,

@@ -1,7 +1,7 @@
 //! The effect of an instruction on one choice of values.
 ghost use Rattle.std.specs.Prelude.{◌≡◌, ◌<◌, Some};
-ghost use Rattle.mcs_drive.specs.Tracked.{calls_after};
-ghost use Rattle.mcs_model.specs.Effect.{after_words, registers_after};
+ghost use Rattle.mcs_drive.specs.TrackedMachine.{calls_after};
+ghost use Rattle.mcs_model.specs.Effect.{after_fetch, registers_after};
 ghost use Rattle.mcs_sets.specs.Landing.{first_location_written, first_operand_set, landing, op_at, second_location_written, second_operand_set, stand_in_before, stand_in_registers, value_written, with_value_read};
 
 use crate::entries::Entry;
@@ -24,7 +24,7 @@ pub(crate) struct Landing {
 }
 
 /// The set of all nibbles.
-const ANY: u16 = 65535;
+const ALL_NIBBLES: u16 = 65535;
 
 /// Returns the set of possible values of an instruction's first operand.
 pub(crate) fn first_operand_set(op: &Op, entry: &Entry) -> u16
@@ -35,7 +35,8 @@ pub(crate) fn first_operand_set(op: &Op, entry: &Entry) -> u16
         Op::Fin(_) => entry.sets[0],
         Op::Inc(r) | Op::Isz(r, _) | Op::Add(r) | Op::Sub(r) | Op::Ld(r) | Op::Xch(r) =>
             entry.sets[usize::from(r.get())],
-        Op::Sbm | Op::Rdm | Op::Rdr | Op::Adm | Op::Rd0 | Op::Rd1 | Op::Rd2 | Op::Rd3 => ANY,
+        Op::Sbm | Op::Rdm | Op::Rdr | Op::Adm | Op::Rd0 | Op::Rd1 | Op::Rd2 | Op::Rd3 =>
+            ALL_NIBBLES,
         _ => 1,
     }
 }
@@ -180,7 +181,7 @@ fn run_instruction(rig: &mut BenchRig, op: &Op, regs: &Regs, level: Bit) -> Regs
     requires bank { regs.now.dcl < 8 }
     requires not_owed { regs.now.owed ≡ 0 }
     requires instruction { op_at rig.old.rom regs.now.pc ≡ Some op.now }
-    ensures ran { result ≡ registers_after op.now (after_words op.now regs.now) (record rig.old { test = level }) }
+    ensures ran { result ≡ registers_after op.now (after_fetch op.now regs.now) (record rig.old { test = level }) }
     ensures rom { rig.new.rom ≡ rig.old.rom }
     ensures board { rig.new.board ≡ rig.old.board }
 {
@@ -191,7 +192,12 @@ fn run_instruction(rig: &mut BenchRig, op: &Op, regs: &Regs, level: Bit) -> Regs
 }
 
 /// Returns the landing of a choice: the effect of the instruction on it.
-pub(crate) fn land(rig: &mut BenchRig, op: &Op, entry: &Entry, choice: &Choice) -> Landing
+pub(crate) fn compute_landing(
+    rig: &mut BenchRig,
+    op: &Op,
+    entry: &Entry,
+    choice: &Choice,
+) -> Landing
     requires bank { choice.now.bank < 8 }
     requires instruction { op_at rig.old.rom entry.now.at ≡ Some op.now }
     ensures landing { result ≡ landing op.now entry.now.at entry.now.ret entry.now.calls rig.old choice.now }

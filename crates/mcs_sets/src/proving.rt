@@ -1,16 +1,16 @@
 //! Proves with sets of values that a machine never meets given conditions, for all levels of its keys and its TEST
 //! pin.
 ghost use Rattle.std.specs.Prelude.{◌≡◌, ◌<◌, IsTrue, ℕ, length, map, slice_index_or};
-ghost use Rattle.mcs_drive.specs.Tracked.{no_observer, without_calls};
-ghost use Rattle.mcs_check.specs.Conditions.{keeps_to};
-ghost use Rattle.mcs_check.specs.Promised.{IsProved};
+ghost use Rattle.mcs_drive.specs.TrackedMachine.{no_observer, with_zero_counts};
+ghost use Rattle.mcs_check.specs.Conditions.{meets_none};
+ghost use Rattle.mcs_check.specs.OutcomeMeaning.{IsProved};
 ghost use Rattle.mcs_sets.specs.declared.entries.Entry.{Entry};
 ghost use Rattle.mcs_sets.specs.Excluding.{HoldsInEntry};
 
 use crate::certifying::{entry_of, rig_is_valid, stays_covered};
 use crate::entries::Entry;
-use crate::excluding::{are_decidable, avoids_all};
-use crate::finding::{Certificate, Stop, find};
+use crate::excluding::{are_decidable, avoids_all_lists};
+use crate::finding::{Certificate, Stop, find_certificate};
 use crate::precision::{LEVELS, Level};
 use crate::slicing::exact_registers;
 use mcs_board::BenchRig;
@@ -21,22 +21,27 @@ use std::alloc::Global;
 /// The maximum number of bytes that an entry needs, with its links and its share of the index.
 const ENTRY_BYTES: usize = 256;
 
-/// Returns true only if no machine of entry `i` meets all conditions of a list in `nevers`.
-fn avoids_all_at(rig: &BenchRig, entries: &[Entry], nevers: &[Vec<Condition>], i: usize) -> bool
+/// Returns true only if no machine of entry `i` meets all conditions of a list in `never_lists`.
+fn avoids_all_at(
+    rig: &BenchRig,
+    entries: &[Entry],
+    never_lists: &[Vec<Condition>],
+    i: usize,
+) -> bool
     requires { i < length entries.now }
     ensures { IsTrue result → (d : Entry) →
-        HoldsInEntry rig.now.board rig.now.rom (keeps_to (map (λ n. n.items) nevers.now)) (slice_index_or entries.now i d) }
+        HoldsInEntry rig.now.board rig.now.rom (meets_none (map (λ n. n.items) never_lists.now)) (slice_index_or entries.now i d) }
 {
-    avoids_all(rig, &entries[i], nevers)
+    avoids_all_lists(rig, &entries[i], never_lists)
 }
 
-/// Returns true only if no machine of any entry meets all conditions of a list in `nevers`.
-fn all_entries_avoid(rig: &BenchRig, entries: &[Entry], nevers: &[Vec<Condition>]) -> bool
+/// Returns true only if no machine of any entry meets all conditions of a list in `never_lists`.
+fn all_entries_avoid(rig: &BenchRig, entries: &[Entry], never_lists: &[Vec<Condition>]) -> bool
     ensures { IsTrue result → (k : ℕ) (d : Entry) → k < length entries.now →
-        HoldsInEntry rig.now.board rig.now.rom (keeps_to (map (λ n. n.items) nevers.now)) (slice_index_or entries.now k d) }
+        HoldsInEntry rig.now.board rig.now.rom (meets_none (map (λ n. n.items) never_lists.now)) (slice_index_or entries.now k d) }
 {
     for i in 0..entries.len() {
-        if !avoids_all_at(rig, entries, nevers, i) {
+        if !avoids_all_at(rig, entries, never_lists, i) {
             return false;
         }
     }
@@ -49,12 +54,12 @@ fn outcome_of(
     rig: &mut BenchRig,
     entries: &[Entry],
     links: &[usize],
-    nevers: &[Vec<Condition>],
+    never_lists: &[Vec<Condition>],
 ) -> Outcome
-    ensures { IsProved no_observer (keeps_to (map (λ n. n.items) nevers.now)) (without_calls (cpu.now, rig.old)) result }
+    ensures { IsProved no_observer (meets_none (map (λ n. n.items) never_lists.now)) (with_zero_counts (cpu.now, rig.old)) result }
 {
     rig_is_valid(rig);
-    if !all_entries_avoid(rig, entries, nevers) {
+    if !all_entries_avoid(rig, entries, never_lists) {
         return Outcome::GaveUp;
     }
     if !stays_covered(cpu, rig, entries, links) {
@@ -64,7 +69,7 @@ fn outcome_of(
 }
 
 /// Searches at one level of precision for a certificate whose machines never meet all conditions of a list in
-/// `nevers`. The search runs on `search_rig`, which has the board and the program of `rig`. `exact_before` has the
+/// `never_lists`. The search runs on `search_rig`, which has the board and the program of `rig`. `exact_before` has the
 /// exact registers of the previous level. If this level has the same exact registers, returns `None` without a
 /// search.
 fn find_at_level(
@@ -72,7 +77,7 @@ fn find_at_level(
     cpu: &Cpu,
     rig: &BenchRig,
     search_rig: &mut BenchRig,
-    nevers: &[Vec<Condition>],
+    never_lists: &[Vec<Condition>],
     max_entries: usize,
     level: Level,
     exact_before: &mut Vec<u16>,
@@ -84,17 +89,17 @@ fn find_at_level(
     }
     exact_before.clear();
     exact_before.extend_from_slice(exact.as_slice())?;
-    let found = find(alloc, search_rig, &begin, nevers, exact, max_entries)?;
+    let found = find_certificate(alloc, search_rig, &begin, never_lists, exact, max_entries)?;
     Ok(Some(found))
 }
 
-/// Searches, level by level, for a certificate whose machines never meet all conditions of a list in `nevers`.
+/// Searches, level by level, for a certificate whose machines never meet all conditions of a list in `never_lists`.
 fn find_at_any_level(
     alloc: Global,
     cpu: &Cpu,
     rig: &BenchRig,
     search_rig: &mut BenchRig,
-    nevers: &[Vec<Condition>],
+    never_lists: &[Vec<Condition>],
     max_entries: usize,
 ) -> Result<Certificate, Stop> {
     let mut last = Stop::TooMany;
@@ -105,7 +110,7 @@ fn find_at_any_level(
             cpu,
             rig,
             search_rig,
-            nevers,
+            never_lists,
             max_entries,
             LEVELS[i],
             &mut exact_before,
@@ -121,30 +126,30 @@ fn find_at_any_level(
 }
 
 /// Tries to prove, with a certificate, that a machine without open calls never meets all conditions of a list in
-/// `nevers`, for all inputs. The certificate has at most `max_entries` entries and takes about `memory` bytes. The
+/// `never_lists`, for all inputs. The certificate has at most `max_entries` entries and takes about `memory` bytes. The
 /// search runs on `search_rig`, which has the board and the program of `rig`.
 pub fn check_by_sets(
     alloc: Global,
     cpu: &Cpu,
     rig: &mut BenchRig,
     search_rig: &mut BenchRig,
-    nevers: &[Vec<Condition>],
+    never_lists: &[Vec<Condition>],
     max_entries: usize,
     memory: usize,
 ) -> Outcome
-    ensures { IsProved no_observer (keeps_to (map (λ n. n.items) nevers.now)) (without_calls (cpu.now, rig.old)) result }
+    ensures { IsProved no_observer (meets_none (map (λ n. n.items) never_lists.now)) (with_zero_counts (cpu.now, rig.old)) result }
 {
-    if !are_decidable(nevers) {
+    if !are_decidable(never_lists) {
         return Outcome::GaveUp;
     }
     let limit = max_entries.min(memory / ENTRY_BYTES);
-    match find_at_any_level(alloc, cpu, rig, search_rig, nevers, limit) {
+    match find_at_any_level(alloc, cpu, rig, search_rig, never_lists, limit) {
         Ok(found) => outcome_of(
             cpu,
             rig,
             found.entries.as_slice(),
             found.links.as_slice(),
-            nevers,
+            never_lists,
         ),
         Err(Stop::NoMemory(entries)) => Outcome::NoMemory(entries),
         Err(Stop::TooMany) if limit < max_entries => Outcome::NoMemory(limit),

@@ -8,48 +8,48 @@ use Rattle.mcs_session.proofs.Folds.{fold-append}
 use Rattle.mcs_shell.specs.Inputs.{Input}
 use Rattle.mcs_shell.specs.Serving.{WroteAnswers}
 use Rattle.mcs_shell.specs.ShellState.{KnownBytes}
-use Rattle.mcs_shell.specs.Transcript.{ArePossibleExchanges, Exchange, acknowledged_commands, answered_exchanges, halt_after, halt_of, in_turn, is_device_fault, reached_commands}
+use Rattle.mcs_shell.specs.Transcript.{ArePossibleExchanges, Exchange, acknowledged_commands, answered_exchanges, end_caused_by_exchanges, end_caused_by, results_in_order, is_device_fault, reached_commands}
 use Rattle.mcs_shell.specs.declared.ends.ShellEnd.{ShellEnd}
 use Rattle.mcs_shell.specs.declared.ends.Outcome.{Outcome}
 use Rattle.mcs_shell.specs.declared.ends.Outcome.TheVariants.{Device}
 
 -- the state after these exchanges, which begin in state s
 abbrev pub state_after : BenchState → List Exchange → BenchState
-state_after s met = fold s (in_turn acknowledged_commands s met)
+state_after s exchanges = fold s (results_in_order acknowledged_commands s exchanges)
 
 -- true if the device failed in one of these exchanges
 abbrev pub has_failed : List Exchange → Bool
-has_failed met = list_any (λ (x : Exchange). is_device_fault x.outcome) met
+has_failed exchanges = list_any (λ (x : Exchange). is_device_fault x.outcome) exchanges
 
 -- ---- results of exchanges, in order
 
-pub in_turn-further : {A : Type 0} (f : BenchState → Input → Outcome → List A) (s t : BenchState) (xs ys : List Exchange) → t ≡ state_after s xs → in_turn f s (xs ++ ys) ≡ in_turn f s xs ++ in_turn f t ys
-in_turn-further f s t [] ys e = ap (λ (u : BenchState). in_turn f u ys) (sym e)
-in_turn-further f s t (x ∷ xs) ys e =
+pub results_in_order-further : {A : Type 0} (f : BenchState → Input → Outcome → List A) (s t : BenchState) (xs ys : List Exchange) → t ≡ state_after s xs → results_in_order f s (xs ++ ys) ≡ results_in_order f s xs ++ results_in_order f t ys
+results_in_order-further f s t [] ys e = ap (λ (u : BenchState). results_in_order f u ys) (sym e)
+results_in_order-further f s t (x ∷ xs) ys e =
     let u = fold s (acknowledged_commands s x.input x.outcome) in
-    ap (λ v. f s x.input x.outcome ++ v) (in_turn-further f u t xs ys (e ∙ fold-append s (acknowledged_commands s x.input x.outcome) (in_turn acknowledged_commands u xs)))
-    ∙ sym (append_assoc (f s x.input x.outcome) (in_turn f u xs) (in_turn f t ys))
+    ap (λ v. f s x.input x.outcome ++ v) (results_in_order-further f u t xs ys (e ∙ fold-append s (acknowledged_commands s x.input x.outcome) (results_in_order acknowledged_commands u xs)))
+    ∙ sym (append_assoc (f s x.input x.outcome) (results_in_order f u xs) (results_in_order f t ys))
 
 -- ---- exchanges that halt the shell
 
-neither : (x y : Option ShellEnd) → option_or x y ≡ None → (x ≡ None) × (y ≡ None)
-neither None y e = (refl, e)
-neither (Some h) y e = absurd (cc e)
+both_none : (x y : Option ShellEnd) → option_or x y ≡ None → (x ≡ None) × (y ≡ None)
+both_none None y e = (refl, e)
+both_none (Some h) y e = absurd (cc e)
 
-pub some_apart : (end : ShellEnd) → Some end ≡ None → ⊥
-some_apart end e = absurd (cc e)
+pub some_is_not_none : (end : ShellEnd) → Some end ≡ None → ⊥
+some_is_not_none end e = absurd (cc e)
 
 pub or_none : (x : Option ShellEnd) → option_or x None ≡ x
 or_none None = refl
 or_none (Some h) = refl
 
-pub halt-append : (xs ys : List Exchange) → halt_after xs ≡ None → halt_after (xs ++ ys) ≡ halt_after ys
+pub halt-append : (xs ys : List Exchange) → end_caused_by_exchanges xs ≡ None → end_caused_by_exchanges (xs ++ ys) ≡ end_caused_by_exchanges ys
 halt-append [] ys none = refl
 halt-append (x ∷ xs) ys none =
-    let both = neither (halt_of x.whole x.outcome) (halt_after xs) none in
-    ap (λ (h : Option ShellEnd). option_or h (halt_after (xs ++ ys))) both.0 ∙ halt-append xs ys both.1
+    let both = both_none (end_caused_by x.whole x.outcome) (end_caused_by_exchanges xs) none in
+    ap (λ (h : Option ShellEnd). option_or h (end_caused_by_exchanges (xs ++ ys))) both.0 ∙ halt-append xs ys both.1
 
-is_whole : (whole : Bool) (o : Outcome) → halt_of whole o ≡ None → whole ≡ true
+is_whole : (whole : Bool) (o : Outcome) → end_caused_by whole o ≡ None → whole ≡ true
 is_whole false o e = absurd (cc e)
 is_whole true o e = refl
 
@@ -57,29 +57,29 @@ kept_whole : (whole : Bool) (x : Exchange) (xs ys : List Exchange) → whole ≡
 kept_whole true x xs ys e same = ap (λ v. x ∷ v) same
 kept_whole false x xs ys e same = absurd (cc e)
 
-pub answered_all : (xs : List Exchange) → halt_after xs ≡ None → answered_exchanges xs ≡ xs
+pub answered_all : (xs : List Exchange) → end_caused_by_exchanges xs ≡ None → answered_exchanges xs ≡ xs
 answered_all [] none = refl
 answered_all (x ∷ xs) none =
-    let both = neither (halt_of x.whole x.outcome) (halt_after xs) none in
+    let both = both_none (end_caused_by x.whole x.outcome) (end_caused_by_exchanges xs) none in
     kept_whole x.whole x (answered_exchanges xs) xs (is_whole x.whole x.outcome both.0) (answered_all xs both.1)
 
-not_device : (whole : Bool) (o : Outcome) → halt_of whole o ≡ None → is_device_fault o ≡ false
+not_device : (whole : Bool) (o : Outcome) → end_caused_by whole o ≡ None → is_device_fault o ≡ false
 not_device false o e = absurd (cc e)
 not_device true Device e = absurd (cc e)
 not_device true o e = refl
 
-pub failed-append : (xs ys : List Exchange) → halt_after xs ≡ None → has_failed (xs ++ ys) ≡ has_failed ys
+pub failed-append : (xs ys : List Exchange) → end_caused_by_exchanges xs ≡ None → has_failed (xs ++ ys) ≡ has_failed ys
 failed-append [] ys none = refl
 failed-append (x ∷ xs) ys none =
-    let both = neither (halt_of x.whole x.outcome) (halt_after xs) none in
+    let both = both_none (end_caused_by x.whole x.outcome) (end_caused_by_exchanges xs) none in
     ap (λ (b : Bool). b || has_failed (xs ++ ys)) (not_device x.whole x.outcome both.0) ∙ failed-append xs ys both.1
 
-pub not_failed : (met : List Exchange) → halt_after met ≡ None → has_failed met ≡ false
-not_failed met none = ap has_failed (sym (append-nil met)) ∙ failed-append met [] none
+pub not_failed : (exchanges : List Exchange) → end_caused_by_exchanges exchanges ≡ None → has_failed exchanges ≡ false
+not_failed exchanges none = ap has_failed (sym (append-nil exchanges)) ∙ failed-append exchanges [] none
 
-pub or_no : (b : Bool) → (b || false) ≡ b
-or_no true = refl
-or_no false = refl
+pub or_false_right : (b : Bool) → (b || false) ≡ b
+or_false_right true = refl
+or_false_right false = refl
 
 -- ---- commands that may have reached the disk, if the device did not fail
 
@@ -92,26 +92,26 @@ pub or_false : (b c : Bool) → (b || c) ≡ false → (b ≡ false) × (c ≡ f
 or_false true c e = absurd (cc e)
 or_false false c e = (refl, e)
 
-pub reached_all : (s : BenchState) (met : List Exchange) → has_failed met ≡ false → in_turn reached_commands s met ≡ in_turn acknowledged_commands s met
+pub reached_all : (s : BenchState) (exchanges : List Exchange) → has_failed exchanges ≡ false → results_in_order reached_commands s exchanges ≡ results_in_order acknowledged_commands s exchanges
 reached_all s [] h = refl
-reached_all s (x ∷ met) h =
-    let both = or_false (is_device_fault x.outcome) (has_failed met) h in
+reached_all s (x ∷ exchanges) h =
+    let both = or_false (is_device_fault x.outcome) (has_failed exchanges) h in
     let t = fold s (acknowledged_commands s x.input x.outcome) in
-    ap (λ cs. cs ++ in_turn reached_commands t met) (reached_same s x.input x.outcome both.0) ∙ ap (λ cs. acknowledged_commands s x.input x.outcome ++ cs) (reached_all t met both.1)
+    ap (λ cs. cs ++ results_in_order reached_commands t exchanges) (reached_same s x.input x.outcome both.0) ∙ ap (λ cs. acknowledged_commands s x.input x.outcome ++ cs) (reached_all t exchanges both.1)
 
 -- ---- two lists of exchanges, one after the other
 
-pub may-append : (live : Bool) (s : BenchState) (xs ys : List Exchange) → halt_after xs ≡ None → ArePossibleExchanges live s xs → ArePossibleExchanges live (state_after s xs) ys → ArePossibleExchanges live s (xs ++ ys)
-may-append live s [] ys none h k = k
-may-append live s (x ∷ xs) ys none h k =
+pub is_possible-append : (live : Bool) (s : BenchState) (xs ys : List Exchange) → end_caused_by_exchanges xs ≡ None → ArePossibleExchanges live s xs → ArePossibleExchanges live (state_after s xs) ys → ArePossibleExchanges live s (xs ++ ys)
+is_possible-append live s [] ys none h k = k
+is_possible-append live s (x ∷ xs) ys none h k =
     let t = fold s (acknowledged_commands s x.input x.outcome) in
-    let both = neither (halt_of x.whole x.outcome) (halt_after xs) none in
-    let then : ArePossibleExchanges live (state_after t xs) ys = subst (λ (u : BenchState). ArePossibleExchanges live u ys) (fold-append s (acknowledged_commands s x.input x.outcome) (in_turn acknowledged_commands t xs)) k in
-    (h.0, λ more. both.0, may-append live t xs ys both.1 h.2 then)
+    let both = both_none (end_caused_by x.whole x.outcome) (end_caused_by_exchanges xs) none in
+    let then : ArePossibleExchanges live (state_after t xs) ys = subst (λ (u : BenchState). ArePossibleExchanges live u ys) (fold-append s (acknowledged_commands s x.input x.outcome) (results_in_order acknowledged_commands t xs)) k in
+    (h.0, λ more. both.0, is_possible-append live t xs ys both.1 h.2 then)
 
 pub wrote-append : (s : BenchState) (xs ys : List Exchange) (a b c : KnownBytes) → WroteAnswers s xs a b → WroteAnswers (state_after s xs) ys b c → WroteAnswers s (xs ++ ys) a c
 wrote-append s [] ys a b c h k = subst (λ (v : KnownBytes). WroteAnswers s ys v c) h k
 wrote-append s (x ∷ xs) ys a b c h k =
     let t = fold s (acknowledged_commands s x.input x.outcome) in
-    let then : WroteAnswers (state_after t xs) ys b c = subst (λ (u : BenchState). WroteAnswers u ys b c) (fold-append s (acknowledged_commands s x.input x.outcome) (in_turn acknowledged_commands t xs)) k in
+    let then : WroteAnswers (state_after t xs) ys b c = subst (λ (u : BenchState). WroteAnswers u ys b c) (fold-append s (acknowledged_commands s x.input x.outcome) (results_in_order acknowledged_commands t xs)) k in
     (h.0, h.1, wrote-append t xs ys h.0 b c h.2 then)

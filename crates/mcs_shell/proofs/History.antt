@@ -3,7 +3,7 @@ use Rattle.std.proofs.Common.{◌≡◌, ◌⊎◌, inl, inr, ◌≤◌, ⊎_eli
 use Rattle.std.proofs.lemmas.Bool.{cases_lt}
 use Rattle.std.proofs.lemmas.Grind.{common_steps}
 use Rattle.mcs_disk.proofs.CallLaws.{lawful}
-use Rattle.mcs_disk.proofs.Composing.{durable_since, rests_since, later_before}
+use Rattle.mcs_disk.proofs.StretchComposition.{durable_since, rests_since, later_before}
 use Rattle.mcs_disk.specs.Disk.{DiskState, bytes_of, time_of, images_of, images_since}
 use Rattle.mcs_disk.specs.Stretches.{AddsNoImage}
 use Rattle.mcs_disk.specs.PowerCut.{IsLeftByCut, IsDurable}
@@ -13,32 +13,32 @@ use Rattle.mcs_model.specs.declared.command.Command.{Command}
 use Rattle.mcs_model.specs.BenchState.{BenchState}
 use Rattle.mcs_model.specs.Fold.{fold}
 use Rattle.mcs_session.specs.Acknowledgements.{acknowledged_by}
-use Rattle.mcs_session.specs.KeptCommands.{IsOpenOnHonestDisk, StandsForPrefix}
-use Rattle.mcs_session.specs.SessionCalls.{FailsMigrating, MigratesSession, RefusalLeaves}
-use Rattle.mcs_session.specs.Opening.{RefusesSession}
+use Rattle.mcs_session.specs.KeptCommands.{IsOpenOnHonestDisk, RepresentsPrefix}
+use Rattle.mcs_session.specs.SessionCalls.{FailsMigrating, MigratesSession, FailedOpenLeaves}
+use Rattle.mcs_session.specs.Opening.{SessionErrorImplies}
 use Rattle.mcs_session.specs.SessionState.{session_state}
-use Rattle.mcs_session.specs.StandsFor.{StandsByEither, StandsFor}
+use Rattle.mcs_session.specs.Represents.{RepresentsInEitherVersion, Represents}
 use Rattle.mcs_session.proofs.Files.{is_session, one_either}
 use Rattle.mcs_session.proofs.Folds.{fold-append}
 use Rattle.mcs_session.proofs.Prefixes.{acknowledged_none}
-use Rattle.mcs_session.proofs.Using.{rising}
-use Rattle.mcs_shell.specs.History.{CameOf, History, IsHistory, KeepsOf, KeepsOfEach, KeepsOfRun, Refused, Served, Sitting, StoppedSitting, SurvivesHistory, disk_left}
-use Rattle.mcs_shell.specs.Headline.{AnswersAndAcknowledges, done_in, reached_in}
+use Rattle.mcs_session.proofs.LogCommands.{rising}
+use Rattle.mcs_shell.specs.History.{IsSittingOn, History, IsHistory, AreKeptFromSitting, AreKeptFromSittings, AreKeptFromRun, Refused, Served, Sitting, StoppedSitting, SurvivesHistory, disk_after}
+use Rattle.mcs_shell.specs.Headline.{AnswersAndAcknowledges, acknowledged_in, reached_in}
 use Rattle.mcs_shell.specs.Program.{OpenBegins, OpenRefusal}
 use Rattle.mcs_shell.specs.RefusalNumbers.{store_fault_number}
 use Rattle.mcs_shell.specs.Shell.{ShellRun}
-use Rattle.mcs_shell.proofs.Surviving.{answered_by, honest_of_run, kept_of_run}
+use Rattle.mcs_shell.proofs.SurvivingCommands.{answered_by, honest_of_run, kept_of_run}
 
 -- Holds if the disk that a stop left represents the state s. The disk is honest, and a power cut leaves the bytes
 -- that a read returns.
-record Stands (disk : DiskState) (s : BenchState) : Type 0 where
+record DurablyRepresents (disk : DiskState) (s : BenchState) : Type 0 where
   pub honest : disk.honest
   pub durable : IsDurable disk
-  pub stands : StandsByEither (bytes_of disk) s
+  pub represents : RepresentsInEitherVersion (bytes_of disk) s
 
 -- Holds if every disk that `IsFound` allows after a stop is a possible disk after a power cut.
-abbrev AreCuts : {D : Type 0} → (D → DiskState) → (ℕ → D → D → Type 0) → Type 0
-AreCuts {D = D} state_of IsFound = (t : ℕ) (left found : D) → (state_of left).honest → IsFound t left found → IsLeftByCut t (state_of left) (state_of found)
+abbrev AllowsOnlyCuts : {D : Type 0} → (D → DiskState) → (ℕ → D → D → Type 0) → Type 0
+AllowsOnlyCuts {D = D} state_of IsFound = (t : ℕ) (left found : D) → (state_of left).honest → IsFound t left found → IsLeftByCut t (state_of left) (state_of found)
 
 -- ---- one run
 
@@ -48,8 +48,8 @@ length_first cs n few = grind (arith, common_steps)
 -- If the disk found represents the state after a prefix of the commands, that prefix consists of the kept commands.
 kept_prefix : {D : Type 0} (state_of : D → DiskState) (run : ShellRun state_of) (t u : ℕ) (s : BenchState) → run.before.state ≡ s → IsOpenOnHonestDisk (session_state state_of run.before)
     → (a : AnswersAndAcknowledges run) → acknowledged_by t a.acknowledged.moments ≤ acknowledged_by u a.acknowledged.moments → (found : DiskState) → found.honest → IsDurable found
-    → StandsForPrefix run.before.state (reached_in run) (acknowledged_by u a.acknowledged.moments) (bytes_of found)
-    → (kept : List Command) × KeepsOfRun state_of run t s kept × Stands found (fold s kept)
+    → RepresentsPrefix run.before.state (reached_in run) (acknowledged_by u a.acknowledged.moments) (bytes_of found)
+    → (kept : List Command) × AreKeptFromRun state_of run t s kept × DurablyRepresents found (fold s kept)
 kept_prefix state_of run t u s same given a fewer found honest durable h =
     let may : List Command = reached_in run in
     let least = h.after.at_least in
@@ -64,79 +64,79 @@ kept_prefix state_of run t u s same given a fewer found honest durable h =
         parts = sym (take-append-drop h.after.count may);
         holds = omega (arith, fewer, least, long);
       },
-      record { honest = honest; durable = durable; stands = inl (subst (StandsFor (bytes_of found)) is h.stands) },
+      record { honest = honest; durable = durable; represents = inl (subst (Represents (bytes_of found)) is h.represents) },
     )
 
 -- The commands that are kept if the run was stopped after its session had opened.
-kept_late : {D : Type 0} (state_of : D → DiskState) → (run : ShellRun state_of) (t : ℕ) (s : BenchState) (found : D) → run.before.state ≡ s → IsOpenOnHonestDisk (session_state state_of run.before)
+kept_if_stopped_after_opening : {D : Type 0} (state_of : D → DiskState) → (run : ShellRun state_of) (t : ℕ) (s : BenchState) (found : D) → run.before.state ≡ s → IsOpenOnHonestDisk (session_state state_of run.before)
     → time_of (state_of run.before.disk) ≤ t → IsLeftByCut t (state_of run.after.disk) (state_of found)
-    → (kept : List Command) × KeepsOfRun state_of run t s kept × Stands (state_of found) (fold s kept)
-kept_late state_of run t s found same given late cut =
+    → (kept : List Command) × AreKeptFromRun state_of run t s kept × DurablyRepresents (state_of found) (fold s kept)
+kept_if_stopped_after_opening state_of run t s found same given late cut =
     let kept = kept_of_run state_of run given in
     kept_prefix state_of run t t s same given (answered_by state_of run kept) (omega arith) (state_of found) cut.honest cut.durable (kept.each t (bytes_of (state_of found)) late cut.found)
 
 -- The commands that are kept if the run was stopped while its session was being opened, or when that ended.
-kept_early : {D : Type 0} (state_of : D → DiskState) → (disk : D) (run : ShellRun state_of) (t : ℕ) (s : BenchState) (found : D) → Stands (state_of disk) s → run.before.state ≡ s → IsOpenOnHonestDisk (session_state state_of run.before)
+kept_if_stopped_while_opening : {D : Type 0} (state_of : D → DiskState) → (disk : D) (run : ShellRun state_of) (t : ℕ) (s : BenchState) (found : D) → DurablyRepresents (state_of disk) s → run.before.state ≡ s → IsOpenOnHonestDisk (session_state state_of run.before)
     → MigratesSession (state_of disk) (state_of run.before.disk) run.before.state → time_of (state_of disk) ≤ t → t ≤ time_of (state_of run.before.disk) → IsLeftByCut t (state_of run.after.disk) (state_of found)
-    → (kept : List Command) × KeepsOfRun state_of run t s kept × Stands (state_of found) (fold s kept)
-kept_early state_of disk run t s found here same given migrates late early cut =
+    → (kept : List Command) × AreKeptFromRun state_of run t s kept × DurablyRepresents (state_of found) (fold s kept)
+kept_if_stopped_while_opening state_of disk run t s found here same given migrates late early cut =
     let before : DiskState = state_of run.before.disk in
     let image : List ℕ = bytes_of (state_of found) in
     let kept = kept_of_run state_of run given in
-    let done : List Command = done_in run in
+    let done : List Command = acknowledged_in run in
     let none : acknowledged_by t kept.acknowledged.moments ≡ 0 = acknowledged_none t (time_of before) kept.acknowledged.moments early (rising before (state_of run.after.disk) done kept.acknowledged) in
     elim (later_before before (state_of run.after.disk) kept.later t image cut.found) [
       | inl left ↦
-          let then : StandsByEither image s = ⊎_elim
-          (λ (old : images_of (state_of disk) image). subst (λ (file : List ℕ). StandsByEither file s) (sym (here.durable image old)) here.stands)
-          (λ (new : StandsByEither image run.before.state). subst (StandsByEither image) same new)
+          let then : RepresentsInEitherVersion image s = ⊎_elim
+          (λ (old : images_of (state_of disk) image). subst (λ (file : List ℕ). RepresentsInEitherVersion file s) (sym (here.durable image old)) here.represents)
+          (λ (new : RepresentsInEitherVersion image run.before.state). subst (RepresentsInEitherVersion image) same new)
           (migrates.leaves.each image ((lawful before).longer (time_of (state_of disk)) t image late left)) in (
             [],
             record { began = same; answered = answered_by state_of run kept; lost = reached_in run; parts = refl; holds = omega (arith, none) },
-            record { honest = cut.honest; durable = cut.durable; stands = then },
+            record { honest = cut.honest; durable = cut.durable; represents = then },
           )
       | inr now ↦
           kept_prefix state_of run t (time_of before) s same given (answered_by state_of run kept) (omega (arith, none)) (state_of found) cut.honest cut.durable (kept.each (time_of before) image (omega arith) now)
     ]
 
-kept_served : {D : Type 0} (state_of : D → DiskState) → (disk : D) (run : ShellRun state_of) (t : ℕ) (s : BenchState) (found : D) → Stands (state_of disk) s
+kept_served : {D : Type 0} (state_of : D → DiskState) → (disk : D) (run : ShellRun state_of) (t : ℕ) (s : BenchState) (found : D) → DurablyRepresents (state_of disk) s
     → OpenBegins (state_of disk) (state_of run.before.disk) run.before.live run.before.state → time_of (state_of disk) ≤ t → ((state_of run.after.disk).honest → IsLeftByCut t (state_of run.after.disk) (state_of found))
-    → (kept : List Command) × KeepsOfRun state_of run t s kept × Stands (state_of found) (fold s kept)
+    → (kept : List Command) × AreKeptFromRun state_of run t s kept × DurablyRepresents (state_of found) (fold s kept)
 kept_served state_of disk run t s found here began late cut =
     let opens = began.opens here.honest in
-    let same : run.before.state ≡ s = one_either (bytes_of (state_of disk)) run.before.state s opens.stood here.stands in
+    let same : run.before.state ≡ s = one_either (bytes_of (state_of disk)) run.before.state s opens.represented_before here.represents in
     let given : IsOpenOnHonestDisk (session_state state_of run.before) = (began.is_open, began.counts.honest.1 here.honest) in
     let left = cut (honest_of_run state_of run given.1) in
     elim (cases_lt t (time_of (state_of run.before.disk))) [
-      | inl early ↦ kept_early state_of disk run t s found here same given (began.migrates here.honest) late (omega (arith, early)) left
-      | inr since ↦ kept_late state_of run t s found same given since left
+      | inl early ↦ kept_if_stopped_while_opening state_of disk run t s found here same given (began.migrates here.honest) late (omega (arith, early)) left
+      | inr since ↦ kept_if_stopped_after_opening state_of run t s found same given since left
     ]
 
 -- ---- a refused opening
 
-holds_session : (disk : DiskState) (s : BenchState) → StandsByEither (bytes_of disk) s → RefusesSession NotASession disk → ⊥
-holds_session disk s (inl stands) none = is_session disk stands.snap stands.records stands.holds none
-holds_session disk s (inr stands) none = is_session disk stands.snap stands.records stands.holds none
+holds_session : (disk : DiskState) (s : BenchState) → RepresentsInEitherVersion (bytes_of disk) s → SessionErrorImplies NotASession disk → ⊥
+holds_session disk s (inl represents) none = is_session disk represents.snap represents.records represents.holds none
+holds_session disk s (inr represents) none = is_session disk represents.snap represents.records represents.holds none
 
-refused_number : (fault : StoreFault) (disk : DiskState) (s : BenchState) → Stands disk s → RefusesSession fault disk → (store_fault_number fault ≡ 53) ⊎ (store_fault_number fault ≡ 90)
-refused_number NotASession disk s here h = absurd (holds_session disk s here.stands h)
-refused_number Damaged disk s here h = absurd (h.1 s here.stands)
+refused_number : (fault : StoreFault) (disk : DiskState) (s : BenchState) → DurablyRepresents disk s → SessionErrorImplies fault disk → (store_fault_number fault ≡ 53) ⊎ (store_fault_number fault ≡ 90)
+refused_number NotASession disk s here h = absurd (holds_session disk s here.represents h)
+refused_number Damaged disk s here h = absurd (h.1 s here.represents)
 refused_number Device disk s here h = inl refl
 refused_number NoMemory disk s here h = inr refl
 refused_number NotBlank disk s here h = absurd h
 
-rests_in : (disk left : DiskState) (image : List ℕ) (s : BenchState) → Stands disk s → AddsNoImage disk left → images_since (time_of disk) left image → StandsByEither image s
-rests_in disk left image s here rests now = subst (λ (file : List ℕ). StandsByEither file s) (sym (durable_since disk here.durable image (rests_since disk left rests (time_of disk) image now))) here.stands
+rests_in : (disk left : DiskState) (image : List ℕ) (s : BenchState) → DurablyRepresents disk s → AddsNoImage disk left → images_since (time_of disk) left image → RepresentsInEitherVersion image s
+rests_in disk left image s here rests now = subst (λ (file : List ℕ). RepresentsInEitherVersion file s) (sym (durable_since disk here.durable image (rests_since disk left rests (time_of disk) image now))) here.represents
 
-fails_in : (disk left : DiskState) (image : List ℕ) (s : BenchState) → Stands disk s → FailsMigrating disk left → images_since (time_of disk) left image → StandsByEither image s
+fails_in : (disk left : DiskState) (image : List ℕ) (s : BenchState) → DurablyRepresents disk s → FailsMigrating disk left → images_since (time_of disk) left image → RepresentsInEitherVersion image s
 fails_in disk left image s here fails now =
-    let same : fails.state ≡ s = one_either (bytes_of disk) fails.state s (inr fails.stands) here.stands in
+    let same : fails.state ≡ s = one_either (bytes_of disk) fails.state s (inr fails.represents) here.represents in
     ⊎_elim
-    (λ (old : images_of disk image). subst (λ (file : List ℕ). StandsByEither file s) (sym (here.durable image old)) here.stands)
-    (λ (new : StandsByEither image fails.state). subst (StandsByEither image) same new)
+    (λ (old : images_of disk image). subst (λ (file : List ℕ). RepresentsInEitherVersion file s) (sym (here.durable image old)) here.represents)
+    (λ (new : RepresentsInEitherVersion image fails.state). subst (RepresentsInEitherVersion image) same new)
     (fails.leaves.each image now)
 
-refused_in : (fault : StoreFault) (disk left : DiskState) (image : List ℕ) (s : BenchState) → Stands disk s → RefusalLeaves fault disk left → images_since (time_of disk) left image → StandsByEither image s
+refused_in : (fault : StoreFault) (disk left : DiskState) (image : List ℕ) (s : BenchState) → DurablyRepresents disk s → FailedOpenLeaves fault disk left → images_since (time_of disk) left image → RepresentsInEitherVersion image s
 refused_in NotASession disk left image s here rests now = rests_in disk left image s here rests now
 refused_in Damaged disk left image s here rests now = rests_in disk left image s here rests now
 refused_in NotBlank disk left image s here rests now = rests_in disk left image s here rests now
@@ -144,12 +144,12 @@ refused_in NoMemory disk left image s here rests now = rests_in disk left image 
 refused_in Device disk left image s here (inl rests) now = rests_in disk left image s here rests now
 refused_in Device disk left image s here (inr fails) now = fails_in disk left image s here fails now
 
-number_refused : {D : Type 0} (state_of : D → DiskState) (disk left : D) (number : ℕ) (s : BenchState) → Stands (state_of disk) s → OpenRefusal (state_of disk) (state_of left) number → (number ≡ 53) ⊎ (number ≡ 90)
+number_refused : {D : Type 0} (state_of : D → DiskState) (disk left : D) (number : ℕ) (s : BenchState) → DurablyRepresents (state_of disk) s → OpenRefusal (state_of disk) (state_of left) number → (number ≡ 53) ⊎ (number ≡ 90)
 number_refused state_of disk left number s here refused =
     elim (refused_number refused.fault (state_of disk) s here (refused.refuses here.honest).0) [ inl is ↦ inl (refused.number_is ∙ is) | inr is ↦ inr (refused.number_is ∙ is) ]
 
-stands_refused : {D : Type 0} (state_of : D → DiskState) → (disk left found : D) (number t : ℕ) (s : BenchState) → Stands (state_of disk) s → OpenRefusal (state_of disk) (state_of left) number
-    → time_of (state_of disk) ≤ t → ((state_of left).honest → IsLeftByCut t (state_of left) (state_of found)) → Stands (state_of found) s
+stands_refused : {D : Type 0} (state_of : D → DiskState) → (disk left found : D) (number t : ℕ) (s : BenchState) → DurablyRepresents (state_of disk) s → OpenRefusal (state_of disk) (state_of left) number
+    → time_of (state_of disk) ≤ t → ((state_of left).honest → IsLeftByCut t (state_of left) (state_of found)) → DurablyRepresents (state_of found) s
 stands_refused state_of disk left found number t s here refused late stopped =
     let honest = refused.counts.honest.1 here.honest in
     let cut = stopped honest in
@@ -157,41 +157,41 @@ stands_refused state_of disk left found number t s here refused late stopped =
     record {
       honest = cut.honest;
       durable = cut.durable;
-      stands = refused_in refused.fault (state_of disk) (state_of left) image s here (refused.refuses here.honest).1 ((lawful (state_of left)).longer (time_of (state_of disk)) t image late cut.found);
+      represents = refused_in refused.fault (state_of disk) (state_of left) image s here (refused.refuses here.honest).1 ((lawful (state_of left)).longer (time_of (state_of disk)) t image late cut.found);
     }
 
 -- ---- all sittings
 
-kept_one : {D : Type 0} (state_of : D → DiskState) → (disk found : D) (x : Sitting state_of) (t : ℕ) (s : BenchState) → Stands (state_of disk) s → CameOf disk x → time_of (state_of disk) ≤ t
-    → ((state_of (disk_left x)).honest → IsLeftByCut t (state_of (disk_left x)) (state_of found)) → (kept : List Command) × KeepsOf state_of x t s kept × Stands (state_of found) (fold s kept)
+kept_one : {D : Type 0} (state_of : D → DiskState) → (disk found : D) (x : Sitting state_of) (t : ℕ) (s : BenchState) → DurablyRepresents (state_of disk) s → IsSittingOn disk x → time_of (state_of disk) ≤ t
+    → ((state_of (disk_after x)).honest → IsLeftByCut t (state_of (disk_after x)) (state_of found)) → (kept : List Command) × AreKeptFromSitting state_of x t s kept × DurablyRepresents (state_of found) (fold s kept)
 kept_one state_of disk found (Served run) t s here came late stopped = kept_served state_of disk run t s found here came late stopped
 kept_one state_of disk found (Refused number left) t s here came late stopped = ([], (refl, number_refused state_of disk left number s here came), stands_refused state_of disk left found number t s here came late stopped)
 
-kept_each : {D : Type 0} (state_of : D → DiskState) (IsFound : ℕ → D → D → Type 0) → AreCuts state_of IsFound → (disk : D) (xs : List (StoppedSitting state_of)) (last : D) (s : BenchState) → Stands (state_of disk) s → IsHistory IsFound disk xs last
-    → (kept : List Command) × KeepsOfEach state_of xs s kept × Stands (state_of last) (fold s kept)
-kept_each {D = D} state_of IsFound cuts disk [] last s here came = ([], refl, subst (λ (d : D). Stands (state_of d) s) (sym came) here)
+kept_each : {D : Type 0} (state_of : D → DiskState) (IsFound : ℕ → D → D → Type 0) → AllowsOnlyCuts state_of IsFound → (disk : D) (xs : List (StoppedSitting state_of)) (last : D) (s : BenchState) → DurablyRepresents (state_of disk) s → IsHistory IsFound disk xs last
+    → (kept : List Command) × AreKeptFromSittings state_of xs s kept × DurablyRepresents (state_of last) (fold s kept)
+kept_each {D = D} state_of IsFound cuts disk [] last s here came = ([], refl, subst (λ (d : D). DurablyRepresents (state_of d) s) (sym came) here)
 kept_each state_of IsFound cuts disk (x ∷ xs) last s here came =
-    let one = kept_one state_of disk x.found x.sitting x.time s here came.0 came.1 (λ honest. cuts x.time (disk_left x.sitting) x.found honest came.2) in
+    let one = kept_one state_of disk x.found x.sitting x.time s here came.0 came.1 (λ honest. cuts x.time (disk_after x.sitting) x.found honest came.2) in
     let others = kept_each state_of IsFound cuts x.found xs last (fold s one.0) one.2 came.3 in (
       one.0 ++ others.0,
       (one.0, others.0, refl, one.1, others.1),
-      subst (Stands (state_of last)) (sym (fold-append s one.0 others.0)) others.2,
+      subst (DurablyRepresents (state_of last)) (sym (fold-append s one.0 others.0)) others.2,
     )
 
 -- ---- the session opened at the end
 
-pub survives_history : {D : Type 0} (state_of : D → DiskState) (IsFound : ℕ → D → D → Type 0) → AreCuts state_of IsFound → (history : History state_of IsFound)
+pub survives_history : {D : Type 0} (state_of : D → DiskState) (IsFound : ℕ → D → D → Type 0) → AllowsOnlyCuts state_of IsFound → (history : History state_of IsFound)
     → IsOpenOnHonestDisk (session_state state_of history.first.before) → SurvivesHistory history
 survives_history state_of IsFound cuts history given =
     let s : BenchState = history.first.before.state in
-    let first = kept_late state_of history.first history.time s history.found refl given history.since (cuts history.time history.first.after.disk history.found (honest_of_run state_of history.first given.1) history.stopped) in
+    let first = kept_if_stopped_after_opening state_of history.first history.time s history.found refl given history.since (cuts history.time history.first.after.disk history.found (honest_of_run state_of history.first given.1) history.stopped) in
     let others = kept_each state_of IsFound cuts history.found history.others history.last (fold s first.0) first.2 history.came in
     let here = others.2 in
     record {
       kept = first.0 ++ others.0;
       of_each = (first.0, others.0, refl, first.1, others.1);
       reopened = λ session begun.
-          one_either (bytes_of (state_of history.last)) session.state (fold (fold s first.0) others.0) (begun.opens here.honest).stood here.stands ∙ sym (fold-append s first.0 others.0);
+          one_either (bytes_of (state_of history.last)) session.state (fold (fold s first.0) others.0) (begun.opens here.honest).represented_before here.represents ∙ sym (fold-append s first.0 others.0);
       not_refused = λ number refused.
           number_refused state_of history.last refused.0 number (fold (fold s first.0) others.0) here refused.1;
     }

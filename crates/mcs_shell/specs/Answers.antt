@@ -4,7 +4,7 @@ use Rattle.mcs_answers.specs.AnswerTexts.{session_text}
 use Rattle.mcs_disk.specs.Disk.{DiskState}
 use Rattle.mcs_session.specs.KeptCommands.{IsOpenOnHonestDisk}
 use Rattle.mcs_session.specs.SessionState.{SessionView, session_state}
-use Rattle.mcs_session.specs.StandsFor.{DiskStandsFor}
+use Rattle.mcs_session.specs.Represents.{DiskRepresents}
 use Rattle.mcs_shell.specs.Inputs.{Input}
 use Rattle.mcs_shell.specs.Serving.{LeavesSession}
 use Rattle.mcs_shell.specs.Transcript.{IsPossibleOutcome, acknowledged_commands, answer, is_device_fault, reached_commands}
@@ -14,7 +14,7 @@ use Rattle.mcs_shell.specs.declared.ends.Outcome.{Outcome}
 -- the session `before`, and the input led from `before` to the session `now`. If the session was open on an
 -- honest disk, a command that is answered `ok` is recorded, and no later call has reached the disk (`clock`
 -- of `KeepsAllCommands`). `RanShell` states that the input was read and served.
-pub record AnswersJustNow {D : Type 0} (state_of : D → DiskState) (now : SessionView D)
+pub record AnswersLastInput {D : Type 0} (state_of : D → DiskState) (now : SessionView D)
     (bytes : List ℕ) : Type 0 where
   pub before : SessionView D
   pub input : Input
@@ -31,6 +31,6 @@ pub record AnswersJustNow {D : Type 0} (state_of : D → DiskState) (now : Sessi
 -- represents the session's state, even after a power cut. The state includes the answered command.
 pub record MayAnswer {D : Type 0} (state_of : D → DiskState) (session : SessionView D)
     (bytes : List ℕ) : Type 0 where
-  pub says : (bytes ≡ session_text session.state) ⊎ AnswersJustNow state_of session bytes
-  pub stands : IsTrue session.live → (state_of session.disk).honest
-      → DiskStandsFor (state_of session.disk) session.state
+  pub bytes_are : (bytes ≡ session_text session.state) ⊎ AnswersLastInput state_of session bytes
+  pub represents : IsTrue session.live → (state_of session.disk).honest
+      → DiskRepresents (state_of session.disk) session.state

@@ -4,49 +4,49 @@ use Rattle.std.specs.Prelude.{◌≡◌, ◌≢◌, ◌⊎◌, ◌+◌, ◌<◌,
 use Rattle.std.specs.Io.KnownBytes.{Appends}
 use Rattle.std.specs.Option.{option_map}
 use Rattle.mcs_answers.specs.AnswerTexts.{session_text}
-use Rattle.mcs_disk.specs.Disk.{DiskState, most_faults}
+use Rattle.mcs_disk.specs.Disk.{DiskState, max_fault_count}
 use Rattle.mcs_shell.specs.declared.ends.ShellEnd.{ShellEnd}
 use Rattle.mcs_shell.specs.declared.ends.ShellEnd.TheVariants.{End, ReadFault, WriteFault, InputLimit, NoMemory}
 use Rattle.mcs_shell.specs.Shell.{ShellRun, inputs_read}
 use Rattle.mcs_shell.specs.ShellState.{KnownBytes}
-use Rattle.mcs_shell.specs.Transcript.{answer, in_turn, inputs_in}
+use Rattle.mcs_shell.specs.Transcript.{answer, results_in_order, inputs_in}
 
--- the number of calls that have failed, if it is known; the number never rises above `most_faults`
+-- the number of calls that have failed, if it is known; the number never rises above `max_fault_count`
 abbrev pub KnownFaults : Type 0
 KnownFaults = Option ℕ
 
 -- the count after one more failed call
-abbrev pub one_more : KnownFaults → KnownFaults
-one_more faults = option_map (λ n. min (n + 1) most_faults) faults
+abbrev pub one_more_fault : KnownFaults → KnownFaults
+one_more_fault faults = option_map (λ n. min (n + 1) max_fault_count) faults
 
 -- Holds if a call that failed increased the count by one, up to its maximum, and a call that succeeded
 -- left the count unchanged.
 abbrev pub CountsKnownFault : {T E : Type 0} → KnownFaults → KnownFaults → Result T E → Type 0
-CountsKnownFault old new result = MatchResult result (λ x. new ≡ old) (λ e. new ≡ one_more old)
+CountsKnownFault old new result = MatchResult result (λ x. new ≡ old) (λ e. new ≡ one_more_fault old)
 
 -- the reader's number of failures after a shell has ended in the given way
-abbrev pub faults_read : ShellEnd → KnownFaults → KnownFaults
-faults_read ReadFault faults = one_more faults
-faults_read end faults = faults
+abbrev pub read_faults_after : ShellEnd → KnownFaults → KnownFaults
+read_faults_after ReadFault faults = one_more_fault faults
+read_faults_after end faults = faults
 
 -- the writer's number of failures after a shell has ended in the given way, or while it continues
-abbrev pub faults_written : Option ShellEnd → KnownFaults → KnownFaults
-faults_written (Some WriteFault) faults = one_more faults
-faults_written halted faults = faults
+abbrev pub write_faults_after : Option ShellEnd → KnownFaults → KnownFaults
+write_faults_after (Some WriteFault) faults = one_more_fault faults
+write_faults_after halted faults = faults
 
 -- Holds if the counts of failures match the end of a shell. The reader's count rose by one if and only
 -- if a failed read ended the shell. The writer's count rose by one if and only if a failed write did.
 -- (A count at its maximum, or one that is not known, does not change.)
-pub record EndsByItsFault (end : ShellEnd) (read read' written written' : KnownFaults) : Type 0 where
-  pub reader : read' ≡ faults_read end read
-  pub writer : written' ≡ faults_written (Some end) written
+pub record CountsMatchEnd (end : ShellEnd) (read read' written written' : KnownFaults) : Type 0 where
+  pub reader : read' ≡ read_faults_after end read
+  pub writer : written' ≡ write_faults_after (Some end) written
 
 -- A reader and a writer, as contracts see them: the bytes that the reader has left, the bytes that the
 -- writer has received, and the number of failures of each.
 pub record StreamsView : Type 0 where
   pub left : KnownBytes
   pub read_faults : KnownFaults
-  pub got : KnownBytes
+  pub received : KnownBytes
   pub write_faults : KnownFaults
 
 -- the `StreamsView` of a reader and a writer, from the ghost members of their traits
@@ -55,7 +55,7 @@ abbrev pub streams_view : {R W : Type 0} → (R → KnownBytes) → (R → Known
 streams_view remaining read_faults contents write_faults reader writer = record {
   left = remaining reader;
   read_faults = read_faults reader;
-  got = contents writer;
+  received = contents writer;
   write_faults = write_faults writer;
 }
 
@@ -64,7 +64,7 @@ streams_view remaining read_faults contents write_faults reader writer = record 
 -- Holds if both counts are known, and no call failed between the first count and the second.
 abbrev pub HasNotFailed : KnownFaults → KnownFaults → Type 0
 HasNotFailed None new = ⊥
-HasNotFailed (Some n) new = (new ≡ Some n) × (n < most_faults)
+HasNotFailed (Some n) new = (new ≡ Some n) × (n < max_fault_count)
 
 -- Holds if no call of the reader, the writer or the disk failed in a run, and the shell had memory to
 -- begin. The four counts are those of the reader and the writer before and after the run, because a
@@ -74,7 +74,7 @@ pub record RanWithoutFault {D : Type 0} {state_of : D → DiskState} (run : Shel
   pub read' : KnownFaults
   pub written : KnownFaults
   pub written' : KnownFaults
-  pub by : EndsByItsFault run.end read read' written written'
+  pub counts_match_end : CountsMatchEnd run.end read read' written written'
   pub reader : HasNotFailed read read'
   pub writer : HasNotFailed written written'
   pub device : HasNotFailed (Some (state_of run.before.disk).faults)
@@ -83,8 +83,8 @@ pub record RanWithoutFault {D : Type 0} {state_of : D → DiskState} (run : Shel
 
 -- Holds if a run served all its input. The run reached the end of its input or the input limit. It
 -- served all inputs that it had read, and wrote each answer completely.
-pub record ServesAll {D : Type 0} {state_of : D → DiskState} (run : ShellRun state_of) : Type 0 where
+pub record ServesAllInput {D : Type 0} {state_of : D → DiskState} (run : ShellRun state_of) : Type 0 where
   pub end : (run.end ≡ End) ⊎ (run.end ≡ InputLimit)
-  pub all_met : inputs_read run.ran.read ≡ inputs_in run.ran.served.met
+  pub all_served : inputs_read run.ran.read ≡ inputs_in run.ran.served.exchanges
   pub all_sent : Appends run.out run.out' (session_text run.before.state
-      ++ in_turn answer run.before.state run.ran.served.met)
+      ++ results_in_order answer run.before.state run.ran.served.exchanges)

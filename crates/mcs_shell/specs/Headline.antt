@@ -10,14 +10,14 @@ use Rattle.mcs_journal.specs.declared.fault.StoreFault.TheVariants as store_faul
 use Rattle.mcs_model.specs.declared.command.Command.{Command}
 use Rattle.mcs_model.specs.BenchState.{BenchState}
 use Rattle.mcs_session.specs.Acknowledgements.{Acknowledgements, acknowledged_by}
-use Rattle.mcs_session.specs.Opening.{OpensSession, RefusesSession}
+use Rattle.mcs_session.specs.Opening.{OpensSession, SessionErrorImplies}
 use Rattle.mcs_session.specs.KeptCommands.{IsAfterPrefix}
 use Rattle.mcs_shell.specs.Inputs.{Input}
 use Rattle.mcs_shell.specs.declared.ends.ShellEnd.{ShellEnd}
 use Rattle.mcs_shell.specs.declared.ends.ShellEnd.TheVariants.{WriteFault, DeviceFault, NoMemory}
 use Rattle.mcs_shell.specs.Shell.{ReadInput, ShellRun, inputs_read}
 use Rattle.mcs_shell.specs.ShellState.{KnownBytes, ShellState, shell_state}
-use Rattle.mcs_shell.specs.Transcript.{ArePossibleExchanges, Exchange, answer, acknowledged_commands, in_turn, inputs_in, reached_commands}
+use Rattle.mcs_shell.specs.Transcript.{ArePossibleExchanges, Exchange, answer, acknowledged_commands, results_in_order, inputs_in, reached_commands}
 
 -- ---- the answers of a run
 
@@ -26,27 +26,27 @@ use Rattle.mcs_shell.specs.Transcript.{ArePossibleExchanges, Exchange, answer, a
 -- shell had no memory to begin. The run wrote the session's first line, followed by the answers to the
 -- inputs that it served. Each answer follows from the state after the commands that were answered `ok`
 -- before that answer. Only a failed write, or lack of memory to begin, can truncate the bytes written.
-pub record AnswersInTurn
+pub record AnswersInOrder
     (end : ShellEnd) {reader reader' : KnownBytes} (read : ReadInput reader reader')
-    (a b : ShellState) (met : List Exchange) : Type 0 where
-  pub not_met : List Input
-  pub spelled : inputs_read read ≡ inputs_in met ++ not_met
-  pub all_met : end ≢ WriteFault → end ≢ DeviceFault → end ≢ NoMemory → not_met ≡ []
-  pub may : ArePossibleExchanges a.session.live a.session.state met
+    (a b : ShellState) (exchanges : List Exchange) : Type 0 where
+  pub not_served : List Input
+  pub spelled : inputs_read read ≡ inputs_in exchanges ++ not_served
+  pub all_served : end ≢ WriteFault → end ≢ DeviceFault → end ≢ NoMemory → not_served ≡ []
+  pub is_possible : ArePossibleExchanges a.session.live a.session.state exchanges
   pub response : List ℕ
   pub left_out : List ℕ
   pub written : Appends a.out b.out response
   pub parts : response ++ left_out
-      ≡ session_text a.session.state ++ in_turn answer a.session.state met
+      ≡ session_text a.session.state ++ results_in_order answer a.session.state exchanges
   pub all_sent : end ≢ WriteFault → end ≢ NoMemory → left_out ≡ []
 
 -- the commands that a run answered `ok`
-abbrev pub done_in : {D : Type 0} {state_of : D → DiskState} → ShellRun state_of → List Command
-done_in run = in_turn acknowledged_commands run.before.state run.ran.served.met
+abbrev pub acknowledged_in : {D : Type 0} {state_of : D → DiskState} → ShellRun state_of → List Command
+acknowledged_in run = results_in_order acknowledged_commands run.before.state run.ran.served.exchanges
 
 -- the commands that a run answered `ok`, followed by the one that it answered `no 53`, if there is one
 abbrev pub reached_in : {D : Type 0} {state_of : D → DiskState} → ShellRun state_of → List Command
-reached_in run = in_turn reached_commands run.before.state run.ran.served.met
+reached_in run = results_in_order reached_commands run.before.state run.ran.served.exchanges
 
 -- Holds if a run answered its inputs in order and acknowledged its commands. Each command that it
 -- answered `ok` has a moment of acknowledgement. `reached_in` consists of these commands, followed by
@@ -54,13 +54,13 @@ reached_in run = in_turn reached_commands run.before.state run.ran.served.met
 -- that contracts use.)
 pub record AnswersAndAcknowledges
     {D : Type 0} {state_of : D → DiskState} (run : ShellRun state_of) : Type 0 where
-  pub answers : AnswersInTurn run.end run.ran.read
+  pub answers : AnswersInOrder run.end run.ran.read
       (shell_state state_of run.before run.out)
-      (shell_state state_of run.after run.out') run.ran.served.met
+      (shell_state state_of run.after run.out') run.ran.served.exchanges
   pub acknowledged : Acknowledgements (state_of run.before.disk) (state_of run.after.disk)
-      (done_in run)
+      (acknowledged_in run)
   pub failed : List Command
-  pub reached_are : reached_in run ≡ done_in run ++ failed
+  pub reached_are : reached_in run ≡ acknowledged_in run ++ failed
 
 -- ---- the state after a power cut
 
@@ -80,7 +80,7 @@ pub record SurvivesPowerCuts
   pub not_refused : (time : ℕ) (found : E) (fault : StoreFault)
       → time_of (state_of run.before.disk) ≤ time
       → IsLeftByCut time (state_of run.after.disk) (found_of found)
-      → RefusesSession fault (found_of found)
+      → SessionErrorImplies fault (found_of found)
       → (fault ≡ store_fault.Device) ⊎ (fault ≡ store_fault.NoMemory)
 
 -- Holds if a run answered its inputs in order, and its commands survive every power cut. The law that

@@ -22,15 +22,15 @@ pub data Sitting {D : Type 0} (state_of : D → DiskState) : Type 0 where
 
 -- Holds if a sitting began on this disk. The session of its run was opened on this disk, or the opening
 -- of a session on this disk was refused.
-abbrev pub CameOf : {D : Type 0} {state_of : D → DiskState} → D → Sitting state_of → Type 0
-CameOf {state_of = state_of} disk (Served run) = IsOpenedOn state_of disk run.before
-CameOf {state_of = state_of} disk (Refused number left) =
+abbrev pub IsSittingOn : {D : Type 0} {state_of : D → DiskState} → D → Sitting state_of → Type 0
+IsSittingOn {state_of = state_of} disk (Served run) = IsOpenedOn state_of disk run.before
+IsSittingOn {state_of = state_of} disk (Refused number left) =
     OpenRefusal (state_of disk) (state_of left) number
 
 -- the disk after all calls of a sitting, including those that a stop may have cut off
-abbrev pub disk_left : {D : Type 0} {state_of : D → DiskState} → Sitting state_of → D
-disk_left (Served run) = run.after.disk
-disk_left (Refused number left) = left
+abbrev pub disk_after : {D : Type 0} {state_of : D → DiskState} → Sitting state_of → D
+disk_after (Served run) = run.after.disk
+disk_after (Refused number left) = left
 
 -- A sitting that was stopped at clock `time` or later, and the disk that was found after the stop.
 pub record StoppedSitting {D : Type 0} (state_of : D → DiskState) : Type 0 where
@@ -46,8 +46,8 @@ abbrev pub IsHistory : {D : Type 0} {state_of : D → DiskState} → (ℕ → D 
     → List (StoppedSitting state_of) → D → Type 0
 IsHistory IsFound disk [] last = last ≡ disk
 IsHistory {state_of = state_of} IsFound disk (x ∷ xs) last =
-    CameOf disk x.sitting × (time_of (state_of disk) ≤ x.time)
-    × IsFound x.time (disk_left x.sitting) x.found × IsHistory IsFound x.found xs last
+    IsSittingOn disk x.sitting × (time_of (state_of disk) ≤ x.time)
+    × IsFound x.time (disk_after x.sitting) x.found × IsHistory IsFound x.found xs last
 
 -- Holds if `found` is a possible disk after a power cut at clock `time` or later. `left` is the disk after
 -- all calls.
@@ -81,7 +81,7 @@ sittings_of history =
 -- or later. The run answered its inputs in order. The kept commands are a prefix of `reached_in`: the
 -- commands answered `ok`, followed by the one answered `no 53`. The prefix includes each command that was
 -- acknowledged by that time.
-pub record KeepsOfRun
+pub record AreKeptFromRun
     {D : Type 0} (state_of : D → DiskState) (run : ShellRun state_of) (time : ℕ) (s : BenchState)
     (kept : List Command) : Type 0 where
   pub began : run.before.state ≡ s
@@ -92,20 +92,20 @@ pub record KeepsOfRun
 
 -- Holds if `kept` are the commands kept from a sitting that began in state s. If the opening was refused,
 -- no commands are kept, and the reason was a device fault (53) or lack of memory (90).
-abbrev pub KeepsOf : {D : Type 0} (state_of : D → DiskState) → Sitting state_of → ℕ → BenchState
+abbrev pub AreKeptFromSitting : {D : Type 0} (state_of : D → DiskState) → Sitting state_of → ℕ → BenchState
     → List Command → Type 0
-KeepsOf state_of (Served run) time s kept = KeepsOfRun state_of run time s kept
-KeepsOf state_of (Refused number left) time s kept =
+AreKeptFromSitting state_of (Served run) time s kept = AreKeptFromRun state_of run time s kept
+AreKeptFromSitting state_of (Refused number left) time s kept =
     (kept ≡ []) × ((number ≡ 53) ⊎ (number ≡ 90))
 
 -- Holds if `kept` are the commands kept from each sitting, in order. Each sitting begins in the state
 -- after the commands kept from the sittings before it.
-abbrev pub KeepsOfEach : {D : Type 0} (state_of : D → DiskState)
+abbrev pub AreKeptFromSittings : {D : Type 0} (state_of : D → DiskState)
     → List (StoppedSitting state_of) → BenchState → List Command → Type 0
-KeepsOfEach state_of [] s kept = kept ≡ []
-KeepsOfEach state_of (x ∷ xs) s kept =
+AreKeptFromSittings state_of [] s kept = kept ≡ []
+AreKeptFromSittings state_of (x ∷ xs) s kept =
     (first : List Command) × (rest : List Command) × (kept ≡ first ++ rest)
-    × KeepsOf state_of x.sitting x.time s first × KeepsOfEach state_of xs (fold s first) rest
+    × AreKeptFromSitting state_of x.sitting x.time s first × AreKeptFromSittings state_of xs (fold s first) rest
 
 -- Holds if the commands kept from each sitting survive a history. A session opened at the end has the
 -- state after these commands, in order. Only a device fault or lack of memory can prevent the opening.
@@ -113,7 +113,7 @@ pub record SurvivesHistory
     {D : Type 0} {state_of : D → DiskState} {IsFound : ℕ → D → D → Type 0}
     (history : History state_of IsFound) : Type 0 where
   pub kept : List Command
-  pub of_each : KeepsOfEach state_of (sittings_of history) history.first.before.state kept
+  pub of_each : AreKeptFromSittings state_of (sittings_of history) history.first.before.state kept
   pub reopened : (session : SessionView D) → IsOpenedOn state_of history.last session
       → session.state ≡ fold history.first.before.state kept
   pub not_refused : (number : ℕ) → IsOpenRefused state_of history.last number

@@ -9,7 +9,7 @@ use Rattle.mcs_lines.specs.declared.requests.Request.TheVariants.{Begin}
 use Rattle.mcs_shell.specs.declared.texts.TextFault.{TextFault}
 use Rattle.mcs_shell.specs.declared.texts.TextFault.TheVariants.{NoEnd, TextTooLong, LineTooLong, NotAscii}
 use Rattle.mcs_lines.specs.LineRequests.{request_of}
-use Rattle.mcs_lines.specs.Words.{is_plain_byte}
+use Rattle.mcs_lines.specs.Words.{is_allowed_byte}
 use Rattle.mcs_model.specs.TextLines.{is_line_feed, lines, text_of}
 
 -- An input: the request of a line outside a text (`Line`), a text (`Text`), or a text with an error that
@@ -27,19 +27,19 @@ abbrev pub is_dot_line : List ℕ → Bool
 is_dot_line line = bytes_eq line (codes ".")
 
 -- true if a line is short enough for a text: at most `LINE_BYTES` bytes
-abbrev pub is_short : List ℕ → Bool
-is_short line = nat_le (length line) LINE_BYTES
+abbrev pub is_short_line : List ℕ → Bool
+is_short_line line = nat_le (length line) LINE_BYTES
 
 -- true if a text may contain this byte
 abbrev pub is_text_byte : ℕ → Bool
-is_text_byte b = is_line_feed b || is_plain_byte b
+is_text_byte b = is_line_feed b || is_allowed_byte b
 
 -- The first error in a complete text that does not depend on the meaning of its lines, if there is one.
 -- The checks, in order: the text is too long, a line is too long, a byte is not allowed.
 unfoldable pub text_fault_of : List ℕ → Option TextFault
 text_fault_of text =
     if nat_lt TEXT_BYTES (length text) then Some TextTooLong
-    else if list_all is_short (slice_split is_line_feed text)
+    else if list_all is_short_line (slice_split is_line_feed text)
     then (if list_all is_text_byte text then None else Some NotAscii)
     else Some LineTooLong
 
@@ -47,15 +47,15 @@ abbrev pub text_or_fault : TextKind → List ℕ → Option TextFault → Input
 text_or_fault kind text None = Text kind text
 text_or_fault kind text (Some fault) = BadText fault
 
-abbrev pub judged_text : TextKind → List ℕ → Input
-judged_text kind text = text_or_fault kind text (text_fault_of text)
+abbrev pub input_of_text : TextKind → List ℕ → Input
+input_of_text kind text = text_or_fault kind text (text_fault_of text)
 
 -- ---- inputs formed by several lines
 
 -- the kind of the text that begins after a line with this request, if the request begins a text
-abbrev pub text_begun : Request → Option TextKind
-text_begun (Begin kind) = Some kind
-text_begun request = None
+abbrev pub kind_of_begun_text : Request → Option TextKind
+kind_of_begun_text (Begin kind) = Some kind
+kind_of_begun_text request = None
 
 -- The input of a text, given the lines after the one that began it. The text consists of the lines
 -- before the first dot line, each followed by a line feed. Without a dot line, the text is refused
@@ -63,7 +63,7 @@ text_begun request = None
 abbrev pub text_input : Bool → TextKind → List (List ℕ) → List Input
 text_input whole kind ls =
     if list_any is_dot_line ls
-    then judged_text kind (text_of (before_first is_dot_line ls)) ∷ []
+    then input_of_text kind (text_of (before_first is_dot_line ls)) ∷ []
     else if whole then BadText NoEnd ∷ [] else []
 
 -- The inputs that lines form. If `in_text` is true, the lines up to the first dot line belong to a text
@@ -72,7 +72,7 @@ unfoldable pub inputs_of_lines : Bool → Bool → List (List ℕ) → List Inpu
 inputs_of_lines whole in_text [] = []
 inputs_of_lines whole true (l ∷ ls) = inputs_of_lines whole (not (is_dot_line l)) ls
 inputs_of_lines whole false (l ∷ ls) =
-    elim (text_begun (request_of l)) [
+    elim (kind_of_begun_text (request_of l)) [
       | None ↦ Line (request_of l) ∷ inputs_of_lines whole false ls
       | Some kind ↦ text_input whole kind ls ++ inputs_of_lines whole true ls
     ]

@@ -1,10 +1,10 @@
 pub mod AnswerPieces
 pub mod LineFeeds
 pub mod Inputs
-pub mod Pending
-pub mod Reading
-pub mod Spelling
-pub mod TextNumbers
+pub mod UnfinishedInputView
+pub mod StoredInput
+pub mod TextMeanings
+pub mod TextRefusalNumbers
 pub mod RefusalNumbers
 pub mod ShellState
 pub mod Transcript
@@ -13,7 +13,7 @@ pub mod ServedPieces
 pub mod Shell
 pub mod Headline
 pub mod Program
-pub mod InFile
+pub mod FileHeadline
 pub mod History
 pub mod Answers
 pub mod Faults

@@ -2,7 +2,7 @@
 use Rattle.std.specs.Prelude.{ℕ}
 use Rattle.mcs_host.specs.declared.file_fault.FileFault.{FileFault}
 use Rattle.mcs_host.specs.declared.file_fault.FileFault.TheVariants as file_fault
-use Rattle.mcs_host.specs.Streams.{none_of_them}
+use Rattle.mcs_host.specs.Streams.{no_streams}
 use Rattle.mcs_host.specs.declared.streams.Streams.{Streams}
 use Rattle.mcs_journal.specs.declared.fault.StoreFault.{StoreFault}
 use Rattle.mcs_journal.specs.declared.fault.StoreFault.TheVariants as store_fault
@@ -31,8 +31,8 @@ store_fault_number store_fault.NoMemory = NO_MEMORY
 -- other reason
 abbrev pub file_fault_number : FileFault → ℕ
 file_fault_number file_fault.InUse = DEVICE
-file_fault_number file_fault.NoLock = DEVICE
-file_fault_number file_fault.NotThere = DEVICE
+file_fault_number file_fault.CannotLock = DEVICE
+file_fault_number file_fault.FileMissing = DEVICE
 file_fault_number file_fault.Denied = DEVICE
 file_fault_number file_fault.Folder = DEVICE
 file_fault_number file_fault.NotAFile = DEVICE
@@ -54,4 +54,4 @@ begin_fault_number (begin_fault.Open f) = store_fault_number f
 -- the standard streams that refer to the session's file, if the session did not begin because of them
 abbrev pub streams_of : BeginFault → Streams
 streams_of (begin_fault.File (file_fault.Stream streams)) = streams
-streams_of fault = none_of_them
+streams_of fault = no_streams

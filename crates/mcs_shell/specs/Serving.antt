@@ -10,22 +10,22 @@ use Rattle.mcs_shell.specs.declared.ends.ShellEnd.{ShellEnd}
 use Rattle.mcs_shell.specs.Inputs.{Input}
 use Rattle.mcs_session.specs.SessionState.{Premise, SessionState}
 use Rattle.mcs_shell.specs.ShellState.{KnownBytes, ShellState}
-use Rattle.mcs_shell.specs.Transcript.{ArePossibleExchanges, Exchange, answer, acknowledged_commands, halt_after, in_turn, inputs_in, is_device_fault, reached_commands}
+use Rattle.mcs_shell.specs.Transcript.{ArePossibleExchanges, Exchange, answer, acknowledged_commands, end_caused_by_exchanges, results_in_order, inputs_in, is_device_fault, reached_commands}
 use Rattle.mcs_session.specs.KeptCommands.{RecordsCommands, KeepsCommands}
 
 -- ---- an answer
 
 -- Holds if the writer received only a proper prefix of these bytes, possibly the empty one.
-pub record GotFirstBytes (old new : KnownBytes) (bytes : List ℕ) : Type 0 where
+pub record ReceivedProperPrefix (old new : KnownBytes) (bytes : List ℕ) : Type 0 where
   pub count : ℕ
   pub fewer : count < length bytes
-  pub got : Appends old new (take count bytes)
+  pub received : Appends old new (take count bytes)
 
 -- Holds if the writer received all of these bytes (if the Bool is true), or only a proper prefix of them
 -- (if it is false).
 abbrev pub WroteBytes : Bool → KnownBytes → KnownBytes → List ℕ → Type 0
 WroteBytes true old new bytes = Appends old new bytes
-WroteBytes false old new bytes = GotFirstBytes old new bytes
+WroteBytes false old new bytes = ReceivedProperPrefix old new bytes
 
 -- Holds if the writer received the answers of these exchanges, in order. It received an answer completely
 -- if `whole` of the exchange is true, and otherwise only a proper prefix of that answer.
@@ -62,21 +62,21 @@ LeavesSession Given true a b done reached = ClosesSession Given a b done reached
 -- Holds if these exchanges, in this order, led from shell state a to shell state b. `Given` is the premise
 -- under which the disk keeps the commands.
 pub record ServesExchanges
-    (Given : Premise) (a : ShellState) (met : List Exchange) (b : ShellState) : Type 0 where
-  pub may : ArePossibleExchanges a.session.live a.session.state met
-  pub wrote : WroteAnswers a.session.state met a.out b.out
-  pub leaves : LeavesSession Given (list_any (λ (x : Exchange). is_device_fault x.outcome) met)
+    (Given : Premise) (a : ShellState) (exchanges : List Exchange) (b : ShellState) : Type 0 where
+  pub is_possible : ArePossibleExchanges a.session.live a.session.state exchanges
+  pub wrote : WroteAnswers a.session.state exchanges a.out b.out
+  pub leaves : LeavesSession Given (list_any (λ (x : Exchange). is_device_fault x.outcome) exchanges)
       a.session b.session
-      (in_turn acknowledged_commands a.session.state met)
-      (in_turn reached_commands a.session.state met)
+      (results_in_order acknowledged_commands a.session.state exchanges)
+      (results_in_order reached_commands a.session.state exchanges)
 
 -- Holds if the shell served a prefix of these inputs, and all of them unless something halted the shell.
 pub record ServesInputs
-    (Given : Premise) (asked : List Input) (a b : ShellState)
+    (Given : Premise) (inputs_to_serve : List Input) (a b : ShellState)
     (halted : Option ShellEnd) : Type 0 where
-  pub met : List Exchange
-  pub serves : ServesExchanges Given a met b
-  pub halts : halt_after met ≡ halted
-  pub not_met : List Input
-  pub spelled : asked ≡ inputs_in met ++ not_met
-  pub all_met : halted ≡ None → not_met ≡ []
+  pub exchanges : List Exchange
+  pub serves : ServesExchanges Given a exchanges b
+  pub halts : end_caused_by_exchanges exchanges ≡ halted
+  pub not_served : List Input
+  pub spelled : inputs_to_serve ≡ inputs_in exchanges ++ not_served
+  pub all_served : halted ≡ None → not_served ≡ []

@@ -7,7 +7,7 @@ use Rattle.mcs_model.specs.declared.limits.TheConstants.{INPUT_BYTES}
 use Rattle.mcs_shell.specs.Inputs.{Input, inputs}
 use Rattle.mcs_disk.specs.Disk.{DiskState}
 use Rattle.mcs_session.specs.SessionState.{Premise, SessionView}
-use Rattle.mcs_shell.specs.ShellState.{KnownBytes, ShellState, shell_state, with_written}
+use Rattle.mcs_shell.specs.ShellState.{KnownBytes, ShellState, shell_state, with_output}
 use Rattle.mcs_shell.specs.Transcript.{Exchange, answered_exchanges, inputs_in}
 use Rattle.mcs_answers.specs.AnswerTexts.{session_text}
 use Rattle.mcs_session.specs.KeptCommands.{IsOpenOnHonestDisk}
@@ -38,7 +38,7 @@ abbrev pub inputs_read : {reader reader' : KnownBytes} → ReadInput reader read
 inputs_read read = inputs read.bytes read.ended
 
 -- The start of a run: the first line was written completely, or only a proper prefix of it, possibly nothing.
-pub record Began (first_line : List ℕ) (out : KnownBytes) : Type 0 where
+pub record RunStart (first_line : List ℕ) (out : KnownBytes) : Type 0 where
   -- `whole` is true if the first line was written completely. `started` has the bytes that the writer had
   -- received by then.
   pub whole : Bool
@@ -47,22 +47,22 @@ pub record Began (first_line : List ℕ) (out : KnownBytes) : Type 0 where
 
 -- Holds if the first line was not written completely, no bytes were read, and no inputs were served.
 abbrev pub IsNotBegun : Bool → List ℕ → List Exchange → Type 0
-IsNotBegun begun bytes met = (begun ≡ false) × (bytes ≡ []) × (met ≡ [])
+IsNotBegun begun bytes exchanges = (begun ≡ false) × (bytes ≡ []) × (exchanges ≡ [])
 
 -- Holds if a run ended in this way. `begun` is true if the first line was written completely. `bytes` are
--- the bytes that were read, and `ended` is true if input ended after them. `met` are the exchanges of the
+-- the bytes that were read, and `ended` is true if input ended after them. `exchanges` are the exchanges of the
 -- run. `halted` is the end of the shell that an exchange caused, if one did.
 abbrev pub EndsBy : ShellEnd → Bool → List ℕ → Bool → List Exchange → Option ShellEnd → Type 0
-EndsBy End begun bytes ended met halted = (begun ≡ true) × (ended ≡ true) × (halted ≡ None)
-EndsBy ReadFault begun bytes ended met halted =
+EndsBy End begun bytes ended exchanges halted = (begun ≡ true) × (ended ≡ true) × (halted ≡ None)
+EndsBy ReadFault begun bytes ended exchanges halted =
     (begun ≡ true) × (ended ≡ false) × (halted ≡ None) × (length bytes < INPUT_BYTES)
-EndsBy InputLimit begun bytes ended met halted =
+EndsBy InputLimit begun bytes ended exchanges halted =
     (begun ≡ true) × (ended ≡ false) × (halted ≡ None) × (length bytes ≡ INPUT_BYTES)
-EndsBy WriteFault begun bytes ended met halted =
-    ((begun ≡ true) × (halted ≡ Some WriteFault)) ⊎ IsNotBegun begun bytes met
-EndsBy DeviceFault begun bytes ended met halted =
+EndsBy WriteFault begun bytes ended exchanges halted =
+    ((begun ≡ true) × (halted ≡ Some WriteFault)) ⊎ IsNotBegun begun bytes exchanges
+EndsBy DeviceFault begun bytes ended exchanges halted =
     (begun ≡ true) × (halted ≡ Some DeviceFault)
-EndsBy NoMemory begun bytes ended met halted = IsNotBegun begun bytes met
+EndsBy NoMemory begun bytes ended exchanges halted = IsNotBegun begun bytes exchanges
 
 -- Holds if the shell ran from state a to state b with this end: it wrote the first line, read bytes, and
 -- served the inputs that these bytes form, or a prefix of them. `Given` is the premise under which the disk
@@ -71,11 +71,11 @@ pub record RanShellGiven
     (Given : Premise) (first_line : List ℕ) (end : ShellEnd) (reader reader' : KnownBytes)
     (a b : ShellState) : Type 0 where
   pub read : ReadInput reader reader'
-  pub began : Began first_line a.out
+  pub began : RunStart first_line a.out
   pub halted : Option ShellEnd
-  pub served : ServesInputs Given (inputs_read read) (with_written a began.started) b halted
-  pub near : ReadsLittleAhead read.bytes (inputs_in (answered_exchanges served.met))
-  pub ends : EndsBy end began.whole read.bytes read.ended served.met halted
+  pub served : ServesInputs Given (inputs_read read) (with_output a began.started) b halted
+  pub reads_little_ahead : ReadsLittleAhead read.bytes (inputs_in (answered_exchanges served.exchanges))
+  pub ends : EndsBy end began.whole read.bytes read.ended served.exchanges halted
   pub unwritten : end ≡ NoMemory → b.out ≡ a.out
 
 -- Holds if the shell ran from state a to state b and its first line was that of the session. The claims
@@ -97,9 +97,9 @@ pub record ShellRun {D : Type 0} (state_of : D → DiskState) : Type 0 where
   pub ran : RanShell end reader reader'
       (shell_state state_of before out) (shell_state state_of after out')
 
--- Holds if a read of at most `most` bytes returned these n bytes. It returns no bytes only at the end of input.
-pub record ReadBytes (n most : ℕ) (old new : KnownBytes) (bytes : List ℕ) : Type 0 where
-  pub within : n ≤ most
+-- Holds if a read of at most `max_count` bytes returned these n bytes. It returns no bytes only at the end of input.
+pub record ReadBytes (n max_count : ℕ) (old new : KnownBytes) (bytes : List ℕ) : Type 0 where
+  pub within : n ≤ max_count
   pub count : length bytes ≡ n
   pub consumed : Consumes old new bytes
   pub at_end : n ≡ 0 → IsAtEnd new

@@ -18,5 +18,5 @@ abbrev pub shell_state : {D : Type 0} → (D → DiskState) → SessionView D �
 shell_state state_of s out = record { session = session_state state_of s; out = out }
 
 -- a shell state with the same session, but with `out` as the bytes written
-abbrev pub with_written : ShellState → KnownBytes → ShellState
-with_written a out = record { session = a.session; out = out }
+abbrev pub with_output : ShellState → KnownBytes → ShellState
+with_output a out = record { session = a.session; out = out }

@@ -5,10 +5,10 @@ ghost use Rattle.std.specs.Fmt.{decimal};
 ghost use Rattle.mcs_answers.specs.AnswerTexts.{board_answer, listing_answer, no_text, ok_text, query_answer};
 ghost use Rattle.mcs_model.specs.TextLines.{as_line};
 ghost use Rattle.mcs_answers.specs.ForecastTexts.{count_answer, trace_answer};
-ghost use Rattle.mcs_shell.specs.Serving.{GotFirstBytes};
+ghost use Rattle.mcs_shell.specs.Serving.{ReceivedProperPrefix};
 ghost use Rattle.mcs_shell.specs.Answers.{MayAnswer};
 ghost use Rattle.mcs_shell.specs.Faults.{CountsKnownFault};
-ghost use Rattle.mcs_shell.specs.Spelling.{text_refusal};
+ghost use Rattle.mcs_shell.specs.TextMeanings.{text_refusal_answer};
 
 use crate::sending::WriteStopped;
 use crate::streams::AnswerSink;
@@ -23,7 +23,7 @@ use mcs_disk::Disk;
 use mcs_model::command::Reply;
 use mcs_model::query::Query;
 use mcs_nibble::Addr;
-use mcs_probe::{PROBES, Probe};
+use mcs_probe::{MAX_PROBES, Probe};
 use mcs_session::session::Session;
 use std::alloc::{AllocError, Global};
 use std::marker::Model;
@@ -31,8 +31,8 @@ use std::marker::Model;
 /// The answer to one input: a short text, followed by a long one if the answer needs allocated memory.
 #[derive(Drop)]
 pub struct Answer {
-    short: ArrayVec<u8, ANSWER_BYTES>,
-    long: Option<Vec<u8>>,
+    inline_bytes: ArrayVec<u8, ANSWER_BYTES>,
+    allocated_bytes: Option<Vec<u8>>,
 }
 
 impl Model for Answer {
@@ -41,7 +41,7 @@ impl Model for Answer {
 
     ghost Value = { List ℕ };
 
-    ghost view = { λ a. answer_bytes a.short.items (option_map (λ v. v.items) a.long) };
+    ghost view = { λ a. answer_bytes a.inline_bytes.items (option_map (λ v. v.items) a.allocated_bytes) };
 }
 
 impl Answer {
@@ -50,8 +50,8 @@ impl Answer {
         ensures { result ≡ [] }
     {
         Answer {
-            short: ArrayVec::new(),
-            long: None,
+            inline_bytes: ArrayVec::new(),
+            allocated_bytes: None,
         }
     }
 
@@ -60,9 +60,9 @@ impl Answer {
         requires { length word.now ≤ 20 }
         ensures { self.new ≡ word.now ++ as_line (decimal n) }
     {
-        self.long = None;
-        self.short.clear();
-        put_number(&mut self.short, word, u64::from(n));
+        self.allocated_bytes = None;
+        self.inline_bytes.clear();
+        put_number(&mut self.inline_bytes, word, u64::from(n));
     }
 
     /// Sets the answer to the line `no NN`, where NN is the refusal number.
@@ -74,14 +74,14 @@ impl Answer {
 
     /// Sets the answer to the refusal of a text: the refusal number and, for a program, the line number of the error.
     pub(crate) fn set_text_refusal(&mut self, refusal: TextRefusal)
-        ensures { self.new ≡ text_refusal refusal }
+        ensures { self.new ≡ text_refusal_answer refusal }
     {
         match refusal {
             TextRefusal::Wiring(fault) => self.set_refusal(fault.number()),
             TextRefusal::Program(line, fault) => {
-                self.long = None;
-                self.short.clear();
-                put_refusal_at(&mut self.short, fault.number(), line as u64);
+                self.allocated_bytes = None;
+                self.inline_bytes.clear();
+                put_refusal_at(&mut self.inline_bytes, fault.number(), line as u64);
             }
         }
     }
@@ -91,18 +91,18 @@ impl Answer {
     pub(crate) fn set_reply(&mut self, reply: &Reply, bench: &Bench)
         ensures { self.new ≡ ok_text reply.now bench.now }
     {
-        self.long = None;
-        self.short.clear();
-        put_reply(&mut self.short, reply, bench);
+        self.allocated_bytes = None;
+        self.inline_bytes.clear();
+        put_reply(&mut self.inline_bytes, reply, bench);
     }
 
     /// Makes this the answer to a query about the state of the bench.
     pub(crate) fn set_query(&mut self, query: Query, bench: &Bench)
         ensures { self.new ≡ query_answer query bench.now }
     {
-        self.long = None;
-        self.short.clear();
-        put_query(&mut self.short, query, bench);
+        self.allocated_bytes = None;
+        self.inline_bytes.clear();
+        put_query(&mut self.inline_bytes, query, bench);
     }
 
     /// Makes this the answer to `list`, with the given number of lines from address `from` of the ROM. Fails if
@@ -116,8 +116,8 @@ impl Answer {
     ) -> Result<(), AllocError>
         ensures { OnOk result (self.new ≡ listing_answer from lines bench.now) }
     {
-        self.short.clear();
-        self.long = Some(listing_answer(alloc, from, lines, bench)?);
+        self.inline_bytes.clear();
+        self.allocated_bytes = Some(listing_answer(alloc, from, lines, bench)?);
         Ok(())
     }
 
@@ -126,8 +126,8 @@ impl Answer {
     pub(crate) fn set_board(&mut self, alloc: Global, bench: &Bench) -> Result<(), AllocError>
         ensures { OnOk result (self.new ≡ board_answer bench.now) }
     {
-        self.short.clear();
-        self.long = Some(put_board(alloc, &mut self.short, bench)?);
+        self.inline_bytes.clear();
+        self.allocated_bytes = Some(put_board(alloc, &mut self.inline_bytes, bench)?);
         Ok(())
     }
 
@@ -141,13 +141,13 @@ impl Answer {
     ) -> Result<(), AllocError>
         ensures { OnOk result (self.new ≡ count_answer n bench.now) }
     {
-        self.short.clear();
-        self.long = Some(put_count(alloc, &mut self.short, n, bench)?);
+        self.inline_bytes.clear();
+        self.allocated_bytes = Some(put_count(alloc, &mut self.inline_bytes, n, bench)?);
         Ok(())
     }
 
     /// Makes this the answer to `trace`: the changes that a run of at most `n` cycles would make at the probed
-    /// locations. There may be at most `PROBES` probes. Fails if memory runs out; the answer is then unspecified.
+    /// locations. There may be at most `MAX_PROBES` probes. Fails if memory runs out; the answer is then unspecified.
     pub(crate) fn set_trace(
         &mut self,
         alloc: Global,
@@ -155,11 +155,11 @@ impl Answer {
         probes: &[Probe],
         bench: &Bench,
     ) -> Result<(), AllocError>
-        requires { length probes.now ≤ PROBES }
+        requires { length probes.now ≤ MAX_PROBES }
         ensures { OnOk result (self.new ≡ trace_answer probes.now n bench.now) }
     {
-        self.short.clear();
-        self.long = Some(put_trace(alloc, &mut self.short, n, probes, bench)?);
+        self.inline_bytes.clear();
+        self.allocated_bytes = Some(put_trace(alloc, &mut self.inline_bytes, n, probes, bench)?);
         Ok(())
     }
 
@@ -167,8 +167,8 @@ impl Answer {
     pub(crate) fn set_lines(&mut self, lines: Vec<u8>)
         ensures { self.new ≡ lines.items }
     {
-        self.short.clear();
-        self.long = Some(lines);
+        self.inline_bytes.clear();
+        self.allocated_bytes = Some(lines);
     }
 
     /// Writes the whole answer. The answer must be one that the shell may write now: the session has recorded what
@@ -183,12 +183,16 @@ impl Answer {
         ensures ok { OnOk result
             (Appends (W.contents writer.old) (W.contents writer.new) self.now) }
         ensures err { OnErr result
-            (GotFirstBytes (W.contents writer.old) (W.contents writer.new) self.now) }
+            (ReceivedProperPrefix (W.contents writer.old) (W.contents writer.new) self.now) }
         ensures counted { CountsKnownFault (W.faults writer.old) (W.faults writer.new) result }
     {
-        match &self.long {
-            None => writer.write_answer(session, self.short.as_slice(), &[]),
-            Some(long) => writer.write_answer(session, self.short.as_slice(), long.as_slice()),
+        match &self.allocated_bytes {
+            None => writer.write_answer(session, self.inline_bytes.as_slice(), &[]),
+            Some(allocated_bytes) => writer.write_answer(
+                session,
+                self.inline_bytes.as_slice(),
+                allocated_bytes.as_slice(),
+            ),
         }
     }
 }

@@ -4,12 +4,12 @@ ghost use Rattle.mcs_answers.specs.AnswerTexts.{no_text};
 ghost use Rattle.mcs_lines.specs.declared.requests.Request.TheVariants.{Change};
 ghost use Rattle.mcs_model.specs.declared.refusal_numbers.TheConstants.{NO_MEMORY};
 ghost use Rattle.mcs_session.specs.SessionState.{session_state};
-ghost use Rattle.mcs_shell.specs.Inputs.{Line, judged_text};
+ghost use Rattle.mcs_shell.specs.Inputs.{Line, input_of_text};
 ghost use Rattle.mcs_shell.specs.ServedPieces.{AnsweredInput, outcome_of};
 
 use crate::answer::Answer;
 use crate::ends::Outcome;
-use crate::faults::session_number;
+use crate::faults::number_of_session_fault;
 use crate::texts::{TextMeaning, as_text, read_text, text_fault};
 use mcs_disk::Disk;
 use mcs_lines::requests::{Request, TextKind};
@@ -24,7 +24,7 @@ fn outcome_of(fault: SessionFault) -> Outcome
     ensures { result ≡ outcome_of fault }
 {
     match fault {
-        SessionFault::Refused(_) => Outcome::Plain,
+        SessionFault::Refused(_) => Outcome::Answered,
         SessionFault::Device => Outcome::Device,
         SessionFault::Closed => Outcome::Closed,
     }
@@ -42,10 +42,10 @@ fn answer_change<D: Disk + Drop>(
     match session.apply(command) {
         Ok(reply) => {
             answer.set_reply(&reply, session.bench());
-            Outcome::Plain
+            Outcome::Answered
         }
         Err(fault) => {
-            answer.set_refusal(session_number(fault));
+            answer.set_refusal(number_of_session_fault(fault));
             outcome_of(fault)
         }
     }
@@ -53,12 +53,12 @@ fn answer_change<D: Disk + Drop>(
 
 /// Returns the outcome of a request whose answer needs memory. `put` is the result of the allocation. If it failed,
 /// sets the answer to the refusal `NO_MEMORY`.
-fn unless_refused(put: Result<(), AllocError>, answer: &mut Answer) -> Outcome
-    ensures put { OnOk put ((result ≡ Outcome.Plain) × (answer.new ≡ answer.old)) }
+fn outcome_of_allocation(put: Result<(), AllocError>, answer: &mut Answer) -> Outcome
+    ensures put { OnOk put ((result ≡ Outcome.Answered) × (answer.new ≡ answer.old)) }
     ensures refused { OnErr put ((result ≡ Outcome.NoMemory) × (answer.new ≡ no_text NO_MEMORY)) }
 {
     match put {
-        Ok(()) => Outcome::Plain,
+        Ok(()) => Outcome::Answered,
         Err(_) => {
             answer.set_refusal(refusal_numbers::NO_MEMORY);
             Outcome::NoMemory
@@ -79,33 +79,33 @@ pub(crate) fn answer_request<D: Disk + Drop>(
         answer.new (session_state D.state session.new) }
 {
     match request {
-        Request::Nothing => Outcome::Plain,
+        Request::Nothing => Outcome::Answered,
         Request::Refused(fault) => {
             answer.set_refusal(fault.number());
-            Outcome::Plain
+            Outcome::Answered
         }
         Request::Ask(query) => {
             answer.set_query(*query, session.bench());
-            Outcome::Plain
+            Outcome::Answered
         }
         Request::Listing(from, lines) => {
             let put = answer.set_listing(alloc, *from, *lines, session.bench());
-            unless_refused(put, answer)
+            outcome_of_allocation(put, answer)
         }
         Request::Board => {
             let put = answer.set_board(alloc, session.bench());
-            unless_refused(put, answer)
+            outcome_of_allocation(put, answer)
         }
         Request::Count(n) => {
             let put = answer.set_count(alloc, *n, session.bench());
-            unless_refused(put, answer)
+            outcome_of_allocation(put, answer)
         }
         Request::Trace(n, probes) => {
             let put = answer.set_trace(alloc, *n, probes.as_slice(), session.bench());
-            unless_refused(put, answer)
+            outcome_of_allocation(put, answer)
         }
         Request::Change(command) => answer_change(command, session, answer),
-        Request::Begin(_) => Outcome::Plain,
+        Request::Begin(_) => Outcome::Answered,
     }
 }
 
@@ -117,22 +117,22 @@ pub(crate) fn answer_text<D: Disk + Drop>(
     session: &mut Session<D>,
     answer: &mut Answer,
 ) -> Outcome
-    ensures { AnsweredInput (session_state D.state session.old) (judged_text kind text.now) result
+    ensures { AnsweredInput (session_state D.state session.old) (input_of_text kind text.now) result
         answer.new (session_state D.state session.new) }
 {
     if let Some(fault) = text_fault(text) {
         answer.set_refusal(fault.number());
-        return Outcome::Plain;
+        return Outcome::Answered;
     }
     match read_text(alloc, kind, as_text(text)) {
-        Ok(Ok(TextMeaning::Does(command))) => answer_change(&command, session, answer),
+        Ok(Ok(TextMeaning::Executes(command))) => answer_change(&command, session, answer),
         Ok(Ok(TextMeaning::Reports(lines))) => {
             answer.set_lines(lines);
-            Outcome::Plain
+            Outcome::Answered
         }
         Ok(Err(refusal)) => {
             answer.set_text_refusal(refusal);
-            Outcome::Plain
+            Outcome::Answered
         }
         Err(AllocError) => {
             answer.set_refusal(refusal_numbers::NO_MEMORY);

@@ -3,10 +3,10 @@
 ghost use Rattle.mcs_host.specs.Ending.{as_disk};
 ghost use Rattle.mcs_session.specs.KeptCommands.{IsOpenOnHonestDisk};
 ghost use Rattle.mcs_session.specs.SessionState.{session_state};
-ghost use Rattle.mcs_shell.specs.Faults.{RanWithoutFault, ServesAll};
+ghost use Rattle.mcs_shell.specs.Faults.{RanWithoutFault, ServesAllInput};
 ghost use Rattle.mcs_shell.specs.Headline.{AnswersAndSurvives};
 ghost use Rattle.mcs_shell.specs.History.{History, IsFoundByCut, SurvivesHistory};
-ghost use Rattle.mcs_shell.specs.InFile.{IsFoundAgain, SurvivesInFile};
+ghost use Rattle.mcs_shell.specs.FileHeadline.{IsReopenedFile, SurvivesInFile};
 ghost use Rattle.mcs_shell.specs.Shell.{ShellRun};
 
 use mcs_disk::Disk;
@@ -43,7 +43,7 @@ pub fn any_number_of_runs_survive_power_cuts<D: Disk>()
 /// Proves the headline for any number of runs on a file of the host. A close, a kill or a power cut stops each run,
 /// and the program then opens the file again.
 pub fn a_file_survives_any_number_of_stops()
-    ensures { (history : History as_disk IsFoundAgain)
+    ensures { (history : History as_disk IsReopenedFile)
         → IsOpenOnHonestDisk (session_state as_disk history.first.before)
         → SurvivesHistory history }
 {}
@@ -52,5 +52,5 @@ pub fn a_file_survives_any_number_of_stops()
 /// writer or the disk failed, and that the shell had memory to begin. Then the run reached the end of its input or
 /// the input limit. It served each input that it read, in order, and wrote each answer completely.
 pub fn a_run_without_a_fault_answers_all<D: Disk>()
-    ensures { (run : ShellRun D.state) → RanWithoutFault run → ServesAll run }
+    ensures { (run : ShellRun D.state) → RanWithoutFault run → ServesAllInput run }
 {}

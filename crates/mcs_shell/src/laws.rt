@@ -8,9 +8,9 @@ ghost use Rattle.mcs_lines.specs.declared.requests.TextKind.{TextKind};
 ghost use Rattle.mcs_lines.specs.declared.requests.TextKind.TheVariants.{Asm, Errors, Map, Wiring};
 ghost use Rattle.mcs_shell.specs.declared.texts.TextRefusal.{TextRefusal};
 ghost use Rattle.mcs_shell.specs.declared.texts.TextFault.TheVariants.{NoEnd};
-ghost use Rattle.mcs_shell.specs.Inputs.{BadText, inputs_of_lines, is_dot_line, judged_text};
-ghost use Rattle.mcs_shell.specs.Spelling.{meaning_of_text};
-ghost use Rattle.mcs_shell.specs.Transcript.{AsksForNoCommand};
+ghost use Rattle.mcs_shell.specs.Inputs.{BadText, inputs_of_lines, is_dot_line, input_of_text};
+ghost use Rattle.mcs_shell.specs.TextMeanings.{meaning_of_text};
+ghost use Rattle.mcs_shell.specs.Transcript.{RequestsNoCommand};
 
 /// Proves that a text ends at a line with a single dot. The line that begins the text, the lines up to the first dot,
 /// and the dot form one input. The text consists of the lines in between, each followed by a line feed. The lines
@@ -19,7 +19,7 @@ pub fn a_text_ends_at_a_dot()
     ensures ended { (whole : Bool) (kind : TextKind) (line : List ℕ) (text rest : List (List ℕ))
         → request_of line ≡ Begin kind → list_any is_dot_line text ≡ false
         → inputs_of_lines whole false (line ∷ (text ++ codes "." ∷ rest))
-        ≡ judged_text kind (flat_map as_line text)
+        ≡ input_of_text kind (flat_map as_line text)
         ∷ inputs_of_lines whole false rest }
     ensures open { (kind : TextKind) (line : List ℕ) (text : List (List ℕ))
         → request_of line ≡ Begin kind → list_any is_dot_line text ≡ false
@@ -28,18 +28,18 @@ pub fn a_text_ends_at_a_dot()
 
 /// Proves that `map` requests no command. It rejects a program if and only if `asm` rejects the program for the same
 /// reason.
-pub fn a_map_only_reports()
-    ensures asks { AsksForNoCommand Map }
+pub fn a_map_requests_no_command()
+    ensures asks { RequestsNoCommand Map }
     ensures refused { (text : List ℕ) (why : TextRefusal)
         → (meaning_of_text Map text ≡ Err why) ↔ (meaning_of_text Asm text ≡ Err why) }
 {}
 
 /// Proves that `errors`, which reports the errors of a program, requests no command.
-pub fn errors_are_only_reported()
-    ensures { AsksForNoCommand Errors }
+pub fn an_error_report_requests_no_command()
+    ensures { RequestsNoCommand Errors }
 {}
 
 /// Proves that `wiring`, which reports the first error of a board, requests no command.
-pub fn a_board_report_only_reports()
-    ensures { AsksForNoCommand Wiring }
+pub fn a_wiring_report_requests_no_command()
+    ensures { RequestsNoCommand Wiring }
 {}

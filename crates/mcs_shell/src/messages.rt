@@ -2,7 +2,7 @@
 //! message that cannot be written is lost. Standard output and the exit status do not depend on these messages.
 use crate::ends::ShellEnd;
 use crate::faults::BeginFault;
-use mcs_host::{Choice, FileDisk, FileFault, RefusedStreams, StreamsFault};
+use mcs_host::{Choice, FileDisk, FileFault, StreamsError, StreamsFault};
 use mcs_journal::StoreFault;
 use std::path::Path;
 
@@ -27,7 +27,7 @@ pub fn print_usage(rt: &HostRuntime) {
 }
 
 /// Prints why the standard streams are refused, unless standard error may be a session file.
-pub fn print_streams(rt: &HostRuntime, refused: RefusedStreams) {
+pub fn print_streams_refusal(rt: &HostRuntime, refused: StreamsError) {
     if refused.unusable.errors {
         return;
     }
@@ -46,7 +46,7 @@ pub fn print_streams(rt: &HostRuntime, refused: RefusedStreams) {
 }
 
 /// Prints a warning if a file was opened but a power cut may undo the file's name. Otherwise prints nothing.
-pub fn print_opening(rt: &HostRuntime, file: &str, opened: &Result<FileDisk, FileFault>) {
+pub fn print_name_warning(rt: &HostRuntime, file: &str, opened: &Result<FileDisk, FileFault>) {
     if let Ok(disk) = opened {
         if !disk.is_name_stable() {
             let _ = eprintln!(rt;
@@ -58,7 +58,7 @@ pub fn print_opening(rt: &HostRuntime, file: &str, opened: &Result<FileDisk, Fil
 
 /// Prints what is wrong with the file of a refused session, and what to do. Prints nothing if no session was refused
 /// or if standard error is that file.
-pub fn print_no_session(rt: &HostRuntime, choice: &Choice, refused: Option<Refusal>) {
+pub fn print_session_refusal(rt: &HostRuntime, choice: &Choice, refused: Option<Refusal>) {
     let Some(refusal) = refused else {
         return;
     };
@@ -68,34 +68,34 @@ pub fn print_no_session(rt: &HostRuntime, choice: &Choice, refused: Option<Refus
     let file = choice.file();
     // If standard error cannot be written, the refusal number on standard output is the only report.
     let _ = match (choice, refusal.fault) {
-        (Choice::Open(_), BeginFault::File(FileFault::NotThere)) if has_folder(rt, file) => {
+        (Choice::Open(_), BeginFault::File(FileFault::FileMissing)) if has_folder(rt, file) => {
             eprintln!(rt; "mcs4: {file}: no such file; begin a session with: mcs4 new {file}")
         }
         (_, BeginFault::Create(StoreFault::NotBlank)) if refusal.is_named_session => {
             eprintln!(rt; "mcs4: {file}: already a session file; go on with it: mcs4 open {file}")
         }
         (_, fault) => {
-            let words = begin_words(fault, refusal.is_full);
+            let words = begin_message(fault, refusal.is_full);
             eprintln!(rt; "mcs4: {file}: {words}")
         }
     };
 }
 
 // Returns the message for a session that did not begin.
-fn begin_words(fault: BeginFault, is_full: bool) -> &'static str {
+fn begin_message(fault: BeginFault, is_full: bool) -> &'static str {
     match fault {
-        BeginFault::File(fault) => file_words(fault),
-        BeginFault::Create(fault) => create_words(fault, is_full),
-        BeginFault::Open(fault) => open_words(fault, is_full),
+        BeginFault::File(fault) => file_message(fault),
+        BeginFault::Create(fault) => create_message(fault, is_full),
+        BeginFault::Open(fault) => open_message(fault, is_full),
     }
 }
 
 // Returns the message for a file that was not opened.
-fn file_words(fault: FileFault) -> &'static str {
+fn file_message(fault: FileFault) -> &'static str {
     match fault {
         FileFault::InUse => "in use by another program; wait until that has ended",
-        FileFault::NoLock => "the host has no lock for it; put it on a disk of this machine",
-        FileFault::NotThere => "no such folder; make it first",
+        FileFault::CannotLock => "the host has no lock for it; put it on a disk of this machine",
+        FileFault::FileMissing => "no such folder; make it first",
         FileFault::Denied => "no permission to read and write it",
         FileFault::Folder => "it is a folder; name a file in it",
         FileFault::NotAFile => "not a regular file; name another",
@@ -117,29 +117,29 @@ fn file_words(fault: FileFault) -> &'static str {
 }
 
 // Returns the message for a session that was not created.
-fn create_words(fault: StoreFault, is_full: bool) -> &'static str {
+fn create_message(fault: StoreFault, is_full: bool) -> &'static str {
     match fault {
         StoreFault::Device if is_full => {
             "no space left on the device; make room, then remove it and begin again"
         }
         StoreFault::Device => "the device failed; remove it and begin again",
-        fault => open_words(fault, is_full),
+        fault => open_message(fault, is_full),
     }
 }
 
 // Returns the message for a session that was not opened.
-fn open_words(fault: StoreFault, is_full: bool) -> &'static str {
+fn open_message(fault: StoreFault, is_full: bool) -> &'static str {
     match fault {
         StoreFault::NotASession => "not a session file; begin a session in another file",
         StoreFault::Damaged => "damaged; go on with a copy of it, if there is one",
-        StoreFault::Device => device_words(is_full),
+        StoreFault::Device => device_message(is_full),
         StoreFault::NotBlank => "not a session file; choose another name",
         StoreFault::NoMemory => "out of memory",
     }
 }
 
 // Returns the message for a device that failed.
-fn device_words(is_full: bool) -> &'static str {
+fn device_message(is_full: bool) -> &'static str {
     if is_full {
         "no space left on the device; make room, then open it again"
     } else {
@@ -157,7 +157,7 @@ fn has_folder(rt: &HostRuntime, file: &str) -> bool {
 
 /// Prints why a session ended, unless it reached the end of its input. `ended` has the end of the shell, and true if
 /// the session's device is full. Prints nothing if `ended` is `None`.
-pub fn print_end(rt: &HostRuntime, file: &str, ended: Option<(ShellEnd, bool)>) {
+pub fn print_end_reason(rt: &HostRuntime, file: &str, ended: Option<(ShellEnd, bool)>) {
     let Some((end, is_full)) = ended else {
         return;
     };
@@ -165,7 +165,7 @@ pub fn print_end(rt: &HostRuntime, file: &str, ended: Option<(ShellEnd, bool)>) 
         ShellEnd::End => return,
         ShellEnd::ReadFault => "standard input could not be read; what was answered ok is kept",
         ShellEnd::WriteFault => "standard output took no more; what was answered ok is kept",
-        ShellEnd::DeviceFault => device_words(is_full),
+        ShellEnd::DeviceFault => device_message(is_full),
         ShellEnd::InputLimit => "no more than 16777216 bytes are read; open it again to go on",
         ShellEnd::NoMemory => "out of memory",
     };

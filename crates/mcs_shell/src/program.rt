@@ -2,28 +2,26 @@
 //! status.
 ghost use Rattle.std.specs.Prelude.{◌≡◌, ◌⊎◌, IfOk, IfErr, IfSome, IfNone, IsErrAnd, IsSomeAnd, OnErr, None, true, map};
 ghost use Rattle.std.specs.Process.{exit_status};
-ghost use Rattle.mcs_host.specs.CommandLine.{choice_in, takes_arguments};
+ghost use Rattle.mcs_host.specs.CommandLine.{choice_in, accepts_arguments};
 ghost use Rattle.mcs_host.specs.Ending.{as_disk};
-ghost use Rattle.mcs_host.specs.FileDisk.{IsUncalled};
+ghost use Rattle.mcs_host.specs.FileDisk.{HasNoCalls};
 ghost use Rattle.mcs_host.specs.declared.file_disk.FileDisk.{FileDisk};
 ghost use Rattle.mcs_host.specs.declared.file_fault.FileFault.{FileFault};
 ghost use Rattle.mcs_shell.specs.Faults.{streams_view};
-ghost use Rattle.mcs_shell.specs.Program.{IsBegunOn, IsRefusedBy, RanOverStreams, ServedChosenSession, ServedBySomeArguments, ServedSession};
+ghost use Rattle.mcs_shell.specs.Program.{IsBegunOn, IsRefusedBy, RanWithStreams, ServedChosenSession, ServedBySomeArguments, ServedSession};
 ghost use Rattle.mcs_shell.specs.RefusalNumbers.{begin_fault_number};
 ghost use Rattle.mcs_shell.specs.Shell.{exit_status_of};
 
 use crate::ends::{ShellEnd, status};
 use crate::faults::BeginFault;
 use crate::messages::{
-    Refusal, print_end, print_no_memory, print_no_session, print_opening, print_streams,
-    print_usage,
+    Refusal, print_end_reason, print_name_warning, print_no_memory, print_session_refusal,
+    print_streams_refusal, print_usage,
 };
 use crate::shell::run_shell;
 use crate::streams::{AnswerSink, InputSource};
 use mcs_disk::Disk;
-use mcs_host::{
-    Choice, FileDisk, FileFault, RefusedStreams, StandIns, Streams, WordsFault, choice,
-};
+use mcs_host::{Choice, FileDisk, FileFault, StandIns, Streams, StreamsError, WordsFault, choice};
 use mcs_model::refusal_numbers;
 use mcs_session::session::Session;
 use std::alloc::Global;
@@ -33,10 +31,10 @@ use std::io::ErrorKind;
 use std::process::ExitCode;
 
 /// The exit status if the arguments are invalid.
-const WRONG_ARGUMENTS: u8 = 2;
+const WRONG_ARGUMENTS_STATUS: u8 = 2;
 
 /// The exit status if the session is refused.
-const REFUSED: u8 = 3;
+const REFUSED_STATUS: u8 = 3;
 
 /// Returns the command-line arguments, with the program's name first. Arguments that are not valid text are a usage
 /// error.
@@ -54,16 +52,16 @@ pub fn refuse(rt: &HostRuntime, number: u8) -> ExitCode
     ensures { exit_status result ≡ 3 }
 {
     let _ = println!(rt; "no {number}");
-    ExitCode::from(REFUSED)
+    ExitCode::from(REFUSED_STATUS)
 }
 
 /// Prints the line `no NN` with the refusal number, unless standard output is unusable. Returns exit status 3 in both
 /// cases.
-fn refuse_beside(rt: &HostRuntime, number: u8, unusable: Streams) -> ExitCode
+fn refuse_on_usable_output(rt: &HostRuntime, number: u8, unusable: Streams) -> ExitCode
     ensures { exit_status result ≡ 3 }
 {
     if unusable.output {
-        ExitCode::from(REFUSED)
+        ExitCode::from(REFUSED_STATUS)
     } else {
         refuse(rt, number)
     }
@@ -71,11 +69,11 @@ fn refuse_beside(rt: &HostRuntime, number: u8, unusable: Streams) -> ExitCode
 
 /// Reports that the program cannot run with these standard streams, and returns exit status 3. Writes nothing to a
 /// stream that may be a session file.
-pub fn refuse_streams(rt: &HostRuntime, refused: RefusedStreams) -> ExitCode
+pub fn refuse_streams(rt: &HostRuntime, refused: StreamsError) -> ExitCode
     ensures { exit_status result ≡ 3 }
 {
-    let status = refuse_beside(rt, refusal_numbers::DEVICE, refused.unusable);
-    print_streams(rt, refused);
+    let status = refuse_on_usable_output(rt, refusal_numbers::DEVICE, refused.unusable);
+    print_streams_refusal(rt, refused);
     status
 }
 
@@ -88,7 +86,7 @@ pub fn refuse_arguments(rt: &HostRuntime, fault: WordsFault) -> ExitCode
     match fault {
         WordsFault::Usage => {
             print_usage(rt);
-            ExitCode::from(WRONG_ARGUMENTS)
+            ExitCode::from(WRONG_ARGUMENTS_STATUS)
         }
         WordsFault::NoMemory => {
             let refused = refuse(rt, refusal_numbers::NO_MEMORY);
@@ -100,7 +98,7 @@ pub fn refuse_arguments(rt: &HostRuntime, fault: WordsFault) -> ExitCode
 
 /// The error for a session that did not begin.
 #[derive(Drop)]
-pub struct NotBegun<D: Disk + Drop> {
+pub struct BeginFailure<D: Disk + Drop> {
     /// The reason why no session began.
     pub fault: BeginFault,
     /// The disk that was opened for the session, as the refusal left it, or `None` if no disk was opened.
@@ -109,11 +107,11 @@ pub struct NotBegun<D: Disk + Drop> {
 
 /// Creates or opens a session, as the choice requests, on the disk that was opened for its file. Fails with the
 /// reason if the disk was not opened or no session began on it.
-pub fn session_on<D: Disk + Drop>(
+pub fn begin_session_on<D: Disk + Drop>(
     alloc: Global,
     choice: &Choice,
     opened: Result<D, FileFault>,
-) -> Result<Session<D>, NotBegun<D>>
+) -> Result<Session<D>, BeginFailure<D>>
     ensures begun { IfOk opened (λ disk. IfOk result (λ session.
         IsBegunOn D.state choice.now disk session)) }
     ensures refused { IfOk opened (λ disk. IfErr result (λ refused.
@@ -125,7 +123,7 @@ pub fn session_on<D: Disk + Drop>(
     let disk = match opened {
         Ok(disk) => disk,
         Err(fault) => {
-            return Err(NotBegun {
+            return Err(BeginFailure {
                 fault: BeginFault::File(fault),
                 disk: None,
             });
@@ -134,14 +132,14 @@ pub fn session_on<D: Disk + Drop>(
     match choice {
         Choice::New(_) => match Session::create(alloc, disk) {
             Ok(session) => Ok(session),
-            Err((fault, left)) => Err(NotBegun {
+            Err((fault, left)) => Err(BeginFailure {
                 fault: BeginFault::Create(fault),
                 disk: Some(left),
             }),
         },
         Choice::Open(_) => match Session::open(alloc, disk) {
             Ok(session) => Ok(session),
-            Err((fault, left)) => Err(NotBegun {
+            Err((fault, left)) => Err(BeginFailure {
                 fault: BeginFault::Open(fault),
                 disk: Some(left),
             }),
@@ -150,23 +148,23 @@ pub fn session_on<D: Disk + Drop>(
 }
 
 /// Creates or opens the session in the chosen file. Fails with the reason if no session began.
-pub fn session_in(
+pub fn begin_session_in(
     rt: &HostRuntime,
     choice: &Choice,
-) -> Result<Session<FileDisk>, NotBegun<FileDisk>>
-    ensures begun { IfOk result (λ session. (disk : FileDisk) × IsUncalled (as_disk disk)
+) -> Result<Session<FileDisk>, BeginFailure<FileDisk>>
+    ensures begun { IfOk result (λ session. (disk : FileDisk) × HasNoCalls (as_disk disk)
         × IsBegunOn as_disk choice.now disk session) }
     ensures refused { IfErr result (λ refused.
         ((fault : FileFault) × (refused.fault ≡ BeginFault.File fault))
-        ⊎ ((disk : FileDisk) × IsUncalled (as_disk disk)
+        ⊎ ((disk : FileDisk) × HasNoCalls (as_disk disk)
         × IsSomeAnd refused.disk (λ left. IsRefusedBy choice.now (as_disk disk) (as_disk left)
         (begin_fault_number refused.fault)))) }
 {
     let alloc = rt.alloc();
     let make = matches!(choice, Choice::New(_));
     let opened = FileDisk::open_at(rt, alloc, choice.file(), make);
-    print_opening(rt, choice.file(), &opened);
-    session_on(alloc, choice, opened)
+    print_name_warning(rt, choice.file(), &opened);
+    begin_session_on(alloc, choice, opened)
 }
 
 /// Serves a session with a reader and a writer, and returns the end of the shell and its exit status.
@@ -176,7 +174,7 @@ pub fn serve<R: InputSource, W: AnswerSink, D: Disk + Drop>(
     writer: &mut W,
     session: &mut Session<D>,
 ) -> (ShellEnd, ExitCode)
-    ensures ran { RanOverStreams D.state result.0
+    ensures ran { RanWithStreams D.state result.0
         (streams_view R.remaining R.faults W.contents W.faults reader.old writer.old)
         (streams_view R.remaining R.faults W.contents W.faults reader.new writer.new)
         session.old session.new }
@@ -191,7 +189,7 @@ pub fn serve<R: InputSource, W: AnswerSink, D: Disk + Drop>(
 
 /// The result of a run of the program.
 #[derive(Drop)]
-pub struct Ended<D: Disk + Drop> {
+pub struct ProgramResult<D: Disk + Drop> {
     /// The exit status.
     pub status: ExitCode,
     /// The session that was served, as its shell left it, or `None` if no session began.
@@ -202,12 +200,12 @@ pub struct Ended<D: Disk + Drop> {
 
 /// Serves a session with a reader and a writer. If no session began, prints the refusal number and returns exit
 /// status 3.
-pub fn serve_begun<R: InputSource, W: AnswerSink, D: Disk + Drop>(
+pub fn serve_if_begun<R: InputSource, W: AnswerSink, D: Disk + Drop>(
     rt: &HostRuntime,
     reader: &mut R,
     writer: &mut W,
-    begun: Result<Session<D>, NotBegun<D>>,
-) -> Ended<D>
+    begun: Result<Session<D>, BeginFailure<D>>,
+) -> ProgramResult<D>
     ensures served { IfOk begun (λ before. IsSomeAnd result.session (λ after.
         ServedSession D.state (exit_status result.status)
         (streams_view R.remaining R.faults W.contents W.faults reader.old writer.old)
@@ -221,7 +219,7 @@ pub fn serve_begun<R: InputSource, W: AnswerSink, D: Disk + Drop>(
     match begun {
         Ok(mut session) => {
             let (end, status) = serve(rt, reader, writer, &mut session);
-            Ended {
+            ProgramResult {
                 status,
                 session: Some(session),
                 end: Some(end),
@@ -229,8 +227,8 @@ pub fn serve_begun<R: InputSource, W: AnswerSink, D: Disk + Drop>(
         }
         Err(refused) => {
             let fault = refused.fault;
-            Ended {
-                status: refuse_beside(rt, fault.number(), fault.streams()),
+            ProgramResult {
+                status: refuse_on_usable_output(rt, fault.number(), fault.streams()),
                 session: None,
                 end: None,
             }
@@ -240,7 +238,7 @@ pub fn serve_begun<R: InputSource, W: AnswerSink, D: Disk + Drop>(
 
 /// Returns the reason why a session was refused, with the facts that the message needs, or `None` if the session
 /// began.
-fn refusal_of(begun: &Result<Session<FileDisk>, NotBegun<FileDisk>>) -> Option<Refusal> {
+fn refusal_of(begun: &Result<Session<FileDisk>, BeginFailure<FileDisk>>) -> Option<Refusal> {
     match begun {
         Ok(_) => None,
         Err(refused) => Some(Refusal {
@@ -259,7 +257,7 @@ fn refusal_of(begun: &Result<Session<FileDisk>, NotBegun<FileDisk>>) -> Option<R
 
 /// Returns the end of the shell, and a Bool that is true if the session's device is full. Returns `None` if no shell
 /// ran.
-fn end_of(ended: &Ended<FileDisk>) -> Option<(ShellEnd, bool)> {
+fn shell_end_of(ended: &ProgramResult<FileDisk>) -> Option<(ShellEnd, bool)> {
     match (ended.end, &ended.session) {
         (Some(end), Some(session)) => Some((end, session.disk().is_full())),
         _ => None,
@@ -273,9 +271,9 @@ pub fn run_arguments<S: AsStr, R: InputSource, W: AnswerSink>(
     arguments: &[S],
     reader: &mut R,
     writer: &mut W,
-) -> Ended<FileDisk>
+) -> ProgramResult<FileDisk>
     ensures usage { exit_status result.status ≡ 2
-        → takes_arguments (map S.text arguments.entry.now) ≡ true
+        → accepts_arguments (map S.text arguments.entry.now) ≡ true
         → choice_in (map S.text arguments.entry.now) ≡ None }
     ensures served { IfSome result.session (λ after. ServedChosenSession as_disk
         (choice_in (map S.text arguments.entry.now)) (exit_status result.status)
@@ -292,23 +290,23 @@ pub fn run_arguments<S: AsStr, R: InputSource, W: AnswerSink>(
     let choice = match choice(rt.alloc(), arguments) {
         Ok(choice) => choice,
         Err(fault) => {
-            return Ended {
+            return ProgramResult {
                 status: refuse_arguments(rt, fault),
                 session: None,
                 end: None,
             };
         }
     };
-    let begun = session_in(rt, &choice);
+    let begun = begin_session_in(rt, &choice);
     let refusal = refusal_of(&begun);
-    let ended = serve_begun(rt, reader, writer, begun);
-    print_no_session(rt, &choice, refusal);
-    print_end(rt, choice.file(), end_of(&ended));
+    let ended = serve_if_begun(rt, reader, writer, begun);
+    print_session_refusal(rt, &choice, refusal);
+    print_end_reason(rt, choice.file(), shell_end_of(&ended));
     ended
 }
 
 /// Runs the program with the command-line arguments, standard input and standard output.
-fn run_given_arguments(rt: &HostRuntime) -> Ended<FileDisk>
+fn run_given_arguments(rt: &HostRuntime) -> ProgramResult<FileDisk>
     ensures served { IfSome result.session (λ after.
         ServedBySomeArguments as_disk (exit_status result.status) after) }
     ensures unserved { IfNone result.session
@@ -319,7 +317,7 @@ fn run_given_arguments(rt: &HostRuntime) -> Ended<FileDisk>
             let (input, output) = (&mut rt.stdin(), &mut rt.stdout());
             run_arguments(rt, arguments.as_slice(), input, output)
         }
-        Err(fault) => Ended {
+        Err(fault) => ProgramResult {
             status: refuse_arguments(rt, fault),
             session: None,
             end: None,
@@ -330,7 +328,7 @@ fn run_given_arguments(rt: &HostRuntime) -> Ended<FileDisk>
 /// Runs the program with the command-line arguments, standard input and standard output. Returns the exit status, and
 /// the session as its shell left it. The exit status is 3 if a standard stream may go into a session file, or if a
 /// closed stream gets no stand-in.
-pub fn run_program(rt: &HostRuntime) -> Ended<FileDisk>
+pub fn run_program(rt: &HostRuntime) -> ProgramResult<FileDisk>
     ensures served { IfSome result.session (λ after.
         ServedBySomeArguments as_disk (exit_status result.status) after) }
     ensures unserved { IfNone result.session
@@ -340,7 +338,7 @@ pub fn run_program(rt: &HostRuntime) -> Ended<FileDisk>
     let _stand_ins = match StandIns::open(rt) {
         Ok(stand_ins) => stand_ins,
         Err(refused) => {
-            return Ended {
+            return ProgramResult {
                 status: refuse_streams(rt, refused),
                 session: None,
                 end: None,

@@ -3,13 +3,13 @@ ghost use Rattle.std.specs.Prelude.{◌≡◌, ◌∷◌, ◌++◌, Bool, [], Ma
 ghost use Rattle.std.specs.Result.{result_err};
 ghost use Rattle.mcs_shell.specs.declared.texts.TextFault.TheVariants.{NoEnd};
 ghost use Rattle.mcs_shell.specs.LineFeeds.{HasNoFeed};
-ghost use Rattle.mcs_shell.specs.Inputs.{BadText, Line, judged_text};
+ghost use Rattle.mcs_shell.specs.Inputs.{BadText, Line, input_of_text};
 ghost use Rattle.mcs_shell.specs.ShellState.{shell_state};
 ghost use Rattle.mcs_shell.specs.Serving.{ServesInputs, WroteBytes};
 ghost use Rattle.mcs_shell.specs.ServedPieces.{IsIntact, ServesBytes};
 ghost use Rattle.mcs_shell.specs.Answers.{MayAnswer};
-ghost use Rattle.mcs_shell.specs.Faults.{faults_written};
-ghost use Rattle.mcs_shell.specs.Transcript.{halt_of};
+ghost use Rattle.mcs_shell.specs.Faults.{write_faults_after};
+ghost use Rattle.mcs_shell.specs.Transcript.{end_caused_by};
 
 use crate::answer::Answer;
 use crate::answering::{answer_request, answer_text};
@@ -17,10 +17,10 @@ use crate::ends::{Outcome, ShellEnd};
 use crate::sending::WriteStopped;
 use crate::streams::AnswerSink;
 use crate::texts::{TextFault, ends_text};
-use crate::unfinished::Unfinished;
+use crate::unfinished::UnfinishedInput;
 use mcs_disk::Disk;
-use mcs_lines::requests::{Request, TextKind, read_request};
-use mcs_model::text_lines::without_return;
+use mcs_lines::requests::{Request, TextKind, parse_request};
+use mcs_model::text_lines::without_carriage_return;
 use mcs_session::session::Session;
 use std::alloc::Global;
 
@@ -35,8 +35,8 @@ fn deliver<W: AnswerSink, D: Disk + Drop>(
     requires { MayAnswer D.state session.now answer.now }
     ensures wrote { (whole : Bool)
         × WroteBytes whole (W.contents writer.old) (W.contents writer.new) answer.now
-        × (result_err result ≡ halt_of whole outcome) }
-    ensures counted { W.faults writer.new ≡ faults_written (result_err result) (W.faults writer.old) }
+        × (result_err result ≡ end_caused_by whole outcome) }
+    ensures counted { W.faults writer.new ≡ write_faults_after (result_err result) (W.faults writer.old) }
 {
     match answer.send(session, writer) {
         Err(WriteStopped) => Err(ShellEnd::WriteFault),
@@ -58,7 +58,7 @@ fn serve_request<W: AnswerSink, D: Disk + Drop>(
     ensures served { ServesInputs IsIntact (Line request ∷ [])
         (shell_state D.state session.old (W.contents writer.old))
         (shell_state D.state session.new (W.contents writer.new)) (result_err result) }
-    ensures counted { W.faults writer.new ≡ faults_written (result_err result) (W.faults writer.old) }
+    ensures counted { W.faults writer.new ≡ write_faults_after (result_err result) (W.faults writer.old) }
 {
     let _before = session.bench();
     let mut answer = Answer::new();
@@ -76,10 +76,10 @@ fn serve_text<W: AnswerSink, D: Disk + Drop>(
     writer: &mut W,
     session: &mut Session<D>,
 ) -> Result<(), ShellEnd>
-    ensures served { ServesInputs IsIntact (judged_text kind text.now ∷ [])
+    ensures served { ServesInputs IsIntact (input_of_text kind text.now ∷ [])
         (shell_state D.state session.old (W.contents writer.old))
         (shell_state D.state session.new (W.contents writer.new)) (result_err result) }
-    ensures counted { W.faults writer.new ≡ faults_written (result_err result) (W.faults writer.old) }
+    ensures counted { W.faults writer.new ≡ write_faults_after (result_err result) (W.faults writer.old) }
 {
     let _before = session.bench();
     let mut answer = Answer::new();
@@ -89,25 +89,25 @@ fn serve_text<W: AnswerSink, D: Disk + Drop>(
 }
 
 /// Answers an open text with a refusal, because input ended inside the text.
-pub(crate) fn serve_no_end<W: AnswerSink, D: Disk + Drop>(
+pub(crate) fn serve_unended_text<W: AnswerSink, D: Disk + Drop>(
     writer: &mut W,
     session: &mut Session<D>,
 ) -> Result<(), ShellEnd>
     ensures served { ServesInputs IsIntact (BadText NoEnd ∷ [])
         (shell_state D.state session.old (W.contents writer.old))
         (shell_state D.state session.new (W.contents writer.new)) (result_err result) }
-    ensures counted { W.faults writer.new ≡ faults_written (result_err result) (W.faults writer.old) }
+    ensures counted { W.faults writer.new ≡ write_faults_after (result_err result) (W.faults writer.old) }
 {
     let mut answer = Answer::new();
     answer.set_refusal(TextFault::NoEnd.number());
     let _bench = session.bench();
-    deliver(Outcome::Plain, &answer, writer, session)
+    deliver(Outcome::Answered, &answer, writer, session)
 }
 
 /// Ends the unfinished line, as a line feed would. If the line completes an input, serves that input.
 pub(crate) fn end_line<W: AnswerSink, D: Disk + Drop>(
     alloc: Global,
-    unfinished: &mut Unfinished,
+    unfinished: &mut UnfinishedInput,
     writer: &mut W,
     session: &mut Session<D>,
 ) -> Result<(), ShellEnd>
@@ -115,12 +115,12 @@ pub(crate) fn end_line<W: AnswerSink, D: Disk + Drop>(
     ensures fed { ServesBytes (shell_state D.state session.old (W.contents writer.old))
         (shell_state D.state session.new (W.contents writer.new))
         unfinished.old unfinished.new (10 ∷ []) (result_err result) }
-    ensures counted { W.faults writer.new ≡ faults_written (result_err result) (W.faults writer.old) }
+    ensures counted { W.faults writer.new ≡ write_faults_after (result_err result) (W.faults writer.old) }
     ensures empty { OnOk result (length unfinished.new.line ≡ 0) }
 {
-    let line = without_return(unfinished.line());
+    let line = without_carriage_return(unfinished.line());
     match unfinished.text() {
-        None => match read_request(line) {
+        None => match parse_request(line) {
             Request::Begin(kind) => {
                 unfinished.open(kind);
                 Ok(())
@@ -167,7 +167,7 @@ fn split_line(bytes: &[u8]) -> Option<(&[u8], &[u8])>
 pub(crate) fn serve_chunk<W: AnswerSink, D: Disk + Drop>(
     alloc: Global,
     chunk: &[u8],
-    unfinished: &mut Unfinished,
+    unfinished: &mut UnfinishedInput,
     writer: &mut W,
     session: &mut Session<D>,
 ) -> Result<(), ShellEnd>
@@ -175,17 +175,17 @@ pub(crate) fn serve_chunk<W: AnswerSink, D: Disk + Drop>(
     ensures fed { ServesBytes (shell_state D.state session.old (W.contents writer.old))
         (shell_state D.state session.new (W.contents writer.new))
         unfinished.old unfinished.new chunk.now (result_err result) }
-    ensures counted { W.faults writer.new ≡ faults_written (result_err result) (W.faults writer.old) }
+    ensures counted { W.faults writer.new ≡ write_faults_after (result_err result) (W.faults writer.old) }
 {
     let mut rest = chunk;
     while let Some((front, back)) = split_line(rest) {
-        unfinished.keep(front);
+        unfinished.append_to_line(front);
         match end_line(alloc, unfinished, writer, session) {
             Ok(()) => {}
             Err(end) => return Err(end),
         }
         rest = back;
     }
-    unfinished.keep(rest);
+    unfinished.append_to_line(rest);
     Ok(())
 }

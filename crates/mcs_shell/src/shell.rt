@@ -2,20 +2,20 @@
 ghost use Rattle.std.specs.Prelude.{◌≡◌, ◌<◌, ◌≤◌, [], true, take, length, IfOk, OnErr};
 ghost use Rattle.std.specs.Result.{result_err};
 ghost use Rattle.std.specs.Io.KnownBytes.{Keeps};
-ghost use Rattle.mcs_shell.specs.Faults.{CountsKnownFault, EndsByItsFault, faults_written};
+ghost use Rattle.mcs_shell.specs.Faults.{CountsKnownFault, CountsMatchEnd, write_faults_after};
 ghost use Rattle.mcs_shell.specs.LineFeeds.{HasNoFeed};
 ghost use Rattle.mcs_shell.specs.ShellState.{shell_state};
 ghost use Rattle.mcs_shell.specs.Shell.{RanShell, RanShellGiven, ReadBytes};
 ghost use Rattle.mcs_shell.specs.ServedPieces.{IsIntact};
 ghost use Rattle.mcs_shell.specs.Serving.{ServesInputs};
-ghost use Rattle.mcs_shell.specs.Pending.{inputs_after};
+ghost use Rattle.mcs_shell.specs.UnfinishedInputView.{inputs_after};
 
 use crate::answer::Answer;
 use crate::ends::ShellEnd;
 use crate::sending::WriteStopped;
-use crate::serving::{end_line, serve_chunk, serve_no_end};
+use crate::serving::{end_line, serve_chunk, serve_unended_text};
 use crate::streams::{AnswerSink, InputSource, ReadFailed};
-use crate::unfinished::Unfinished;
+use crate::unfinished::UnfinishedInput;
 use mcs_disk::Disk;
 use mcs_model::limits::INPUT_BYTES;
 use mcs_session::session::Session;
@@ -24,27 +24,27 @@ use std::alloc::Global;
 /// The maximum number of bytes that one read requests.
 const CHUNK_BYTES: usize = 4_096;
 
-/// Reads at most `most` bytes into the front of the buffer and returns their number. Returns 0 only if input has
+/// Reads at most `max_count` bytes into the front of the buffer and returns their number. Returns 0 only if input has
 /// ended. Fails if the read fails.
 fn read_some<R: InputSource>(
     reader: &mut R,
     buffer: &mut [u8],
-    most: usize,
+    max_count: usize,
 ) -> Result<usize, ReadFailed>
-    requires some { 0 < most }
-    requires room { most ≤ length buffer.old }
+    requires some { 0 < max_count }
+    requires room { max_count ≤ length buffer.old }
     ensures ok { IfOk result (λ n.
-        ReadBytes n most (R.remaining reader.old) (R.remaining reader.new) (take n buffer.new)) }
+        ReadBytes n max_count (R.remaining reader.old) (R.remaining reader.new) (take n buffer.new)) }
     ensures err { OnErr result (Keeps (R.remaining reader.old) (R.remaining reader.new)) }
     ensures counted { CountsKnownFault (R.faults reader.old) (R.faults reader.new) result }
 {
-    reader.read_some(&mut buffer[..most])
+    reader.read_some(&mut buffer[..max_count])
 }
 
 /// Answers the open text, if there is one, with a refusal, because input has ended. The line must be empty. Fails
 /// with the end of the shell if the answer cannot be written.
 fn finish_text<W: AnswerSink, D: Disk + Drop>(
-    unfinished: &Unfinished,
+    unfinished: &UnfinishedInput,
     writer: &mut W,
     session: &mut Session<D>,
 ) -> Result<(), ShellEnd>
@@ -52,11 +52,11 @@ fn finish_text<W: AnswerSink, D: Disk + Drop>(
     ensures served { ServesInputs IsIntact (inputs_after unfinished.now [] true)
         (shell_state D.state session.old (W.contents writer.old))
         (shell_state D.state session.new (W.contents writer.new)) (result_err result) }
-    ensures counted { W.faults writer.new ≡ faults_written (result_err result) (W.faults writer.old) }
+    ensures counted { W.faults writer.new ≡ write_faults_after (result_err result) (W.faults writer.old) }
 {
     match unfinished.text() {
         None => Ok(()),
-        Some(_) => serve_no_end(writer, session),
+        Some(_) => serve_unended_text(writer, session),
     }
 }
 
@@ -64,7 +64,7 @@ fn finish_text<W: AnswerSink, D: Disk + Drop>(
 /// them ends the shell.
 fn finish<W: AnswerSink, D: Disk + Drop>(
     alloc: Global,
-    unfinished: &mut Unfinished,
+    unfinished: &mut UnfinishedInput,
     writer: &mut W,
     session: &mut Session<D>,
 ) -> Result<(), ShellEnd>
@@ -72,7 +72,7 @@ fn finish<W: AnswerSink, D: Disk + Drop>(
     ensures served { ServesInputs IsIntact (inputs_after unfinished.old [] true)
         (shell_state D.state session.old (W.contents writer.old))
         (shell_state D.state session.new (W.contents writer.new)) (result_err result) }
-    ensures counted { W.faults writer.new ≡ faults_written (result_err result) (W.faults writer.old) }
+    ensures counted { W.faults writer.new ≡ write_faults_after (result_err result) (W.faults writer.old) }
 {
     if unfinished.line().is_empty() {
         return finish_text(unfinished, writer, session);
@@ -96,14 +96,14 @@ fn run_loop<R: InputSource, W: AnswerSink, D: Disk + Drop>(
     ensures ran { RanShellGiven IsIntact [] result (R.remaining reader.old) (R.remaining reader.new)
         (shell_state D.state session.old (W.contents writer.old))
         (shell_state D.state session.new (W.contents writer.new)) }
-    ensures counted { EndsByItsFault result (R.faults reader.old) (R.faults reader.new)
+    ensures counted { CountsMatchEnd result (R.faults reader.old) (R.faults reader.new)
         (W.faults writer.old) (W.faults writer.new) }
 {
-    let mut unfinished = Unfinished::new();
+    let mut unfinished = UnfinishedInput::new();
     let mut total = 0;
     while total < INPUT_BYTES {
-        let most = buffer.len().min(INPUT_BYTES - total);
-        match read_some(reader, buffer, most) {
+        let max_count = buffer.len().min(INPUT_BYTES - total);
+        match read_some(reader, buffer, max_count) {
             Err(ReadFailed) => return ShellEnd::ReadFault,
             Ok(0) => {
                 return match finish(alloc, &mut unfinished, writer, session) {
@@ -141,7 +141,7 @@ pub fn run_shell<R: InputSource, W: AnswerSink, D: Disk + Drop>(
     ensures ran { RanShell result (R.remaining reader.old) (R.remaining reader.new)
         (shell_state D.state session.old (W.contents writer.old))
         (shell_state D.state session.new (W.contents writer.new)) }
-    ensures counted { EndsByItsFault result (R.faults reader.old) (R.faults reader.new)
+    ensures counted { CountsMatchEnd result (R.faults reader.old) (R.faults reader.new)
         (W.faults writer.old) (W.faults writer.new) }
 {
     let seq = session.bench().seq();

@@ -3,7 +3,7 @@ ghost use Rattle.std.specs.Prelude.{◌<◌, ◌++◌, ℕ, List, Option, None, 
 ghost use Rattle.std.specs.Io.KnownBytes.{Appends, Keeps};
 ghost use Rattle.mcs_shell.specs.Answers.{MayAnswer};
 ghost use Rattle.mcs_shell.specs.Faults.{CountsKnownFault};
-ghost use Rattle.mcs_shell.specs.Serving.{GotFirstBytes};
+ghost use Rattle.mcs_shell.specs.Serving.{ReceivedProperPrefix};
 ghost use Rattle.mcs_shell.specs.Shell.{ReadBytes};
 
 use crate::sending::{WriteStopped, send_two};
@@ -69,7 +69,7 @@ pub trait AnswerSink {
         ensures ok { OnOk result
             (Appends (contents self.old) (contents self.new) (first.now ++ second.now)) }
         ensures err { OnErr result
-            (GotFirstBytes (contents self.old) (contents self.new) (first.now ++ second.now)) }
+            (ReceivedProperPrefix (contents self.old) (contents self.new) (first.now ++ second.now)) }
         ensures counted { CountsKnownFault (faults self.old) (faults self.new) result };
 }
 

@@ -9,13 +9,13 @@ ghost use Rattle.mcs_source.specs.Survey.{survey_of_text};
 ghost use Rattle.mcs_wiring.specs.Parts.{wiring_text};
 ghost use Rattle.mcs_wiring.specs.Wiring.{board_of_text};
 ghost use Rattle.mcs_asm.specs.Errors.{errors_of_text, errors_text};
-ghost use Rattle.mcs_shell.specs.Inputs.{text_fault_of, is_dot_line, is_short, is_text_byte};
-ghost use Rattle.mcs_shell.specs.Spelling.{Reports, load_command, program_map, meaning_of_text, meaning_view, wire_command};
-ghost use Rattle.mcs_shell.specs.TextNumbers.{text_fault_number};
+ghost use Rattle.mcs_shell.specs.Inputs.{text_fault_of, is_dot_line, is_short_line, is_text_byte};
+ghost use Rattle.mcs_shell.specs.TextMeanings.{Reports, load_command, program_map, meaning_of_text, meaning_view, wire_command};
+ghost use Rattle.mcs_shell.specs.TextRefusalNumbers.{text_fault_number};
 
 use mcs_asm::{FaultKind, SourceFault, assemble, errors, errors_text, survey, survey_text};
 use mcs_lines::requests::TextKind;
-use mcs_lines::words::{equals, is_plain_byte};
+use mcs_lines::words::{equals, is_allowed_byte};
 use mcs_model::command::Command;
 use mcs_model::limits::{LINE_BYTES, TEXT_BYTES};
 use mcs_model::refusal_numbers;
@@ -63,7 +63,7 @@ pub fn ends_text(line: &[u8]) -> bool
 }
 
 fn has_short_lines(text: &[u8]) -> bool
-    ensures { result ≡ list_all is_short (slice_split is_line_feed text.now) }
+    ensures { result ≡ list_all is_short_line (slice_split is_line_feed text.now) }
 {
     let mut count = 0;
     for byte in text {
@@ -81,7 +81,7 @@ fn has_short_lines(text: &[u8]) -> bool
 fn has_text_bytes(text: &[u8]) -> bool
     ensures { result ≡ list_all is_text_byte text.now }
 {
-    text.iter().all(|b| *b == b'\n' || is_plain_byte(*b))
+    text.iter().all(|b| *b == b'\n' || is_allowed_byte(*b))
 }
 
 /// Returns the first error in a complete text that does not depend on the meaning of its lines, or `None`.
@@ -126,7 +126,7 @@ pub enum TextRefusal {
 #[derive(Drop)]
 pub enum TextMeaning {
     /// A command to execute.
-    Does(Command),
+    Executes(Command),
     /// Lines to return as the answer, each with its line feed. The text has no other effect.
     Reports(Vec<u8>),
 }
@@ -189,7 +189,7 @@ fn read_errors(alloc: Global, text: &str) -> Result<Vec<u8>, AllocError>
 
 /// Parses a text of the given kind. Returns the meaning of the text, or the error that makes the text invalid. Fails
 /// if memory runs out.
-#[tactic(auto, unfolding(crate::specs::Spelling::meaning_of_text))]
+#[tactic(auto, unfolding(crate::specs::TextMeanings::meaning_of_text))]
 pub fn read_text(
     alloc: Global,
     kind: TextKind,
@@ -199,8 +199,8 @@ pub fn read_text(
         result_map_both meaning_view (λ why. why) spelled ≡ meaning_of_text kind text.now) }
 {
     match kind {
-        TextKind::Wire => Ok(read_board(alloc, text)?.map(TextMeaning::Does)),
-        TextKind::Asm => Ok(read_program(alloc, text)?.map(TextMeaning::Does)),
+        TextKind::Wire => Ok(read_board(alloc, text)?.map(TextMeaning::Executes)),
+        TextKind::Asm => Ok(read_program(alloc, text)?.map(TextMeaning::Executes)),
         TextKind::Map => Ok(read_map(alloc, text)?.map(TextMeaning::Reports)),
         TextKind::Wiring => Ok(Ok(TextMeaning::Reports(read_wiring(alloc, text)?))),
         TextKind::Errors => Ok(Ok(TextMeaning::Reports(read_errors(alloc, text)?))),

@@ -14,17 +14,17 @@ use Rattle.std.specs.List.{refill}
 use Rattle.std.proofs.lemmas.Nat.Bits.{bit_at_lowest, bit_at-suc, bit_at-zero, bit_at-lt, bit_at_cat_low, bit_at_cat_high, shr_and_one}
 use Rattle.std.proofs.lemmas.Option.{slice_get-get_or, slice_get_past}
 use Rattle.mcs_nibble.specs.Bits.{bit_of}
-use Rattle.mcs_nibble.proofs.TabledLemmas.{length-tabled, get_or-tabled, tabled_from, set-tabled}
-use Rattle.mcs_shift4003.specs.Packing.{packed_bit, bit_before, chain_bits_of, IsPacked}
+use Rattle.mcs_nibble.proofs.TabledLemmas.{length-tabled, get_or-tabled, table_of-unique, set-tabled}
+use Rattle.mcs_shift4003.specs.Packing.{packed_bit, bit_after_shift, chain_bits_of, IsPacked}
 
 -- ---- one word
 
 -- For j below 10, the word 1 << j is a ten-bit word.
-pub place : (j : ℕ) → j < 10 → 1 * 2 ^ j % 65536 < 1024
-place j h = let e : 2 ^ j < 2 ^ 10 = pow-lt h in omega arith
+pub single_bit-small : (j : ℕ) → j < 10 → 1 * 2 ^ j % 65536 < 1024
+single_bit-small j h = let e : 2 ^ j < 2 ^ 10 = pow-lt h in omega arith
 
 pub set-small : (word j : ℕ) → word < 1024 → j < 10 → bit_or word (1 * 2 ^ j % 65536) < 1024
-set-small word j h l = or_lt 10 word (1 * 2 ^ j % 65536) h (place j l)
+set-small word j h l = or_lt 10 word (1 * 2 ^ j % 65536) h (single_bit-small j l)
 
 pub clear-small : (word m : ℕ) → word < 1024 → bit_and word m < 1024
 clear-small word m h = let e = and_le_l word m in omega arith
@@ -61,20 +61,20 @@ set-ten words at new h ten k =
 
 -- holds if `new` is the list `old` after its first k words were shifted, and `level_next` is the
 -- bit to shift into the next word
-pub record IsMoved (level : ℕ) (old new : List ℕ) (k level_next : ℕ) : Type 0 where
+pub record IsShifted (level : ℕ) (old new : List ℕ) (k level_next : ℕ) : Type 0 where
   pub len : length new ≡ length old
   pub ten : (m : ℕ) → slice_index new m < 1024
-  pub bits : (i : ℕ) → i < 10 * k → packed_bit new i ≡ bit_before level old i
+  pub bits : (i : ℕ) → i < 10 * k → packed_bit new i ≡ bit_after_shift level old i
   pub rest : (m : ℕ) → k ≤ m → slice_index new m ≡ slice_index old m
-  pub carry : level_next ≡ bit_before level old (10 * k)
+  pub carry : level_next ≡ bit_after_shift level old (10 * k)
   pub small : level_next < 2
 
-before-suc : (level : ℕ) (words : List ℕ) (i k : ℕ) → i ≡ k + 1 → bit_before level words i ≡ packed_bit words k
+before-suc : (level : ℕ) (words : List ℕ) (i k : ℕ) → i ≡ k + 1 → bit_after_shift level words i ≡ packed_bit words k
 before-suc level words zero k e = absurd (omega arith)
 before-suc level words (suc i) k e = ap (packed_bit words) (let q : i ≡ k = omega arith in q)
 
-moved-word : (level : ℕ) (old : List ℕ) (k carry i j word : ℕ) → carry ≡ bit_before level old (10 * k) → carry < 2 → word ≡ slice_index old k → i ≡ 10 * k + j → j < 10 → bit_of ((2 * word + carry) % 1024) j ≡ bit_before level old i
-moved-word level old k carry i zero word is small here at h = moved-low word carry small ∙ is ∙ ap (bit_before level old) (let e : 10 * k ≡ i = omega arith in e)
+moved-word : (level : ℕ) (old : List ℕ) (k carry i j word : ℕ) → carry ≡ bit_after_shift level old (10 * k) → carry < 2 → word ≡ slice_index old k → i ≡ 10 * k + j → j < 10 → bit_of ((2 * word + carry) % 1024) j ≡ bit_after_shift level old i
+moved-word level old k carry i zero word is small here at h = moved-low word carry small ∙ is ∙ ap (bit_after_shift level old) (let e : 10 * k ≡ i = omega arith in e)
 moved-word level old k carry i (suc j) word is small here at h =
     let p : (10 * k + j) / 10 ≡ k = omega arith in
     let q : (10 * k + j) % 10 ≡ j = omega arith in
@@ -83,8 +83,8 @@ moved-word level old k carry i (suc j) word is small here at h =
     ∙ sym (ap (λ m. bit_of (slice_index old m) ((10 * k + j) % 10)) p ∙ ap (bit_of (slice_index old k)) q)
     ∙ sym (before-suc level old i (10 * k + j) (omega arith))
 
-pub one-more : (level : ℕ) (old new : List ℕ) (k carry word last : ℕ) → IsMoved level old new k carry → k < length old → word ≡ (2 * slice_index new k + carry) % 1024 → last ≡ slice_index new k / 512 → IsMoved level old (slice_set new k word) (k + 1) last
-one-more level old new k carry word last m there is lost-is =
+pub shifted-next_word : (level : ℕ) (old new : List ℕ) (k carry word last : ℕ) → IsShifted level old new k carry → k < length old → word ≡ (2 * slice_index new k + carry) % 1024 → last ≡ slice_index new k / 512 → IsShifted level old (slice_set new k word) (k + 1) last
+shifted-next_word level old new k carry word last m there is lost-is =
     let same : slice_index new k ≡ slice_index old k = m.rest k (omega arith) in
     let within : k < length new = let e = m.len in omega arith in
     let ten = m.ten k in
@@ -117,7 +117,7 @@ one-more level old new k carry word last m there is lost-is =
 no-word : (words : List ℕ) (i : ℕ) → 10 * length words ≤ i → packed_bit words i ≡ 0
 no-word words i gone = ap (λ w. bit_of w (i % 10)) (get_or_past words (i / 10) 0 (omega arith)) ∙ bit_at-zero (i % 10)
 
-past-end : (bits level : ℕ) (old new : List ℕ) (i : ℕ) → IsPacked bits old → length new ≡ length old → ((k : ℕ) → k < 10 * length old → packed_bit new k ≡ bit_before level old k) → bits < i → packed_bit new i ≡ 0
+past-end : (bits level : ℕ) (old new : List ℕ) (i : ℕ) → IsPacked bits old → length new ≡ length old → ((k : ℕ) → k < 10 * length old → packed_bit new k ≡ bit_after_shift level old k) → bits < i → packed_bit new i ≡ 0
 past-end bits level old new zero p len moved h = absurd (omega arith)
 past-end bits level old new (suc i) p len moved h =
     elim (cases_lt (suc i) (10 * length old)) [
@@ -126,8 +126,8 @@ past-end bits level old new (suc i) p len moved h =
     ]
 
 -- If the first bit past the end of the chain is cleared after a shift, all bits past the end are 0.
-pub trimmed : (bits level : ℕ) (old new last : List ℕ) → IsPacked bits old → length new ≡ length old → ((k : ℕ) → slice_index last k < 1024) → length last ≡ length new → ((i : ℕ) → i < 10 * length old → packed_bit new i ≡ bit_before level old i) → packed_bit last bits ≡ 0 → ((k : ℕ) → k ≢ bits → packed_bit last k ≡ packed_bit new k) → IsPacked bits last
-trimmed bits level old new last p len ten len2 moved zero-there others = record {
+pub cleared-end : (bits level : ℕ) (old new last : List ℕ) → IsPacked bits old → length new ≡ length old → ((k : ℕ) → slice_index last k < 1024) → length last ≡ length new → ((i : ℕ) → i < 10 * length old → packed_bit new i ≡ bit_after_shift level old i) → packed_bit last bits ≡ 0 → ((k : ℕ) → k ≢ bits → packed_bit last k ≡ packed_bit new k) → IsPacked bits last
+cleared-end bits level old new last p len ten len2 moved zero-there others = record {
   used = len2 ∙ len ∙ p.used;
   ten = ten;
   past = λ i h.
@@ -148,8 +148,8 @@ unfolding chain_bits_of
 row-bit bits words i d h = get_or-tabled bits (packed_bit words) i d h
 
 -- Reading index i of the list of chain bits gives bit i of the words. Past the end both are 0.
-pub any-bit : (bits : ℕ) (words : List ℕ) (i : ℕ) → IsPacked bits words → slice_index (chain_bits_of bits words) i ≡ packed_bit words i
-any-bit bits words i p =
+pub bit-at_any_index : (bits : ℕ) (words : List ℕ) (i : ℕ) → IsPacked bits words → slice_index (chain_bits_of bits words) i ≡ packed_bit words i
+bit-at_any_index bits words i p =
     elim (cases_lt i bits) [
       | inl h ↦ row-bit bits words i 0 h
       | inr gone ↦ get_or_past (chain_bits_of bits words) i 0 (let e = length-row bits words in omega arith) ∙ sym (p.past i gone)
@@ -167,16 +167,16 @@ row-small bits words =
     subst (λ bit. bit < 2) (sym (row-bit bits words i 0 (let e = length-row bits words in omega arith))) (bit_at-lt (slice_index words (i / 10)) (i % 10)))
 
 -- Each bit of a list of zero words is 0.
-zeros : (n i : ℕ) → packed_bit (replicate n 0) i ≡ 0
-zeros n i =
+packed_bit-zeros : (n i : ℕ) → packed_bit (replicate n 0) i ≡ 0
+packed_bit-zeros n i =
     elim (cases_lt (i / 10) n) [
       | inl l ↦ ap (λ w. bit_of w (i % 10)) (get_or-replicate n (i / 10) 0 0 l) ∙ bit_at-zero (i % 10)
       | inr gone ↦ ap (λ w. bit_of w (i % 10)) (get_or_past (replicate n 0) (i / 10) 0 (let e = length-replicate {A = ℕ} n 0 in omega arith)) ∙ bit_at-zero (i % 10)
     ]
 
-pub blank : (bits n : ℕ) → chain_bits_of bits (replicate n 0) ≡ replicate bits 0
+pub chain_bits_of-zeros : (bits n : ℕ) → chain_bits_of bits (replicate n 0) ≡ replicate bits 0
 unfolding chain_bits_of
-blank bits n = sym (tabled_from bits (packed_bit (replicate n 0)) (replicate bits 0) 0 (length-replicate {A = ℕ} bits 0) (λ k l. get_or-replicate bits k 0 0 l ∙ sym (zeros n k)))
+chain_bits_of-zeros bits n = sym (table_of-unique bits (packed_bit (replicate n 0)) (replicate bits 0) 0 (length-replicate {A = ℕ} bits 0) (λ k l. get_or-replicate bits k 0 0 l ∙ sym (packed_bit-zeros n k)))
 
 -- If one bit of the words is replaced, the same bit of the list of chain bits is replaced.
 pub set-row : (bits : ℕ) (words new : List ℕ) (i level : ℕ) → i < bits → packed_bit new i ≡ level → ((k : ℕ) → k ≢ i → packed_bit new k ≡ packed_bit words k) → chain_bits_of bits new ≡ slice_set (chain_bits_of bits words) i level
@@ -192,16 +192,16 @@ set-packed bits words new i p h len ten others = record {
 
 -- Element k of the list with `level` before the chain bits is the bit that a shift moves into bit
 -- k.
-row-before : (bits level : ℕ) (words : List ℕ) (k : ℕ) → k < bits → get_or (level ∷ chain_bits_of bits words) k 0 ≡ bit_before level words k
+row-before : (bits level : ℕ) (words : List ℕ) (k : ℕ) → k < bits → get_or (level ∷ chain_bits_of bits words) k 0 ≡ bit_after_shift level words k
 row-before bits level words zero h = refl
 row-before bits level words (suc k) h = row-bit bits words k 0 (omega arith)
 
-pub shifted-row : (bits level : ℕ) (old new : List ℕ) → ((i : ℕ) → i < bits → packed_bit new i ≡ bit_before level old i) → chain_bits_of bits new ≡ take (length (chain_bits_of bits old)) (level ∷ chain_bits_of bits old)
+pub shifted-row : (bits level : ℕ) (old new : List ℕ) → ((i : ℕ) → i < bits → packed_bit new i ≡ bit_after_shift level old i) → chain_bits_of bits new ≡ take (length (chain_bits_of bits old)) (level ∷ chain_bits_of bits old)
 unfolding chain_bits_of
 shifted-row bits level old new moved =
     let len = length-row bits old in
     let taken : length (take (length (chain_bits_of bits old)) (level ∷ chain_bits_of bits old)) ≡ bits = grind (arith, common_steps) in
-    sym (tabled_from bits (packed_bit new) (take (length (chain_bits_of bits old)) (level ∷ chain_bits_of bits old)) 0 taken (λ k l.
+    sym (table_of-unique bits (packed_bit new) (take (length (chain_bits_of bits old)) (level ∷ chain_bits_of bits old)) 0 taken (λ k l.
     get_or-take (length (chain_bits_of bits old)) (level ∷ chain_bits_of bits old) k 0 (omega arith) ∙ row-before bits level old k l ∙ sym (moved k l)))
 
 -- ---- ten bits from a given bit on
@@ -226,8 +226,8 @@ ten-bits words first low high j is-low is-high small h =
     ]
 
 -- Refilling a list with new elements of the same number gives the new elements.
-pub back : (old new : List ℕ) → length new ≡ length old → refill (length old) old new ≡ new
-back old new len = ap (λ n. take n (new ++ drop (length new) old)) (sym len) ∙ take-append_seam new (drop (length new) old)
+pub refill-all : (old new : List ℕ) → length new ≡ length old → refill (length old) old new ≡ new
+refill-all old new len = ap (λ n. take n (new ++ drop (length new) old)) (sym len) ∙ take-append_seam new (drop (length new) old)
 
 -- Testing a bit of a word gives its level.
 pub bit-when : (word j : ℕ) → (if eqb (bit_and (word / 2 ^ j) 1) 1 then 1 else 0) ≡ bit_of word j

@@ -9,9 +9,9 @@ packed_bit words i = bit_of (slice_index words (i / 10)) (i % 10)
 
 -- the value that a shift moves into bit i: the level of the data line if i is 0, otherwise bit i -
 -- 1
-abbrev pub bit_before : ℕ → List ℕ → ℕ → ℕ
-bit_before level words zero = level
-bit_before level words (suc i) = packed_bit words i
+abbrev pub bit_after_shift : ℕ → List ℕ → ℕ → ℕ
+bit_after_shift level words zero = level
+bit_after_shift level words (suc i) = packed_bit words i
 
 -- the first `bits` bits that the words store, as a list
 unfoldable pub chain_bits_of : ℕ → List ℕ → List ℕ

@@ -5,7 +5,7 @@
 
 ghost use Rattle.std.specs.Prelude.{◌≡◌, ◌≢◌, ℕ, ◌+◌, ◌*◌, ◌/◌, ◌%◌, ◌<◌, ◌≤◌, All, length, replicate, slice_index, slice_get, slice_set};
 ghost use Rattle.mcs_nibble.specs.Bits.{bit_of};
-ghost use Rattle.mcs_shift4003.specs.Packing.{packed_bit, bit_before, IsPacked};
+ghost use Rattle.mcs_shift4003.specs.Packing.{packed_bit, bit_after_shift, IsPacked};
 ghost use Rattle.mcs_nibble.specs.Shifting.{bits_after_shift};
 
 use arrayvec::ArrayVec;
@@ -51,7 +51,7 @@ fn with_bit(word: u16, j: usize, level: Bit) -> u16
 }
 
 /// Returns a ten-bit word shifted up by one bit, with `level` as the new bit 0, and the bit that was shifted out.
-fn moved(word: u16, level: u16) -> (u16, u16)
+fn shift_word(word: u16, level: u16) -> (u16, u16)
     requires word { word < 1024 }
     requires level { level < 2 }
     ensures word { result.0 ≡ (2 * word + level) % 1024 }
@@ -61,7 +61,7 @@ fn moved(word: u16, level: u16) -> (u16, u16)
 }
 
 /// Sets bit `i` of a chain, stored in ten-bit words, to `level`.
-fn put(words: &mut [u16], i: usize, level: Bit)
+fn set_packed_bit(words: &mut [u16], i: usize, level: Bit)
     requires there { i / 10 < length words.old }
     requires ten { (k : ℕ) → slice_index words.old k < 1024 }
     ensures len { length words.new ≡ length words.old }
@@ -80,11 +80,11 @@ fn shift_words(words: &mut [u16], level: Bit)
     ensures len { length words.new ≡ length words.old }
     ensures ten { (k : ℕ) → slice_index words.new k < 1024 }
     ensures bits { (i : ℕ) → i < 10 * length words.old →
-        packed_bit words.new i ≡ bit_before level words.old i }
+        packed_bit words.new i ≡ bit_after_shift level words.old i }
 {
     let mut carry = u16::from(level.get());
     for k in 0..words.len() {
-        let (word, lost) = moved(words[k], carry);
+        let (word, lost) = shift_word(words[k], carry);
         words[k] = word;
         carry = lost;
     }
@@ -95,16 +95,16 @@ fn shift_bits(words: &mut [u16], bits: usize, level: Bit)
     requires { IsPacked bits words.old }
     ensures len { length words.new ≡ length words.old }
     ensures packed { IsPacked bits words.new }
-    ensures bits { (i : ℕ) → i < bits → packed_bit words.new i ≡ bit_before level words.old i }
+    ensures bits { (i : ℕ) → i < bits → packed_bit words.new i ≡ bit_after_shift level words.old i }
 {
     shift_words(words, level);
     if bits % WORD_BITS != 0 {
-        put(words, bits, Bit::ZERO);
+        set_packed_bit(words, bits, Bit::ZERO);
     }
 }
 
 /// Returns a copy of the words.
-fn copied<const MAX: usize>(words: &ArrayVec<u16, MAX>) -> ArrayVec<u16, MAX>
+fn copy_words<const MAX: usize>(words: &ArrayVec<u16, MAX>) -> ArrayVec<u16, MAX>
     ensures { result.items ≡ words.now.items }
 {
     let mut copy = ArrayVec::new();
@@ -143,7 +143,7 @@ impl<const MAX: usize> Chain<MAX> {
     {
         Chain {
             bits: self.bits,
-            words: copied(&self.words),
+            words: copy_words(&self.words),
         }
     }
 
@@ -169,7 +169,7 @@ impl<const MAX: usize> Chain<MAX> {
 
     /// Returns ten bits of the chain, from bit `first` on. Bit j of the result is bit `first` + j of the chain, or 0
     /// past its end.
-    pub fn ten_from(&self, first: usize) -> u16
+    pub fn ten_bits_from(&self, first: usize) -> u16
         ensures bits { (j : ℕ) → j < 10 → bit_of result j ≡ slice_index self.now (first + j) }
         ensures ten { result < 1024 }
     {
@@ -186,7 +186,7 @@ impl<const MAX: usize> Chain<MAX> {
         requires { i < length self.old }
         ensures { self.new ≡ slice_set self.old i bit }
     {
-        put(&mut self.words, i, bit);
+        set_packed_bit(&mut self.words, i, bit);
     }
 
     /// Shifts the chain up by one bit. `level`, the level of the data line, becomes bit 0. The last bit is lost.

@@ -12,11 +12,11 @@ use Rattle.mcs_source.specs.Spelled.{IsOp, IsSpelledBy}
 
 -- Holds if the instruction is encoded by both words, or by the first word if it has one. If the
 -- second word is a byte, the operands are in range.
-abbrev pub Spells : ℕ → ℕ → Op → Type 0
-Spells first second o = (second < 256 → IsOp o) × (spelling o ≡ take (word_count_of o) (first ∷ second ∷ []))
+abbrev pub IsEncoding : ℕ → ℕ → Op → Type 0
+IsEncoding first second o = (second < 256 → IsOp o) × (spelling o ≡ take (word_count_of o) (first ∷ second ∷ []))
 
 abbrev pub RowSpells : ℕ → ℕ → Row → Type 0
-RowSpells first second r = covers (first / 16) (first % 16) r ≡ true → Spells first second (r.op first second)
+RowSpells first second r = covers (first / 16) (first % 16) r ≡ true → IsEncoding first second (r.op first second)
 
 some_row : (x r : Row) → Some x ≡ Some r → x ≡ r
 some_row x r e = ap (λ (o : Option Row). elim o [ Some y ↦ y | None ↦ x ]) e
@@ -190,13 +190,13 @@ each_row first second = (
   ),
 )
 
-decoded_words : (first second : ℕ) (o : Op) → instruction_of first second ≡ Some o → Spells first second o
+decoded_words : (first second : ℕ) (o : Op) → instruction_of first second ≡ Some o → IsEncoding first second o
 unfolding instruction_of row_of
 decoded_words first second o e =
-    let Q : Option Row → Type 0 = λ x. find (covers (first / 16) (first % 16)) rows ≡ x → option_map (λ (r : Row). r.op first second) x ≡ Some o → Spells first second o in
+    let Q : Option Row → Type 0 = λ x. find (covers (first / 16) (first % 16)) rows ≡ x → option_map (λ (r : Row). r.op first second) x ≡ Some o → IsEncoding first second o in
     (elim (find (covers (first / 16) (first % 16)) rows) as Q [
       | None ↦ λ found h. absurd (true≢false (ap (λ (x : Option Op). elim x [ Some y ↦ false | None ↦ true ]) h))
-      | Some r ↦ λ found h. subst (Spells first second) (some_op (r.op first second) o h) (find_by (λ r. Spells first second (r.op first second)) (covers (first / 16) (first % 16)) rows (each_row first second) r found)
+      | Some r ↦ λ found h. subst (IsEncoding first second) (some_op (r.op first second) o h) (find_by (λ r. IsEncoding first second (r.op first second)) (covers (first / 16) (first % 16)) rows (each_row first second) r found)
     ]) refl e
 
 pub decoded_spells : (first second : ℕ) (o : Op) → second < 256 → instruction_of first second ≡ Some o → IsSpelledBy first second o
@@ -212,11 +212,11 @@ one_or_two _ = inl refl
 
 -- the words that decode to an instruction encode it, if there is a second word exactly if the
 -- instruction has two
-pub words_spell : (first : ℕ) (second : Option ℕ) (o : Op) → instruction_of first (unwrap_or second 0) ≡ Some o → IsSome second ↔ (word_count_of o ≡ 2) → first ∷ option_to_list second ≡ spelling o
-words_spell first None o e both = elim (one_or_two o) [
+pub decoded_words_encode : (first : ℕ) (second : Option ℕ) (o : Op) → instruction_of first (unwrap_or second 0) ≡ Some o → IsSome second ↔ (word_count_of o ≡ 2) → first ∷ option_to_list second ≡ spelling o
+decoded_words_encode first None o e both = elim (one_or_two o) [
   | inl one ↦ sym ((decoded_words first 0 o e).1 ∙ rw one refl)
   | inr two ↦ absurd (true≢false (sym (both.1 two)))
 ]
-words_spell first (Some second) o e both =
+decoded_words_encode first (Some second) o e both =
     let two : word_count_of o ≡ 2 = both.0 refl in
     sym ((decoded_words first second o e).1 ∙ rw two refl)

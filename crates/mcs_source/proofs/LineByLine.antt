@@ -9,9 +9,9 @@ use Rattle.std.proofs.lemmas.List.Elements.{filter_map-append}
 use Rattle.mcs_source.specs.declared.fault.SourceFault.{SourceFault}
 use Rattle.mcs_source.specs.Lines.{SourceLine}
 use Rattle.mcs_model.specs.TextLines.{lines_of}
-use Rattle.mcs_source.specs.Assembly.{Names, read, ith_line, next_at, address_of, definition, names_before, all_names, line_pairs, pairs_before, first_fault, first_of_class_one, first_of_class_two, assembly_of, assembly_of_text}
+use Rattle.mcs_source.specs.Assembly.{Names, read, ith_line, next_at, address_of, definition, names_before, all_names, line_pairs, pairs_before, first_fault, earliest_first_pass_fault, earliest_second_pass_fault, assembly_of, assembly_of_text}
 use Rattle.mcs_source.specs.Survey.{span, spans_before}
-use Rattle.mcs_model.proofs.ListLemmas.{range_more, find_at}
+use Rattle.mcs_model.proofs.ListLemmas.{range-one-more, find_at}
 use Rattle.mcs_model.specs.Options.{◌>>=◌}
 
 -- ---- the step from line i to line i + 1
@@ -20,7 +20,7 @@ range_next : (i : ℕ) → range_with_len 0 (i + 1) ≡ range_with_len 0 i ++ i 
 range_next i =
     let up : i + 1 ≡ suc i = omega arith in
     let e : 0 + i ≡ i = omega arith in
-    ap (range_with_len 0) up ∙ (range_more 0 i ∙ ap (λ (k : ℕ). range_with_len 0 i ++ k ∷ []) e)
+    ap (range_with_len 0) up ∙ (range-one-more 0 i ∙ ap (λ (k : ℕ). range_with_len 0 i ++ k ∷ []) e)
 
 pub address_next : (lines : List (Option SourceLine)) (i : ℕ) → address_of lines (i + 1) ≡ next_at (ith_line lines i) (address_of lines i)
 unfolding address_of
@@ -48,11 +48,11 @@ spans_next lines names i =
 -- ---- the first line with an error
 
 -- Holds if no line before line i has an error.
-abbrev pub NoneBefore : (ℕ → Option SourceFault) → ℕ → Type 0
-NoneBefore fault i = (j : ℕ) → j < i → fault j ≡ None
+abbrev pub NoFaultBefore : (ℕ → Option SourceFault) → ℕ → Type 0
+NoFaultBefore fault i = (j : ℕ) → j < i → fault j ≡ None
 
-pub none_before_next : (fault : ℕ → Option SourceFault) (i : ℕ) → NoneBefore fault i → fault i ≡ None → NoneBefore fault (i + 1)
-none_before_next fault i before here j lt = elim (cases_eq j i) [
+pub no_fault_before_next : (fault : ℕ → Option SourceFault) (i : ℕ) → NoFaultBefore fault i → fault i ≡ None → NoFaultBefore fault (i + 1)
+no_fault_before_next fault i before here j lt = elim (cases_eq j i) [
   | inl same ↦ rw same here
   | inr other ↦ before j (omega (arith, lt, other))
 ]
@@ -66,13 +66,13 @@ find_none p a (suc n) h =
 abbrev with_number : (ℕ → Option SourceFault) → ℕ → Option (ℕ × SourceFault)
 with_number fault i = fault i >>= λ f. Some (i + 1, f)
 
-pub none_first : (fault : ℕ → Option SourceFault) (n : ℕ) → NoneBefore fault n → first_fault fault n ≡ None
-none_first fault n none =
+pub no_first_fault : (fault : ℕ → Option SourceFault) (n : ℕ) → NoFaultBefore fault n → first_fault fault n ≡ None
+no_first_fault fault n none =
     let e : find (λ i. is_some (fault i)) (range_with_len 0 n) ≡ None = find_none (λ i. is_some (fault i)) 0 n (λ j lt. ap is_some (none j (omega (arith, lt)))) in
     ap (λ (o : Option ℕ). o >>= with_number fault) e
 
-pub first_at : (fault : ℕ → Option SourceFault) (n i : ℕ) (f : SourceFault) → i < n → NoneBefore fault i → fault i ≡ Some f → first_fault fault n ≡ Some (i + 1, f)
-first_at fault n i f lt before here =
+pub first_fault_at : (fault : ℕ → Option SourceFault) (n i : ℕ) (f : SourceFault) → i < n → NoFaultBefore fault i → fault i ≡ Some f → first_fault fault n ≡ Some (i + 1, f)
+first_fault_at fault n i f lt before here =
     let e : find (λ i. is_some (fault i)) (range_with_len 0 n) ≡ Some i = find_at (λ i. is_some (fault i)) 0 n i (omega arith) (omega (arith, lt)) (λ j less. ap is_some (before j less)) (ap is_some here) in
     ap (λ (o : Option ℕ). o >>= with_number fault) e ∙ ap (λ (o : Option SourceFault). o >>= λ g. Some (i + 1, g)) here
 
@@ -89,23 +89,23 @@ none_from fault a (suc n) e j low high =
     ]) refl e
 
 -- if `first_fault` finds no error in the lines below n, none of these lines has an error
-pub none_below : (fault : ℕ → Option SourceFault) (n : ℕ) → first_fault fault n ≡ None → NoneBefore fault n
-none_below fault n e j lt = none_from fault 0 n e j (omega arith) (omega (arith, lt))
+pub no_fault_below : (fault : ℕ → Option SourceFault) (n : ℕ) → first_fault fault n ≡ None → NoFaultBefore fault n
+no_fault_below fault n e j lt = none_from fault 0 n e j (omega arith) (omega (arith, lt))
 
 -- ---- the whole text
 
 -- the first of the lines that are left is line i, and the others start at line i + 1
-pub first_of_rest : (lines : List (Option SourceLine)) (i : ℕ) (line : Option SourceLine) (more : List (Option SourceLine)) → drop i lines ≡ line ∷ more → (i < length lines) × (ith_line lines i ≡ line) × (drop (i + 1) lines ≡ more)
-first_of_rest lines i line more e =
+pub line_at_rest : (lines : List (Option SourceLine)) (i : ℕ) (line : Option SourceLine) (more : List (Option SourceLine)) → drop i lines ≡ line ∷ more → (i < length lines) × (ith_line lines i ≡ line) × (drop (i + 1) lines ≡ more)
+line_at_rest lines i line more e =
     let lt : i < length lines = omega (arith, length-drop i lines, ap length e) in
     let parts : ith_line lines i ∷ drop (i + 1) lines ≡ line ∷ more = sym (drop_more lines i None lt) ∙ e in
     (lt, cc, cc)
 
 -- a text in which neither pass finds an error assembles to the pairs of all its lines
-pub all_passed : (text : List ℕ) (ls : List (List ℕ)) (names : Names) → ls ≡ lines_of text → first_of_class_one (read ls) ≡ None → names ≡ all_names (read ls) → first_of_class_two (read ls) names ≡ None
+pub assembles_if_no_fault : (text : List ℕ) (ls : List (List ℕ)) (names : Names) → ls ≡ lines_of text → earliest_first_pass_fault (read ls) ≡ None → names ≡ all_names (read ls) → earliest_second_pass_fault (read ls) names ≡ None
     → assembly_of_text text ≡ Ok (pairs_before (read ls) names (length (read ls)))
 unfolding assembly_of
-all_passed text ls names is one same two =
-    let two' : first_of_class_two (read ls) (all_names (read ls)) ≡ None = subst (λ (n : Names). first_of_class_two (read ls) n ≡ None) same two in
+assembles_if_no_fault text ls names is one same two =
+    let two' : earliest_second_pass_fault (read ls) (all_names (read ls)) ≡ None = subst (λ (n : Names). earliest_second_pass_fault (read ls) n ≡ None) same two in
     let whole : assembly_of (read ls) ≡ Ok (pairs_before (read ls) (all_names (read ls)) (length (read ls))) = rw (one, two') refl in
     ap (λ (l : List (List ℕ)). assembly_of (read l)) (sym is) ∙ (whole ∙ ap (λ (n : Names). Ok (pairs_before (read ls) n (length (read ls)))) (sym same))

@@ -7,7 +7,7 @@ use Rattle.mcs_source.specs.declared.fault.SourceFault.{SourceFault}
 use Rattle.mcs_source.specs.Lines.{SourceLine}
 use Rattle.mcs_model.specs.Images.{from_address}
 use Rattle.mcs_model.specs.TextLines.{lines_of}
-use Rattle.mcs_source.specs.Assembly.{Names, read, address_of, ith_line, all_names, line_bytes, bytes_or_none, line_pairs, pairs_before, unless_fault, first_of_class_one, first_of_class_two, assembly_of, assembly_of_text}
+use Rattle.mcs_source.specs.Assembly.{Names, read, address_of, ith_line, all_names, line_bytes, bytes_or_none, line_pairs, pairs_before, unless_fault, earliest_first_pass_fault, earliest_second_pass_fault, assembly_of, assembly_of_text}
 use Rattle.mcs_source.specs.Survey.{Survey, span, spans_before, survey_of, survey_of_text}
 use Rattle.mcs_source.specs.SpanAddresses.{addresses_of_span}
 
@@ -42,15 +42,15 @@ unless_ok (Some f) r x e = absurd (cc)
 same_ok : {A : Type 0} (x y : A) (r : Result A (ℕ × SourceFault)) → r ≡ Ok x → r ≡ Ok y → x ≡ y
 same_ok x y r e f = cc
 
-spelt_pairs : (lines : List (Option SourceLine)) (pairs : List (ℕ × ℕ)) → assembly_of lines ≡ Ok pairs → pairs_before lines (all_names lines) (length lines) ≡ pairs
+assembled_pairs : (lines : List (Option SourceLine)) (pairs : List (ℕ × ℕ)) → assembly_of lines ≡ Ok pairs → pairs_before lines (all_names lines) (length lines) ≡ pairs
 unfolding assembly_of
-spelt_pairs lines pairs e =
+assembled_pairs lines pairs e =
     let all : List (ℕ × ℕ) = pairs_before lines (all_names lines) (length lines) in
-    let inner = unless_ok (first_of_class_one lines) (unless_fault (first_of_class_two lines (all_names lines)) (Ok all)) pairs e in
-    same_ok all pairs (Ok all) refl (unless_ok (first_of_class_two lines (all_names lines)) (Ok all) pairs inner)
+    let inner = unless_ok (earliest_first_pass_fault lines) (unless_fault (earliest_second_pass_fault lines (all_names lines)) (Ok all)) pairs e in
+    same_ok all pairs (Ok all) refl (unless_ok (earliest_second_pass_fault lines (all_names lines)) (Ok all) pairs inner)
 
-pub spans_are : (text : List ℕ) (pairs : List (ℕ × ℕ)) (s : Survey) → assembly_of_text text ≡ Ok pairs → survey_of_text text ≡ Ok s → map (λ p. p.0) pairs ≡ flat_map addresses_of_span s.spans
-spans_are text pairs s e f =
+pub span_addresses_match : (text : List ℕ) (pairs : List (ℕ × ℕ)) (s : Survey) → assembly_of_text text ≡ Ok pairs → survey_of_text text ≡ Ok s → map (λ p. p.0) pairs ≡ flat_map addresses_of_span s.spans
+span_addresses_match text pairs s e f =
     let lines : List (Option SourceLine) = read (lines_of text) in
     let same : survey_of lines ≡ s = same_ok (survey_of lines) s (survey_of_text text) (ap (result_map_both (λ ps. survey_of lines) (λ x. x)) e) f in
-    ap (map (λ p. p.0)) (sym (spelt_pairs lines pairs e)) ∙ (firsts_before lines (all_names lines) (length lines) ∙ ap (λ (t : Survey). flat_map addresses_of_span t.spans) same)
+    ap (map (λ p. p.0)) (sym (assembled_pairs lines pairs e)) ∙ (firsts_before lines (all_names lines) (length lines) ∙ ap (λ (t : Survey). flat_map addresses_of_span t.spans) same)

@@ -3,28 +3,28 @@ use Rattle.std.proofs.Common.{◌≡◌, ◌⊎◌, ◌+◌, ◌==◌, if◌then
 use Rattle.std.specs.List.{before_first, flat_map, list_all, prefix_len}
 use Rattle.std.proofs.lemmas.Bool.{and_parts, eqb-true, true≢false}
 use Rattle.mcs_model.specs.TextLines.{is_blank, words_of}
-use Rattle.mcs_model.specs.Cutting.{EndsAtFront, HasNone}
+use Rattle.mcs_model.specs.Cutting.{IsAtPieceEnd, HasNoSeparator}
 use Rattle.mcs_model.proofs.LineWords.{words_of-blank, words_of-word}
-use Rattle.mcs_source.specs.Lexical.{Token, Word, is_word_byte, set_apart, symbol, token_of, tokens}
+use Rattle.mcs_source.specs.Lexical.{Token, Word, is_word_byte, with_symbol_spaced, symbol, token_of, tokens}
 
 -- a word token in front of some tokens, or only these tokens if the word is empty
-abbrev pub word_then : List ℕ → List Token → List Token
-word_then [] more = more
-word_then (b ∷ word) more = Word (b ∷ word) ∷ more
+abbrev pub word_token_before : List ℕ → List Token → List Token
+word_token_before [] more = more
+word_token_before (b ∷ word) more = Word (b ∷ word) ∷ more
 
 -- the tokens of the bytes that follow, if the bytes of `word` have been read and the word can
 -- continue
 unfoldable pub tokens_after : List ℕ → List ℕ → List Token
-tokens_after word [] = word_then word []
+tokens_after word [] = word_token_before word []
 tokens_after word (b ∷ bytes) =
     if is_word_byte b then tokens_after (word ++ b ∷ []) bytes else
-    word_then word
+    word_token_before word
     (if is_blank b then tokens_after [] bytes else
     if b == 59 then [] else symbol b ∷ tokens_after [] bytes)
 
 -- the bytes of a line before its comment, with spaces around each symbol
-abbrev pub spread : List ℕ → List ℕ
-spread line = flat_map set_apart (before_first (λ b. eqb b 59) line)
+abbrev pub spaced_line : List ℕ → List ℕ
+spaced_line line = flat_map with_symbol_spaced (before_first (λ b. eqb b 59) line)
 
 -- ---- a word
 
@@ -38,19 +38,19 @@ either_blank false true b p q e = inr (eqb-true _ _ q)
 either_blank false false b p q e = absurd cc
 
 -- a blank is not a word byte
-pub no_word : (b : ℕ) → is_blank b ≡ true → is_word_byte b ≡ false
-no_word b e = word_or_blank b (either_blank (eqb b 32) (eqb b 9) b refl refl e)
+pub blank_is_no_word_byte : (b : ℕ) → is_blank b ≡ true → is_word_byte b ≡ false
+blank_is_no_word_byte b e = word_or_blank b (either_blank (eqb b 32) (eqb b 9) b refl refl e)
 
-no_blank : (b : ℕ) → is_word_byte b ≡ true → is_blank b ≡ false
-no_blank b e =
+word_byte_is_no_blank : (b : ℕ) → is_word_byte b ≡ true → is_blank b ≡ false
+word_byte_is_no_blank b e =
     let Q : Bool → Type 0 = λ t. is_blank b ≡ t → t ≡ false in
-    (elim (is_blank b) as Q [ true ↦ λ yes. absurd (true≢false (sym e ∙ no_word b yes)) | false ↦ λ no. refl ]) refl
+    (elim (is_blank b) as Q [ true ↦ λ yes. absurd (true≢false (sym e ∙ blank_is_no_word_byte b yes)) | false ↦ λ no. refl ]) refl
 
-no_blanks : (word : List ℕ) → list_all is_word_byte word ≡ true → HasNone is_blank word
+no_blanks : (word : List ℕ) → list_all is_word_byte word ≡ true → HasNoSeparator is_blank word
 no_blanks [] all = tt
 no_blanks (b ∷ word) all =
     let (here, more) = and_parts (is_word_byte b) (list_all is_word_byte word) all in
-    (no_blank b here, no_blanks word more)
+    (word_byte_is_no_blank b here, no_blanks word more)
 
 all_more : (word : List ℕ) (b : ℕ) → list_all is_word_byte word ≡ true → is_word_byte b ≡ true → list_all is_word_byte (word ++ b ∷ []) ≡ true
 all_more [] b all e = rw e refl
@@ -59,9 +59,9 @@ all_more (x ∷ word) b all e =
     rw here (all_more word b more e)
 
 -- the tokens of a word followed by a blank or by nothing: the word, then the tokens of the rest
-ended : (word rest : List ℕ) → list_all is_word_byte word ≡ true → EndsAtFront is_blank rest → map token_of (words_of (word ++ rest)) ≡ word_then word (map token_of (words_of rest))
-ended [] rest all ends = refl
-ended (b ∷ word) rest all ends =
+tokens_of_ended_word : (word rest : List ℕ) → list_all is_word_byte word ≡ true → IsAtPieceEnd is_blank rest → map token_of (words_of (word ++ rest)) ≡ word_token_before word (map token_of (words_of rest))
+tokens_of_ended_word [] rest all ends = refl
+tokens_of_ended_word (b ∷ word) rest all ends =
     let (here, more) = and_parts (is_word_byte b) (list_all is_word_byte word) all in
     ap (map token_of) (words_of-word b word rest (no_blanks (b ∷ word) all, ends))
     ∙ ap (λ (t : Token). t ∷ map token_of (words_of rest)) (ap (λ v. cond v (Word (b ∷ word)) (symbol b)) here)
@@ -73,10 +73,10 @@ no_words = refl
 -- ---- a line
 
 -- a byte `;` and the bytes after it are a comment and give nothing
-spread_comment : (b : ℕ) (bytes : List ℕ) → eqb b 59 ≡ true → spread (b ∷ bytes) ≡ []
-spread_comment b bytes e = rw e refl
+spaced_line_of_comment : (b : ℕ) (bytes : List ℕ) → eqb b 59 ≡ true → spaced_line (b ∷ bytes) ≡ []
+spaced_line_of_comment b bytes e = rw e refl
 
-spread_more : (b : ℕ) (bytes : List ℕ) → eqb b 59 ≡ false → spread (b ∷ bytes) ≡ set_apart b ++ spread bytes
+spread_more : (b : ℕ) (bytes : List ℕ) → eqb b 59 ≡ false → spaced_line (b ∷ bytes) ≡ with_symbol_spaced b ++ spaced_line bytes
 spread_more b bytes e =
     let n : ℕ = prefix_len (λ x. not (eqb x 59)) bytes in
     let up : 1 + n ≡ suc n = omega arith in
@@ -87,31 +87,31 @@ apart b rest w k =
     ap (map token_of) (words_of-blank 32 (b ∷ 32 ∷ rest) refl ∙ words_of-word b [] (32 ∷ rest) ((k, tt), refl) ∙ ap (λ ws. (b ∷ []) ∷ ws) (words_of-blank 32 rest refl))
     ∙ ap (λ (t : Token). t ∷ map token_of (words_of rest)) (ap (λ v. cond v (Word (b ∷ [])) (symbol b)) w)
 
-within : (word bytes : List ℕ) → list_all is_word_byte word ≡ true → map token_of (words_of (word ++ spread bytes)) ≡ tokens_after word bytes
+within : (word bytes : List ℕ) → list_all is_word_byte word ≡ true → map token_of (words_of (word ++ spaced_line bytes)) ≡ tokens_after word bytes
 unfolding tokens_after
-within word [] all = ended word [] all tt ∙ ap (λ ws. word_then word (map token_of ws)) no_words
+within word [] all = tokens_of_ended_word word [] all tt ∙ ap (λ ws. word_token_before word (map token_of ws)) no_words
 within word (b ∷ bytes) all =
-    let Q : Bool → Bool → Bool → Type 0 = λ c w k. eqb b 59 ≡ c → is_word_byte b ≡ w → is_blank b ≡ k → map token_of (words_of (word ++ spread (b ∷ bytes))) ≡ cond w (tokens_after (word ++ b ∷ []) bytes) (word_then word (cond k (tokens_after [] bytes) (cond c [] (symbol b ∷ tokens_after [] bytes)))) in
+    let Q : Bool → Bool → Bool → Type 0 = λ c w k. eqb b 59 ≡ c → is_word_byte b ≡ w → is_blank b ≡ k → map token_of (words_of (word ++ spaced_line (b ∷ bytes))) ≡ cond w (tokens_after (word ++ b ∷ []) bytes) (word_token_before word (cond k (tokens_after [] bytes) (cond c [] (symbol b ∷ tokens_after [] bytes)))) in
     (elim (eqb b 59) as (λ c. Q c (is_word_byte b) (is_blank b)) [
       | true ↦ λ ec ew ek.
           let same : b ≡ 59 = eqb-true b 59 ec in
-          ap (λ v. map token_of (words_of (word ++ v))) (spread_comment b bytes ec) ∙ ended word [] all tt
-          ∙ ap (λ ws. word_then word (map token_of ws)) no_words ∙ rw same refl
-      | false ↦ λ ec. (elim (is_word_byte b) as (λ w. is_word_byte b ≡ w → is_blank b ≡ is_blank b → map token_of (words_of (word ++ spread (b ∷ bytes))) ≡ cond w (tokens_after (word ++ b ∷ []) bytes) (word_then word (cond (is_blank b) (tokens_after [] bytes) (symbol b ∷ tokens_after [] bytes)))) [
+          ap (λ v. map token_of (words_of (word ++ v))) (spaced_line_of_comment b bytes ec) ∙ tokens_of_ended_word word [] all tt
+          ∙ ap (λ ws. word_token_before word (map token_of ws)) no_words ∙ rw same refl
+      | false ↦ λ ec. (elim (is_word_byte b) as (λ w. is_word_byte b ≡ w → is_blank b ≡ is_blank b → map token_of (words_of (word ++ spaced_line (b ∷ bytes))) ≡ cond w (tokens_after (word ++ b ∷ []) bytes) (word_token_before word (cond (is_blank b) (tokens_after [] bytes) (symbol b ∷ tokens_after [] bytes)))) [
         | true ↦ λ ew ek.
-            ap (λ v. map token_of (words_of (word ++ v))) (spread_more b bytes ec ∙ ap (λ v. v ++ spread bytes) (ap (λ v. cond (v || is_blank b) (b ∷ []) (32 ∷ b ∷ 32 ∷ [])) ew))
-            ∙ ap (λ v. map token_of (words_of v)) (sym (append_assoc word (b ∷ []) (spread bytes)))
+            ap (λ v. map token_of (words_of (word ++ v))) (spread_more b bytes ec ∙ ap (λ v. v ++ spaced_line bytes) (ap (λ v. cond (v || is_blank b) (b ∷ []) (32 ∷ b ∷ 32 ∷ [])) ew))
+            ∙ ap (λ v. map token_of (words_of v)) (sym (append_assoc word (b ∷ []) (spaced_line bytes)))
             ∙ within (word ++ b ∷ []) bytes (all_more word b all ew)
-        | false ↦ λ ew ek. (elim (is_blank b) as (λ k. is_blank b ≡ k → map token_of (words_of (word ++ spread (b ∷ bytes))) ≡ word_then word (cond k (tokens_after [] bytes) (symbol b ∷ tokens_after [] bytes))) [
+        | false ↦ λ ew ek. (elim (is_blank b) as (λ k. is_blank b ≡ k → map token_of (words_of (word ++ spaced_line (b ∷ bytes))) ≡ word_token_before word (cond k (tokens_after [] bytes) (symbol b ∷ tokens_after [] bytes))) [
           | true ↦ λ yes.
-              ap (λ v. map token_of (words_of (word ++ v))) (spread_more b bytes ec ∙ ap (λ v. v ++ spread bytes) (ap (λ v. cond (v || is_blank b) (b ∷ []) (32 ∷ b ∷ 32 ∷ [])) ew ∙ ap (λ v. cond v (b ∷ []) (32 ∷ b ∷ 32 ∷ [])) yes))
-              ∙ ended word (b ∷ spread bytes) all yes
-              ∙ ap (λ ws. word_then word (map token_of ws)) (words_of-blank b (spread bytes) yes)
-              ∙ ap (word_then word) (within [] bytes refl)
+              ap (λ v. map token_of (words_of (word ++ v))) (spread_more b bytes ec ∙ ap (λ v. v ++ spaced_line bytes) (ap (λ v. cond (v || is_blank b) (b ∷ []) (32 ∷ b ∷ 32 ∷ [])) ew ∙ ap (λ v. cond v (b ∷ []) (32 ∷ b ∷ 32 ∷ [])) yes))
+              ∙ tokens_of_ended_word word (b ∷ spaced_line bytes) all yes
+              ∙ ap (λ ws. word_token_before word (map token_of ws)) (words_of-blank b (spaced_line bytes) yes)
+              ∙ ap (word_token_before word) (within [] bytes refl)
           | false ↦ λ no.
-              ap (λ v. map token_of (words_of (word ++ v))) (spread_more b bytes ec ∙ ap (λ v. v ++ spread bytes) (ap (λ v. cond (v || is_blank b) (b ∷ []) (32 ∷ b ∷ 32 ∷ [])) ew ∙ ap (λ v. cond v (b ∷ []) (32 ∷ b ∷ 32 ∷ [])) no))
-              ∙ ended word (32 ∷ b ∷ 32 ∷ spread bytes) all refl
-              ∙ ap (word_then word) (apart b (spread bytes) ew no ∙ ap (λ ts. symbol b ∷ ts) (within [] bytes refl))
+              ap (λ v. map token_of (words_of (word ++ v))) (spread_more b bytes ec ∙ ap (λ v. v ++ spaced_line bytes) (ap (λ v. cond (v || is_blank b) (b ∷ []) (32 ∷ b ∷ 32 ∷ [])) ew ∙ ap (λ v. cond v (b ∷ []) (32 ∷ b ∷ 32 ∷ [])) no))
+              ∙ tokens_of_ended_word word (32 ∷ b ∷ 32 ∷ spaced_line bytes) all refl
+              ∙ ap (word_token_before word) (apart b (spaced_line bytes) ew no ∙ ap (λ ts. symbol b ∷ ts) (within [] bytes refl))
         ]) refl
       ])
     ]) refl refl refl

@@ -16,7 +16,7 @@ use Rattle.mcs_source.specs.Spelling.{spelling}
 use Rattle.mcs_model.specs.Numbers.{page_of}
 use Rattle.mcs_model.specs.Table.{word_count_of}
 use Rattle.mcs_model.specs.Options.{◌>>=◌}
-use Rattle.mcs_model.specs.WordTables.{beside}
+use Rattle.mcs_model.specs.WordTables.{lookup_entry}
 
 -- ---- the parsed lines of a text
 
@@ -89,16 +89,16 @@ all_names lines = names_before lines (length lines)
 -- line and the lines before it.
 
 -- error 31: an earlier line defines the same name
-abbrev pub is_known : List ℕ → Names → Bool
-is_known w names = list_any (λ n. bytes_eq n.0 w) names
+abbrev pub is_defined : List ℕ → Names → Bool
+is_defined w names = list_any (λ n. bytes_eq n.0 w) names
 
 abbrev pub defined_name : SourceLine → Option (List ℕ)
 defined_name (Code label s) = label
 defined_name (Define w n) = Some w
 
-abbrev pub is_known_name : Option (List ℕ) → Names → Bool
-is_known_name None names = false
-is_known_name (Some w) names = is_known w names
+abbrev pub is_defined_name : Option (List ℕ) → Names → Bool
+is_defined_name None names = false
+is_defined_name (Some w) names = is_defined w names
 
 -- error 33 in the first pass: the number in `ORG` or `NAME = NUMBER` is above 4095
 abbrev pub is_bad_origin : Option Statement → Bool
@@ -119,24 +119,24 @@ passes_end (Code label s) at =
 -- The error that the first pass finds in a line, if any: the first of 30, 33, 31, 37 and 36, in
 -- this order. The line starts at address `at`, and `names` are the names that earlier lines define.
 -- Error 37: the line defines a name after `NAMES` names are defined.
-abbrev pub fault_one : ℕ → Names → Option SourceLine → Option SourceFault
-fault_one at names None = Some BadStatement
-fault_one at names (Some line) =
+abbrev pub first_pass_line_fault : ℕ → Names → Option SourceLine → Option SourceFault
+first_pass_line_fault at names None = Some BadStatement
+first_pass_line_fault at names (Some line) =
     if has_bad_number line then Some OutOfRange else
-    if is_known_name (defined_name line) names then Some DoubleName else
+    if is_defined_name (defined_name line) names then Some DoubleName else
     if is_some (defined_name line) && nat_le NAMES (length names) then Some TooManyNames else
     if passes_end line at then Some PastEnd else None
 
 -- the error that the first pass finds in line i, if any; it depends only on this line and the lines
 -- before it
-unfoldable pub class_one_fault : List (Option SourceLine) → ℕ → Option SourceFault
-class_one_fault lines i = fault_one (address_of lines i) (names_before lines i) (ith_line lines i)
+unfoldable pub first_pass_fault : List (Option SourceLine) → ℕ → Option SourceFault
+first_pass_fault lines i = first_pass_line_fault (address_of lines i) (names_before lines i) (ith_line lines i)
 
 -- ---- the bytes of a line, if the values of all names are given
 
 -- the value that the first definition of a name gives it, or `None` if no line defines the name
 abbrev pub value_of : List ℕ → Names → Option ℕ
-value_of w names = beside (λ name. bytes_eq name w) names
+value_of w names = lookup_entry (λ name. bytes_eq name w) names
 
 abbrev pub value_in : Names → Operand → Option ℕ
 value_in names (Number n) = Some n
@@ -147,9 +147,9 @@ values_in names [] = Some []
 values_in names (v ∷ vs) = value_in names v >>= λ n. values_in names vs >>= λ ns. Some (n ∷ ns)
 
 -- error 32 if there is no value, else the result of the next step with the value
-abbrev pub if_known : {A B : Type 0} → Option A → (A → Result B SourceFault) → Result B SourceFault
-if_known None next = Err UnknownName
-if_known (Some x) next = next x
+abbrev pub with_known_value : {A B : Type 0} → Option A → (A → Result B SourceFault) → Result B SourceFault
+with_known_value None next = Err UnknownName
+with_known_value (Some x) next = next x
 
 -- error 33 if the condition is false (a value is out of range), else the result of the next step
 abbrev pub if_in_range : {B : Type 0} → Bool → Result B SourceFault → Result B SourceFault
@@ -164,38 +164,38 @@ if_on_page true next = next
 
 -- the page that a JCN or ISZ at an address can reach: the page that contains the address after the
 -- instruction's two words (MCS-4 Users Manual, JCN and ISZ)
-abbrev pub near_page : ℕ → ℕ
-near_page at = page_of (at + 2)
+abbrev pub reachable_page : ℕ → ℕ
+reachable_page at = page_of (at + 2)
 
-abbrev pub is_near : ℕ → ℕ → Bool
-is_near at t = t / 256 == near_page at
+abbrev pub is_on_reachable_page : ℕ → ℕ → Bool
+is_on_reachable_page at t = t / 256 == reachable_page at
 
 -- the bytes that a statement at an address emits, or its first error among 32, 33 and 34
 abbrev pub statement_bytes : ℕ → Names → Statement → Result (List ℕ) SourceFault
 statement_bytes at names (Origin n) = Ok []
 statement_bytes at names (Data vs) =
-    if_known (values_in names vs) (λ ns. if_in_range (list_all (λ n. nat_lt n 256) ns) (Ok ns))
+    with_known_value (values_in names vs) (λ ns. if_in_range (list_all (λ n. nat_lt n 256) ns) (Ok ns))
 statement_bytes at names (Whole o) = Ok (spelling o)
 statement_bytes at names (Ldm v) =
-    if_known (value_in names v) (λ n. if_in_range (nat_lt n 16) (Ok (spelling (op.Ldm n))))
+    with_known_value (value_in names v) (λ n. if_in_range (nat_lt n 16) (Ok (spelling (op.Ldm n))))
 statement_bytes at names (Bbl v) =
-    if_known (value_in names v) (λ n. if_in_range (nat_lt n 16) (Ok (spelling (op.Bbl n))))
+    with_known_value (value_in names v) (λ n. if_in_range (nat_lt n 16) (Ok (spelling (op.Bbl n))))
 statement_bytes at names (Jun v) =
-    if_known (value_in names v) (λ t.
+    with_known_value (value_in names v) (λ t.
     if_in_range (nat_lt t 4096) (Ok (spelling (op.Jun (t / 256) (t % 256)))))
 statement_bytes at names (Jms v) =
-    if_known (value_in names v) (λ t.
+    with_known_value (value_in names v) (λ t.
     if_in_range (nat_lt t 4096) (Ok (spelling (op.Jms (t / 256) (t % 256)))))
 statement_bytes at names (Fim p v) =
-    if_known (value_in names v) (λ n. if_in_range (nat_lt n 256) (Ok (spelling (op.Fim p n))))
+    with_known_value (value_in names v) (λ n. if_in_range (nat_lt n 256) (Ok (spelling (op.Fim p n))))
 statement_bytes at names (Jcn v w) =
-    if_known (value_in names v) (λ n.
-    if_known (value_in names w) (λ t.
+    with_known_value (value_in names v) (λ n.
+    with_known_value (value_in names w) (λ t.
     if_in_range (nat_lt n 16 && nat_lt t 4096)
-    (if_on_page (is_near at t) (Ok (spelling (op.Jcn n (t % 256)))))))
+    (if_on_page (is_on_reachable_page at t) (Ok (spelling (op.Jcn n (t % 256)))))))
 statement_bytes at names (Isz r w) =
-    if_known (value_in names w) (λ t.
-    if_in_range (nat_lt t 4096) (if_on_page (is_near at t) (Ok (spelling (op.Isz r (t % 256))))))
+    with_known_value (value_in names w) (λ t.
+    if_in_range (nat_lt t 4096) (if_on_page (is_on_reachable_page at t) (Ok (spelling (op.Isz r (t % 256))))))
 
 -- the bytes that a line emits if it starts at an address, or the error of its statement
 abbrev pub line_bytes : ℕ → Names → Option SourceLine → Result (List ℕ) SourceFault
@@ -222,15 +222,15 @@ pairs_before lines names i = flat_map (line_pairs lines names) (range_with_len 0
 -- The error that the second pass finds in a line, if any. It is the error in the line's bytes. If
 -- the bytes have no error, it is 35 if `pairs`, the pairs of earlier lines, contain one of the
 -- line's addresses.
-abbrev pub fault_two : ℕ → List (ℕ × ℕ) → Result (List ℕ) SourceFault → Option SourceFault
-fault_two at pairs (Err f) = Some f
-fault_two at pairs (Ok bytes) = if overlaps pairs at (length bytes) then Some Overlap else None
+abbrev pub second_pass_line_fault : ℕ → List (ℕ × ℕ) → Result (List ℕ) SourceFault → Option SourceFault
+second_pass_line_fault at pairs (Err f) = Some f
+second_pass_line_fault at pairs (Ok bytes) = if overlaps pairs at (length bytes) then Some Overlap else None
 
 -- the error that the second pass finds in line i, if any; it depends on this line, on the lines
 -- before it and on the values of all names
-unfoldable pub class_two_fault : List (Option SourceLine) → Names → ℕ → Option SourceFault
-class_two_fault lines names i =
-    fault_two (address_of lines i) (pairs_before lines names i)
+unfoldable pub second_pass_fault : List (Option SourceLine) → Names → ℕ → Option SourceFault
+second_pass_fault lines names i =
+    second_pass_line_fault (address_of lines i) (pairs_before lines names i)
     (line_bytes (address_of lines i) names (ith_line lines i))
 
 -- ---- the whole text
@@ -240,11 +240,11 @@ abbrev pub first_fault : (ℕ → Option SourceFault) → ℕ → Option (ℕ ×
 first_fault fault n =
     find (λ i. is_some (fault i)) (range_with_len 0 n) >>= λ i. fault i >>= λ f. Some (i + 1, f)
 
-abbrev pub first_of_class_one : List (Option SourceLine) → Option (ℕ × SourceFault)
-first_of_class_one lines = first_fault (class_one_fault lines) (length lines)
+abbrev pub earliest_first_pass_fault : List (Option SourceLine) → Option (ℕ × SourceFault)
+earliest_first_pass_fault lines = first_fault (first_pass_fault lines) (length lines)
 
-abbrev pub first_of_class_two : List (Option SourceLine) → Names → Option (ℕ × SourceFault)
-first_of_class_two lines names = first_fault (class_two_fault lines names) (length lines)
+abbrev pub earliest_second_pass_fault : List (Option SourceLine) → Names → Option (ℕ × SourceFault)
+earliest_second_pass_fault lines names = first_fault (second_pass_fault lines names) (length lines)
 
 abbrev pub unless_fault : {A E : Type 0} → Option E → Result A E → Result A E
 unless_fault (Some f) answer = Err f
@@ -254,8 +254,8 @@ unless_fault None answer = answer
 -- lines
 unfoldable pub assembly_of : List (Option SourceLine) → Result (List (ℕ × ℕ)) (ℕ × SourceFault)
 assembly_of lines =
-    unless_fault (first_of_class_one lines)
-    (unless_fault (first_of_class_two lines (all_names lines))
+    unless_fault (earliest_first_pass_fault lines)
+    (unless_fault (earliest_second_pass_fault lines (all_names lines))
     (Ok (pairs_before lines (all_names lines) (length lines))))
 
 -- the (address, byte) pairs that a text emits, in line order, or its first error with its line

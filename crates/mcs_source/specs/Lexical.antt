@@ -22,8 +22,8 @@ abbrev pub symbol : ℕ → Token
 symbol b = if b == 44 then Comma else if b == 58 then Colon else if b == 61 then Equals else Other
 
 -- a byte, with a space on each side if it is neither a word byte nor a blank
-abbrev pub set_apart : ℕ → List ℕ
-set_apart b = if is_word_byte b || is_blank b then b ∷ [] else 32 ∷ b ∷ 32 ∷ []
+abbrev pub with_symbol_spaced : ℕ → List ℕ
+with_symbol_spaced b = if is_word_byte b || is_blank b then b ∷ [] else 32 ∷ b ∷ 32 ∷ []
 
 -- the token for a run of bytes without blanks: a word or a single symbol
 abbrev pub token_of : List ℕ → Token
@@ -33,4 +33,4 @@ token_of (b ∷ word) = if is_word_byte b then Word (b ∷ word) else symbol b
 -- the tokens of a line, without its comment; a comment begins with `;` and ends at the end of the
 -- line
 unfoldable pub tokens : List ℕ → List Token
-tokens line = map token_of (words_of (flat_map set_apart (before_first (λ b. b == 59) line)))
+tokens line = map token_of (words_of (flat_map with_symbol_spaced (before_first (λ b. b == 59) line)))

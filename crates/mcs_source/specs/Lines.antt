@@ -6,7 +6,7 @@ use Rattle.std.specs.Str.{str_eq_ignore_ascii_case}
 use Rattle.std.specs.Char.{is_ascii_digit, is_ascii_uppercase, is_ascii_lowercase}
 use Rattle.std.specs.Int.{is_in_range}
 use Rattle.mcs_source.specs.Lexical.{Token, Word, Comma, Colon, Equals}
-use Rattle.mcs_model.specs.Numerals.{number_written, capped_number}
+use Rattle.mcs_model.specs.Numerals.{number_in_word, capped_number}
 use Rattle.mcs_source.specs.Mnemonics.{mnemonic_of}
 use Rattle.mcs_model.specs.declared.limits.TheConstants.{NAME_BYTES}
 use Rattle.mcs_model.specs.declared.op.Op.{Op}
@@ -37,14 +37,14 @@ begins_name [] = false
 begins_name (b ∷ word) = (is_ascii_uppercase b || is_ascii_lowercase b) || b == 95
 
 -- the number from 0 to 15 that decimal digits spell, or `None`; a leading zero is not allowed
-abbrev pub up_to_15 : List ℕ → Option ℕ
-up_to_15 (d ∷ []) = if is_ascii_digit d then Some (d - 48) else None
-up_to_15 (t ∷ d ∷ []) = if t == 49 && is_in_range 48 53 d then Some (d - 38) else None
-up_to_15 ds = None
+abbrev pub number_up_to_15 : List ℕ → Option ℕ
+number_up_to_15 (d ∷ []) = if is_ascii_digit d then Some (d - 48) else None
+number_up_to_15 (t ∷ d ∷ []) = if t == 49 && is_in_range 48 53 d then Some (d - 38) else None
+number_up_to_15 ds = None
 
 -- the register number of `R0` to `R15` or `r0` to `r15`, or `None` for any other word
 abbrev pub register_named : List ℕ → Option ℕ
-register_named (b ∷ ds) = if b == 82 || b == 114 then up_to_15 ds else None
+register_named (b ∷ ds) = if b == 82 || b == 114 then number_up_to_15 ds else None
 register_named [] = None
 
 -- the pair number of `P0` to `P7` or `p0` to `p7`, or `None` for any other word
@@ -69,12 +69,12 @@ name_of w = if is_name w then Some (Name w) else None
 
 -- the operand for a number, limited to 2^32, if there is a number, else the operand for a name; no
 -- word is both
-abbrev pub number_or : Option ℕ → Option Operand → Option Operand
-number_or (Some n) name = Some (Number (capped_number n))
-number_or None name = name
+abbrev pub number_or_name : Option ℕ → Option Operand → Option Operand
+number_or_name (Some n) name = Some (Number (capped_number n))
+number_or_name None name = name
 
 abbrev pub operand_of : List ℕ → Option Operand
-operand_of w = number_or (number_written w) (name_of w)
+operand_of w = number_or_name (number_in_word w) (name_of w)
 
 -- the word, if there is only one token and it is a word
 abbrev pub word_only : List Token → Option (List ℕ)
@@ -92,7 +92,7 @@ abbrev pub one_operand : List Token → Option Operand
 one_operand ts = word_only ts >>= operand_of
 
 abbrev pub one_number : List Token → Option ℕ
-one_number ts = word_only ts >>= λ w. number_written w >>= λ n. Some (capped_number n)
+one_number ts = word_only ts >>= λ w. number_in_word w >>= λ n. Some (capped_number n)
 
 abbrev pub one_register : List Token → Option ℕ
 one_register ts = word_only ts >>= register_named
@@ -123,29 +123,29 @@ bare_statement o [] = Some (Whole o)
 bare_statement o (t ∷ ts) = None
 
 -- the statement for a mnemonic and the tokens after it, or `None` if the operands do not fit
-abbrev pub after_mnemonic : Mnemonic → List Token → Option Statement
-after_mnemonic m.Org ts = one_number ts >>= λ n. Some (Origin n)
-after_mnemonic m.Db ts = operands_of ts >>= λ vs. Some (Data vs)
-after_mnemonic m.Jcn ts = first_operand ts >>= λ x. one_operand x.1 >>= λ t. Some (Jcn x.0 t)
-after_mnemonic m.Fim ts = first_pair ts >>= λ x. one_operand x.1 >>= λ v. Some (Fim x.0 v)
-after_mnemonic m.Src ts = one_pair ts >>= λ p. Some (Whole (op.Src p))
-after_mnemonic m.Fin ts = one_pair ts >>= λ p. Some (Whole (op.Fin p))
-after_mnemonic m.Jin ts = one_pair ts >>= λ p. Some (Whole (op.Jin p))
-after_mnemonic m.Jun ts = one_operand ts >>= λ t. Some (Jun t)
-after_mnemonic m.Jms ts = one_operand ts >>= λ t. Some (Jms t)
-after_mnemonic m.Inc ts = one_register ts >>= λ r. Some (Whole (op.Inc r))
-after_mnemonic m.Isz ts = first_register ts >>= λ x. one_operand x.1 >>= λ t. Some (Isz x.0 t)
-after_mnemonic m.Add ts = one_register ts >>= λ r. Some (Whole (op.Add r))
-after_mnemonic m.Sub ts = one_register ts >>= λ r. Some (Whole (op.Sub r))
-after_mnemonic m.Ld ts = one_register ts >>= λ r. Some (Whole (op.Ld r))
-after_mnemonic m.Xch ts = one_register ts >>= λ r. Some (Whole (op.Xch r))
-after_mnemonic m.Bbl ts = one_operand ts >>= λ v. Some (Bbl v)
-after_mnemonic m.Ldm ts = one_operand ts >>= λ v. Some (Ldm v)
-after_mnemonic (m.Bare o) ts = bare_statement o ts
+abbrev pub statement_after_mnemonic : Mnemonic → List Token → Option Statement
+statement_after_mnemonic m.Org ts = one_number ts >>= λ n. Some (Origin n)
+statement_after_mnemonic m.Db ts = operands_of ts >>= λ vs. Some (Data vs)
+statement_after_mnemonic m.Jcn ts = first_operand ts >>= λ x. one_operand x.1 >>= λ t. Some (Jcn x.0 t)
+statement_after_mnemonic m.Fim ts = first_pair ts >>= λ x. one_operand x.1 >>= λ v. Some (Fim x.0 v)
+statement_after_mnemonic m.Src ts = one_pair ts >>= λ p. Some (Whole (op.Src p))
+statement_after_mnemonic m.Fin ts = one_pair ts >>= λ p. Some (Whole (op.Fin p))
+statement_after_mnemonic m.Jin ts = one_pair ts >>= λ p. Some (Whole (op.Jin p))
+statement_after_mnemonic m.Jun ts = one_operand ts >>= λ t. Some (Jun t)
+statement_after_mnemonic m.Jms ts = one_operand ts >>= λ t. Some (Jms t)
+statement_after_mnemonic m.Inc ts = one_register ts >>= λ r. Some (Whole (op.Inc r))
+statement_after_mnemonic m.Isz ts = first_register ts >>= λ x. one_operand x.1 >>= λ t. Some (Isz x.0 t)
+statement_after_mnemonic m.Add ts = one_register ts >>= λ r. Some (Whole (op.Add r))
+statement_after_mnemonic m.Sub ts = one_register ts >>= λ r. Some (Whole (op.Sub r))
+statement_after_mnemonic m.Ld ts = one_register ts >>= λ r. Some (Whole (op.Ld r))
+statement_after_mnemonic m.Xch ts = one_register ts >>= λ r. Some (Whole (op.Xch r))
+statement_after_mnemonic m.Bbl ts = one_operand ts >>= λ v. Some (Bbl v)
+statement_after_mnemonic m.Ldm ts = one_operand ts >>= λ v. Some (Ldm v)
+statement_after_mnemonic (m.Bare o) ts = bare_statement o ts
 
 -- the statement that the tokens form, or `None` if they do not form one
 unfoldable pub statement_of : List Token → Option Statement
-statement_of (Word w ∷ ts) = mnemonic_of w >>= λ k. after_mnemonic k ts
+statement_of (Word w ∷ ts) = mnemonic_of w >>= λ k. statement_after_mnemonic k ts
 statement_of ts = None
 
 -- a line that parses: `Code` with an optional label and an optional statement, or `Define` for
@@ -156,18 +156,18 @@ pub data SourceLine : Type 0 where
 
 -- the line with the given label, if any, and the statement that the tokens form; the line has no
 -- statement if there are no tokens
-abbrev pub rest_of : Option (List ℕ) → List Token → Option SourceLine
-rest_of label [] = Some (Code label None)
-rest_of label (t ∷ ts) = statement_of (t ∷ ts) >>= λ s. Some (Code label (Some s))
+abbrev pub code_line : Option (List ℕ) → List Token → Option SourceLine
+code_line label [] = Some (Code label None)
+code_line label (t ∷ ts) = statement_of (t ∷ ts) >>= λ s. Some (Code label (Some s))
 
 -- the line that the tokens form, if they do not begin with a label: the definition of a name, or a
 -- statement
 abbrev pub unlabelled : List Token → Option SourceLine
 unlabelled (Word w ∷ Equals ∷ ts) =
     if is_name w then (one_number ts >>= λ n. Some (Define w n)) else None
-unlabelled ts = rest_of None ts
+unlabelled ts = code_line None ts
 
 -- the line that the tokens form, or `None` if they have no valid form
 abbrev pub line_of : List Token → Option SourceLine
-line_of (Word w ∷ Colon ∷ ts) = if is_name w then rest_of (Some w) ts else None
+line_of (Word w ∷ Colon ∷ ts) = if is_name w then code_line (Some w) ts else None
 line_of ts = unlabelled ts

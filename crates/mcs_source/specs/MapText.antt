@@ -12,8 +12,8 @@ abbrev pub address_or_end_text : ℕ → List ℕ
 address_or_end_text at = if nat_lt at 4096 then address_text at else codes "1000"
 
 -- the header row: the number of line rows and the number of name rows
-abbrev pub head_row : ℕ → ℕ → List ℕ
-head_row lines names = codes "map lines " ++ decimal lines ++ codes " names " ++ decimal names
+abbrev pub header_row : ℕ → ℕ → List ℕ
+header_row lines names = codes "map lines " ++ decimal lines ++ codes " names " ++ decimal names
 
 -- the row of a source line: its number, its address and the number of bytes that it emits
 abbrev pub line_row : ℕ → Span → List ℕ
@@ -32,6 +32,6 @@ name_row name = codes "name " ++ name.0 ++ codes " " ++ address_or_end_text name
 -- the answer to `map` for a survey; lines are numbered from 1
 unfoldable pub survey_text : Survey → List ℕ
 survey_text s =
-    as_line (head_row (length s.spans) (length s.names))
+    as_line (header_row (length s.spans) (length s.names))
     ++ text_of (line_rows 1 s.spans)
     ++ text_of (map name_row s.names)

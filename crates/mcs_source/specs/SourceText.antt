@@ -37,6 +37,6 @@ source_text rom from to = source_of from (range rom from to)
 
 -- Holds if the source of a ROM range assembles without error to exactly the bytes of the range,
 -- each at its address.
-abbrev pub SpellsItself : List ℕ → ℕ → ℕ → Type 0
-SpellsItself rom from to =
+abbrev pub SourceAssemblesBack : List ℕ → ℕ → ℕ → Type 0
+SourceAssemblesBack rom from to =
     assembly_of_text (source_text rom from to) ≡ Ok (from_address from (range rom from to))

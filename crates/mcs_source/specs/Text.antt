@@ -4,35 +4,35 @@ use Rattle.std.specs.Prelude.{ℕ, zero, suc, ◌+◌, ◌-◌, ◌/◌, ◌%◌
 use Rattle.std.specs.Fmt.{decimal}
 use Rattle.mcs_model.specs.declared.op.Op.{Op}
 use Rattle.mcs_model.specs.declared.op.Op.TheVariants.{Jcn, Fim, Src, Fin, Jin, Jun, Jms, Inc, Isz, Add, Sub, Ld, Xch, Bbl, Ldm}
-use Rattle.mcs_model.specs.QueryText.{hex_2, hex_digit}
+use Rattle.mcs_model.specs.QueryText.{two_hex_digits, hex_digit}
 use Rattle.mcs_model.specs.TextLines.{text_of}
 use Rattle.mcs_model.specs.Table.{instruction_of, word_count_of}
-use Rattle.mcs_source.specs.Assembly.{near_page}
+use Rattle.mcs_source.specs.Assembly.{reachable_page}
 use Rattle.mcs_source.specs.InstructionNames.{name}
 
 -- the three hexadecimal digits of an address, from its page and its lower eight bits
 abbrev pub address_digits : ℕ → ℕ → List ℕ
-address_digits page word = hex_digit page ∷ hex_2 word
+address_digits page word = hex_digit page ∷ two_hex_digits word
 
 -- an address as `0xHHH`, from its page and its lower eight bits
 abbrev pub address : ℕ → ℕ → List ℕ
 address page word = codes "0x" ++ address_digits page word
 
 abbrev pub byte_text : ℕ → List ℕ
-byte_text b = codes "DB 0x" ++ hex_2 b
+byte_text b = codes "DB 0x" ++ two_hex_digits b
 
 -- the operands as they follow the mnemonic of an instruction at an address: registers, pairs and
 -- small values in decimal, bytes and addresses in hexadecimal
 abbrev pub operands : ℕ → Op → List ℕ
-operands at (Jcn c b) = codes " " ++ (decimal c ++ (codes ", " ++ address (near_page at) b))
-operands at (Fim p b) = codes " P" ++ (decimal p ++ (codes ", 0x" ++ hex_2 b))
+operands at (Jcn c b) = codes " " ++ (decimal c ++ (codes ", " ++ address (reachable_page at) b))
+operands at (Fim p b) = codes " P" ++ (decimal p ++ (codes ", 0x" ++ two_hex_digits b))
 operands at (Src p) = codes " P" ++ decimal p
 operands at (Fin p) = codes " P" ++ decimal p
 operands at (Jin p) = codes " P" ++ decimal p
 operands at (Jun h b) = codes " " ++ address h b
 operands at (Jms h b) = codes " " ++ address h b
 operands at (Inc r) = codes " R" ++ decimal r
-operands at (Isz r b) = codes " R" ++ (decimal r ++ (codes ", " ++ address (near_page at) b))
+operands at (Isz r b) = codes " R" ++ (decimal r ++ (codes ", " ++ address (reachable_page at) b))
 operands at (Add r) = codes " R" ++ decimal r
 operands at (Sub r) = codes " R" ++ decimal r
 operands at (Ld r) = codes " R" ++ decimal r
@@ -47,12 +47,12 @@ instruction_text at o = name o ++ operands at o
 
 -- The decoded instruction, if the byte b and the bytes `rest` contain all its words. Otherwise
 -- `None`, and b is listed as a single byte: b is not an opcode, or the second word is past the end.
-abbrev pub whole_or_byte : Option Op → ℕ → List ℕ → Option Op
-whole_or_byte None b rest = None
-whole_or_byte (Some o) b rest = if nat_le (word_count_of o) (1 + length rest) then Some o else None
+abbrev pub complete_op : Option Op → ℕ → List ℕ → Option Op
+complete_op None b rest = None
+complete_op (Some o) b rest = if nat_le (word_count_of o) (1 + length rest) then Some o else None
 
 -- The second word, which is the first byte of the list, or 0 if the list is empty. The 0 has no
--- effect, because `whole_or_byte` then accepts only one-word instructions.
+-- effect, because `complete_op` then accepts only one-word instructions.
 abbrev pub second_word : List ℕ → ℕ
 second_word [] = 0
 second_word (c ∷ rest) = c
@@ -60,7 +60,7 @@ second_word (c ∷ rest) = c
 -- the instruction whose first word is b and whose second word, if any, is the first byte of `rest`,
 -- or `None` if b is listed as a single byte
 unfoldable pub op_at : ℕ → List ℕ → Option Op
-op_at b rest = whole_or_byte (instruction_of b (second_word rest)) b rest
+op_at b rest = complete_op (instruction_of b (second_word rest)) b rest
 
 -- the text of a piece of a listing: an instruction, or `DB` and the byte if it is not an
 -- instruction
@@ -76,17 +76,17 @@ piece_size (Some o) = word_count_of o
 
 -- the second word in a listing: two digits, or two spaces if the piece has no second word
 abbrev pub second_column : Option ℕ → List ℕ
-second_column (Some second) = hex_2 second
+second_column (Some second) = two_hex_digits second
 second_column None = codes "  "
 
 -- the second word of a piece, if it has one
-abbrev pub second_of : Option Op → List ℕ → Option ℕ
-second_of piece rest = if nat_lt 1 (piece_size piece) then Some (second_word rest) else None
+abbrev pub second_word_of_piece : Option Op → List ℕ → Option ℕ
+second_word_of_piece piece rest = if nat_lt 1 (piece_size piece) then Some (second_word rest) else None
 
 -- the one or two words of a piece in the form ` BB BB `
 abbrev pub word_columns : ℕ → Option ℕ → List ℕ
 word_columns first second =
-    codes " " ++ (hex_2 first ++ (codes " " ++ (second_column second ++ codes " ")))
+    codes " " ++ (two_hex_digits first ++ (codes " " ++ (second_column second ++ codes " ")))
 
 -- the columns `AAA BB BB ` before the text of a piece
 abbrev pub columns : ℕ → ℕ → Option ℕ → List ℕ
@@ -94,7 +94,7 @@ columns at first second = address_digits (at / 256) (at % 256) ++ word_columns f
 
 -- a line of a listing in the form `AAA BB BB TEXT`
 abbrev pub listing_line : ℕ → ℕ → List ℕ → Option Op → List ℕ
-listing_line at b rest piece = columns at b (second_of piece rest) ++ piece_text at b piece
+listing_line at b rest piece = columns at b (second_word_of_piece piece rest) ++ piece_text at b piece
 
 -- the listing lines for the bytes from an address on, at most `most` lines
 unfoldable pub listing_lines : ℕ → ℕ → List ℕ → List (List ℕ)

@@ -1,5 +1,5 @@
 pub mod Steps
 pub mod Tallies
 pub mod CountLemmas
-pub mod Going
+pub mod RunContinues
 pub mod Parts

@@ -5,53 +5,53 @@ use Rattle.std.proofs.lemmas.Bool.{cases_eq}
 use Rattle.std.proofs.lemmas.List.{append-nil, map-append}
 use Rattle.mcs_model.specs.declared.stop.Stop.{Stop}
 use Rattle.mcs_model.specs.declared.stop.Stop.TheVariants.{Outside, Breakpoint, Watched, Ended}
-use Rattle.mcs_model.specs.Running.{Machine, Stops, is_outside, after_cycles, after_run, at_break, has_changed, stop_at, stop_after, run_length}
+use Rattle.mcs_model.specs.Running.{Machine, StopConditions, is_outside_table, after_cycles, after_run, at_break, has_changed, stop_reason_at, stop_reason_after, run_length}
 use Rattle.mcs_model.proofs.ListLemmas.{find_at}
-use Rattle.mcs_model.proofs.RunLemmas.{cycled-add}
-use Rattle.mcs_probe.specs.Forecast.{Begun, begins, begun_in, begun_within, cycle_at, early_stop, later}
-use Rattle.mcs_trace.proofs.Going.{early-before, none-at-start}
-use Rattle.mcs_trace.proofs.Tallies.{begun-more, begun_at}
+use Rattle.mcs_model.proofs.RunLemmas.{after_cycles-add}
+use Rattle.mcs_probe.specs.Forecast.{BegunInstruction, begins, instructions_begun_in, instructions_begun_within, cycle_at, early_stop_reason, later}
+use Rattle.mcs_trace.proofs.RunContinues.{early-before, none-at-start}
+use Rattle.mcs_trace.proofs.Tallies.{begun-more, instruction_begun_at}
 
 -- ---- the instructions that a run begins
 
-abbrev begun-of : ℕ → Machine → Machine → Begun
+abbrev begun-of : ℕ → Machine → Machine → BegunInstruction
 begun-of k s t = record { cycles = k; before = s; after = t }
 
 -- cycle m + n from s is cycle n of a run that starts after m cycles
 later-cycle : (m n : ℕ) (s : Machine) → cycle_at s (m + n) ≡ later m (cycle_at (after_cycles m s) n)
 later-cycle m n s =
     let next : m + n + 1 ≡ m + (n + 1) = omega arith in
-    ap (λ (t : Machine). begun-of (m + n) t (after_cycles (m + n + 1) s)) (cycled-add m n s)
-    ∙ ap (λ (t : Machine). begun-of (m + n) (after_cycles n (after_cycles m s)) t) (ap (λ j. after_cycles j s) next ∙ cycled-add m (n + 1) s)
+    ap (λ (t : Machine). begun-of (m + n) t (after_cycles (m + n + 1) s)) (after_cycles-add m n s)
+    ∙ ap (λ (t : Machine). begun-of (m + n) (after_cycles n (after_cycles m s)) t) (ap (λ j. after_cycles j s) next ∙ after_cycles-add m (n + 1) s)
 
-later-one : (m : ℕ) (b : Bool) (x : Begun) → cond b (later m x ∷ []) [] ≡ map (later m) (cond b (x ∷ []) [])
+later-one : (m : ℕ) (b : Bool) (x : BegunInstruction) → cond b (later m x ∷ []) [] ≡ map (later m) (cond b (x ∷ []) [])
 later-one m true x = refl
 later-one m false x = refl
 
-later-at : (m n : ℕ) (s : Machine) → begun_at s (m + n) ≡ map (later m) (begun_at (after_cycles m s) n)
+later-at : (m n : ℕ) (s : Machine) → instruction_begun_at s (m + n) ≡ map (later m) (instruction_begun_at (after_cycles m s) n)
 later-at m n s =
-    ap (λ (x : Begun). cond (begins x) (x ∷ []) []) (later-cycle m n s)
+    ap (λ (x : BegunInstruction). cond (begins x) (x ∷ []) []) (later-cycle m n s)
     ∙ later-one m (begins (cycle_at (after_cycles m s) n)) (cycle_at (after_cycles m s) n)
 
-none-later : (m : ℕ) (s : Machine) → begun_within 0 s ≡ []
-unfolding begun_within
+none-later : (m : ℕ) (s : Machine) → instructions_begun_within 0 s ≡ []
+unfolding instructions_begun_within
 none-later m s = refl
 
-pub within-adds : (m n : ℕ) (s : Machine) → begun_within (m + n) s ≡ begun_within m s ++ map (later m) (begun_within n (after_cycles m s))
+pub within-adds : (m n : ℕ) (s : Machine) → instructions_begun_within (m + n) s ≡ instructions_begun_within m s ++ map (later m) (instructions_begun_within n (after_cycles m s))
 within-adds m zero s =
     let same : m + 0 ≡ m = omega arith in
-    ap (λ k. begun_within k s) same ∙ sym (append-nil (begun_within m s)) ∙ ap (λ (l : List Begun). begun_within m s ++ map (later m) l) (sym (none-later m (after_cycles m s)))
+    ap (λ k. instructions_begun_within k s) same ∙ sym (append-nil (instructions_begun_within m s)) ∙ ap (λ (l : List BegunInstruction). instructions_begun_within m s ++ map (later m) l) (sym (none-later m (after_cycles m s)))
 within-adds m (suc n) s =
     let one : m + suc n ≡ m + n + 1 = omega arith in
     let more : suc n ≡ n + 1 = omega arith in
     let t = after_cycles m s in
-    let first = begun_within m s in
-    let second = map (later m) (begun_within n t) in
-    ap (λ k. begun_within k s) one ∙ begun-more (m + n) s
-    ∙ ap (λ (l : List Begun). l ++ begun_at s (m + n)) (within-adds m n s)
-    ∙ ap (λ (l : List Begun). (first ++ second) ++ l) (later-at m n s)
-    ∙ append_assoc first second (map (later m) (begun_at t n))
-    ∙ ap (λ (l : List Begun). first ++ l) (sym (map-append (later m) (begun_within n t) (begun_at t n)) ∙ ap (map (later m)) (sym (begun-more n t) ∙ ap (λ k. begun_within k t) (sym more)))
+    let first = instructions_begun_within m s in
+    let second = map (later m) (instructions_begun_within n t) in
+    ap (λ k. instructions_begun_within k s) one ∙ begun-more (m + n) s
+    ∙ ap (λ (l : List BegunInstruction). l ++ instruction_begun_at s (m + n)) (within-adds m n s)
+    ∙ ap (λ (l : List BegunInstruction). (first ++ second) ++ l) (later-at m n s)
+    ∙ append_assoc first second (map (later m) (instruction_begun_at t n))
+    ∙ ap (λ (l : List BegunInstruction). first ++ l) (sym (map-append (later m) (instructions_begun_within n t) (instruction_begun_at t n)) ∙ ap (map (later m)) (sym (begun-more n t) ∙ ap (λ k. instructions_begun_within k t) (sym more)))
 
 -- ---- the lengths of the two parts
 
@@ -72,17 +72,17 @@ none-of None e = refl
 none-of (Some why) e = absurd (cc)
 
 -- if a run of n cycles executes all of them, nothing stops it before its end
-passed : (stops : Stops) (n : ℕ) (s : Machine) → run_length stops n s ≡ n → (j : ℕ) → j < n → stop_after stops n s j ≡ None
-passed stops n s e j l =
-    none-of (stop_after stops n s j) (none-before (λ k. is_some (stop_after stops n s k)) 0 (n + 1) n j (omega arith) (omega arith) (subst (λ k. j < k) (sym e) l))
+none-before-end : (stops : StopConditions) (n : ℕ) (s : Machine) → run_length stops n s ≡ n → (j : ℕ) → j < n → stop_reason_after stops n s j ≡ None
+none-before-end stops n s e j l =
+    none-of (stop_reason_after stops n s j) (none-before (λ k. is_some (stop_reason_after stops n s k)) 0 (n + 1) n j (omega arith) (omega arith) (subst (λ k. j < k) (sym e) l))
 
 inside-of : (out broken changed ended : Bool) → cond out (Some Outside) (cond broken (Some Breakpoint) (cond changed (Some Watched) (cond ended (Some Ended) None))) ≡ None → out ≡ false
 inside-of true broken changed ended e = absurd (cc)
 inside-of false broken changed ended e = refl
 
 -- if a run does not stop, a cycle is possible
-inside-at : (stops : Stops) (n k : ℕ) (s t : Machine) → stop_at stops n k s t ≡ None → is_outside t ≡ false
-inside-at stops n k s t e = inside-of (is_outside t) (at_break stops.breaks k t) (has_changed stops.watches s t) (eqb k n) e
+inside-at : (stops : StopConditions) (n k : ℕ) (s t : Machine) → stop_reason_at stops n k s t ≡ None → is_outside_table t ≡ false
+inside-at stops n k s t e = inside-of (is_outside_table t) (at_break stops.breaks k t) (has_changed stops.watches s t) (eqb k n) e
 
 some-at-end : (out broken changed ended : Bool) → ended ≡ true → is_some (cond out (Some Outside) (cond broken (Some Breakpoint) (cond changed (Some Watched) (cond ended (Some Ended) None)))) ≡ true
 some-at-end true broken changed ended e = refl
@@ -92,54 +92,54 @@ some-at-end false false false true e = refl
 some-at-end false false false false e = absurd (cc)
 
 -- holds if nothing stops a run of n cycles from s before its end
-record Whole (stops : Stops) (n : ℕ) (s : Machine) : Type 0 where
-  pub inside : 0 < n → is_outside s ≡ false
-  pub early : (j : ℕ) → 0 < j → j < n → early_stop stops (after_cycles (j - 1) s) (after_cycles j s) ≡ None
+record IsUninterrupted (stops : StopConditions) (n : ℕ) (s : Machine) : Type 0 where
+  pub inside : 0 < n → is_outside_table s ≡ false
+  pub early : (j : ℕ) → 0 < j → j < n → early_stop_reason stops (after_cycles (j - 1) s) (after_cycles j s) ≡ None
 
-whole-of : (stops : Stops) (n : ℕ) (s : Machine) → run_length stops n s ≡ n → Whole stops n s
+whole-of : (stops : StopConditions) (n : ℕ) (s : Machine) → run_length stops n s ≡ n → IsUninterrupted stops n s
 whole-of stops n s e = record {
-  inside = λ l. inside-at stops n 0 (after_cycles (0 - 1) s) (after_cycles 0 s) (passed stops n s e 0 l);
-  early = λ j some l. sym (early-before stops n j (after_cycles (j - 1) s) (after_cycles j s) some l) ∙ passed stops n s e j l;
+  inside = λ l. inside-at stops n 0 (after_cycles (0 - 1) s) (after_cycles 0 s) (none-before-end stops n s e 0 l);
+  early = λ j some l. sym (early-before stops n j (after_cycles (j - 1) s) (after_cycles j s) some l) ∙ none-before-end stops n s e j l;
 }
 
-whole-passes : (stops : Stops) (n : ℕ) (s : Machine) → Whole stops n s → (j : ℕ) → j < n → stop_after stops n s j ≡ None
+whole-passes : (stops : StopConditions) (n : ℕ) (s : Machine) → IsUninterrupted stops n s → (j : ℕ) → j < n → stop_reason_after stops n s j ≡ None
 whole-passes stops n s w j l =
     elim (cases_eq j 0) [
-      | inl e ↦ subst (λ i. stop_after stops n s i ≡ None) (sym e) (none-at-start stops n s (omega arith) (w.inside (omega arith)))
+      | inl e ↦ subst (λ i. stop_reason_after stops n s i ≡ None) (sym e) (none-at-start stops n s (omega arith) (w.inside (omega arith)))
       | inr ne ↦ early-before stops n j (after_cycles (j - 1) s) (after_cycles j s) (omega arith) l ∙ w.early j (omega arith) l
     ]
 
 -- if nothing stops a run of n cycles early, the run executes n cycles
-whole-length : (stops : Stops) (n : ℕ) (s : Machine) → Whole stops n s → run_length stops n s ≡ n
+whole-length : (stops : StopConditions) (n : ℕ) (s : Machine) → IsUninterrupted stops n s → run_length stops n s ≡ n
 whole-length stops n s w =
-    let end : is_some (stop_after stops n s n) ≡ true = some-at-end (is_outside (after_cycles n s)) (at_break stops.breaks n (after_cycles n s)) (has_changed stops.watches (after_cycles (n - 1) s) (after_cycles n s)) (eqb n n) (eq-eqb n n refl) in
-    ap (λ o. unwrap_or o n) (find_at (λ k. is_some (stop_after stops n s k)) 0 (n + 1) n (omega arith) (omega arith) (λ j l. ap is_some (whole-passes stops n s w j l)) end)
+    let end : is_some (stop_reason_after stops n s n) ≡ true = some-at-end (is_outside_table (after_cycles n s)) (at_break stops.breaks n (after_cycles n s)) (has_changed stops.watches (after_cycles (n - 1) s) (after_cycles n s)) (eqb n n) (eq-eqb n n refl) in
+    ap (λ o. unwrap_or o n) (find_at (λ k. is_some (stop_reason_after stops n s k)) 0 (n + 1) n (omega arith) (omega arith) (λ j l. ap is_some (whole-passes stops n s w j l)) end)
 
 -- if nothing stops a run of m + n cycles early, nothing stops a run of m cycles early
-whole-first : (stops : Stops) (m n : ℕ) (s : Machine) → Whole stops (m + n) s → Whole stops m s
+whole-first : (stops : StopConditions) (m n : ℕ) (s : Machine) → IsUninterrupted stops (m + n) s → IsUninterrupted stops m s
 whole-first stops m n s w = record {
   inside = λ l. w.inside (omega arith);
   early = λ j some l. w.early j some (omega arith);
 }
 
 -- if a run executes all its m + n cycles, nothing stops a run of n cycles from its machine after m cycles early
-whole-second : (stops : Stops) (m n : ℕ) (s : Machine) → run_length stops (m + n) s ≡ m + n → Whole stops n (after_cycles m s)
+whole-second : (stops : StopConditions) (m n : ℕ) (s : Machine) → run_length stops (m + n) s ≡ m + n → IsUninterrupted stops n (after_cycles m s)
 whole-second stops m n s e = record {
-  inside = λ l. inside-at stops (m + n) m (after_cycles (m - 1) s) (after_cycles m s) (passed stops (m + n) s e m (omega arith));
+  inside = λ l. inside-at stops (m + n) m (after_cycles (m - 1) s) (after_cycles m s) (none-before-end stops (m + n) s e m (omega arith));
   early = λ j some l.
       let back : m + j - 1 ≡ m + (j - 1) = omega arith in
       let w = whole-of stops (m + n) s e in
-      ap (λ (t : Machine). early_stop stops t (after_cycles j (after_cycles m s))) (sym (ap (λ i. after_cycles i s) back ∙ cycled-add m (j - 1) s))
-      ∙ ap (λ (t : Machine). early_stop stops (after_cycles (m + j - 1) s) t) (sym (cycled-add m j s))
+      ap (λ (t : Machine). early_stop_reason stops t (after_cycles j (after_cycles m s))) (sym (ap (λ i. after_cycles i s) back ∙ after_cycles-add m (j - 1) s))
+      ∙ ap (λ (t : Machine). early_stop_reason stops (after_cycles (m + j - 1) s) t) (sym (after_cycles-add m j s))
       ∙ w.early (m + j) (omega arith) (omega arith);
 }
 
-pub begun-add-up : (stops : Stops) (m n : ℕ) (s : Machine) → run_length stops (m + n) s ≡ m + n → begun_in stops (m + n) s ≡ begun_in stops m s ++ map (later m) (begun_in stops n (after_run stops m s))
+pub begun-add-up : (stops : StopConditions) (m n : ℕ) (s : Machine) → run_length stops (m + n) s ≡ m + n → instructions_begun_in stops (m + n) s ≡ instructions_begun_in stops m s ++ map (later m) (instructions_begun_in stops n (after_run stops m s))
 begun-add-up stops m n s e =
     let first : run_length stops m s ≡ m = whole-length stops m s (whole-first stops m n s (whole-of stops (m + n) s e)) in
     let there : after_run stops m s ≡ after_cycles m s = ap (λ k. after_cycles k s) first in
     let second : run_length stops n (after_cycles m s) ≡ n = whole-length stops n (after_cycles m s) (whole-second stops m n s e) in
-    ap (λ k. begun_within k s) e ∙ within-adds m n s
-    ∙ ap (λ k. begun_within k s ++ map (later m) (begun_within n (after_cycles m s))) (sym first)
-    ∙ ap (λ k. begun_in stops m s ++ map (later m) (begun_within k (after_cycles m s))) (sym second)
-    ∙ ap (λ (t : Machine). begun_in stops m s ++ map (later m) (begun_in stops n t)) (sym there)
+    ap (λ k. instructions_begun_within k s) e ∙ within-adds m n s
+    ∙ ap (λ k. instructions_begun_within k s ++ map (later m) (instructions_begun_within n (after_cycles m s))) (sym first)
+    ∙ ap (λ k. instructions_begun_in stops m s ++ map (later m) (instructions_begun_within k (after_cycles m s))) (sym second)
+    ∙ ap (λ (t : Machine). instructions_begun_in stops m s ++ map (later m) (instructions_begun_in stops n t)) (sym there)

@@ -1,8 +1,8 @@
 //! Counts of the instructions that a run would begin at each address.
 ghost use Rattle.std.specs.Prelude.{◌≡◌, ◌<◌, ◌+◌, ◌%◌, ◌==◌, ◌&&◌, not, IfOk, length, slice_index, slice_set, replicate};
 ghost use Rattle.mcs_model.specs.Command.{machine_of, stops_of};
-ghost use Rattle.mcs_bench.specs.Runs.{stop_by};
-ghost use Rattle.mcs_trace.specs.Counted.{IsCounted, one_more};
+ghost use Rattle.mcs_bench.specs.Runs.{stop_reason};
+ghost use Rattle.mcs_trace.specs.RunCounts.{AreCountsOfRun, incremented_if};
 
 use mcs_bench::Bench;
 use mcs_model::regs::Regs;
@@ -42,15 +42,15 @@ fn add_one(numbers: &mut Vec<u32>, at: Addr)
 /// Counts the instruction at `before.pc` in `runs`, and also in `jumps` if `after.pc` is not that address plus 2.
 /// `before` and `after` are the registers before and after the instruction. Counts nothing if a second cycle is
 /// pending in `before`.
-fn note(runs: &mut Vec<u32>, jumps: &mut Vec<u32>, before: &Regs, after: &Regs)
+fn count_instruction(runs: &mut Vec<u32>, jumps: &mut Vec<u32>, before: &Regs, after: &Regs)
     requires runs { length runs.old.items ≡ 4096 }
     requires few_runs { slice_index runs.old.items before.now.pc < u32.MAX }
     requires jumps { length jumps.old.items ≡ 4096 }
     requires few_jumps { slice_index jumps.old.items before.now.pc < u32.MAX }
     ensures runs { runs.new.items
-        ≡ one_more runs.old.items (before.now.owed == 0) before.now.pc }
+        ≡ incremented_if runs.old.items (before.now.owed == 0) before.now.pc }
     ensures jumps { jumps.new.items
-        ≡ one_more jumps.old.items
+        ≡ incremented_if jumps.old.items
         (before.now.owed == 0 && not (after.now.pc == (before.now.pc + 2) % 4096)) before.now.pc }
 {
     if before.owed != 0 {
@@ -73,13 +73,13 @@ fn counts_of(
     jumps: Vec<u32>,
 ) -> Counts
     ensures cycles { result.cycles ≡ cycles }
-    ensures stop { result.stop ≡ stop_by (machine_of bench.now) mark }
+    ensures stop { result.stop ≡ stop_reason (machine_of bench.now) mark }
     ensures runs { result.runs.items ≡ runs.items }
     ensures jumps { result.jumps.items ≡ jumps.items }
 {
     Counts {
         cycles,
-        stop: bench.stop_by(mark),
+        stop: bench.stop_reason(mark),
         runs,
         jumps,
     }
@@ -88,7 +88,7 @@ fn counts_of(
 /// Counts the instructions that a run of at most `n` cycles would begin at each address. The bench does not change.
 /// Fails if memory cannot be allocated.
 pub fn count_run(alloc: Global, n: u32, bench: &Bench) -> Result<Counts, AllocError>
-    ensures { IfOk result (λ counts. IsCounted (stops_of bench.now) n (machine_of bench.now) counts) }
+    ensures { IfOk result (λ counts. AreCountsOfRun (stops_of bench.now) n (machine_of bench.now) counts) }
 {
     let mut runs = zeros(alloc)?;
     let mut jumps = zeros(alloc)?;
@@ -98,10 +98,10 @@ pub fn count_run(alloc: Global, n: u32, bench: &Bench) -> Result<Counts, AllocEr
         let before = copy.regs();
         // The call of `get` gives the prover the range of the address.
         let _at = before.pc.get();
-        match copy.go_on(n - done) {
+        match copy.continue_run(n - done) {
             None => return Ok(counts_of(&copy, done, None, runs, jumps)),
             Some(went) => {
-                note(&mut runs, &mut jumps, &before, &copy.regs());
+                count_instruction(&mut runs, &mut jumps, &before, &copy.regs());
                 done += went.cycles;
                 if let Some(why) = went.mark {
                     return Ok(counts_of(&copy, done, Some(why), runs, jumps));

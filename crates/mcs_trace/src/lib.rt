@@ -5,4 +5,4 @@ mod counting;
 mod laws;
 
 pub use counting::{Counts, count_run};
-pub use laws::begun_add_up;
+pub use laws::instructions_add_up;

@@ -10,11 +10,11 @@ use Rattle.mcs_model.specs.declared.board.KeyMatrix.{KeyMatrix}
 use Rattle.mcs_model.specs.declared.board.Line.{Line}
 use Rattle.mcs_model.specs.declared.board.Line.TheVariants.{Rom, Ram, Chain}
 use Rattle.mcs_model.specs.declared.limits.TheConstants.{BANK_CHIPS, CHAINS, CHAIN_CHIPS, CHAIN_BITS, KEY_ROWS}
-use Rattle.mcs_model.specs.Boards.{any_line, any_chain_line, any_column, any_lamp, lacks_line, exists_on, chain_bits, chain_part, chain_count, no_chain, has_bad_value, has_wrong_direction, in_range, is_chain_size, is_matrix_size}
+use Rattle.mcs_model.specs.Boards.{any_line, any_chain_line, any_column, any_lamp, lacks_line, is_on_board, chain_bits, chain_part, chain_count, no_chain, has_bad_value, has_wrong_direction, in_range, is_chain_size, is_matrix_size}
 use Rattle.mcs_model.specs.Validity.{IsValidBoard}
-use Rattle.mcs_version1.specs.Boards.{in_range_1, is_chain_size_1, is_matrix_size_1, has_bad_matrix_1, has_bad_value_1, is_small, IsValidBoard1}
+use Rattle.mcs_version1.specs.Boards.{in_range_1, is_chain_size_1, is_matrix_size_1, has_bad_matrix_1, has_bad_value_1, is_small_board, IsValidBoard1}
 use Rattle.mcs_model.proofs.ListLemmas.{none_at}
-use Rattle.mcs_model.proofs.SoundBoards.{no_fault, sound}
+use Rattle.mcs_model.proofs.ValidBoardLemmas.{no_fault, sound}
 
 -- ---- tests of all elements of a list
 
@@ -33,7 +33,7 @@ pub record IsSmall (b : BoardParts) : Type 0 where
   pub few : length b.chains.items ≤ 2
   pub short : list_any (λ (c : ChainPart). nat_lt 4 c.chips) b.chains.items ≡ false
 
-small : (b : BoardParts) → is_small b ≡ true → IsSmall b
+small : (b : BoardParts) → is_small_board b ≡ true → IsSmall b
 small b h =
     let w = and_parts (nat_le (length b.chains.items) 2) (not (list_any (λ (c : ChainPart). nat_lt 4 c.chips) b.chains.items)) h in
     record { few = leb-true _ _ w.0; short = not-true _ w.1 }
@@ -48,7 +48,7 @@ short-chain b n s =
 
 -- ---- lines
 
-line-within : (b : BoardParts) → IsSmall b → (line : Line) → not (exists_on b line) ≡ false → not (in_range line) ≡ false → not (in_range_1 line) ≡ false
+line-within : (b : BoardParts) → IsSmall b → (line : Line) → not (is_on_board b line) ≡ false → not (in_range line) ≡ false → not (in_range_1 line) ≡ false
 line-within b s (Rom chip j) there fits = fits
 line-within b s (Ram bank chip j) there fits = fits
 line-within b s (Chain n i) there fits =
@@ -175,7 +175,7 @@ valid-now b h =
     let good : has_bad_value b ≡ false = or_from _ _ (or_from _ _ (or_from _ _ v3.0 sized) matrix) in_ranges in
     record { sized = h.sized; valid = rw (good, w.1, w.2) refl }
 
-pub small-then : (b : BoardParts) → IsValidBoard1 b → is_small b ≡ true
+pub small-then : (b : BoardParts) → IsValidBoard1 b → is_small_board b ≡ true
 small-then b h =
     let w = no_fault (has_bad_value_1 b) (lacks_line b) (has_wrong_direction b) h.valid in
     let large = list_any (λ n. nat_lt BANK_CHIPS n) b.banks in
@@ -187,13 +187,13 @@ small-then b h =
     let short : list_any (λ (c : ChainPart). nat_lt 4 c.chips) b.chains.items ≡ false = any-none (λ (c : ChainPart). not (is_chain_size_1 c)) (λ (c : ChainPart). not (is_chain_size_1 c)) (λ (c : ChainPart). nat_lt 4 c.chips) (λ c x y. size-short c x) b.chains.items v3.1 v3.1 in
     rw (few, short) refl
 
-pub valid-then : (b : BoardParts) → IsValidBoard b → is_small b ≡ true → IsValidBoard1 b
+pub valid-then : (b : BoardParts) → IsValidBoard b → is_small_board b ≡ true → IsValidBoard1 b
 valid-then b h e =
     let s = small b e in
     let now = sound b h.valid in
     let sized = any-none (λ (c : ChainPart). not (is_chain_size c)) (λ (c : ChainPart). nat_lt 4 c.chips) (λ (c : ChainPart). not (is_chain_size_1 c)) (λ c x y. size-within c x y) b.chains.items now.values.chains s.short in
     let matrix = matrix-within b s b.keys now.rows now.values.matrix in
-    let in_ranges = lines-none (λ line. not (exists_on b line)) (λ line. not (in_range line)) (λ line. not (in_range_1 line)) (λ line x y. line-within b s line x y) b now.lines now.values.lines in
+    let in_ranges = lines-none (λ line. not (is_on_board b line)) (λ line. not (in_range line)) (λ line. not (in_range_1 line)) (λ line x y. line-within b s line x y) b now.lines now.values.lines in
     let good : has_bad_value_1 b ≡ false = or_from _ _ (or_from _ _ (or_from _ _ now.values.banks sized) matrix) in_ranges in
     let lacks : lacks_line b ≡ false = or_from _ _ now.lines now.rows in
     record { sized = h.sized; few = s.few; valid = rw (good, lacks, now.directions) refl }

@@ -10,7 +10,7 @@ use Rattle.mcs_model.specs.declared.board.KeyMatrix.{KeyMatrix}
 use Rattle.mcs_model.specs.declared.board.Line.{Line}
 use Rattle.mcs_model.specs.declared.board.Line.TheVariants.{Rom, Ram, Chain}
 use Rattle.mcs_model.specs.declared.limits.TheConstants.{ROMS, BANKS, BANK_CHIPS, KEY_ROWS}
-use Rattle.mcs_model.specs.Boards.{IsSized, any_line, has_wrong_direction, lacks_line}
+use Rattle.mcs_model.specs.Boards.{HasDeclaredLengths, any_line, has_wrong_direction, lacks_line}
 use Rattle.mcs_model.specs.Validity.{IsValidBoard}
 
 -- true if each number that names the line (bank, chip, chain, line or bit) is in range in version 1
@@ -42,8 +42,8 @@ has_bad_value_1 b =
     || any_line (λ line. not (in_range_1 line)) b
 
 -- the first error that version 1 finds in the parts, or none
-abbrev pub fault_of_1 : BoardParts → Option BoardFault
-fault_of_1 b =
+abbrev pub board_fault_of_1 : BoardParts → Option BoardFault
+board_fault_of_1 b =
     if has_bad_value_1 b then Some BadValue
     else if lacks_line b then Some NoSuchLine
     else if has_wrong_direction b then Some WrongDirection
@@ -52,18 +52,18 @@ fault_of_1 b =
 -- holds if version 1 finds no errors in the parts, their lists have the lengths that their types
 -- imply, and there are at most two chains
 pub record IsValidBoard1 (b : BoardParts) : Type 0 where
-  pub sized : IsSized b
+  pub sized : HasDeclaredLengths b
   pub few : length b.chains.items ≤ 2
-  pub valid : fault_of_1 b ≡ None
+  pub valid : board_fault_of_1 b ≡ None
 
 -- true if a board has at most 2 chains of at most 4 chips
-abbrev pub is_small : BoardParts → Bool
-is_small b =
+abbrev pub is_small_board : BoardParts → Bool
+is_small_board b =
     nat_le (length b.chains.items) 2
     && not (list_any (λ chain. nat_lt 4 chain.chips) b.chains.items)
 
 -- Holds if the valid boards of version 1 are exactly the small valid boards of version 2. All other
 -- range limits of version 1 then follow, because the lines and the chain bits of key rows must
 -- exist.
-abbrev pub SmallBoards : Type 0
-SmallBoards = (b : BoardParts) → IsValidBoard1 b ↔ (IsValidBoard b × (is_small b ≡ true))
+abbrev pub Version1BoardsAreSmall : Type 0
+Version1BoardsAreSmall = (b : BoardParts) → IsValidBoard1 b ↔ (IsValidBoard b × (is_small_board b ≡ true))

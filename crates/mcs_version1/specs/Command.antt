@@ -18,8 +18,8 @@ use Rattle.mcs_model.specs.Bus.{BusState, with_ram, with_status}
 use Rattle.mcs_model.specs.Command.{lacks_rom, place_refusal}
 use Rattle.mcs_model.specs.BenchState.{new_regs}
 use Rattle.mcs_model.specs.ChipWrites.{with_rom_byte, with_rom_bytes, with_key, after_reset, after_wire}
-use Rattle.mcs_model.specs.Running.{Machine, step_length, after_step, step_stop}
-use Rattle.mcs_version1.specs.Boards.{is_small}
+use Rattle.mcs_model.specs.Running.{Machine, step_length, after_step, step_stop_reason}
+use Rattle.mcs_version1.specs.Boards.{is_small_board}
 use Rattle.mcs_version1.specs.BenchState.{BenchState1}
 use Rattle.mcs_version1.specs.Running.{run_length_1, after_run_1, run_stop_1}
 
@@ -37,7 +37,7 @@ is_place_1 (Status bank high k n) = true
 
 -- true for the commands of version 1
 abbrev pub in_version_1 : Command → Bool
-in_version_1 (Wire board) = is_small board
+in_version_1 (Wire board) = is_small_board board
 in_version_1 (Poke place) = is_place_1 place
 in_version_1 (Watch bank src) = false
 in_version_1 (Unwatch bank src) = false
@@ -120,5 +120,5 @@ abbrev pub reply_1 : BenchState1 → Command → Reply
 reply_1 s (Load image) = Loaded (length image)
 reply_1 s (Run n) =
     Ran (run_length_1 s.breakpoints n (machine_of_1 s)) (run_stop_1 s.breakpoints n (machine_of_1 s))
-reply_1 s Step = Ran (step_length (machine_of_1 s)) (step_stop (machine_of_1 s))
+reply_1 s Step = Ran (step_length (machine_of_1 s)) (step_stop_reason (machine_of_1 s))
 reply_1 s _ = Done

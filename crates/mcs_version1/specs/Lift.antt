@@ -3,7 +3,7 @@
 use Rattle.std.specs.Prelude.{◌≡◌, [], IsTrue, List}
 use Rattle.mcs_model.specs.declared.command.Command.{Command}
 use Rattle.mcs_model.specs.declared.query.Query.{Query}
-use Rattle.mcs_model.specs.declared.query.Query.TheVariants as asked
+use Rattle.mcs_model.specs.declared.query.Query.TheVariants as version2_query
 use Rattle.mcs_model.specs.Command.{refusal, after, reply}
 use Rattle.mcs_model.specs.BenchState.{BenchState}
 use Rattle.mcs_model.specs.Fold.{fold}
@@ -19,11 +19,11 @@ lift s =
     record { processor = s.processor; bus = s.bus; breakpoints = s.breakpoints; watches = []; seq = s.seq }
 
 abbrev pub lift_query : Query1 → Query
-lift_query Lamps = asked.Lamps
-lift_query Regs = asked.Regs
-lift_query (Ram bank) = asked.Ram bank
-lift_query Breaks = asked.Breaks
-lift_query Seq = asked.Seq
+lift_query Lamps = version2_query.Lamps
+lift_query Regs = version2_query.Regs
+lift_query (Ram bank) = version2_query.Ram bank
+lift_query Breaks = version2_query.Breaks
+lift_query Seq = version2_query.Seq
 
 -- holds if version 2 in the lifted state rejects, executes and answers a command as version 1 does
 pub record IsLifted (s : BenchState1) (c : Command) : Type 0 where

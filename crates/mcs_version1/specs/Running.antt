@@ -4,13 +4,13 @@ use Rattle.std.specs.Prelude.{ℕ, ◌+◌, List, Option, Some, None, is_some, i
 use Rattle.std.specs.List.{range_with_len}
 use Rattle.mcs_model.specs.declared.stop.Stop.{Stop}
 use Rattle.mcs_model.specs.declared.stop.Stop.TheVariants.{Outside, Breakpoint, Ended}
-use Rattle.mcs_model.specs.Running.{Machine, is_outside, after_cycles, at_break}
+use Rattle.mcs_model.specs.Running.{Machine, is_outside_table, after_cycles, at_break}
 
 -- the reason why a run of n cycles stops after k cycles, or none; s is the machine after these k
 -- cycles
 abbrev pub stop_at_1 : List ℕ → ℕ → ℕ → Machine → Option Stop
 stop_at_1 breaks n k s =
-    if is_outside s then Some Outside
+    if is_outside_table s then Some Outside
     else if at_break breaks k s then Some Breakpoint
     else if k == n then Some Ended
     else None

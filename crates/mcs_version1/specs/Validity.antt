@@ -2,7 +2,7 @@
 use Rattle.std.specs.Prelude.{◌≤◌}
 use Rattle.mcs_model.specs.declared.limits.TheConstants.{ACCEPTED_COMMANDS}
 use Rattle.mcs_model.specs.Bus.{BusState}
-use Rattle.mcs_model.specs.Validity.{IsValidRegs, IsInRange, IsAbsentZero, AreBreakpoints}
+use Rattle.mcs_model.specs.Validity.{IsValidRegs, IsInRange, AbsentPartsAreZero, AreBreakpoints}
 use Rattle.mcs_version1.specs.Boards.{IsValidBoard1}
 use Rattle.mcs_version1.specs.BenchState.{BenchState1}
 
@@ -10,7 +10,7 @@ use Rattle.mcs_version1.specs.BenchState.{BenchState1}
 pub record IsValidBus1 (s : BusState) : Type 0 where
   pub board : IsValidBoard1 s.board
   pub in_range : IsInRange s
-  pub absent : IsAbsentZero s
+  pub absent : AbsentPartsAreZero s
 
 pub record IsValid1 (s : BenchState1) : Type 0 where
   pub processor : IsValidRegs s.processor

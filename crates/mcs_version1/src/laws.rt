@@ -1,5 +1,5 @@
 //! Theorems about the definitions. Each theorem is the contract of a function with an empty body.
-ghost use Rattle.mcs_version1.specs.Boards.{SmallBoards};
+ghost use Rattle.mcs_version1.specs.Boards.{Version1BoardsAreSmall};
 ghost use Rattle.mcs_version1.specs.Lift.{CommandsLift, FoldsLift, QueriesLift};
 
 /// Proves that version 2 in the lifted state rejects, executes and answers each command of version 1 as version 1
@@ -17,5 +17,5 @@ pub fn queries_lift()
 /// Proves that the valid boards of version 1 are the valid boards of version 2 with at most two chains of at most
 /// four chips each.
 pub fn boards_are_small()
-    ensures { SmallBoards }
+    ensures { Version1BoardsAreSmall }
 {}

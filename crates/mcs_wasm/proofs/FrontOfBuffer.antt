@@ -13,6 +13,6 @@ abbrev pub answers_of : (file input : List ℕ) (end : ShellEnd) (output : List 
 answers_of file input end output left count buffer buffer' after served room counted front rest is = record {
   whole = served.whole;
   within = omega (arith, counted, room);
-  served = record { left = left; went = rw front served.went; kept = record { honest = tt; bytes = sym is } };
+  served = record { left = left; run_on_file = rw front served.run_on_file; disk_bytes = record { honest = tt; bytes = sym is } };
   rest = rest;
 }

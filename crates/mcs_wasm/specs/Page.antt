@@ -8,9 +8,9 @@ use Rattle.mcs_disk.specs.States.{IsFresh, mem_disk_state}
 use Rattle.mcs_disk.specs.declared.memory.MemDisk.{MemDisk}
 use Rattle.mcs_wasm.specs.declared.fault.ServeFault.{ServeFault}
 use Rattle.mcs_wasm.specs.declared.fault.ServeFault.TheVariants.{Refused, NoRoom}
-use Rattle.mcs_session.specs.Opening.{RefusesSession}
+use Rattle.mcs_session.specs.Opening.{SessionErrorImplies}
 use Rattle.mcs_session.specs.SessionState.{SessionView}
-use Rattle.mcs_session.specs.StandsFor.{HoldsState, StandsByEither, StandsFor}
+use Rattle.mcs_session.specs.Represents.{HoldsState, RepresentsInEitherVersion, Represents}
 use Rattle.mcs_shell.specs.Program.{OpenBegins}
 use Rattle.mcs_shell.specs.Shell.{RanShell}
 use Rattle.mcs_shell.specs.ShellState.{shell_state}
@@ -24,13 +24,13 @@ pub record HasBytes (file : List ℕ) (disk : DiskState) : Type 0 where
 
 -- holds if these bytes represent the state of a new bench
 abbrev pub IsNewFile : List ℕ → Type 0
-IsNewFile file = StandsFor file new_bench_state
+IsNewFile file = Represents file new_bench_state
 
 -- Holds if a session resumes the session in a file: `open` opened it on a fresh disk with the file's bytes.
 pub record ResumesSession (file : List ℕ) (session : SessionView MemDisk) : Type 0 where
   pub disk : MemDisk
-  pub held : IsFresh file (mem_disk_state disk)
-  pub begun : OpenBegins (mem_disk_state disk) (mem_disk_state session.disk) session.live
+  pub fresh_disk : IsFresh file (mem_disk_state disk)
+  pub opened : OpenBegins (mem_disk_state disk) (mem_disk_state session.disk) session.live
       session.state
 
 -- Holds if a shell resumed the session in a file, read this input, wrote these answers, and ended with
@@ -47,21 +47,21 @@ pub record RunsOnFile (file input : List ℕ) (end : ShellEnd) (answers : List �
 -- bytes `after`.
 pub record ServesFile (file input : List ℕ) (end : ShellEnd) (answers after : List ℕ) : Type 0 where
   pub left : SessionView MemDisk
-  pub went : RunsOnFile file input end answers left
-  pub kept : HasBytes after (mem_disk_state left.disk)
+  pub run_on_file : RunsOnFile file input end answers left
+  pub disk_bytes : HasBytes after (mem_disk_state left.disk)
 
 -- holds if a shell with this end served all of its input, or as much as the input limit allows
-abbrev pub IsServedWhole : ShellEnd → Type 0
-IsServedWhole End = Unit {0}
-IsServedWhole InputLimit = Unit {0}
-IsServedWhole end = ⊥
+abbrev pub IsAllServed : ShellEnd → Type 0
+IsAllServed End = Unit {0}
+IsAllServed InputLimit = Unit {0}
+IsAllServed end = ⊥
 
 -- Holds if a shell served all of its input, or as much as the input limit allows, with these answers. It
 -- ended with the session `left`, which is open and whose disk has the size of the file.
 pub record ServesAllInput (file input : List ℕ) (end : ShellEnd) (answers : List ℕ)
     (left : SessionView MemDisk) : Type 0 where
-  pub whole : IsServedWhole end
-  pub went : RunsOnFile file input end answers left
+  pub whole : IsAllServed end
+  pub run_on_file : RunsOnFile file input end answers left
   pub is_open : IsTrue left.live
   pub size : size_of (mem_disk_state left.disk) ≡ length file
 
@@ -69,7 +69,7 @@ pub record ServesAllInput (file input : List ℕ) (end : ShellEnd) (answers : Li
 -- the buffer is unchanged. The session's disk then has the bytes `after`.
 pub record AnswersInBuffer (file input : List ℕ) (end : ShellEnd) (count : ℕ)
     (buffer buffer' after : List ℕ) : Type 0 where
-  pub whole : IsServedWhole end
+  pub whole : IsAllServed end
   pub within : count ≤ length buffer
   pub served : ServesFile file input end (take count buffer') after
   pub rest : drop count buffer' ≡ drop count buffer
@@ -81,12 +81,12 @@ IsFileRefused store_fault.NoMemory file = Unit {0}
 IsFileRefused store_fault.Device file = ⊥
 IsFileRefused store_fault.NotBlank file = ⊥
 IsFileRefused fault file = (disk : MemDisk) × IsFresh file (mem_disk_state disk)
-    × RefusesSession fault (mem_disk_state disk)
+    × SessionErrorImplies fault (mem_disk_state disk)
 
 -- Holds if serving this input gives answers of `count` bytes, more than the `room` bytes of the buffer.
 pub record LacksBufferRoom (file input : List ℕ) (count room : ℕ) : Type 0 where
   pub end : ShellEnd
-  pub whole : IsServedWhole end
+  pub whole : IsAllServed end
   pub answers : List ℕ
   pub after : List ℕ
   pub served : ServesFile file input end answers after
@@ -94,21 +94,21 @@ pub record LacksBufferRoom (file input : List ℕ) (count room : ℕ) : Type 0 w
   pub short : room < count
 
 -- holds if this fault can be the reason why the input was not served
-abbrev pub IsWhyNotServed : ServeFault → List ℕ → List ℕ → ℕ → Type 0
-IsWhyNotServed (Refused fault) file input room = IsFileRefused fault file
-IsWhyNotServed (NoRoom count) file input room = LacksBufferRoom file input count room
+abbrev pub IsServeFault : ServeFault → List ℕ → List ℕ → ℕ → Type 0
+IsServeFault (Refused fault) file input room = IsFileRefused fault file
+IsServeFault (NoRoom count) file input room = LacksBufferRoom file input count room
 
 -- Holds if a session's disk represents the session's state, and these bytes hold a snapshot of that state
 -- and no records.
 pub record SettlesTo (session : SessionView MemDisk) (file : List ℕ) : Type 0 where
-  pub stood : StandsFor (bytes_of (mem_disk_state session.disk)) session.state
+  pub disk_represents_state : Represents (bytes_of (mem_disk_state session.disk)) session.state
   pub holds : HoldsState file session.state
 
 -- Holds if the old bytes of a file represented a state, and the new bytes hold a snapshot of that state
 -- and no records.
-pub record StandsForSameState (old new : List ℕ) : Type 0 where
+pub record RepresentsSameState (old new : List ℕ) : Type 0 where
   pub state : BenchState
-  pub before : StandsByEither old state
+  pub before : RepresentsInEitherVersion old state
   pub after : HoldsState new state
 
 -- Holds if the input was served as in AnswersInBuffer, and a snapshot of the resulting state then replaced
@@ -117,7 +117,7 @@ pub record AnswersAndSettles (file input : List ℕ) (end : ShellEnd) (count : �
     (buffer buffer' after : List ℕ) : Type 0 where
   pub between : List ℕ
   pub answers : AnswersInBuffer file input end count buffer buffer' between
-  pub settled : StandsForSameState between after
+  pub settled : RepresentsSameState between after
   pub same : settled.state ≡ answers.served.left.state
 
 -- Holds if serving the input would give these answers. The resulting file is not specified.

@@ -49,7 +49,7 @@ pub(crate) fn write_back(disk: &MemDisk, file: &mut [u8])
 
 /// Replaces the records of an open session with a snapshot, and copies the session's disk to a file of the same size.
 /// This cannot fail, because an in-memory disk has no device faults.
-pub(crate) fn settle_into(mut session: Session<MemDisk>, file: &mut [u8])
+pub(crate) fn snapshot_into(mut session: Session<MemDisk>, file: &mut [u8])
     requires open { IsTrue session.live }
     requires size { length file.old ≡ size_of (mem_disk_state session.disk) }
     ensures settled { SettlesTo session file.new }

@@ -1,10 +1,10 @@
 //! The bench's calls for a page in a browser.
 ghost use Rattle.std.specs.Prelude.{◌≡◌, ◌≤◌, ◌↔◌, drop, length, take, IfErr, IfOk, IsTrue, OnErr, OnOk};
 ghost use Rattle.mcs_wasm.specs.Page.{AnswersInBuffer, AnswersAndSettles, ServesAllInput, IsNewFile, IsFileRefused};
-ghost use Rattle.mcs_wasm.specs.Page.{IsServedWhole, IsWhyNotServed, StandsForSameState, WouldAnswer};
+ghost use Rattle.mcs_wasm.specs.Page.{IsAllServed, IsServeFault, RepresentsSameState, WouldAnswer};
 ghost use Rattle.mcs_journal.specs.declared.format.TheConstants.{FILE_SIZE};
 
-use crate::disks::{resume, settle_into, write_back};
+use crate::disks::{resume, snapshot_into, write_back};
 use crate::fault::ServeFault;
 use mcs_disk::MemDisk;
 use mcs_journal::{FILE_SIZE, StoreFault};
@@ -24,7 +24,7 @@ pub struct ServedInput {
 
 /// A session that has served input, and its answers.
 #[derive(Drop)]
-struct Answered {
+struct ServedSession {
     session: Session<MemDisk>,
     end: ShellEnd,
     output: Vec<u8>,
@@ -34,19 +34,19 @@ struct Answered {
 pub fn begin(alloc: Global, file: &mut [u8]) -> Result<(), AllocError>
     requires size { length file.old ≡ FILE_SIZE }
     ensures made { OnOk result (IsNewFile file.new) }
-    ensures stays { OnErr result (file.new ≡ file.old) }
+    ensures unchanged { OnErr result (file.new ≡ file.old) }
 {
     let disk = MemDisk::new(alloc, FILE_SIZE)?;
-    let Ok(begun) = Session::create(alloc, disk) else {
+    let Ok(opened) = Session::create(alloc, disk) else {
         return Err(AllocError);
     };
-    write_back(&begun.into_disk(), file);
+    write_back(&opened.into_disk(), file);
     Ok(())
 }
 
 /// Returns true if the shell served all of its input, or as much as the input limit allows.
-fn is_whole(end: ShellEnd) -> bool
-    ensures { IsTrue result ↔ IsServedWhole end }
+fn is_all_served(end: ShellEnd) -> bool
+    ensures { IsTrue result ↔ IsAllServed end }
 {
     match end {
         ShellEnd::End | ShellEnd::InputLimit => true,
@@ -58,11 +58,16 @@ fn is_whole(end: ShellEnd) -> bool
 
 /// Resumes the session in a file, on a copy of the file's bytes, and serves the input lines. Fails if the bytes do
 /// not hold a session, if memory runs out, or if the answers have more than `room` bytes.
-fn serve_on(alloc: Global, file: &[u8], input: &[u8], room: usize) -> Result<Answered, ServeFault>
+fn serve_copy(
+    alloc: Global,
+    file: &[u8],
+    input: &[u8],
+    room: usize,
+) -> Result<ServedSession, ServeFault>
     ensures served { IfOk result (λ a.
         ServesAllInput file.now input.now a.end a.output.items a.session) }
     ensures room { IfOk result (λ a. length a.output.items ≤ room) }
-    ensures refused { IfErr result (λ why. IsWhyNotServed why file.now input.now room) }
+    ensures refused { IfErr result (λ why. IsServeFault why file.now input.now room) }
 {
     let mut session = match resume(alloc, file) {
         Ok(session) => session,
@@ -72,13 +77,13 @@ fn serve_on(alloc: Global, file: &[u8], input: &[u8], room: usize) -> Result<Ans
     let mut output = Vec::new(alloc);
     let end = run_shell(alloc, &mut reader, &mut output, &mut session);
     // Every other end means that memory ran out: a slice, a vector and an in-memory disk cannot fail otherwise.
-    if !is_whole(end) {
+    if !is_all_served(end) {
         return Err(ServeFault::Refused(StoreFault::NoMemory));
     }
     if room < output.len() {
         return Err(ServeFault::NoRoom(output.len()));
     }
-    Ok(Answered {
+    Ok(ServedSession {
         session,
         end,
         output,
@@ -86,7 +91,7 @@ fn serve_on(alloc: Global, file: &[u8], input: &[u8], room: usize) -> Result<Ans
 }
 
 /// Copies answers to the front of a buffer, and returns their number of bytes. The answers must fit into the buffer.
-pub fn put_in_front(buffer: &mut [u8], answers: &[u8]) -> usize
+pub fn copy_to_front(buffer: &mut [u8], answers: &[u8]) -> usize
     requires room { length answers.now ≤ length buffer.old }
     ensures count { result ≡ length answers.now }
     ensures answers { take result buffer.new ≡ answers.now }
@@ -112,19 +117,19 @@ pub fn serve(
         AnswersInBuffer file.old input.now served.end served.count
         answers.old answers.new file.new) }
     ensures refused { IfErr result (λ why.
-        IsWhyNotServed why file.old input.now (length answers.old)) }
-    ensures stays { OnErr result ((file.new ≡ file.old) × (answers.new ≡ answers.old)) }
+        IsServeFault why file.old input.now (length answers.old)) }
+    ensures unchanged { OnErr result ((file.new ≡ file.old) × (answers.new ≡ answers.old)) }
 {
-    let Answered {
+    let ServedSession {
         session,
         end,
         output,
-    } = match serve_on(alloc, file, input, answers.len()) {
+    } = match serve_copy(alloc, file, input, answers.len()) {
         Ok(answered) => answered,
         Err(why) => return Err(why),
     };
     write_back(&session.into_disk(), file);
-    let count = put_in_front(answers, &output);
+    let count = copy_to_front(answers, &output);
     Ok(ServedInput { end, count })
 }
 
@@ -141,19 +146,19 @@ pub fn serve_and_settle(
     ensures served { IfOk result (λ served. AnswersAndSettles file.old input.now served.end
         served.count answers.old answers.new file.new) }
     ensures refused { IfErr result (λ why.
-        IsWhyNotServed why file.old input.now (length answers.old)) }
-    ensures stays { OnErr result ((file.new ≡ file.old) × (answers.new ≡ answers.old)) }
+        IsServeFault why file.old input.now (length answers.old)) }
+    ensures unchanged { OnErr result ((file.new ≡ file.old) × (answers.new ≡ answers.old)) }
 {
-    let Answered {
+    let ServedSession {
         session,
         end,
         output,
-    } = match serve_on(alloc, file, input, answers.len()) {
+    } = match serve_copy(alloc, file, input, answers.len()) {
         Ok(answered) => answered,
         Err(why) => return Err(why),
     };
-    settle_into(session, file);
-    let count = put_in_front(answers, &output);
+    snapshot_into(session, file);
+    let count = copy_to_front(answers, &output);
     Ok(ServedInput { end, count })
 }
 
@@ -168,18 +173,18 @@ pub fn ask(
     ensures served { IfOk result (λ served. WouldAnswer file.now input.now served.end served.count
         answers.old answers.new) }
     ensures refused { IfErr result (λ why.
-        IsWhyNotServed why file.now input.now (length answers.old)) }
-    ensures stays { OnErr result (answers.new ≡ answers.old) }
+        IsServeFault why file.now input.now (length answers.old)) }
+    ensures unchanged { OnErr result (answers.new ≡ answers.old) }
 {
-    let Answered {
+    let ServedSession {
         session: _,
         end,
         output,
-    } = match serve_on(alloc, file, input, answers.len()) {
+    } = match serve_copy(alloc, file, input, answers.len()) {
         Ok(answered) => answered,
         Err(why) => return Err(why),
     };
-    let count = put_in_front(answers, &output);
+    let count = copy_to_front(answers, &output);
     Ok(ServedInput { end, count })
 }
 
@@ -187,14 +192,14 @@ pub fn ask(
 /// then replays no commands. Fails if the bytes do not hold a session (refusals 50 and 51) or if memory runs out
 /// (refusal 90). The file is then unchanged.
 pub fn settle(alloc: Global, file: &mut [u8]) -> Result<(), StoreFault>
-    ensures settled { OnOk result (StandsForSameState file.old file.new) }
+    ensures settled { OnOk result (RepresentsSameState file.old file.new) }
     ensures refused { IfErr result (λ fault. IsFileRefused fault file.old) }
-    ensures stays { OnErr result (file.new ≡ file.old) }
+    ensures unchanged { OnErr result (file.new ≡ file.old) }
 {
     let session = match resume(alloc, file) {
         Ok(session) => session,
         Err(fault) => return Err(fault),
     };
-    settle_into(session, file);
+    snapshot_into(session, file);
     Ok(())
 }

@@ -6,11 +6,11 @@ use Rattle.mcs_model.specs.declared.limits.TheConstants.{ROMS, BANKS, CHAINS, KE
 use Rattle.mcs_wiring.specs.Wiring.{has_too_many, values_at, column_values}
 use Rattle.mcs_wiring.specs.Flaws.{IsWithinLimits}
 
-below_all : (a b c d e : ℕ) → ((((ltb ROMS a || ltb BANKS b) || ltb CHAINS c) || ltb KEY_COLUMNS d) || ltb LAMPS e) ≡ false
+all_within_limits : (a b c d e : ℕ) → ((((ltb ROMS a || ltb BANKS b) || ltb CHAINS c) || ltb KEY_COLUMNS d) || ltb LAMPS e) ≡ false
     → (a ≤ ROMS) × (b ≤ BANKS) × (c ≤ CHAINS) × (d ≤ KEY_COLUMNS) × (e ≤ LAMPS)
-below_all a b c d e h = (grind (arith, nat_tests), grind (arith, nat_tests), grind (arith, nat_tests), grind (arith, nat_tests), grind (arith, nat_tests))
+all_within_limits a b c d e h = (grind (arith, nat_tests), grind (arith, nat_tests), grind (arith, nat_tests), grind (arith, nat_tests), grind (arith, nat_tests))
 
 pub within : (ms : Members) → has_too_many ms ≡ false → IsWithinLimits ms
 within ms h =
-    let all = below_all (length (values_at (codes "rom") ms)) (length (values_at (codes "ram") ms)) (length (values_at (codes "chain") ms)) (length (column_values ms)) (length (values_at (codes "lamp") ms)) h in
+    let all = all_within_limits (length (values_at (codes "rom") ms)) (length (values_at (codes "ram") ms)) (length (values_at (codes "chain") ms)) (length (column_values ms)) (length (values_at (codes "lamp") ms)) h in
     record { roms = all.0; banks = all.1; chains = all.2; columns = all.3; lamps = all.4 }

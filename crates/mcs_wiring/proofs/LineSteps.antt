@@ -20,52 +20,52 @@ one_line (b ∷ text) e =
 
 -- `split_once` at a line feed gives the first line and the rest; the lines of the text are that
 -- line and the lines of the rest
-pub first_line_is : (text : List ℕ) (r : Option (Bor (List ℕ) × Bor (List ℕ))) → IsSplitOnceResult 10 text r
+pub first_line_splits_off : (text : List ℕ) (r : Option (Bor (List ℕ) × Bor (List ℕ))) → IsSplitOnceResult 10 text r
     → MatchOption r (slice_split is_line_feed text ≡ text ∷ []) (λ x. (slice_split is_line_feed text ≡ x.0.now ∷ slice_split is_line_feed x.1.now) × (length x.1.now < length text))
-first_line_is text None h = one_line text (split_once_first 10 text None h (omega arith))
-first_line_is text (Some x) h =
+first_line_splits_off text None h = one_line text (split_once_first 10 text None h (omega arith))
+first_line_splits_off text (Some x) h =
     let m = split_once_first 10 text (Some x) h (omega arith) in (
       slice_split_first is_line_feed text 0 m.0 ∙ (ap (λ (l : List ℕ). l ∷ slice_split is_line_feed (after_first is_line_feed text)) (sym m.1) ∙ ap (λ (l : List ℕ). x.0.now ∷ slice_split is_line_feed l) (sym m.2)),
       omega (arith, ap length m.2 ∙ length-drop (position_or_len is_line_feed text + 1) text, m.0),
     )
 
-some_line : (text : List ℕ) → 0 < length (slice_split is_line_feed text)
-some_line text = omega (arith, length-slice_split is_line_feed text)
+has_a_line : (text : List ℕ) → 0 < length (slice_split is_line_feed text)
+has_a_line text = omega (arith, length-slice_split is_line_feed text)
 
-more_from : (holds : List ℕ → Bool) (n : ℕ) (before line : List ℕ) (ls : List (List ℕ)) → 0 < length ls → line_from holds n before (line ∷ ls) ≡ (if holds (before ++ as_line line) then n else line_from holds (n + 1) (before ++ as_line line) ls)
-more_from holds n before line [] some = absurd (omega (arith, some))
-more_from holds n before line (next ∷ ls) some = refl
+line_from_next : (holds : List ℕ → Bool) (n : ℕ) (before line : List ℕ) (ls : List (List ℕ)) → 0 < length ls → line_from holds n before (line ∷ ls) ≡ (if holds (before ++ as_line line) then n else line_from holds (n + 1) (before ++ as_line line) ls)
+line_from_next holds n before line [] some = absurd (omega (arith, some))
+line_from_next holds n before line (next ∷ ls) some = refl
 
-more_after : (holds : List ℕ → Bool) (n found : ℕ) (before line : List ℕ) (ls : List (List ℕ)) → 0 < length ls → line_after holds n found before (line ∷ ls) ≡ line_after holds (n + 1) (if holds (before ++ as_line line) then n + 1 else found) (before ++ as_line line) ls
-more_after holds n found before line [] some = absurd (omega (arith, some))
-more_after holds n found before line (next ∷ ls) some = refl
+line_after_next : (holds : List ℕ → Bool) (n found : ℕ) (before line : List ℕ) (ls : List (List ℕ)) → 0 < length ls → line_after holds n found before (line ∷ ls) ≡ line_after holds (n + 1) (if holds (before ++ as_line line) then n + 1 else found) (before ++ as_line line) ls
+line_after_next holds n found before line [] some = absurd (omega (arith, some))
+line_after_next holds n found before line (next ∷ ls) some = refl
 
 -- `line_from` after one more line: the number of that line if `holds` is true of the text so far,
 -- else the result for the lines after it
-pub from_step : (holds : List ℕ → Bool) (n : ℕ) (before rest line after more : List ℕ) → slice_split is_line_feed rest ≡ line ∷ slice_split is_line_feed after → more ≡ before ++ as_line line
+pub line_from_step : (holds : List ℕ → Bool) (n : ℕ) (before rest line after more : List ℕ) → slice_split is_line_feed rest ≡ line ∷ slice_split is_line_feed after → more ≡ before ++ as_line line
     → line_from holds n before (slice_split is_line_feed rest) ≡ (if holds more then n else line_from holds (n + 1) more (slice_split is_line_feed after))
-from_step holds n before rest line after more cut is =
-    ap (line_from holds n before) cut ∙ (more_from holds n before line (slice_split is_line_feed after) (some_line after)
+line_from_step holds n before rest line after more cut is =
+    ap (line_from holds n before) cut ∙ (line_from_next holds n before line (slice_split is_line_feed after) (has_a_line after)
     ∙ ap (λ (m : List ℕ). if holds m then n else line_from holds (n + 1) m (slice_split is_line_feed after)) (sym is))
 
-pub after_step : (holds : List ℕ → Bool) (n found : ℕ) (before rest line after more : List ℕ) → slice_split is_line_feed rest ≡ line ∷ slice_split is_line_feed after → more ≡ before ++ as_line line
+pub line_after_step : (holds : List ℕ → Bool) (n found : ℕ) (before rest line after more : List ℕ) → slice_split is_line_feed rest ≡ line ∷ slice_split is_line_feed after → more ≡ before ++ as_line line
     → line_after holds n found before (slice_split is_line_feed rest) ≡ line_after holds (n + 1) (if holds more then n + 1 else found) more (slice_split is_line_feed after)
-after_step holds n found before rest line after more cut is =
-    ap (line_after holds n found before) cut ∙ (more_after holds n found before line (slice_split is_line_feed after) (some_line after)
+line_after_step holds n found before rest line after more cut is =
+    ap (line_after holds n found before) cut ∙ (line_after_next holds n found before line (slice_split is_line_feed after) (has_a_line after)
     ∙ ap (λ (m : List ℕ). line_after holds (n + 1) (if holds m then n + 1 else found) m (slice_split is_line_feed after)) (sym is))
 
 -- the loop invariant after a line for which `holds` is false
-pub from_more : (holds : List ℕ → Bool) (n whole : ℕ) (before rest line after more : List ℕ) (b : Bool) → slice_split is_line_feed rest ≡ line ∷ slice_split is_line_feed after → more ≡ before ++ as_line line → b ≡ holds more → b ≡ false
+pub line_from_continues : (holds : List ℕ → Bool) (n whole : ℕ) (before rest line after more : List ℕ) (b : Bool) → slice_split is_line_feed rest ≡ line ∷ slice_split is_line_feed after → more ≡ before ++ as_line line → b ≡ holds more → b ≡ false
     → line_from holds n before (slice_split is_line_feed rest) ≡ whole → line_from holds (n + 1) more (slice_split is_line_feed after) ≡ whole
-from_more holds n whole before rest line after more b cut is test fails inv =
-    sym (from_step holds n before rest line after more cut is ∙ ap (λ t. if t then n else line_from holds (n + 1) more (slice_split is_line_feed after)) (sym test ∙ fails)) ∙ inv
+line_from_continues holds n whole before rest line after more b cut is test fails inv =
+    sym (line_from_step holds n before rest line after more cut is ∙ ap (λ t. if t then n else line_from holds (n + 1) more (slice_split is_line_feed after)) (sym test ∙ fails)) ∙ inv
 
-pub after_yes : (holds : List ℕ → Bool) (n found whole : ℕ) (before rest line after more : List ℕ) (b : Bool) → slice_split is_line_feed rest ≡ line ∷ slice_split is_line_feed after → more ≡ before ++ as_line line → b ≡ holds more → b ≡ true
+pub line_after_found : (holds : List ℕ → Bool) (n found whole : ℕ) (before rest line after more : List ℕ) (b : Bool) → slice_split is_line_feed rest ≡ line ∷ slice_split is_line_feed after → more ≡ before ++ as_line line → b ≡ holds more → b ≡ true
     → line_after holds n found before (slice_split is_line_feed rest) ≡ whole → line_after holds (n + 1) (n + 1) more (slice_split is_line_feed after) ≡ whole
-after_yes holds n found whole before rest line after more b cut is test held inv =
-    sym (after_step holds n found before rest line after more cut is ∙ ap (λ t. line_after holds (n + 1) (if t then n + 1 else found) more (slice_split is_line_feed after)) (sym test ∙ held)) ∙ inv
+line_after_found holds n found whole before rest line after more b cut is test held inv =
+    sym (line_after_step holds n found before rest line after more cut is ∙ ap (λ t. line_after holds (n + 1) (if t then n + 1 else found) more (slice_split is_line_feed after)) (sym test ∙ held)) ∙ inv
 
-pub after_no : (holds : List ℕ → Bool) (n found whole : ℕ) (before rest line after more : List ℕ) (b : Bool) → slice_split is_line_feed rest ≡ line ∷ slice_split is_line_feed after → more ≡ before ++ as_line line → b ≡ holds more → b ≡ false
+pub line_after_not_found : (holds : List ℕ → Bool) (n found whole : ℕ) (before rest line after more : List ℕ) (b : Bool) → slice_split is_line_feed rest ≡ line ∷ slice_split is_line_feed after → more ≡ before ++ as_line line → b ≡ holds more → b ≡ false
     → line_after holds n found before (slice_split is_line_feed rest) ≡ whole → line_after holds (n + 1) found more (slice_split is_line_feed after) ≡ whole
-after_no holds n found whole before rest line after more b cut is test fails inv =
-    sym (after_step holds n found before rest line after more cut is ∙ ap (λ t. line_after holds (n + 1) (if t then n + 1 else found) more (slice_split is_line_feed after)) (sym test ∙ fails)) ∙ inv
+line_after_not_found holds n found whole before rest line after more b cut is test fails inv =
+    sym (line_after_step holds n found before rest line after more cut is ∙ ap (λ t. line_after holds (n + 1) (if t then n + 1 else found) more (slice_split is_line_feed after)) (sym test ∙ fails)) ∙ inv

@@ -9,12 +9,12 @@ use Rattle.mcs_model.specs.declared.board.Line.TheVariants.{Rom, Ram, Chain}
 use Rattle.mcs_model.specs.declared.limits.TheConstants.{ROMS, BANKS, BANK_CHIPS, CHAINS, CHAIN_BITS}
 use Rattle.mcs_model.specs.Boards.{in_range}
 use Rattle.mcs_wiring.specs.LineNames.{line_name, line_named, masks_named, port_name}
-use Rattle.mcs_nibble.proofs.PortLemmas.{mask_again}
+use Rattle.mcs_nibble.proofs.PortLemmas.{mask_of-mask_character}
 
 -- ---- ports
 
-pub port_back : (m0 m1 m2 m3 : LineMask) → masks_named (port_name (m0 ∷ m1 ∷ m2 ∷ m3 ∷ [])) ≡ Some (m0 ∷ m1 ∷ m2 ∷ m3 ∷ [])
-port_back m0 m1 m2 m3 = rw (mask_again m0, mask_again m1, mask_again m2, mask_again m3) refl
+pub port_text_parses_back : (m0 m1 m2 m3 : LineMask) → masks_named (port_name (m0 ∷ m1 ∷ m2 ∷ m3 ∷ [])) ≡ Some (m0 ∷ m1 ∷ m2 ∷ m3 ∷ [])
+port_text_parses_back m0 m1 m2 m3 = rw (mask_of-mask_character m0, mask_of-mask_character m1, mask_of-mask_character m2, mask_of-mask_character m3) refl
 
 -- ---- lines: a test of every line in range, by computation
 
@@ -24,79 +24,79 @@ same_line (Some (Ram a b c)) (Ram d e f) = (eqb a d && eqb b e) && eqb c f
 same_line (Some (Chain a b)) (Chain c d) = eqb a c && eqb b d
 same_line o l = false
 
-abbrev is_read_back : Line → Bool
-is_read_back l = same_line (line_named (line_name l)) l
+abbrev parses_back : Line → Bool
+parses_back l = same_line (line_named (line_name l)) l
 
-roms_back : list_all (λ chip. list_all (λ k. is_read_back (Rom chip k)) (range_with_len 0 4)) (range_with_len 0 ROMS) ≡ true
+rom_lines_parse_back : list_all (λ chip. list_all (λ k. parses_back (Rom chip k)) (range_with_len 0 4)) (range_with_len 0 ROMS) ≡ true
 unfolding digits
-roms_back = refl
+rom_lines_parse_back = refl
 
-rams_back : list_all (λ bank. list_all (λ chip. list_all (λ k. is_read_back (Ram bank chip k)) (range_with_len 0 4)) (range_with_len 0 BANK_CHIPS)) (range_with_len 0 BANKS) ≡ true
+ram_lines_parse_back : list_all (λ bank. list_all (λ chip. list_all (λ k. parses_back (Ram bank chip k)) (range_with_len 0 4)) (range_with_len 0 BANK_CHIPS)) (range_with_len 0 BANKS) ≡ true
 unfolding digits
-rams_back = refl
+ram_lines_parse_back = refl
 
-chains_back : list_all (λ n. list_all (λ i. is_read_back (Chain n i)) (range_with_len 0 CHAIN_BITS)) (range_with_len 0 CHAINS) ≡ true
+chain_lines_parse_back : list_all (λ n. list_all (λ i. parses_back (Chain n i)) (range_with_len 0 CHAIN_BITS)) (range_with_len 0 CHAINS) ≡ true
 unfolding digits
-chains_back = refl
+chain_lines_parse_back = refl
 
 -- ---- from the test of all lines to each line
 
-each_from : (p : ℕ → Bool) (a n k : ℕ) → list_all p (range_with_len a n) ≡ true → k < n → p (a + k) ≡ true
-each_from p a zero k h lt = absurd (omega arith)
-each_from p a (suc n) zero h lt =
+each_in_range_from : (p : ℕ → Bool) (a n k : ℕ) → list_all p (range_with_len a n) ≡ true → k < n → p (a + k) ≡ true
+each_in_range_from p a zero k h lt = absurd (omega arith)
+each_in_range_from p a (suc n) zero h lt =
     let (here, _) = and_parts (p a) (list_all p (range_with_len (a + 1) n)) h in
     let same : a + 0 ≡ a = omega arith in
     ap p same ∙ here
-each_from p a (suc n) (suc k) h lt =
+each_in_range_from p a (suc n) (suc k) h lt =
     let (_, later) = and_parts (p a) (list_all p (range_with_len (a + 1) n)) h in
     let same : a + suc k ≡ (a + 1) + k = omega arith in
-    ap p same ∙ each_from p (a + 1) n k later (omega arith)
+    ap p same ∙ each_in_range_from p (a + 1) n k later (omega arith)
 
-each : (p : ℕ → Bool) (n k : ℕ) → list_all p (range_with_len 0 n) ≡ true → ltb k n ≡ true → p k ≡ true
-each p n k h below =
+each_below_limit : (p : ℕ → Bool) (n k : ℕ) → list_all p (range_with_len 0 n) ≡ true → ltb k n ≡ true → p k ≡ true
+each_below_limit p n k h below =
     let lt : k < n = ltb-true k n below in
     let same : k ≡ 0 + k = omega arith in
-    ap p same ∙ each_from p 0 n k h lt
+    ap p same ∙ each_in_range_from p 0 n k h lt
 
-same_is : (o : Option Line) (l : Line) → same_line o l ≡ true → o ≡ Some l
-same_is None (Rom c d) h = absurd (false≢true h)
-same_is None (Ram d e f) h = absurd (false≢true h)
-same_is None (Chain c d) h = absurd (false≢true h)
-same_is (Some (Rom a b)) (Rom c d) h =
+same_line_is_equal : (o : Option Line) (l : Line) → same_line o l ≡ true → o ≡ Some l
+same_line_is_equal None (Rom c d) h = absurd (false≢true h)
+same_line_is_equal None (Ram d e f) h = absurd (false≢true h)
+same_line_is_equal None (Chain c d) h = absurd (false≢true h)
+same_line_is_equal (Some (Rom a b)) (Rom c d) h =
     let (x, y) = and_parts (eqb a c) (eqb b d) h in
     let p : a ≡ c = eqb-true a c x in
     let q : b ≡ d = eqb-true b d y in
     cc
-same_is (Some (Rom a b)) (Ram d e f) h = absurd (false≢true h)
-same_is (Some (Rom a b)) (Chain c d) h = absurd (false≢true h)
-same_is (Some (Ram a b c)) (Rom d e) h = absurd (false≢true h)
-same_is (Some (Ram a b c)) (Ram d e f) h =
+same_line_is_equal (Some (Rom a b)) (Ram d e f) h = absurd (false≢true h)
+same_line_is_equal (Some (Rom a b)) (Chain c d) h = absurd (false≢true h)
+same_line_is_equal (Some (Ram a b c)) (Rom d e) h = absurd (false≢true h)
+same_line_is_equal (Some (Ram a b c)) (Ram d e f) h =
     let (xy, z) = and_parts (eqb a d && eqb b e) (eqb c f) h in
     let (x, y) = and_parts (eqb a d) (eqb b e) xy in
     let p : a ≡ d = eqb-true a d x in
     let q : b ≡ e = eqb-true b e y in
     let r : c ≡ f = eqb-true c f z in
     cc
-same_is (Some (Ram a b c)) (Chain d e) h = absurd (false≢true h)
-same_is (Some (Chain a b)) (Rom c d) h = absurd (false≢true h)
-same_is (Some (Chain a b)) (Ram d e f) h = absurd (false≢true h)
-same_is (Some (Chain a b)) (Chain c d) h =
+same_line_is_equal (Some (Ram a b c)) (Chain d e) h = absurd (false≢true h)
+same_line_is_equal (Some (Chain a b)) (Rom c d) h = absurd (false≢true h)
+same_line_is_equal (Some (Chain a b)) (Ram d e f) h = absurd (false≢true h)
+same_line_is_equal (Some (Chain a b)) (Chain c d) h =
     let (x, y) = and_parts (eqb a c) (eqb b d) h in
     let p : a ≡ c = eqb-true a c x in
     let q : b ≡ d = eqb-true b d y in
     cc
 
-pub line_back : (l : Line) → in_range l ≡ true → line_named (line_name l) ≡ Some l
-line_back (Rom chip k) h =
+pub line_name_parses_back : (l : Line) → in_range l ≡ true → line_named (line_name l) ≡ Some l
+line_name_parses_back (Rom chip k) h =
     let (x, y) = and_parts (ltb chip ROMS) (ltb k 4) h in
-    same_is _ (Rom chip k) (each (λ j. is_read_back (Rom chip j)) 4 k (each (λ c. list_all (λ j. is_read_back (Rom c j)) (range_with_len 0 4)) ROMS chip roms_back x) y)
-line_back (Ram bank chip k) h =
+    same_line_is_equal _ (Rom chip k) (each_below_limit (λ j. parses_back (Rom chip j)) 4 k (each_below_limit (λ c. list_all (λ j. parses_back (Rom c j)) (range_with_len 0 4)) ROMS chip rom_lines_parse_back x) y)
+line_name_parses_back (Ram bank chip k) h =
     let (xy, z) = and_parts (ltb bank BANKS && ltb chip BANK_CHIPS) (ltb k 4) h in
     let (x, y) = and_parts (ltb bank BANKS) (ltb chip BANK_CHIPS) xy in
-    let in_bank = each (λ b. list_all (λ c. list_all (λ j. is_read_back (Ram b c j)) (range_with_len 0 4)) (range_with_len 0 BANK_CHIPS)) BANKS bank rams_back x in
-    let in_chip = each (λ c. list_all (λ j. is_read_back (Ram bank c j)) (range_with_len 0 4)) BANK_CHIPS chip in_bank y in
-    same_is _ (Ram bank chip k) (each (λ j. is_read_back (Ram bank chip j)) 4 k in_chip z)
-line_back (Chain n i) h =
+    let in_bank = each_below_limit (λ b. list_all (λ c. list_all (λ j. parses_back (Ram b c j)) (range_with_len 0 4)) (range_with_len 0 BANK_CHIPS)) BANKS bank ram_lines_parse_back x in
+    let in_chip = each_below_limit (λ c. list_all (λ j. parses_back (Ram bank c j)) (range_with_len 0 4)) BANK_CHIPS chip in_bank y in
+    same_line_is_equal _ (Ram bank chip k) (each_below_limit (λ j. parses_back (Ram bank chip j)) 4 k in_chip z)
+line_name_parses_back (Chain n i) h =
     let (x, y) = and_parts (ltb n CHAINS) (ltb i CHAIN_BITS) h in
-    let in_chain = each (λ c. list_all (λ j. is_read_back (Chain c j)) (range_with_len 0 CHAIN_BITS)) CHAINS n chains_back x in
-    same_is _ (Chain n i) (each (λ j. is_read_back (Chain n j)) CHAIN_BITS i in_chain y)
+    let in_chain = each_below_limit (λ c. list_all (λ j. parses_back (Chain c j)) (range_with_len 0 CHAIN_BITS)) CHAINS n chain_lines_parse_back x in
+    same_line_is_equal _ (Chain n i) (each_below_limit (λ j. parses_back (Chain n j)) CHAIN_BITS i in_chain y)

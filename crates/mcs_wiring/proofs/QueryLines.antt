@@ -13,5 +13,5 @@ joined_lines x (y ∷ ys) =
     append_assoc x (10 ∷ join_with_byte 10 (y ∷ ys)) (10 ∷ [])
     ∙ (ap (λ t. x ++ 10 ∷ t) (joined_lines y ys) ∙ sym (append_assoc x (10 ∷ []) more))
 
-pub query_text_is : (b : BoardParts) → query_text b ++ 10 ∷ [] ≡ as_line (codes "board") ++ board_text b
-query_text_is b = joined_lines (codes "board") (board_lines b)
+pub query_text_equals_board_text : (b : BoardParts) → query_text b ++ 10 ∷ [] ≡ as_line (codes "board") ++ board_text b
+query_text_equals_board_text b = joined_lines (codes "board") (board_lines b)

@@ -9,7 +9,7 @@ use Rattle.mcs_model.specs.declared.board.ChainPart.{ChainPart}
 use Rattle.mcs_model.specs.declared.board.KeyMatrix.{KeyMatrix}
 use Rattle.mcs_model.specs.declared.board.Line.{Line}
 use Rattle.mcs_model.specs.declared.limits.TheConstants.{ROMS, BANKS}
-use Rattle.mcs_model.specs.Boards.{masks_on}
+use Rattle.mcs_model.specs.Boards.{rom_masks}
 use Rattle.mcs_model.specs.TextLines.{line_feed, text_of}
 use Rattle.mcs_wiring.specs.LineNames.{line_name, port_name}
 
@@ -60,7 +60,7 @@ lamp_lines line = codes "[[lamp]]" ∷ entry (codes "line") (quoted_name line) �
 -- chains, key matrix, lamps
 abbrev pub board_lines : BoardParts → List (List ℕ)
 board_lines b =
-    flat_map (λ chip. rom_lines chip (masks_on b chip)) (range_with_len 0 ROMS)
+    flat_map (λ chip. rom_lines chip (rom_masks b chip)) (range_with_len 0 ROMS)
     ++ (flat_map (λ bank. bank_lines bank (slice_index b.banks bank)) (range_with_len 0 BANKS)
     ++ (flat_map chain_lines b.chains.items
     ++ (option_map_or matrix_lines b.keys []

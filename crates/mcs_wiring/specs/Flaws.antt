@@ -5,7 +5,7 @@ use Rattle.toml.specs.Data.{Data, Members}
 use Rattle.mcs_model.specs.declared.limits.TheConstants.{ROMS, BANKS, CHAINS, KEY_COLUMNS, LAMPS}
 use Rattle.mcs_model.specs.declared.board.BoardFault.{BoardFault}
 use Rattle.mcs_model.specs.declared.board.BoardParts.{BoardParts}
-use Rattle.mcs_model.specs.Boards.{lacks_line, has_wrong_direction, masks_on}
+use Rattle.mcs_model.specs.Boards.{lacks_line, has_wrong_direction, rom_masks}
 use Rattle.mcs_wiring.specs.declared.fault.WiringFault.{WiringFault}
 use Rattle.mcs_wiring.specs.declared.fault.WiringFault.TheVariants.{DoubleChip, NoSuchLine, WrongDirection}
 use Rattle.mcs_wiring.specs.declared.sections.Flaw.{Flaw}
@@ -14,12 +14,12 @@ use Rattle.mcs_wiring.specs.declared.sections.Section.{Section}
 use Rattle.mcs_wiring.specs.RefusalNumbers.{refusal_of}
 use Rattle.mcs_wiring.specs.BoardText.{rom_lines, bank_lines}
 use Rattle.mcs_model.specs.TextLines.{text_of}
-use Rattle.mcs_wiring.specs.Wiring.{has_other_key, lacks_key, is_malformed, values_at, column_values, has_double_chip, parts_in}
+use Rattle.mcs_wiring.specs.Wiring.{entry_has_unknown_key, entry_lacks_key, is_malformed, values_at, column_values, has_double_chip, parts_in}
 
 -- true if a section entry has the flaw
 abbrev pub has_flaw : Flaw → Section → Data → Bool
-has_flaw UnknownKey = has_other_key
-has_flaw MissingKey = lacks_key
+has_flaw UnknownKey = entry_has_unknown_key
+has_flaw MissingKey = entry_lacks_key
 has_flaw BadValue = is_malformed
 
 -- Holds if there are no more parts of one kind than a board can have.
@@ -33,7 +33,7 @@ pub record IsWithinLimits (ms : Members) : Type 0 where
 -- `rom_text`: the text for one ROM. `roms_text`: the text for the ROMs below n. `ram_text` and
 -- `rams_text`: the same for RAM banks.
 abbrev pub rom_text : BoardParts → ℕ → List ℕ
-rom_text b chip = text_of (rom_lines chip (masks_on b chip))
+rom_text b chip = text_of (rom_lines chip (rom_masks b chip))
 
 abbrev pub roms_text : BoardParts → ℕ → List ℕ
 roms_text b n = flat_map (rom_text b) (range_with_len 0 n)
@@ -45,9 +45,9 @@ abbrev pub rams_text : BoardParts → ℕ → List ℕ
 rams_text b n = flat_map (ram_text b) (range_with_len 0 n)
 
 -- the given parts, or the error of a board text if the parts have a fault
-abbrev pub judgement_of : BoardParts → Option BoardFault → Result BoardParts WiringFault
-judgement_of parts None = Ok parts
-judgement_of parts (Some fault) = Err (refusal_of fault)
+abbrev pub board_or_error : BoardParts → Option BoardFault → Result BoardParts WiringFault
+board_or_error parts None = Ok parts
+board_or_error parts (Some fault) = Err (refusal_of fault)
 
 -- `board_of_parts` applies checks 25 and 26 to parts whose numbers are in range.
 -- `board_within_limits` applies checks 24, 25 and 26 to a table that has passed checks 21, 22, 23

@@ -3,15 +3,15 @@
 use Rattle.std.specs.Option.{option_copied}
 use Rattle.mcs_wiring.specs.declared.fault.WiringFault.{WiringFault}
 use Rattle.mcs_wiring.specs.declared.fault.WiringFault.TheVariants.{DoubleChip, NoSuchLine, WrongDirection}
-use Rattle.mcs_wiring.specs.declared.flawed.Part as code
+use Rattle.mcs_wiring.specs.declared.flawed_part.Part as code
 use Rattle.mcs_wiring.specs.Parts.{Part}
 
 abbrev pub part_view : code.Part → Part
 part_view p = record { section = p.section; number = p.number; key = option_copied p.key }
 
 -- Holds for errors 24, 25 and 26, which can involve several tables.
-abbrev pub IsOfParts : WiringFault → Type 0
-IsOfParts DoubleChip = Unit {0}
-IsOfParts NoSuchLine = Unit {0}
-IsOfParts WrongDirection = Unit {0}
-IsOfParts fault = ⊥
+abbrev pub IsPartsError : WiringFault → Type 0
+IsPartsError DoubleChip = Unit {0}
+IsPartsError NoSuchLine = Unit {0}
+IsPartsError WrongDirection = Unit {0}
+IsPartsError fault = ⊥

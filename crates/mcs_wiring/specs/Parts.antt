@@ -13,7 +13,7 @@ use Rattle.mcs_model.specs.declared.board.ChainPart.{ChainPart}
 use Rattle.mcs_model.specs.declared.board.KeyMatrix.{KeyMatrix}
 use Rattle.mcs_model.specs.declared.board.Line.{Line}
 use Rattle.mcs_model.specs.declared.limits.TheConstants.{ROMS, BANKS, BANK_CHIPS, CHAINS, CHAIN_BITS, CHAIN_CHIPS, KEY_COLUMNS, KEY_ROWS, LAMPS}
-use Rattle.mcs_model.specs.Boards.{chain_bits, chain_count, exists_on, is_input_line, is_output_line}
+use Rattle.mcs_model.specs.Boards.{chain_bits, chain_count, is_on_board, is_input_line, is_output_line}
 use Rattle.mcs_model.specs.Options.{◌>>=◌}
 use Rattle.mcs_model.specs.TextLines.{as_line, is_line_feed}
 use Rattle.mcs_wiring.specs.declared.fault.WiringFault.{WiringFault}
@@ -23,8 +23,8 @@ use Rattle.mcs_wiring.specs.declared.sections.Flaw.TheVariants.{UnknownKey, Miss
 use Rattle.mcs_wiring.specs.declared.sections.Numbered.{Numbered}
 use Rattle.mcs_wiring.specs.declared.sections.Section.{Section}
 use Rattle.mcs_wiring.specs.declared.sections.Section.TheVariants.{Rom, Ram, Chain, Keys, Lamp}
-use Rattle.mcs_wiring.specs.declared.flawed.LineFlaw.{LineFlaw}
-use Rattle.mcs_wiring.specs.declared.flawed.LineFlaw.TheVariants.{Missing, NoOutput, NoInput, Input}
+use Rattle.mcs_wiring.specs.declared.flawed_part.LineFlaw.{LineFlaw}
+use Rattle.mcs_wiring.specs.declared.flawed_part.LineFlaw.TheVariants.{Missing, NotOutput, NotInput, Input}
 use Rattle.mcs_wiring.specs.Flaws.{has_flaw}
 use Rattle.mcs_wiring.specs.Format.{sections, section_key, table_keys, is_board_key, is_table_key}
 use Rattle.mcs_wiring.specs.LineNames.{masks_named}
@@ -39,86 +39,86 @@ pub record Part : Type 0 where
   pub number : Option ℕ
   pub key : Option (List ℕ)
 
-abbrev pub at_key : List ℕ → Part
-at_key key = record { section = None; number = None; key = Some key }
+abbrev pub part_at_key : List ℕ → Part
+part_at_key key = record { section = None; number = None; key = Some key }
 
-abbrev pub at_section : Section → Part
-at_section s = record { section = Some s; number = None; key = None }
+abbrev pub part_at_section : Section → Part
+part_at_section s = record { section = Some s; number = None; key = None }
 
 abbrev pub table_number : Section → ℕ → Option ℕ
 table_number Keys i = None
 table_number s i = Some (i + 1)
 
 -- the part for the table with index i, from 0, in a section; `key` is the key at fault, if any
-abbrev pub at_table : Section → ℕ → Option (List ℕ) → Part
-at_table s i key = record { section = Some s; number = table_number s i; key = key }
+abbrev pub part_at_table : Section → ℕ → Option (List ℕ) → Part
+part_at_table s i key = record { section = Some s; number = table_number s i; key = key }
 
 -- ---- errors 21, 22 and 23: the first table that has the flaw, and its first key at fault
 
-abbrev pub other_key : Section → Members → Option (List ℕ)
-other_key s ms = find (λ key. not (is_table_key s key)) (keys_of ms)
+abbrev pub first_unknown_table_key : Section → Members → Option (List ℕ)
+first_unknown_table_key s ms = find (λ key. not (is_table_key s key)) (keys_of ms)
 
-abbrev pub missing_key : Section → Members → Option (List ℕ)
-missing_key s ms = find (λ key. is_none (get_member key ms)) (table_keys s)
+abbrev pub first_missing_key : Section → Members → Option (List ℕ)
+first_missing_key s ms = find (λ key. is_none (get_member key ms)) (table_keys s)
 
 -- the key if the condition is true, else `next`
-abbrev pub if_bad : Bool → List ℕ → Option (List ℕ) → Option (List ℕ)
-if_bad true key next = Some key
-if_bad false key next = next
+abbrev pub key_if_bad : Bool → List ℕ → Option (List ℕ) → Option (List ℕ)
+key_if_bad true key next = Some key
+key_if_bad false key next = next
 
-abbrev pub bad_key : Section → Members → Option (List ℕ)
-bad_key Rom ms =
-    if_bad (is_none (number_at (codes "chip") 0 (ROMS - 1) ms)) (codes "chip")
-    (if_bad (is_none (get_member (codes "port") ms >>= as_str >>= masks_named)) (codes "port") None)
-bad_key Ram ms =
-    if_bad (is_none (number_at (codes "bank") 0 (BANKS - 1) ms)) (codes "bank")
-    (if_bad (is_none (number_at (codes "chips") 1 BANK_CHIPS ms)) (codes "chips") None)
-bad_key Chain ms =
-    if_bad (is_none (line_at (codes "clock") ms)) (codes "clock")
-    (if_bad (is_none (line_at (codes "data") ms)) (codes "data")
-    (if_bad (is_none (number_at (codes "chips") 1 CHAIN_CHIPS ms)) (codes "chips") None))
-bad_key Keys ms =
-    if_bad (is_none (number_at (codes "chain") 0 (CHAINS - 1) ms)) (codes "chain")
-    (if_bad (is_none (number_at (codes "first") 0 (CHAIN_BITS - 1) ms)) (codes "first")
-    (if_bad (is_none (number_at (codes "rows") 1 KEY_ROWS ms)) (codes "rows")
-    (if_bad (has_bad_columns ms) (codes "columns") None)))
-bad_key Lamp ms = if_bad (is_none (line_at (codes "line") ms)) (codes "line") None
+abbrev pub first_bad_key : Section → Members → Option (List ℕ)
+first_bad_key Rom ms =
+    key_if_bad (is_none (number_at (codes "chip") 0 (ROMS - 1) ms)) (codes "chip")
+    (key_if_bad (is_none (get_member (codes "port") ms >>= as_str >>= masks_named)) (codes "port") None)
+first_bad_key Ram ms =
+    key_if_bad (is_none (number_at (codes "bank") 0 (BANKS - 1) ms)) (codes "bank")
+    (key_if_bad (is_none (number_at (codes "chips") 1 BANK_CHIPS ms)) (codes "chips") None)
+first_bad_key Chain ms =
+    key_if_bad (is_none (line_at (codes "clock") ms)) (codes "clock")
+    (key_if_bad (is_none (line_at (codes "data") ms)) (codes "data")
+    (key_if_bad (is_none (number_at (codes "chips") 1 CHAIN_CHIPS ms)) (codes "chips") None))
+first_bad_key Keys ms =
+    key_if_bad (is_none (number_at (codes "chain") 0 (CHAINS - 1) ms)) (codes "chain")
+    (key_if_bad (is_none (number_at (codes "first") 0 (CHAIN_BITS - 1) ms)) (codes "first")
+    (key_if_bad (is_none (number_at (codes "rows") 1 KEY_ROWS ms)) (codes "rows")
+    (key_if_bad (has_bad_columns ms) (codes "columns") None)))
+first_bad_key Lamp ms = key_if_bad (is_none (line_at (codes "line") ms)) (codes "line") None
 
 -- the first key to which the flaw applies in a table of a section
-abbrev pub key_in_table : Flaw → Section → Members → Option (List ℕ)
-key_in_table UnknownKey s ms = other_key s ms
-key_in_table MissingKey s ms = missing_key s ms
-key_in_table BadValue s ms = bad_key s ms
+abbrev pub flawed_key_in_table : Flaw → Section → Members → Option (List ℕ)
+flawed_key_in_table UnknownKey s ms = first_unknown_table_key s ms
+flawed_key_in_table MissingKey s ms = first_missing_key s ms
+flawed_key_in_table BadValue s ms = first_bad_key s ms
 
-abbrev pub flawed_key : Flaw → Section → Data → Option (List ℕ)
-flawed_key f s (table ms) = key_in_table f s ms
-flawed_key f s d = None
+abbrev pub first_flawed_key : Flaw → Section → Data → Option (List ℕ)
+first_flawed_key f s (table ms) = flawed_key_in_table f s ms
+first_flawed_key f s d = None
 
 -- the part for the first value in the list that has the flaw; i is the index of the list's head
-abbrev pub flawed_from : Flaw → Section → ℕ → List Data → Option Part
-flawed_from f s i [] = None
-flawed_from f s i (d ∷ ds) =
-    if has_flaw f s d then Some (at_table s i (flawed_key f s d)) else flawed_from f s (i + 1) ds
+abbrev pub first_flawed_from : Flaw → Section → ℕ → List Data → Option Part
+first_flawed_from f s i [] = None
+first_flawed_from f s i (d ∷ ds) =
+    if has_flaw f s d then Some (part_at_table s i (first_flawed_key f s d)) else first_flawed_from f s (i + 1) ds
 
-abbrev pub flawed_in : Flaw → Members → Section → Option Part
-flawed_in f ms s = flawed_from f s 0 (section_values s ms)
+abbrev pub first_flawed_in : Flaw → Members → Section → Option Part
+first_flawed_in f ms s = first_flawed_from f s 0 (section_values s ms)
 
 -- the first part that the function `part` finds, section by section
 abbrev pub first_of : (Section → Option Part) → List Section → Option Part
 first_of part [] = None
 first_of part (s ∷ ss) = option_or (part s) (first_of part ss)
 
-abbrev pub flawed : Flaw → Members → Option Part
-flawed f ms = first_of (flawed_in f ms) sections
+abbrev pub flawed_part : Flaw → Members → Option Part
+flawed_part f ms = first_of (first_flawed_in f ms) sections
 
-abbrev pub unknown_key : Members → Option Part
-unknown_key ms =
-    option_or (option_map at_key (find (λ key. not (is_board_key key)) (keys_of ms)))
-    (flawed UnknownKey ms)
+abbrev pub unknown_key_part : Members → Option Part
+unknown_key_part ms =
+    option_or (option_map part_at_key (find (λ key. not (is_board_key key)) (keys_of ms)))
+    (flawed_part UnknownKey ms)
 
-abbrev pub bad_value : Members → Option Part
-bad_value ms =
-    option_or (option_map at_section (find (lacks_array ms) sections)) (flawed BadValue ms)
+abbrev pub bad_value_part : Members → Option Part
+bad_value_part ms =
+    option_or (option_map part_at_section (find (lacks_array ms) sections)) (flawed_part BadValue ms)
 
 -- ---- error 27: the first table beyond the limit or, for columns, the key `columns`
 
@@ -126,108 +126,108 @@ abbrev pub part_if : Bool → Part → Option Part → Option Part
 part_if true part next = Some part
 part_if false part next = next
 
-abbrev pub too_many : Members → Option Part
-too_many ms =
-    part_if (nat_lt ROMS (length (values_at (codes "rom") ms))) (at_table Rom ROMS None)
-    (part_if (nat_lt BANKS (length (values_at (codes "ram") ms))) (at_table Ram BANKS None)
-    (part_if (nat_lt CHAINS (length (values_at (codes "chain") ms))) (at_table Chain CHAINS None)
-    (part_if (nat_lt KEY_COLUMNS (length (column_values ms))) (at_table Keys 0 (Some (codes "columns")))
-    (part_if (nat_lt LAMPS (length (values_at (codes "lamp") ms))) (at_table Lamp LAMPS None) None))))
+abbrev pub excess_part : Members → Option Part
+excess_part ms =
+    part_if (nat_lt ROMS (length (values_at (codes "rom") ms))) (part_at_table Rom ROMS None)
+    (part_if (nat_lt BANKS (length (values_at (codes "ram") ms))) (part_at_table Ram BANKS None)
+    (part_if (nat_lt CHAINS (length (values_at (codes "chain") ms))) (part_at_table Chain CHAINS None)
+    (part_if (nat_lt KEY_COLUMNS (length (column_values ms))) (part_at_table Keys 0 (Some (codes "columns")))
+    (part_if (nat_lt LAMPS (length (values_at (codes "lamp") ms))) (part_at_table Lamp LAMPS None) None))))
 
 -- ---- error 24: the first table with the same number as an earlier table
 
 -- the index of the first part whose number is in `seen` or belongs to an earlier part of the list;
 -- i is the index of the list's head
-abbrev pub repeated_from : {A : Type 0} → List ℕ → ℕ → List (Numbered A) → Option ℕ
-repeated_from seen i [] = None
-repeated_from seen i (p ∷ ps) =
+abbrev pub first_repeated_from : {A : Type 0} → List ℕ → ℕ → List (Numbered A) → Option ℕ
+first_repeated_from seen i [] = None
+first_repeated_from seen i (p ∷ ps) =
     if list_any (λ n. n == p.number) seen then Some i
-    else repeated_from (p.number ∷ seen) (i + 1) ps
+    else first_repeated_from (p.number ∷ seen) (i + 1) ps
 
-abbrev pub double_in : {A B : Type 0} → List (Numbered A) → List (Numbered B) → Option Part
-double_in roms rams =
-    option_or (option_map (λ i. at_table Rom i (Some (codes "chip"))) (repeated_from [] 0 roms))
-    (option_map (λ i. at_table Ram i (Some (codes "bank"))) (repeated_from [] 0 rams))
+abbrev pub double_part_in : {A B : Type 0} → List (Numbered A) → List (Numbered B) → Option Part
+double_part_in roms rams =
+    option_or (option_map (λ i. part_at_table Rom i (Some (codes "chip"))) (first_repeated_from [] 0 roms))
+    (option_map (λ i. part_at_table Ram i (Some (codes "bank"))) (first_repeated_from [] 0 rams))
 
-abbrev pub double_chip : Members → Option Part
-double_chip ms = double_in (roms_of ms) (rams_of ms)
+abbrev pub double_chip_part : Members → Option Part
+double_chip_part ms = double_part_in (roms_of ms) (rams_of ms)
 
 -- ---- errors 25 and 26: the first table with a wrong line
 
 abbrev pub is_wrong : LineFlaw → BoardParts → Line → Bool
-is_wrong Missing b line = not (exists_on b line)
-is_wrong NoOutput b line = not (is_output_line b line)
-is_wrong NoInput b line = not (is_input_line b line)
+is_wrong Missing b line = not (is_on_board b line)
+is_wrong NotOutput b line = not (is_output_line b line)
+is_wrong NotInput b line = not (is_input_line b line)
 is_wrong Input b line = is_input_line b line
 
 abbrev pub wrong_key : LineFlaw → BoardParts → ChainPart → Option (List ℕ)
 wrong_key f b c =
-    if_bad (is_wrong f b c.clock) (codes "clock") (if_bad (is_wrong f b c.data_in) (codes "data") None)
+    key_if_bad (is_wrong f b c.clock) (codes "clock") (key_if_bad (is_wrong f b c.data_in) (codes "data") None)
 
 abbrev pub wrong_chain_from : LineFlaw → BoardParts → ℕ → List ChainPart → Option Part
 wrong_chain_from f b i [] = None
 wrong_chain_from f b i (c ∷ cs) =
     elim (wrong_key f b c) [
-      | Some key ↦ Some (at_table Chain i (Some key))
+      | Some key ↦ Some (part_at_table Chain i (Some key))
       | None ↦ wrong_chain_from f b (i + 1) cs
     ]
 
 abbrev pub wrong_lamp_from : LineFlaw → BoardParts → ℕ → List Line → Option Part
 wrong_lamp_from f b i [] = None
 wrong_lamp_from f b i (l ∷ ls) =
-    if is_wrong f b l then Some (at_table Lamp i (Some (codes "line")))
+    if is_wrong f b l then Some (part_at_table Lamp i (Some (codes "line")))
     else wrong_lamp_from f b (i + 1) ls
 
 abbrev pub wrong_column_of : LineFlaw → BoardParts → Option KeyMatrix → Option Part
 wrong_column_of f b None = None
 wrong_column_of f b (Some m) =
-    part_if (list_any (is_wrong f b) m.columns.items) (at_table Keys 0 (Some (codes "columns"))) None
+    part_if (list_any (is_wrong f b) m.columns.items) (part_at_table Keys 0 (Some (codes "columns"))) None
 
-abbrev pub lacking_rows_of : BoardParts → Option KeyMatrix → Option Part
-lacking_rows_of b None = None
-lacking_rows_of b (Some m) =
-    part_if (nat_le (chain_count b) m.chain) (at_table Keys 0 (Some (codes "chain")))
-    (part_if (nat_lt (chain_bits b m.chain) (m.first + m.rows)) (at_table Keys 0 (Some (codes "rows"))) None)
+abbrev pub missing_rows_of : BoardParts → Option KeyMatrix → Option Part
+missing_rows_of b None = None
+missing_rows_of b (Some m) =
+    part_if (nat_le (chain_count b) m.chain) (part_at_table Keys 0 (Some (codes "chain")))
+    (part_if (nat_lt (chain_bits b m.chain) (m.first + m.rows)) (part_at_table Keys 0 (Some (codes "rows"))) None)
 
-abbrev pub no_such_line : BoardParts → Option Part
-no_such_line b =
+abbrev pub missing_line_part : BoardParts → Option Part
+missing_line_part b =
     option_or (wrong_chain_from Missing b 0 b.chains.items)
-    (option_or (lacking_rows_of b b.keys)
+    (option_or (missing_rows_of b b.keys)
     (option_or (wrong_column_of Missing b b.keys) (wrong_lamp_from Missing b 0 b.lamps.items)))
 
-abbrev pub wrong_direction : BoardParts → Option Part
-wrong_direction b =
-    option_or (wrong_chain_from NoOutput b 0 b.chains.items)
-    (option_or (wrong_column_of NoInput b b.keys) (wrong_lamp_from Input b 0 b.lamps.items))
+abbrev pub wrong_direction_part : BoardParts → Option Part
+wrong_direction_part b =
+    option_or (wrong_chain_from NotOutput b 0 b.chains.items)
+    (option_or (wrong_column_of NotInput b b.keys) (wrong_lamp_from Input b 0 b.lamps.items))
 
 -- the first part of a board's table that has the given error, or `None` if the error has no
 -- location
 abbrev pub part_of : WiringFault → Members → Option Part
-part_of fault.UnknownKey ms = unknown_key ms
-part_of fault.MissingKey ms = flawed MissingKey ms
-part_of fault.BadValue ms = bad_value ms
-part_of fault.TooManyParts ms = too_many ms
-part_of fault.DoubleChip ms = double_chip ms
-part_of fault.NoSuchLine ms = no_such_line (parts_in ms)
-part_of fault.WrongDirection ms = wrong_direction (parts_in ms)
+part_of fault.UnknownKey ms = unknown_key_part ms
+part_of fault.MissingKey ms = flawed_part MissingKey ms
+part_of fault.BadValue ms = bad_value_part ms
+part_of fault.TooManyParts ms = excess_part ms
+part_of fault.DoubleChip ms = double_chip_part ms
+part_of fault.NoSuchLine ms = missing_line_part (parts_in ms)
+part_of fault.WrongDirection ms = wrong_direction_part (parts_in ms)
 part_of fault.BadToml ms = None
 part_of fault.NoMemory ms = None
 
 -- ---- the line number
 
 -- true if a table contains the part; if the part is in a section, its key is not checked
-abbrev pub stands_at : Option Section → Option ℕ → Option (List ℕ) → Members → Bool
-stands_at (Some s) (Some n) key ms = nat_le n (length (values_at (section_key s) ms))
-stands_at (Some s) None key ms = is_some (get_member (section_key s) ms)
-stands_at None n (Some key) ms = is_some (get_member key ms)
-stands_at None n None ms = true
+abbrev pub contains_location : Option Section → Option ℕ → Option (List ℕ) → Members → Bool
+contains_location (Some s) (Some n) key ms = nat_le n (length (values_at (section_key s) ms))
+contains_location (Some s) None key ms = is_some (get_member (section_key s) ms)
+contains_location None n (Some key) ms = is_some (get_member key ms)
+contains_location None n None ms = true
 
-abbrev pub stands_in : Part → Members → Bool
-stands_in p ms = stands_at p.section p.number p.key ms
+abbrev pub contains_part : Part → Members → Bool
+contains_part p ms = contains_location p.section p.number p.key ms
 
 -- true if a text is TOML and contains the part
 abbrev pub has_part : Part → List ℕ → Bool
-has_part p text = elim (parse_document text) [ None ↦ false | Some ms ↦ stands_in p ms ]
+has_part p text = elim (parse_document text) [ None ↦ false | Some ms ↦ contains_part p ms ]
 
 abbrev pub is_toml : List ℕ → Bool
 is_toml text = is_some (parse_document text)
@@ -289,17 +289,17 @@ abbrev pub refusal_text : ℕ → ℕ → Part → List ℕ
 refusal_text number line p =
     as_line (codes "no " ++ decimal number ++ codes " line " ++ decimal line ++ part_text p)
 
-abbrev pub refused_text : List ℕ → WiringFault → Option Part → List ℕ
-refused_text text f None = as_line (codes "no " ++ decimal (wiring_fault_number f))
-refused_text text f (Some p) = refusal_text (wiring_fault_number f) (line_of_part text p) p
+abbrev pub error_report_text : List ℕ → WiringFault → Option Part → List ℕ
+error_report_text text f None = as_line (codes "no " ++ decimal (wiring_fault_number f))
+error_report_text text f (Some p) = refusal_text (wiring_fault_number f) (line_of_part text p) p
 
-abbrev pub judged_text : List ℕ → Members → Result BoardParts WiringFault → List ℕ
-judged_text text ms (Ok b) = as_line (codes "wiring valid")
-judged_text text ms (Err f) = refused_text text f (part_of f ms)
+abbrev pub report_text : List ℕ → Members → Result BoardParts WiringFault → List ℕ
+report_text text ms (Ok b) = as_line (codes "wiring valid")
+report_text text ms (Err f) = error_report_text text f (part_of f ms)
 
 -- the report on a board text
 unfoldable pub wiring_text : List ℕ → List ℕ
 wiring_text text = elim (parse_document text) [
   | None ↦ as_line (codes "no 20 line " ++ decimal (line_after_toml text))
-  | Some ms ↦ judged_text text ms (board_of_table ms)
+  | Some ms ↦ report_text text ms (board_of_table ms)
 ]

@@ -53,25 +53,25 @@ any_section p ms = list_any (λ s. list_any (p s) (section_values s ms)) section
 
 -- ---- error 21: an unknown key, at the top level or in an entry that is a table
 
-abbrev pub has_other_key : Section → Data → Bool
-has_other_key s (table ms) = list_any (λ key. not (is_table_key s key)) (keys_of ms)
-has_other_key s d = false
+abbrev pub entry_has_unknown_key : Section → Data → Bool
+entry_has_unknown_key s (table ms) = list_any (λ key. not (is_table_key s key)) (keys_of ms)
+entry_has_unknown_key s d = false
 
 abbrev pub has_unknown_key : Members → Bool
 has_unknown_key ms =
-    list_any (λ key. not (is_board_key key)) (keys_of ms) || any_section has_other_key ms
+    list_any (λ key. not (is_board_key key)) (keys_of ms) || any_section entry_has_unknown_key ms
 
 -- ---- error 22: an entry that is a table lacks a key
 
-abbrev pub lacks_one_of : List (List ℕ) → Members → Bool
-lacks_one_of names ms = list_any (λ key. is_none (get_member key ms)) names
+abbrev pub lacks_required_key : List (List ℕ) → Members → Bool
+lacks_required_key names ms = list_any (λ key. is_none (get_member key ms)) names
 
-abbrev pub lacks_key : Section → Data → Bool
-lacks_key s (table ms) = lacks_one_of (table_keys s) ms
-lacks_key s d = false
+abbrev pub entry_lacks_key : Section → Data → Bool
+entry_lacks_key s (table ms) = lacks_required_key (table_keys s) ms
+entry_lacks_key s d = false
 
 abbrev pub has_missing_key : Members → Bool
-has_missing_key ms = any_section lacks_key ms
+has_missing_key ms = any_section entry_lacks_key ms
 
 -- ---- error 23: a value of the wrong type or form, or a number out of range
 
@@ -125,17 +125,17 @@ matrix_in ms =
     }))))
 
 -- true if a value does not name a line
-abbrev pub is_no_line : Data → Bool
-is_no_line d = is_none (line_in d)
+abbrev pub names_no_line : Data → Bool
+names_no_line d = is_none (line_in d)
 
 -- True if there are no columns, or one of them does not name a line. There are no columns if the
 -- value at `columns` is not an array.
-abbrev pub are_bad_columns : List Data → Bool
-are_bad_columns [] = true
-are_bad_columns (d ∷ ds) = list_any is_no_line (d ∷ ds)
+abbrev pub are_malformed_columns : List Data → Bool
+are_malformed_columns [] = true
+are_malformed_columns (d ∷ ds) = list_any names_no_line (d ∷ ds)
 
 abbrev pub has_bad_columns : Members → Bool
-has_bad_columns ms = are_bad_columns (values_at (codes "columns") ms)
+has_bad_columns ms = are_malformed_columns (values_at (codes "columns") ms)
 
 abbrev pub lamp_in : Members → Option Line
 lamp_in ms = line_at (codes "line") ms
@@ -154,16 +154,16 @@ is_malformed Keys d =
     is_none (part_of matrix_in d) || option_map_or has_bad_columns (as_table d) true
 is_malformed Lamp d = is_none (part_of lamp_in d)
 
--- `is_no_array`: true if there is a value and it is not an array. `lacks_array`: true if a section
+-- `is_not_array`: true if there is a value and it is not an array. `lacks_array`: true if a section
 -- requires an array and the value at its key is not an array. The section `Keys` requires no array.
 -- A missing value is not an error.
-abbrev pub is_no_array : Option Data → Bool
-is_no_array None = false
-is_no_array (Some d) = is_none (as_array d)
+abbrev pub is_not_array : Option Data → Bool
+is_not_array None = false
+is_not_array (Some d) = is_none (as_array d)
 
 abbrev pub lacks_array : Members → Section → Bool
 lacks_array ms Keys = false
-lacks_array ms s = is_no_array (get_member (section_key s) ms)
+lacks_array ms s = is_not_array (get_member (section_key s) ms)
 
 abbrev pub has_malformed_value : Members → Bool
 has_malformed_value ms = list_any (lacks_array ms) sections || any_section is_malformed ms

@@ -2,7 +2,7 @@
 #![tactic(auto)]
 
 mod fault;
-mod flawed;
+mod flawed_part;
 pub mod laws;
 mod names;
 mod parts;

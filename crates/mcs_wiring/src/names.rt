@@ -70,10 +70,10 @@ pub(crate) fn masks_named(text: &str) -> Option<[LineMask; 4]>
 {
     match text.as_bytes() {
         [c3, c2, c1, c0] => Some([
-            LineMask::of_character(*c0)?,
-            LineMask::of_character(*c1)?,
-            LineMask::of_character(*c2)?,
-            LineMask::of_character(*c3)?,
+            LineMask::from_character(*c0)?,
+            LineMask::from_character(*c1)?,
+            LineMask::from_character(*c2)?,
+            LineMask::from_character(*c3)?,
         ]),
         _ => None,
     }

@@ -2,7 +2,7 @@
 ghost use Rattle.std.specs.Prelude.{◌≡◌, ◌≤◌, ◌||◌, codes, map, is_none, length};
 ghost use Rattle.std.specs.List.{filter_map, list_any};
 ghost use Rattle.toml.specs.View.{view, table_view};
-ghost use Rattle.mcs_wiring.specs.Wiring.{part_of, values_at, rom_in, ram_in, chain_in, matrix_in, lamp_in, line_in, is_no_line, has_bad_columns};
+ghost use Rattle.mcs_wiring.specs.Wiring.{part_of, values_at, rom_in, ram_in, chain_in, matrix_in, lamp_in, line_in, names_no_line, has_bad_columns};
 
 use crate::names::masks_named;
 use crate::sections::Numbered;
@@ -65,17 +65,17 @@ pub(crate) fn lamp(value: &Value) -> Option<Line>
 }
 
 /// Returns true if a value does not name a line.
-pub(crate) fn is_no_line(value: &Value) -> bool
-    ensures { result ≡ is_no_line (view value.now) }
+pub(crate) fn names_no_line(value: &Value) -> bool
+    ensures { result ≡ names_no_line (view value.now) }
 {
     line_in(value).is_none()
 }
 
 /// Returns true if at least one of the values does not name a line.
-fn has_no_line(values: &[Value]) -> bool
-    ensures { result ≡ list_any (λ v. is_no_line (view v)) values.now }
+fn any_names_no_line(values: &[Value]) -> bool
+    ensures { result ≡ list_any (λ v. names_no_line (view v)) values.now }
 {
-    values.iter().any(|value| is_no_line(value))
+    values.iter().any(|value| names_no_line(value))
 }
 
 /// Returns true if the columns of a key matrix are not an array, are empty, or include a value that
@@ -84,7 +84,7 @@ pub(crate) fn has_bad_columns(table: &Table) -> bool
     ensures { result ≡ has_bad_columns (table_view table.now) }
 {
     let columns = values_at(table, "columns");
-    columns.is_empty() || has_no_line(columns)
+    columns.is_empty() || any_names_no_line(columns)
 }
 
 /// Returns true if a number of a key matrix is missing, is not an integer, or is out of range.

@@ -7,15 +7,15 @@ ghost use Rattle.toml.specs.View.{view, table_view};
 ghost use Rattle.mcs_nibble.specs.Tables.{table_of};
 ghost use Rattle.mcs_model.specs.Boards.{board_fault_of};
 ghost use Rattle.mcs_wiring.specs.Format.{sections, section_key, table_keys, is_board_key, is_table_key};
-ghost use Rattle.mcs_wiring.specs.Wiring.{has_unknown_key, has_missing_key, has_malformed_value, has_too_many, has_double, has_other_key, lacks_one_of, lacks_key, is_malformed, lacks_array, values_at, section_values, any_section, column_values, keys_table, matrix_in, roms_of, rams_of, parts_in, part_at, board_of_table, board_of_text, ReadsBoard};
-ghost use Rattle.mcs_wiring.specs.Flaws.{has_flaw, judgement_of, board_within_limits, IsWithinLimits};
+ghost use Rattle.mcs_wiring.specs.Wiring.{has_unknown_key, has_missing_key, has_malformed_value, has_too_many, has_double, entry_has_unknown_key, lacks_required_key, entry_lacks_key, is_malformed, lacks_array, values_at, section_values, any_section, column_values, keys_table, matrix_in, roms_of, rams_of, parts_in, part_at, board_of_table, board_of_text, ReadsBoard};
+ghost use Rattle.mcs_wiring.specs.Flaws.{has_flaw, board_or_error, board_within_limits, IsWithinLimits};
 
 use crate::fault::WiringFault;
 use crate::parts::{
     chain, chains, has_bad_columns, has_bad_numbers, lamp, lamps, matrix, ram, rams, rom, roms,
 };
 use crate::sections::{Flaw, Numbered, Section, is_board_key};
-use crate::values::{count_at, has_no_array_at, lacks, member, values_at};
+use crate::values::{count_at, is_not_array_at, lacks, member, values_at};
 use mcs_model::board::{Board, BoardParts, KeyMatrix};
 use mcs_model::limits::{BANKS, CHAINS, KEY_COLUMNS, LAMPS, ROMS};
 use mcs_nibble::LineMask;
@@ -23,14 +23,14 @@ use std::alloc::Global;
 use toml::{Table, Value};
 
 /// Returns true if the table has an unknown top-level key.
-fn has_other_board_key(table: &Table) -> bool
+fn has_unknown_board_key(table: &Table) -> bool
     ensures { result ≡ list_any (λ key. not (is_board_key (string_bytes key))) (keys table.now) }
 {
     table.keys().any(|key| !is_board_key(key.as_str()))
 }
 
 /// Returns true if a table of the section has a key that the section does not allow.
-fn has_key_beside(section: Section, table: &Table) -> bool
+fn has_unknown_table_key(section: Section, table: &Table) -> bool
     ensures { result
         ≡ list_any (λ key. not (is_table_key section (string_bytes key))) (keys table.now) }
 {
@@ -38,18 +38,18 @@ fn has_key_beside(section: Section, table: &Table) -> bool
 }
 
 /// Returns true if a section entry is a table with a key that the section does not allow.
-fn has_other_key(section: Section, value: &Value) -> bool
-    ensures { result ≡ has_other_key section (view value.now) }
+fn entry_has_unknown_key(section: Section, value: &Value) -> bool
+    ensures { result ≡ entry_has_unknown_key section (view value.now) }
 {
     match value {
-        Value::Table(table) => has_key_beside(section, table),
+        Value::Table(table) => has_unknown_table_key(section, table),
         _ => false,
     }
 }
 
 /// Returns true if a table lacks a required key of the section.
-fn lacks_one_of(section: Section, table: &Table) -> bool
-    ensures { result ≡ lacks_one_of (table_keys section) (table_view table.now) }
+fn lacks_required_key(section: Section, table: &Table) -> bool
+    ensures { result ≡ lacks_required_key (table_keys section) (table_view table.now) }
 {
     match section {
         Section::Rom => lacks(table, "chip") || lacks(table, "port"),
@@ -66,17 +66,17 @@ fn lacks_one_of(section: Section, table: &Table) -> bool
 }
 
 /// Returns true if a section entry is a table that lacks a required key of the section.
-fn lacks_key(section: Section, value: &Value) -> bool
-    ensures { result ≡ lacks_key section (view value.now) }
+fn entry_lacks_key(section: Section, value: &Value) -> bool
+    ensures { result ≡ entry_lacks_key section (view value.now) }
 {
     match value {
-        Value::Table(table) => lacks_one_of(section, table),
+        Value::Table(table) => lacks_required_key(section, table),
         _ => false,
     }
 }
 
 /// Returns true if a value does not describe a key matrix.
-fn is_no_matrix(value: &Value) -> bool
+fn is_malformed_matrix(value: &Value) -> bool
     ensures { result ≡ is_malformed Section.Keys (view value.now) }
 {
     match value {
@@ -93,7 +93,7 @@ fn is_malformed(section: Section, value: &Value) -> bool
         Section::Rom => rom(value).is_none(),
         Section::Ram => ram(value).is_none(),
         Section::Chain => chain(value).is_none(),
-        Section::Keys => is_no_matrix(value),
+        Section::Keys => is_malformed_matrix(value),
         Section::Lamp => lamp(value).is_none(),
     }
 }
@@ -103,14 +103,14 @@ pub(crate) fn has_flaw(flaw: Flaw, section: Section, value: &Value) -> bool
     ensures { result ≡ has_flaw flaw section (view value.now) }
 {
     match flaw {
-        Flaw::UnknownKey => has_other_key(section, value),
-        Flaw::MissingKey => lacks_key(section, value),
+        Flaw::UnknownKey => entry_has_unknown_key(section, value),
+        Flaw::MissingKey => entry_lacks_key(section, value),
         Flaw::BadValue => is_malformed(section, value),
     }
 }
 
 /// Returns true if an element of the array has the flaw.
-fn any_flawed(flaw: Flaw, section: Section, values: &[Value]) -> bool
+fn any_has_flaw(flaw: Flaw, section: Section, values: &[Value]) -> bool
     ensures { result ≡ list_any (λ v. has_flaw flaw section (view v)) values.now }
 {
     values.iter().any(|value| has_flaw(flaw, section, value))
@@ -121,7 +121,7 @@ fn has_flaw_in_array(flaw: Flaw, table: &Table, section: Section) -> bool
     ensures { result ≡ list_any (has_flaw flaw section)
         (values_at (section_key section) (table_view table.now)) }
 {
-    any_flawed(flaw, section, values_at(table, section.key()))
+    any_has_flaw(flaw, section, values_at(table, section.key()))
 }
 
 /// Returns true if an entry of the section has the flaw.
@@ -153,7 +153,7 @@ fn has_flaw_anywhere(flaw: Flaw, table: &Table) -> bool
 fn has_unknown_key(table: &Table) -> bool
     ensures { result ≡ has_unknown_key (table_view table.now) }
 {
-    has_other_board_key(table) || has_flaw_anywhere(Flaw::UnknownKey, table)
+    has_unknown_board_key(table) || has_flaw_anywhere(Flaw::UnknownKey, table)
 }
 
 /// Returns true if a table of a section lacks a required key.
@@ -170,12 +170,12 @@ pub(crate) fn lacks_array(table: &Table, section: Section) -> bool
     match section {
         Section::Keys => false,
         Section::Rom | Section::Ram | Section::Chain | Section::Lamp => {
-            has_no_array_at(table, section.key())
+            is_not_array_at(table, section.key())
         }
     }
 }
 
-fn lacks_an_array(table: &Table) -> bool
+fn any_section_lacks_array(table: &Table) -> bool
     ensures { result ≡ list_any (lacks_array (table_view table.now)) sections }
 {
     Section::ALL
@@ -187,7 +187,7 @@ fn lacks_an_array(table: &Table) -> bool
 fn has_malformed_value(table: &Table) -> bool
     ensures { result ≡ has_malformed_value (table_view table.now) }
 {
-    lacks_an_array(table) || has_flaw_anywhere(Flaw::BadValue, table)
+    any_section_lacks_array(table) || has_flaw_anywhere(Flaw::BadValue, table)
 }
 
 /// Returns the table at the key `keys`, or none if the key is missing or its value is not a table.
@@ -235,7 +235,7 @@ pub(crate) fn has_number<T: Copy>(parts: &[Numbered<T>], number: u8) -> bool
 }
 
 /// Returns true if two parts have the same number.
-#[tactic(auto, using(crate::proofs::Seen::double_from))]
+#[tactic(auto, using(crate::proofs::TomlViews::has_double_from))]
 fn has_double<T: Copy>(parts: &[Numbered<T>]) -> bool
     ensures { result ≡ has_double parts.now }
 {
@@ -248,7 +248,7 @@ fn has_double<T: Copy>(parts: &[Numbered<T>]) -> bool
 }
 
 /// Returns the properties of the first part with the given number, or `none` if no part has it.
-#[tactic(auto, using(crate::proofs::Seen::part_from))]
+#[tactic(auto, using(crate::proofs::TomlViews::part_at_from))]
 fn part_at<T: Copy>(parts: &[Numbered<T>], none: T, number: u8) -> T
     ensures { result ≡ part_at none parts.now number }
 {
@@ -262,15 +262,15 @@ fn part_at<T: Copy>(parts: &[Numbered<T>], none: T, number: u8) -> T
 
 /// Returns an array with one element for each number from 0 to `N` - 1: the properties of the first
 /// part with that number, or `none`.
-fn placed<T: Copy, const N: usize>(parts: &[Numbered<T>], none: T) -> [T; N]
+fn indexed_by_number<T: Copy, const N: usize>(parts: &[Numbered<T>], none: T) -> [T; N]
     requires { N ≤ 256 }
     ensures { result ≡ table_of N (part_at none parts.now) }
 {
-    let mut placed = [none; N];
+    let mut indexed_by_number = [none; N];
     for i in 0..N {
-        placed[i] = part_at(parts, none, i as u8);
+        indexed_by_number[i] = part_at(parts, none, i as u8);
     }
-    placed
+    indexed_by_number
 }
 
 /// Returns the key matrix that a board's table describes, or none if it does not describe one.
@@ -283,7 +283,7 @@ fn matrix_of(table: &Table) -> Option<KeyMatrix>
 
 /// Returns the parts of the board that a table describes. `roms` and `rams` are the ROMs and RAM
 /// banks of the table.
-#[tactic(auto, using(crate::proofs::Seen::length_seen))]
+#[tactic(auto, using(crate::proofs::TomlViews::length_of_views))]
 pub(crate) fn parts_in(
     table: &Table,
     roms: &[Numbered<Option<[LineMask; 4]>>],
@@ -295,8 +295,8 @@ pub(crate) fn parts_in(
     ensures { result ≡ parts_in (table_view table.now) }
 {
     BoardParts {
-        roms: placed(roms, None),
-        banks: placed(rams, 0),
+        roms: indexed_by_number(roms, None),
+        banks: indexed_by_number(rams, 0),
         chains: chains(values_at(table, "chain")),
         keys: matrix_of(table),
         lamps: lamps(values_at(table, "lamp")),
@@ -305,14 +305,14 @@ pub(crate) fn parts_in(
 
 /// Returns the board with the given parts, or the first error in the parts.
 fn board_of_parts(parts: BoardParts) -> Result<Board, WiringFault>
-    ensures { result ≡ judgement_of parts (board_fault_of parts) }
+    ensures { result ≡ board_or_error parts (board_fault_of parts) }
 {
     Ok(Board::of(parts)?)
 }
 
 /// Returns the board that a table describes, or error 24, 25 or 26. The table must have no
 /// malformed value, and no more parts of one kind than a board can have.
-#[tactic(auto, using(crate::proofs::Seen::length_seen))]
+#[tactic(auto, using(crate::proofs::TomlViews::length_of_views))]
 fn board_within_limits(table: &Table) -> Result<Board, WiringFault>
     requires no_bad_value { has_malformed_value (table_view table.now) ≡ false }
     requires within { IsWithinLimits (table_view table.now) }

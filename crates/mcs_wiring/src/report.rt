@@ -6,11 +6,11 @@ ghost use Rattle.std.specs.Option.{option_copied};
 ghost use Rattle.toml.specs.View.{table_view};
 ghost use Rattle.mcs_model.specs.TextLines.{as_line, is_line_feed};
 ghost use Rattle.mcs_wiring.specs.Wiring.{board_of_table};
-ghost use Rattle.mcs_wiring.specs.Parts.{stands_in, has_part, is_toml, line_of_part, line_after_toml, is_bare_byte, key_name, section_text, number_text, key_text, refusal_text, refused_text, judged_text, part_of, wiring_text};
+ghost use Rattle.mcs_wiring.specs.Parts.{contains_part, has_part, is_toml, line_of_part, line_after_toml, is_bare_byte, key_name, section_text, number_text, key_text, refusal_text, error_report_text, report_text, part_of, wiring_text};
 ghost use Rattle.mcs_wiring.specs.PartView.{part_view};
 
 use crate::fault::WiringFault;
-use crate::flawed::{Part, part_of};
+use crate::flawed_part::{Part, part_of};
 use crate::reading::board_of_table;
 use crate::sections::Section;
 use crate::values::{count_at, member};
@@ -18,8 +18,8 @@ use std::alloc::{AllocError, Global};
 use toml::Table;
 
 /// Returns true if a table contains a part. If the part is in a section, its key is not checked.
-fn stands_in(table: &Table, part: Part<'_>) -> bool
-    ensures { result ≡ stands_in (part_view part.entry) (table_view table.now) }
+fn contains_part(table: &Table, part: Part<'_>) -> bool
+    ensures { result ≡ contains_part (part_view part.entry) (table_view table.now) }
 {
     match (part.section, part.number) {
         (Some(section), Some(number)) => number <= count_at(table, section.key()),
@@ -36,7 +36,7 @@ fn has_part(alloc: Global, text: &str, part: Part<'_>) -> Result<bool, AllocErro
     ensures { IfOk result (λ has. has ≡ has_part (part_view part.entry) text.now) }
 {
     match toml::table_from_str(alloc, text) {
-        Ok(table) => Ok(stands_in(&table, part)),
+        Ok(table) => Ok(contains_part(&table, part)),
         Err(e) if e.is_memory() => Err(AllocError),
         Err(_) => Ok(false),
     }
@@ -74,7 +74,7 @@ fn push_line(text: &mut String, line: &str) -> Result<(), AllocError>
 
 /// Returns the smallest `n` such that the first `n` lines are TOML and contain the part. If there
 /// is no such `n`, returns the number of the last line. Fails if allocation fails.
-#[tactic(auto, using(crate::proofs::LineSteps::from_step), unfolding(crate::specs::Parts::line_of_part))]
+#[tactic(auto, using(crate::proofs::LineSteps::line_from_step), unfolding(crate::specs::Parts::line_of_part))]
 fn line_of_part(alloc: Global, text: &str, part: Part<'_>) -> Result<usize, AllocError>
     ensures { IfOk result (λ line. line ≡ line_of_part text.now (part_view part.entry)) }
 {
@@ -94,7 +94,7 @@ fn line_of_part(alloc: Global, text: &str, part: Part<'_>) -> Result<usize, Allo
 
 /// Returns the number of the line that follows the longest run of leading lines that is TOML. Fails
 /// if allocation fails.
-#[tactic(auto, using(crate::proofs::LineSteps::after_step), unfolding(crate::specs::Parts::line_after_toml))]
+#[tactic(auto, using(crate::proofs::LineSteps::line_after_step), unfolding(crate::specs::Parts::line_after_toml))]
 fn line_after_toml(alloc: Global, text: &str) -> Result<usize, AllocError>
     ensures { IfOk result (λ line. line ≡ line_after_toml text.now) }
 {
@@ -190,7 +190,7 @@ fn push_refusal(
 ) -> Result<(), AllocError>
     requires { board_of_table (table_view table.now) ≡ Err fault }
     ensures { OnOk result (string_bytes out.new ≡ string_bytes out.old
-        ++ refused_text text.now fault (part_of fault (table_view table.now))) }
+        ++ error_report_text text.now fault (part_of fault (table_view table.now))) }
 {
     let number = fault.number();
     match part_of(fault, table) {
@@ -206,7 +206,7 @@ fn push_refusal(
 /// and the part that has the error.
 fn table_report(alloc: Global, text: &str, table: &Table) -> Result<String, AllocError>
     ensures { IfOk result (λ report. string_bytes report
-        ≡ judged_text text.now (table_view table.now) (board_of_table (table_view table.now))) }
+        ≡ report_text text.now (table_view table.now) (board_of_table (table_view table.now))) }
 {
     match board_of_table(table) {
         Ok(_) => format!(in alloc; "wiring valid\n"),

@@ -2,7 +2,7 @@
 ghost use Rattle.std.specs.Prelude.{◌≡◌, option_map, map, is_none, length};
 ghost use Rattle.toml.specs.Data.{get_member};
 ghost use Rattle.toml.specs.View.{view, table_view};
-ghost use Rattle.mcs_wiring.specs.Wiring.{values_at, number_at, line_in, line_at, is_no_array};
+ghost use Rattle.mcs_wiring.specs.Wiring.{values_at, number_at, line_in, line_at, is_not_array};
 
 use crate::names::line_named;
 use mcs_model::board::Line;
@@ -59,8 +59,8 @@ pub(crate) fn line_at(table: &Table, key: &str) -> Option<Line>
 }
 
 /// Returns true if a key has a value that is not an array.
-pub(crate) fn has_no_array_at(table: &Table, key: &str) -> bool
-    ensures { result ≡ is_no_array (get_member key.now (table_view table.now)) }
+pub(crate) fn is_not_array_at(table: &Table, key: &str) -> bool
+    ensures { result ≡ is_not_array (get_member key.now (table_view table.now)) }
 {
     match member(table, key) {
         None | Some(Value::Array(_)) => false,

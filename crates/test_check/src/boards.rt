@@ -1,6 +1,6 @@
 //! The board and the program of the electronic die, an example, and machines with this board.
 use mcs_board::BenchRig;
-use mcs_check::Replica;
+use mcs_check::SearchMachine;
 use mcs_cpu4004::Cpu;
 use mcs_fixtures::boards::{CLOCK_AND_DATA, INPUTS, OUTPUTS, chains, lines};
 use mcs_model::board::{Board, BoardFault, BoardParts, KeyMatrix, Line};
@@ -19,7 +19,7 @@ pub(crate) const DIE_PROGRAM: [u8; 29] = [
 pub(crate) const FACES: [u8; 6] = [8, 1, 9, 3, 11, 7];
 
 /// The ROM address of the lamp patterns.
-const FACES_AT: u16 = 42;
+const FACES_ADDRESS: u16 = 42;
 
 /// Returns the die's board with one column of keys in `rows` rows. The board has a ROM with outputs, a ROM with
 /// inputs and a RAM chip.
@@ -63,7 +63,7 @@ fn rig_with_keys(
     assert!(rt; BenchRig::fits(&board));
     rig.wire(&board);
     write_rom(&mut rig, 0, program);
-    write_rom(&mut rig, FACES_AT, &FACES);
+    write_rom(&mut rig, FACES_ADDRESS, &FACES);
     Ok(rig)
 }
 
@@ -78,9 +78,9 @@ pub(crate) fn machine(
     alloc: Global,
     rt: &impl Abort,
     program: &[u8],
-) -> Result<Replica, AllocError> {
+) -> Result<SearchMachine, AllocError> {
     let rig = rig(alloc, rt, program)?;
-    Ok(Replica::of(Cpu::new(), rig))
+    Ok(SearchMachine::of(Cpu::new(), rig))
 }
 
 /// Returns a machine with the given program, before its first cycle. Its board has two keys, in two rows of one
@@ -89,12 +89,12 @@ pub(crate) fn machine_with_two_keys(
     alloc: Global,
     rt: &impl Abort,
     program: &[u8],
-) -> Result<Replica, AllocError> {
+) -> Result<SearchMachine, AllocError> {
     let rig = rig_with_keys(alloc, rt, 2, program)?;
-    Ok(Replica::of(Cpu::new(), rig))
+    Ok(SearchMachine::of(Cpu::new(), rig))
 }
 
 /// Returns a machine that runs the die's program, before its first cycle.
-pub(crate) fn die(alloc: Global, rt: &impl Abort) -> Result<Replica, AllocError> {
+pub(crate) fn die(alloc: Global, rt: &impl Abort) -> Result<SearchMachine, AllocError> {
     machine(alloc, rt, &DIE_PROGRAM)
 }

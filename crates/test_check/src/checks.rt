@@ -1,7 +1,7 @@
 //! Tests of complete checks and their outcomes.
 use crate::boards::{FACES, die};
 use mcs_check::{
-    Aim, Cell, CellList, Comparison, Condition, Conjunction, Outcome, Part, check_all,
+    Cell, CellList, Comparison, Condition, Conjunction, Outcome, Part, Property, check_all,
 };
 use std::alloc::{AllocError, Global};
 use std::process::Abort;
@@ -37,36 +37,40 @@ fn lamps_show(n: u8, inside: bool) -> Condition {
 }
 
 /// Returns the property that the lamps are always dark or show a face.
-pub(crate) fn only_faces(alloc: Global) -> Result<Aim, AllocError> {
+pub(crate) fn lamps_show_only_faces(alloc: Global) -> Result<Property, AllocError> {
     let mut conditions = Vec::new(alloc);
     conditions.push(lamps_show(0, false))?;
     for face in FACES {
         conditions.push(lamps_show(face, false))?;
     }
-    let mut nevers = Vec::new(alloc);
-    nevers.push(Conjunction::of(conditions))?;
-    Ok(Aim::never(alloc, nevers))
+    let mut never_lists = Vec::new(alloc);
+    never_lists.push(Conjunction::of(conditions))?;
+    Ok(Property::without_stopwatch(alloc, never_lists))
 }
 
 /// Returns the property that the lamps never show the pattern `n`.
-fn lamps_never_show(alloc: Global, n: u8) -> Result<Aim, AllocError> {
+fn lamps_never_show(alloc: Global, n: u8) -> Result<Property, AllocError> {
     let mut conditions = Vec::new(alloc);
     conditions.push(lamps_show(n, true))?;
-    let mut nevers = Vec::new(alloc);
-    nevers.push(Conjunction::of(conditions))?;
-    Ok(Aim::never(alloc, nevers))
+    let mut never_lists = Vec::new(alloc);
+    never_lists.push(Conjunction::of(conditions))?;
+    Ok(Property::without_stopwatch(alloc, never_lists))
 }
 
 /// Checks a property of the die, with at most `STATES` states.
-pub(crate) fn check_die(alloc: Global, rt: &impl Abort, aim: Aim) -> Result<Outcome, AllocError> {
-    check_all(alloc, die(alloc, rt)?, aim, STATES, MEMORY, PAUSE)
+pub(crate) fn check_die(
+    alloc: Global,
+    rt: &impl Abort,
+    property: Property,
+) -> Result<Outcome, AllocError> {
+    check_all(alloc, die(alloc, rt)?, property, STATES, MEMORY, PAUSE)
 }
 
 /// Checks that the lamps never show the pattern `n`. Returns true if the outcome is `MayFail`, and false if the check
 /// proves the property.
 fn may_show(alloc: Global, rt: &impl Abort, n: u8) -> bool {
-    let aim = lamps_never_show(alloc, n).expect(rt, "memory");
-    match check_die(alloc, rt, aim).expect(rt, "memory") {
+    let property = lamps_never_show(alloc, n).expect(rt, "memory");
+    match check_die(alloc, rt, property).expect(rt, "memory") {
         Outcome::MayFail(_) => true,
         outcome => {
             expect_holds(rt, outcome);
@@ -85,8 +89,8 @@ pub(crate) fn expect_holds(rt: &impl Abort, outcome: Outcome) {
 
 #[test]
 fn only_faces_are_shown(rt: HostRuntime) {
-    let aim = only_faces(rt.alloc()).expect(&rt, "memory");
-    let outcome = check_die(rt.alloc(), &rt, aim).expect(&rt, "memory");
+    let property = lamps_show_only_faces(rt.alloc()).expect(&rt, "memory");
+    let outcome = check_die(rt.alloc(), &rt, property).expect(&rt, "memory");
     expect_holds(&rt, outcome);
     for n in 0..16 {
         // the lamps are dark at the start
@@ -99,8 +103,8 @@ fn only_faces_are_shown(rt: HostRuntime) {
 fn a_limit_on_states_stops_the_check(rt: HostRuntime) {
     for max_states in [0, 1, STATES - 1] {
         let die = die(rt.alloc(), &rt).expect(&rt, "memory");
-        let aim = only_faces(rt.alloc()).expect(&rt, "memory");
-        let outcome = check_all(rt.alloc(), die, aim, max_states, MEMORY, PAUSE).expect(
+        let property = lamps_show_only_faces(rt.alloc()).expect(&rt, "memory");
+        let outcome = check_all(rt.alloc(), die, property, max_states, MEMORY, PAUSE).expect(
             &rt, "memory",
         );
         assert!(&rt; matches!(outcome, Outcome::TooMany), "{max_states}");
@@ -111,8 +115,10 @@ fn a_limit_on_states_stops_the_check(rt: HostRuntime) {
 fn a_limit_on_memory_stops_the_check(rt: HostRuntime) {
     for memory in [0, 1, 1_000] {
         let die = die(rt.alloc(), &rt).expect(&rt, "memory");
-        let aim = only_faces(rt.alloc()).expect(&rt, "memory");
-        let outcome = check_all(rt.alloc(), die, aim, STATES, memory, PAUSE).expect(&rt, "memory");
+        let property = lamps_show_only_faces(rt.alloc()).expect(&rt, "memory");
+        let outcome = check_all(rt.alloc(), die, property, STATES, memory, PAUSE).expect(
+            &rt, "memory",
+        );
         assert!(&rt; matches!(outcome, Outcome::NoMemory(_)), "{memory}");
     }
 }

@@ -1,36 +1,36 @@
 //! Tests that check programs for common mistakes.
 use crate::boards::{die, machine};
 use crate::checks::{MEMORY, PAUSE, STATES, expect_holds};
-use mcs_check::{Aim, Condition, Conjunction, Mistakes, Outcome, check_all};
+use mcs_check::{Condition, Conjunction, Mistakes, Outcome, Property, check_all};
 use std::alloc::{AllocError, Global};
 
 /// All common mistakes.
 pub(crate) const ALL_MISTAKES: Mistakes = Mistakes {
-    no_code: true,
+    invalid_opcode: true,
     fourth_call: true,
-    lone_return: true,
+    unmatched_return: true,
     absent_ram: true,
     absent_rom: true,
-    no_inputs: true,
-    no_outputs: true,
+    port_without_inputs: true,
+    port_without_outputs: true,
 };
 
 /// Returns the property that a program never makes any of these mistakes.
-fn never_mistaken(alloc: Global, mistakes: Mistakes) -> Result<Aim, AllocError> {
+fn never_mistaken(alloc: Global, mistakes: Mistakes) -> Result<Property, AllocError> {
     let mut conditions = Vec::new(alloc);
     conditions.push(Condition::Mistaken(mistakes))?;
-    let mut nevers = Vec::new(alloc);
-    nevers.push(Conjunction::of(conditions))?;
-    Ok(Aim::never(alloc, nevers))
+    let mut never_lists = Vec::new(alloc);
+    never_lists.push(Conjunction::of(conditions))?;
+    Ok(Property::without_stopwatch(alloc, never_lists))
 }
 
 #[test]
 fn the_die_makes_no_mistake(rt: HostRuntime) {
     let die = die(rt.alloc(), &rt).expect(&rt, "memory");
-    let aim = never_mistaken(rt.alloc(), ALL_MISTAKES).expect(&rt, "memory");
+    let property = never_mistaken(rt.alloc(), ALL_MISTAKES).expect(&rt, "memory");
     expect_holds(
         &rt,
-        check_all(rt.alloc(), die, aim, STATES, MEMORY, PAUSE).expect(&rt, "memory"),
+        check_all(rt.alloc(), die, property, STATES, MEMORY, PAUSE).expect(&rt, "memory"),
     );
 }
 
@@ -51,13 +51,13 @@ pub(crate) const MISTAKEN_PROGRAMS: [[u8; 10]; 7] = [
 pub(crate) fn mistake_of(k: usize) -> Mistakes {
     let mut mistakes = Mistakes::NONE;
     match k {
-        0 => mistakes.no_code = true,
+        0 => mistakes.invalid_opcode = true,
         1 => mistakes.fourth_call = true,
-        2 => mistakes.lone_return = true,
+        2 => mistakes.unmatched_return = true,
         3 => mistakes.absent_ram = true,
         4 => mistakes.absent_rom = true,
-        5 => mistakes.no_inputs = true,
-        _ => mistakes.no_outputs = true,
+        5 => mistakes.port_without_inputs = true,
+        _ => mistakes.port_without_outputs = true,
     }
     mistakes
 }
@@ -67,8 +67,8 @@ fn each_program_makes_its_mistake(rt: HostRuntime) {
     for k in 0..7 {
         for kind in 0..7 {
             let machine = machine(rt.alloc(), &rt, &MISTAKEN_PROGRAMS[k]).expect(&rt, "memory");
-            let aim = never_mistaken(rt.alloc(), mistake_of(kind)).expect(&rt, "memory");
-            let outcome = check_all(rt.alloc(), machine, aim, STATES, MEMORY, 5_000).expect(
+            let property = never_mistaken(rt.alloc(), mistake_of(kind)).expect(&rt, "memory");
+            let outcome = check_all(rt.alloc(), machine, property, STATES, MEMORY, 5_000).expect(
                 &rt, "memory",
             );
             let is_made = matches!(outcome, Outcome::MayFail(_));

@@ -2,7 +2,7 @@
 use crate::boards::machine_with_two_keys;
 use crate::checks::{MEMORY, PAUSE};
 use crate::times::begins_at;
-use mcs_check::{Aim, Mark, Marks, Outcome, add_opening, check_all};
+use mcs_check::{Mark, Marks, Outcome, Property, add_mark_requirement, check_all};
 use std::alloc::{AllocError, Global};
 use std::process::Abort;
 
@@ -29,7 +29,7 @@ const BOTH_ROWS: [u8; 28] = [
 ];
 
 /// The address that the programs reach after a press.
-const OPEN: u8 = 18;
+const OPEN_ADDRESS: u8 = 18;
 
 /// Returns the mark that the key at this row of column 0 is down, or up if `is_down` is false.
 fn mark(row: u8, is_down: bool) -> Mark {
@@ -40,7 +40,7 @@ fn mark(row: u8, is_down: bool) -> Mark {
     }
 }
 
-/// Checks that a program reaches the address `OPEN` only after these marks. Returns the outcome.
+/// Checks that a program reaches the address `OPEN_ADDRESS` only after these marks. Returns the outcome.
 fn check_marks(
     alloc: Global,
     rt: &impl Abort,
@@ -49,20 +49,20 @@ fn check_marks(
 ) -> Result<Outcome, AllocError> {
     let machine = machine_with_two_keys(alloc, rt, program)?;
     let marks = Marks::of(marks.to_vec(alloc)?).expect(rt, "marks");
-    let opens = begins_at(alloc, OPEN)?;
-    let mut nevers = Vec::new(alloc);
-    add_opening(alloc, &mut nevers, &opens, &marks)?;
-    let aim = Aim::of(nevers, Vec::new(alloc), Vec::new(alloc), opens, marks);
-    check_all(alloc, machine, aim, MAX_STATES, MEMORY, PAUSE)
+    let opens = begins_at(alloc, OPEN_ADDRESS)?;
+    let mut never_lists = Vec::new(alloc);
+    add_mark_requirement(alloc, &mut never_lists, &opens, &marks)?;
+    let property = Property::of(never_lists, Vec::new(alloc), Vec::new(alloc), opens, marks);
+    check_all(alloc, machine, property, MAX_STATES, MEMORY, PAUSE)
 }
 
-/// Expects a proof that a program reaches the address `OPEN` only after these marks.
+/// Expects a proof that a program reaches the address `OPEN_ADDRESS` only after these marks.
 fn expect_holds_with_marks(alloc: Global, rt: &impl Abort, program: &[u8], marks: &[Mark]) {
     let outcome = check_marks(alloc, rt, program, marks).expect(rt, "memory");
     assert!(rt; matches!(&outcome, Outcome::Holds(_)));
 }
 
-/// Expects that the check does not prove that a program reaches the address `OPEN` only after these marks.
+/// Expects that the check does not prove that a program reaches the address `OPEN_ADDRESS` only after these marks.
 fn expect_fails_with_marks(alloc: Global, rt: &impl Abort, program: &[u8], marks: &[Mark]) {
     let outcome = check_marks(alloc, rt, program, marks).expect(rt, "memory");
     assert!(rt; matches!(&outcome, Outcome::MayFail(_)));

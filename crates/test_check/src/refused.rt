@@ -1,13 +1,13 @@
 //! A test in which one allocation can fail. `checks/allocations` runs the test once for each allocation, and makes
 //! this allocation fail. In the gate, no allocation fails.
-use crate::checks::{STATES, check_die, expect_holds, only_faces};
-use mcs_check::{Aim, Outcome};
+use crate::checks::{STATES, check_die, expect_holds, lamps_show_only_faces};
+use mcs_check::{Outcome, Property};
 use std::alloc::Global;
 use std::process::Abort;
 
 /// Checks the die once. Returns the part whose allocation failed, or `nothing`.
-fn check_once(alloc: Global, rt: &impl Abort, aim: Aim) -> &'static str {
-    match check_die(alloc, rt, aim) {
+fn check_once(alloc: Global, rt: &impl Abort, property: Property) -> &'static str {
+    match check_die(alloc, rt, property) {
         Ok(Outcome::NoMemory(states)) => {
             assert!(rt; states <= STATES);
             "a state"
@@ -23,13 +23,13 @@ fn check_once(alloc: Global, rt: &impl Abort, aim: Aim) -> &'static str {
 /// Checks the die, and repeats the check if an allocation failed in it. Returns the part whose
 /// allocation failed, or `nothing`.
 fn run(alloc: Global, rt: &impl Abort) -> &'static str {
-    let Ok(aim) = only_faces(alloc) else {
+    let Ok(property) = lamps_show_only_faces(alloc) else {
         return "the conditions";
     };
-    let failed_part = check_once(alloc, rt, aim);
+    let failed_part = check_once(alloc, rt, property);
     if failed_part != "nothing" {
-        let aim = only_faces(alloc).expect(rt, "memory");
-        assert!(rt; check_once(alloc, rt, aim) == "nothing");
+        let property = lamps_show_only_faces(alloc).expect(rt, "memory");
+        assert!(rt; check_once(alloc, rt, property) == "nothing");
     }
     failed_part
 }

@@ -19,9 +19,9 @@ fn nevers_of_mistakes(
 ) -> Result<Vec<Vec<Condition>>, AllocError> {
     let mut conditions = Vec::new(alloc);
     conditions.push(Condition::Mistaken(mistakes))?;
-    let mut nevers = Vec::new(alloc);
-    nevers.push(conditions)?;
-    Ok(nevers)
+    let mut never_lists = Vec::new(alloc);
+    never_lists.push(conditions)?;
+    Ok(never_lists)
 }
 
 /// Checks by sets of values that a program on the die's board makes none of these mistakes. Returns the outcome.
@@ -35,13 +35,13 @@ fn check_program(
 ) -> Outcome {
     let mut machine = rig(alloc, rt, program).expect(rt, "memory");
     let mut search_rig = rig(alloc, rt, program).expect(rt, "memory");
-    let nevers = nevers_of_mistakes(alloc, mistakes).expect(rt, "memory");
+    let never_lists = nevers_of_mistakes(alloc, mistakes).expect(rt, "memory");
     check_by_sets(
         alloc,
         &Cpu::new(),
         &mut machine,
         &mut search_rig,
-        nevers.as_slice(),
+        never_lists.as_slice(),
         entries,
         memory,
     )

@@ -2,8 +2,8 @@
 use crate::boards::machine;
 use crate::checks::MEMORY;
 use mcs_check::{
-    Aim, Cell, CellList, Comparison, Condition, Conjunction, Cycles, Outcome, Part, add_limit,
-    check_all,
+    Cell, CellList, Comparison, Condition, Conjunction, Outcome, Part, Property, StopwatchCycles,
+    add_limit, check_all,
 };
 use std::alloc::{AllocError, Global};
 use std::process::Abort;
@@ -81,11 +81,11 @@ fn check_time(
     let begins = begins_at(alloc, from).expect(rt, "memory");
     let ends = begins_at(alloc, to).expect(rt, "memory");
     let machine = machine(alloc, rt, program).expect(rt, "memory");
-    let limit = Cycles::of(limit).expect(rt, "a limit");
-    let mut nevers = Vec::new(alloc);
-    add_limit(alloc, &mut nevers, limit).expect(rt, "memory");
-    let aim = Aim::timed(alloc, nevers, begins, ends);
-    check_all(alloc, machine, aim, MAX_STATES, MEMORY, PAUSE).expect(rt, "memory")
+    let limit = StopwatchCycles::of(limit).expect(rt, "a limit");
+    let mut never_lists = Vec::new(alloc);
+    add_limit(alloc, &mut never_lists, limit).expect(rt, "memory");
+    let property = Property::with_stopwatch(alloc, never_lists, begins, ends);
+    check_all(alloc, machine, property, MAX_STATES, MEMORY, PAUSE).expect(rt, "memory")
 }
 
 /// Expects that `cycles` is the maximum number of cycles that a program takes from the address `from` to `to`.
@@ -100,7 +100,7 @@ fn expect_longest(alloc: Global, rt: &impl Abort, program: &[u8], from: u8, to: 
 }
 
 #[test]
-fn a_loop_takes_its_time(rt: HostRuntime) {
+fn a_loop_takes_a_fixed_time(rt: HostRuntime) {
     expect_longest(rt.alloc(), &rt, &DELAY, 0, 0, DELAY_CYCLES);
     expect_longest(rt.alloc(), &rt, &DELAY, 0, 4, DELAY_CYCLES - 2);
     expect_longest(rt.alloc(), &rt, &DELAY, 4, 0, 2);

@@ -19,7 +19,7 @@ type TextRow = (
 type FaultRow = (&'static str, usize, SourceFault);
 
 /// Returns true if the pairs of an image are exactly the wanted addresses with the wanted bytes.
-fn are_bytes(pairs: &[(Addr, u8)], bytes: &[(u16, u8)]) -> bool {
+fn pairs_match(pairs: &[(Addr, u8)], bytes: &[(u16, u8)]) -> bool {
     for (pair, wanted) in pairs.iter().zip(bytes.iter()) {
         if pair.0.get() != wanted.0 || pair.1 != wanted.1 {
             return false;
@@ -28,9 +28,9 @@ fn are_bytes(pairs: &[(Addr, u8)], bytes: &[(u16, u8)]) -> bool {
     pairs.len() == bytes.len()
 }
 
-fn spells(alloc: Global, text: &str, bytes: &[(u16, u8)]) -> bool {
+fn assembles_to(alloc: Global, text: &str, bytes: &[(u16, u8)]) -> bool {
     match assemble(alloc, text) {
-        Ok(image) => are_bytes(image.pairs(), bytes),
+        Ok(image) => pairs_match(image.pairs(), bytes),
         Err(_) => false,
     }
 }
@@ -42,7 +42,7 @@ fn is_refused(alloc: Global, text: &str, line: usize, fault: SourceFault) -> boo
     }
 }
 
-fn are_spans(spans: &[Span], wanted: &[(u16, u16)]) -> bool {
+fn spans_match(spans: &[Span], wanted: &[(u16, u16)]) -> bool {
     for (span, (at, size)) in spans.iter().zip(wanted.iter()) {
         if span.at != *at || span.size != *size {
             return false;
@@ -51,7 +51,7 @@ fn are_spans(spans: &[Span], wanted: &[(u16, u16)]) -> bool {
     spans.len() == wanted.len()
 }
 
-fn are_names(names: &[(&[u8], u16)], wanted: &[(&str, u16)]) -> bool {
+fn names_match(names: &[(&[u8], u16)], wanted: &[(&str, u16)]) -> bool {
     for ((name, value), (text, n)) in names.iter().zip(wanted.iter()) {
         if *name != text.as_bytes() || *value != *n {
             return false;
@@ -61,7 +61,7 @@ fn are_names(names: &[(&[u8], u16)], wanted: &[(&str, u16)]) -> bool {
 }
 
 /// Source texts that assemble. They have a non-ASCII character in a comment and do not end with LF.
-const READ_TEXTS: [TextRow; 2] = [
+const ACCEPTED_TEXTS: [TextRow; 2] = [
     // This text has CR at line ends, a label, a definition `NAME = n`, and lower-case mnemonics and
     // registers.
     (
@@ -80,13 +80,13 @@ const READ_TEXTS: [TextRow; 2] = [
 ];
 
 #[test]
-fn texts_that_are_not_plain_are_read(rt: HostRuntime) -> Result<(), Fail> {
-    for (text, bytes, spans, names) in READ_TEXTS {
-        assert!(rt; spells(rt.alloc(), text, bytes), "at {text}");
+fn non_ascii_comments_and_cr_are_accepted(rt: HostRuntime) -> Result<(), Fail> {
+    for (text, bytes, spans, names) in ACCEPTED_TEXTS {
+        assert!(rt; assembles_to(rt.alloc(), text, bytes), "at {text}");
         match survey(rt.alloc(), text) {
             Ok(survey) => {
-                assert!(rt; are_spans(survey.spans(), spans), "at {text}");
-                assert!(rt; are_names(survey.names(), names), "at {text}");
+                assert!(rt; spans_match(survey.spans(), spans), "at {text}");
+                assert!(rt; names_match(survey.names(), names), "at {text}");
             }
             Err(_) => assert!(rt; false, "at {text}"),
         }
@@ -104,7 +104,7 @@ const FIRST_FAULTS: [FaultRow; 4] = [
 ];
 
 #[test]
-fn texts_that_are_not_plain_are_refused(rt: HostRuntime) {
+fn texts_with_misplaced_bytes_are_rejected(rt: HostRuntime) {
     for (text, line, fault) in FIRST_FAULTS {
         assert!(rt; is_refused(rt.alloc(), text, line, fault), "at {text}");
         let refused = match survey(rt.alloc(), text) {

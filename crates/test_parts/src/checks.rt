@@ -5,6 +5,6 @@ use std::fmt::Debug;
 use std::process::Abort;
 
 /// Checks that the value `found` equals the value `wanted`.
-pub(crate) fn equal<T: Copy + Debug + PartialEq>(rt: &impl Abort, found: T, wanted: T) {
+pub(crate) fn expect_equal<T: Copy + Debug + PartialEq>(rt: &impl Abort, found: T, wanted: T) {
     assert_eq!(rt; found, wanted);
 }

@@ -1,5 +1,5 @@
 //! Tests of a single ROM: the values that its port gives were worked out manually.
-use crate::checks::equal;
+use crate::checks::expect_equal;
 use mcs_fixtures::boards::MIXED;
 use mcs_nibble::Nibble;
 use mcs_rom4001::Rom;
@@ -12,16 +12,16 @@ fn port_of_mixed_lines(rt: HostRuntime) -> Result<(), Fail> {
     let mut rom = Rom::new(MIXED);
     for (inputs, read) in [(5, 13), (0, 8)] {
         let inputs = Nibble::of(inputs).ok_or("a nibble")?;
-        equal(&rt, rom.read_port(inputs).get(), read);
+        expect_equal(&rt, rom.read_port(inputs).get(), read);
     }
     rom.write_port(Nibble::MAX);
-    equal(&rt, rom.port().get(), 10);
+    expect_equal(&rt, rom.port().get(), 10);
     rom.set_byte(0x80, 0xA5);
-    equal(&rt, [rom.byte(0x80), rom.byte(0x81)], [0xA5, 0]);
+    expect_equal(&rt, [rom.byte(0x80), rom.byte(0x81)], [0xA5, 0]);
     rom.clear_port();
     rom.set_port(Nibble::MAX);
     for (k, bit) in [(0, 0), (1, 1), (2, 0), (3, 1)] {
-        equal(&rt, rom.line(k).get(), bit);
+        expect_equal(&rt, rom.line(k).get(), bit);
     }
     Ok(())
 }

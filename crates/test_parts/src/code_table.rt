@@ -1,11 +1,11 @@
 //! Tests of the opcode table: the opcodes that the manual's table omits, and the number of words of
 //! an opcode. The expected values were listed manually.
-use crate::checks::equal;
+use crate::checks::expect_equal;
 use mcs_code::{Op, Words, cycles, decode, encode, word_count, words};
 use mcs_nibble::{Nibble, PairNo};
 
 #[test]
-fn eighteen_codes_are_outside(rt: HostRuntime) {
+fn eighteen_opcodes_are_undefined(rt: HostRuntime) {
     for code in 0..=255u8 {
         let named = !matches!(code, 0x01..=0x0F | 0xE3 | 0xFE | 0xFF);
         assert_eq!(rt; decode(code, 0).is_some(), named, "at {code}");
@@ -13,11 +13,11 @@ fn eighteen_codes_are_outside(rt: HostRuntime) {
     let outside = (0..=255u8)
         .filter(|code| decode(*code, 0).is_none())
         .count();
-    equal(&rt, outside, 18);
+    expect_equal(&rt, outside, 18);
 }
 
 #[test]
-fn codes_of_two_words(rt: HostRuntime) {
+fn word_counts_of_opcodes(rt: HostRuntime) {
     for (code, count) in [
         (0x1F, 2),
         (0x20, 2),
@@ -30,9 +30,9 @@ fn codes_of_two_words(rt: HostRuntime) {
     ] {
         assert_eq!(rt; words(code), count, "at {code}");
     }
-    equal(&rt, cycles(Op::Fin(PairNo::ZERO)), 2);
-    equal(&rt, word_count(Op::Fin(PairNo::ZERO)), 1);
-    equal(
+    expect_equal(&rt, cycles(Op::Fin(PairNo::ZERO)), 2);
+    expect_equal(&rt, word_count(Op::Fin(PairNo::ZERO)), 1);
+    expect_equal(
         &rt,
         encode(Op::Jcn(Nibble::ONE, 0x10)),
         Words {

@@ -30,7 +30,7 @@ const JUMP_AND_DATA: [(usize, u8); 4] = [(0, 0x41), (0x100, 0xD5), (0x101, 1), (
 const JUMP_AT_A_PAGE: [(usize, u8); 4] = [(0xFE, 0xE0), (0xFF, 0x14), (0x100, 0x10), (0xFFF, 0x7F)];
 
 /// Returns the bytes of a ROM that has the given bytes, and 0 at all other addresses.
-fn holding(rt: &impl Abort, bytes: &[(usize, u8)]) -> [u8; 4096] {
+fn rom_with(rt: &impl Abort, bytes: &[(usize, u8)]) -> [u8; 4096] {
     let mut rom = [0; 4096];
     for (at, byte) in bytes {
         assert!(rt; *at < 4096);
@@ -102,8 +102,8 @@ fn instructions_have_their_texts(rt: HostRuntime) -> Result<(), Fail> {
 }
 
 #[test]
-fn a_rom_has_a_source(rt: HostRuntime) -> Result<(), Fail> {
-    let rom = holding(&rt, &JUMP_AND_DATA);
+fn rom_range_has_a_source(rt: HostRuntime) -> Result<(), Fail> {
+    let rom = rom_with(&rt, &JUMP_AND_DATA);
     let alloc = rt.alloc();
     let lines = "ORG 0x100\nLDM 5\nDB 0x01\nDB 0xFF\n";
     expect_source(&rt, alloc, &rom, (0x100, 0x103), lines)?;
@@ -120,8 +120,8 @@ fn each_instruction_has_its_text(rt: HostRuntime) -> Result<(), Fail> {
 }
 
 #[test]
-fn a_text_ends_with_its_range(rt: HostRuntime) -> Result<(), Fail> {
-    let rom = holding(&rt, &JUMP_AT_A_PAGE);
+fn source_ends_with_its_range(rt: HostRuntime) -> Result<(), Fail> {
+    let rom = rom_with(&rt, &JUMP_AT_A_PAGE);
     let alloc = rt.alloc();
     expect_listing(&rt, alloc, &rom, (0xFE, 0), "")?;
     let lines = "ORG 0x0FE\nWRM\nDB 0x14\n";

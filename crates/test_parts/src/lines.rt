@@ -1,9 +1,9 @@
 //! Tests of the parser of command lines: the request that each line parses to.
-use mcs_lines::requests::{Request, read_request};
+use mcs_lines::requests::{Request, parse_request};
 use std::test::Fail;
 
 /// Valid command lines, whose numbers are all in range.
-const IN_RANGE: [&str; 41] = [
+const VALID_LINES: [&str; 41] = [
     "",
     " \t ",
     "wire",
@@ -49,8 +49,8 @@ const IN_RANGE: [&str; 41] = [
 
 #[test]
 fn lines_in_range(rt: HostRuntime) {
-    for line in IN_RANGE {
-        let is_refused = matches!(read_request(line.as_bytes()), Request::Refused(_));
+    for line in VALID_LINES {
+        let is_refused = matches!(parse_request(line.as_bytes()), Request::Refused(_));
         assert_eq!(rt; is_refused, false, "at {line}");
     }
 }
@@ -102,9 +102,9 @@ const REQUESTS: [(&str, &str); 24] = [
 ];
 
 #[test]
-fn what_lines_ask_for(rt: HostRuntime) -> Result<(), Fail> {
+fn lines_parse_to_their_requests(rt: HostRuntime) -> Result<(), Fail> {
     for (line, wanted) in REQUESTS {
-        let request = read_request(line.as_bytes());
+        let request = parse_request(line.as_bytes());
         let found = format!(in rt.alloc(); "{request:?}")?;
         assert_eq!(rt; found.as_str(), wanted);
     }

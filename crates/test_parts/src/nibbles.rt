@@ -1,17 +1,17 @@
 //! Tests of subtraction. The expected values were worked out manually from the manual's rule for
 //! SUB.
-use crate::checks::equal;
+use crate::checks::expect_equal;
 use mcs_nibble::{Bit, Nibble};
 use std::test::Fail;
 
 #[test]
-fn worked_differences(rt: HostRuntime) -> Result<(), Fail> {
+fn differences_follow_the_manual(rt: HostRuntime) -> Result<(), Fail> {
     for (from, taken, difference, carry) in [(3, 5, 14, 0), (5, 3, 2, 1)] {
         let from = Nibble::of(from).ok_or("a nibble")?;
         let taken = Nibble::of(taken).ok_or("a nibble")?;
         let (nibble, cy) = from.sub_borrow(taken, Bit::ZERO);
-        equal(&rt, nibble.get(), difference);
-        equal(&rt, cy.get(), carry);
+        expect_equal(&rt, nibble.get(), difference);
+        expect_equal(&rt, cy.get(), carry);
     }
     Ok(())
 }

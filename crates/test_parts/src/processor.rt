@@ -3,7 +3,7 @@
 ghost use Rattle.std.specs.Prelude.{◌≡◌, ℕ, ◌<◌};
 ghost use Rattle.mcs_model.specs.Bus.{BusState, zero_bus};
 
-use crate::checks::equal;
+use crate::checks::expect_equal;
 use mcs_cpu4004::{Bus, Cpu, Cycle, Regs};
 use mcs_nibble::{Addr, Bit, Nibble, RegNo};
 
@@ -69,7 +69,7 @@ fn nibble(n: u8) -> Nibble {
 }
 
 /// Returns a bus whose memory has the given bytes, and 0 at all other addresses. TEST is 1.
-fn holding(bytes: &[(u16, u8)]) -> Memory {
+fn memory_with(bytes: &[(u16, u8)]) -> Memory {
     let mut rom = [0; 4096];
     for (at, byte) in bytes {
         rom[usize::from(address(*at).get())] = *byte;
@@ -93,7 +93,7 @@ fn index_registers(bytes: [u8; 8]) -> [Nibble; 16] {
 }
 
 /// Runs `cycles` cycles from the address `pc`, and returns the registers after the last cycle.
-fn after(cpu: &mut Cpu, bus: &mut Memory, pc: u16, cycles: u32) -> Regs {
+fn registers_after(cpu: &mut Cpu, bus: &mut Memory, pc: u16, cycles: u32) -> Regs {
     cpu.set_pc(address(pc));
     for _ in 0..cycles {
         let _ = cpu.cycle(bus);
@@ -102,25 +102,25 @@ fn after(cpu: &mut Cpu, bus: &mut Memory, pc: u16, cycles: u32) -> Regs {
 }
 
 #[test]
-fn sums_in_decimal(rt: HostRuntime) {
+fn daa_corrects_a_sum(rt: HostRuntime) {
     let mut cpu = Cpu::new();
     cpu.set_acc(nibble(9));
-    cpu.set_register(RegNo::of_code(2), nibble(8));
-    let regs = after(&mut cpu, &mut holding(&[(0, 0x82), (1, 0xFB)]), 0, 2);
-    equal(&rt, regs.acc, nibble(7));
-    equal(&rt, regs.cy, Bit::ONE);
-    equal(&rt, regs.pc, address(2));
-    equal(&rt, regs.r, index_registers([0, 0x80, 0, 0, 0, 0, 0, 0]));
+    cpu.set_register(RegNo::from_opcode(2), nibble(8));
+    let regs = registers_after(&mut cpu, &mut memory_with(&[(0, 0x82), (1, 0xFB)]), 0, 2);
+    expect_equal(&rt, regs.acc, nibble(7));
+    expect_equal(&rt, regs.cy, Bit::ONE);
+    expect_equal(&rt, regs.pc, address(2));
+    expect_equal(&rt, regs.r, index_registers([0, 0x80, 0, 0, 0, 0, 0, 0]));
 }
 
 #[test]
 fn jumps_on_condition_to_the_page_of_the_next_address(rt: HostRuntime) {
     for (from, word, target) in [(0x0FE, 0x10, 0x110), (0x0FC, 0x10, 0x010)] {
-        let mut bus = holding(&[(from, 0x11), (from + 1, word)]);
+        let mut bus = memory_with(&[(from, 0x11), (from + 1, word)]);
         bus.test = Bit::ZERO;
-        let regs = after(&mut Cpu::new(), &mut bus, from, 1);
-        equal(&rt, regs.pc, address(target));
-        equal(&rt, regs.owed, 1);
+        let regs = registers_after(&mut Cpu::new(), &mut bus, from, 1);
+        expect_equal(&rt, regs.pc, address(target));
+        expect_equal(&rt, regs.owed, 1);
     }
 }
 
@@ -128,20 +128,20 @@ fn jumps_on_condition_to_the_page_of_the_next_address(rt: HostRuntime) {
 fn fetches_indirect_from_the_next_page(rt: HostRuntime) {
     let mut cpu = Cpu::new();
     cpu.set_r(index_registers([0x20, 0, 0, 0, 0, 0, 0, 0]));
-    let regs = after(
+    let regs = registers_after(
         &mut cpu,
-        &mut holding(&[(0x0FF, 0x32), (0x120, 0xAB)]),
+        &mut memory_with(&[(0x0FF, 0x32), (0x120, 0xAB)]),
         0x0FF,
         2,
     );
-    equal(&rt, regs.pc, address(0x100));
-    equal(&rt, regs.owed, 0);
-    equal(&rt, regs.r, index_registers([0x20, 0xAB, 0, 0, 0, 0, 0, 0]));
+    expect_equal(&rt, regs.pc, address(0x100));
+    expect_equal(&rt, regs.owed, 0);
+    expect_equal(&rt, regs.r, index_registers([0x20, 0xAB, 0, 0, 0, 0, 0, 0]));
 }
 
 #[test]
-fn returns_in_a_ring(rt: HostRuntime) {
-    let mut bus = holding(&[
+fn call_stack_wraps(rt: HostRuntime) {
+    let mut bus = memory_with(&[
         (0x00, 0x50),
         (0x01, 0x10),
         (0x10, 0x50),
@@ -155,10 +155,10 @@ fn returns_in_a_ring(rt: HostRuntime) {
         (0x32, 0xC2),
         (0x40, 0xC1),
     ]);
-    let regs = after(&mut Cpu::new(), &mut bus, 0, 12);
-    equal(&rt, regs.acc, nibble(4));
-    equal(&rt, regs.pc, address(0x041));
-    equal(
+    let regs = registers_after(&mut Cpu::new(), &mut bus, 0, 12);
+    expect_equal(&rt, regs.acc, nibble(4));
+    expect_equal(&rt, regs.pc, address(0x041));
+    expect_equal(
         &rt,
         regs.ret,
         [address(0x033), address(0x023), address(0x013)],
@@ -166,19 +166,19 @@ fn returns_in_a_ring(rt: HostRuntime) {
 }
 
 #[test]
-fn jumps_in_the_first_of_two_cycles(rt: HostRuntime) {
-    let mut bus = holding(&[(0, 0x41), (1, 0x23)]);
+fn jun_jumps_in_its_first_cycle(rt: HostRuntime) {
+    let mut bus = memory_with(&[(0, 0x41), (1, 0x23)]);
     let mut cpu = Cpu::new();
-    equal(&rt, cpu.cycle(&mut bus), Cycle::Done);
-    equal(&rt, cpu.regs().pc, address(0x123));
-    equal(&rt, cpu.regs().owed, 1);
-    equal(&rt, cpu.cycle(&mut bus), Cycle::Idle);
-    equal(&rt, cpu.regs().pc, address(0x123));
-    equal(&rt, cpu.regs().owed, 0);
+    expect_equal(&rt, cpu.cycle(&mut bus), Cycle::Done);
+    expect_equal(&rt, cpu.regs().pc, address(0x123));
+    expect_equal(&rt, cpu.regs().owed, 1);
+    expect_equal(&rt, cpu.cycle(&mut bus), Cycle::Idle);
+    expect_equal(&rt, cpu.regs().pc, address(0x123));
+    expect_equal(&rt, cpu.regs().owed, 0);
 }
 
 #[test]
-fn accumulator_and_carry(rt: HostRuntime) {
+fn accumulator_instructions_set_carry(rt: HostRuntime) {
     let rows = [
         (0xF8, 0, 0, 15, 0),
         (0xF8, 1, 0, 0, 1),
@@ -191,65 +191,65 @@ fn accumulator_and_carry(rt: HostRuntime) {
         let mut cpu = Cpu::new();
         cpu.set_acc(nibble(acc));
         cpu.set_cy(Bit::low_of(cy));
-        let regs = after(&mut cpu, &mut holding(&[(0, code)]), 0, 1);
+        let regs = registers_after(&mut cpu, &mut memory_with(&[(0, code)]), 0, 1);
         assert_eq!(rt; regs.acc, nibble(acc_after), "code {code} at {acc}");
         assert_eq!(rt; regs.cy, Bit::low_of(cy_after), "code {code} at {acc}");
-        equal(&rt, regs.pc, address(1));
+        expect_equal(&rt, regs.pc, address(1));
     }
 }
 
 #[test]
-fn counters_and_pages(rt: HostRuntime) {
+fn jumps_and_fetches_cross_pages(rt: HostRuntime) {
     let mut cpu = Cpu::new();
     cpu.set_acc(nibble(3));
-    let regs = after(
+    let regs = registers_after(
         &mut cpu,
-        &mut holding(&[(0x0FF, 0x1C), (0x100, 0x34)]),
+        &mut memory_with(&[(0x0FF, 0x1C), (0x100, 0x34)]),
         0x0FF,
         1,
     );
-    equal(&rt, regs.pc, address(0x134));
-    equal(&rt, regs.owed, 1);
+    expect_equal(&rt, regs.pc, address(0x134));
+    expect_equal(&rt, regs.owed, 1);
 
     let mut cpu = Cpu::new();
-    cpu.set_register(RegNo::of_code(5), nibble(15));
-    let regs = after(
+    cpu.set_register(RegNo::from_opcode(5), nibble(15));
+    let regs = registers_after(
         &mut cpu,
-        &mut holding(&[(0x200, 0x75), (0x201, 0x80)]),
+        &mut memory_with(&[(0x200, 0x75), (0x201, 0x80)]),
         0x200,
         1,
     );
-    equal(&rt, regs.r, [Nibble::ZERO; 16]);
-    equal(&rt, regs.pc, address(0x202));
-    equal(&rt, regs.owed, 1);
+    expect_equal(&rt, regs.r, [Nibble::ZERO; 16]);
+    expect_equal(&rt, regs.pc, address(0x202));
+    expect_equal(&rt, regs.owed, 1);
 
     let mut cpu = Cpu::new();
     cpu.set_r(index_registers([0, 0x34, 0, 0, 0, 0, 0, 0]));
-    let regs = after(&mut cpu, &mut holding(&[(0x0FF, 0x33)]), 0x0FF, 1);
-    equal(&rt, regs.pc, address(0x134));
-    equal(&rt, regs.owed, 0);
+    let regs = registers_after(&mut cpu, &mut memory_with(&[(0x0FF, 0x33)]), 0x0FF, 1);
+    expect_equal(&rt, regs.pc, address(0x134));
+    expect_equal(&rt, regs.owed, 0);
 
-    let regs = after(
+    let regs = registers_after(
         &mut Cpu::new(),
-        &mut holding(&[(0xFFF, 0x20), (0, 0xAB)]),
+        &mut memory_with(&[(0xFFF, 0x20), (0, 0xAB)]),
         0xFFF,
         1,
     );
-    equal(&rt, regs.r, index_registers([0xAB, 0, 0, 0, 0, 0, 0, 0]));
-    equal(&rt, regs.pc, address(0x001));
-    equal(&rt, regs.owed, 1);
+    expect_equal(&rt, regs.r, index_registers([0xAB, 0, 0, 0, 0, 0, 0, 0]));
+    expect_equal(&rt, regs.pc, address(0x001));
+    expect_equal(&rt, regs.owed, 1);
 }
 
 #[test]
-fn stays_at_a_code_outside(rt: HostRuntime) {
+fn undefined_opcode_changes_nothing(rt: HostRuntime) {
     for code in 0..=255u8 {
         let outside = matches!(code, 0x01..=0x0F | 0xE3 | 0xFE | 0xFF);
-        let mut bus = holding(&[(0, code)]);
+        let mut bus = memory_with(&[(0, code)]);
         let mut cpu = Cpu::new();
-        equal(&rt, cpu.is_outside(&bus), outside);
-        equal(&rt, cpu.cycle(&mut bus) == Cycle::Outside, outside);
+        expect_equal(&rt, cpu.is_outside_table(&bus), outside);
+        expect_equal(&rt, cpu.cycle(&mut bus) == Cycle::Outside, outside);
         if outside {
-            equal(&rt, cpu.regs(), Regs::new());
+            expect_equal(&rt, cpu.regs(), Regs::new());
         }
     }
 }

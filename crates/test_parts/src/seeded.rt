@@ -3,8 +3,8 @@
 //! chains of several sizes with reference models in plain lists.
 ghost use Rattle.std.specs.Prelude.{◌<◌, ◌≤◌};
 
-use crate::checks::equal;
-use mcs_fixtures::numbers::Numbers;
+use crate::checks::expect_equal;
+use mcs_fixtures::numbers::RandomNumbers;
 use mcs_nibble::{Bit, Nibble};
 use mcs_ram4002::{Bank, BankWrite};
 use mcs_shift4003::Chain;
@@ -12,30 +12,30 @@ use std::process::Abort;
 use std::test::Fail;
 
 /// Returns a pseudo-random byte, built from two pseudo-random nibbles.
-fn byte(numbers: &mut Numbers) -> u8 {
+fn byte(numbers: &mut RandomNumbers) -> u8 {
     numbers.below(16) * 16 + numbers.below(16)
 }
 
-fn nibble(numbers: &mut Numbers) -> Nibble {
+fn nibble(numbers: &mut RandomNumbers) -> Nibble {
     Nibble::low_of(numbers.below(16))
 }
 
 /// Checks that setting one nibble of a byte does not change the other nibble, for RAM characters
 /// and status characters.
 #[test]
-fn two_characters_of_a_byte(rt: HostRuntime) -> Result<(), Fail> {
+fn nibbles_of_a_byte_are_independent(rt: HostRuntime) -> Result<(), Fail> {
     let four = Nibble::of(4).ok_or("a nibble")?;
     let mut bank = Bank::<1>::new(1);
     bank.set_at(0, Nibble::MAX);
     bank.set_at(1, four);
     bank.set_status_at(four, 3, Nibble::MAX);
     bank.set_status_at(four, 2, four);
-    equal(&rt, bank.at(0).get(), 15);
-    equal(&rt, bank.at(1).get(), 4);
+    expect_equal(&rt, bank.at(0).get(), 15);
+    expect_equal(&rt, bank.at(1).get(), 4);
     bank.set_status_at(Nibble::ZERO, 2, four);
     bank.set_status_at(Nibble::ZERO, 3, Nibble::MAX);
-    equal(&rt, bank.status_at(Nibble::ZERO, 2).get(), 4);
-    equal(&rt, bank.status_at(Nibble::ZERO, 3).get(), 15);
+    expect_equal(&rt, bank.status_at(Nibble::ZERO, 2).get(), 4);
+    expect_equal(&rt, bank.status_at(Nibble::ZERO, 3).get(), 15);
     assert_eq!(rt;
         bank.status_at(four, 3).get(),
         0,
@@ -47,7 +47,7 @@ fn two_characters_of_a_byte(rt: HostRuntime) -> Result<(), Fail> {
 /// Shifts a 1 through a chain of 13 bits: across the boundary between two storage words, and out at
 /// the end of the chain.
 #[test]
-fn thirteen_bits(rt: HostRuntime) {
+fn thirteen_bit_chain_shifts(rt: HostRuntime) {
     let mut chain = Chain::<13>::new(13);
     chain.shift(Bit::ONE);
     for at in 1..=13 {
@@ -55,13 +55,13 @@ fn thirteen_bits(rt: HostRuntime) {
         for i in 0..13 {
             assert_eq!(rt; chain.bit(i), Some(Bit::when(i == at)), "bit {i}");
         }
-        equal(&rt, chain.bit(13), None);
+        expect_equal(&rt, chain.bit(13), None);
     }
 }
 
 /// A reference model of a RAM bank, which stores each value in its own list element.
 #[derive(Drop)]
-struct PlainBank {
+struct BankModel {
     wired: usize,
     src: u8,
     main: [u8; 256],
@@ -69,9 +69,9 @@ struct PlainBank {
     ports: [u8; 4],
 }
 
-impl PlainBank {
-    fn new(wired: usize) -> PlainBank {
-        PlainBank {
+impl BankModel {
+    fn new(wired: usize) -> BankModel {
+        BankModel {
             wired,
             src: 0,
             main: [0; 256],
@@ -117,8 +117,8 @@ impl PlainBank {
 /// Makes one random call on a bank, and the same change in the bank's model.
 fn call_bank<const CHIPS: usize>(
     bank: &mut Bank<CHIPS>,
-    plain: &mut PlainBank,
-    numbers: &mut Numbers,
+    plain: &mut BankModel,
+    numbers: &mut RandomNumbers,
 ) {
     let byte = byte(numbers);
     let n = nibble(numbers);
@@ -157,7 +157,7 @@ fn call_bank<const CHIPS: usize>(
 }
 
 /// Compares all values that can be read from a bank with the bank's model.
-fn compare_bank<const CHIPS: usize>(rt: &impl Abort, bank: &Bank<CHIPS>, plain: &PlainBank) {
+fn compare_bank<const CHIPS: usize>(rt: &impl Abort, bank: &Bank<CHIPS>, plain: &BankModel) {
     for src in 0..=255u8 {
         assert_eq!(rt;
             bank.at(src).get(),
@@ -177,10 +177,10 @@ fn compare_bank<const CHIPS: usize>(rt: &impl Abort, bank: &Bank<CHIPS>, plain: 
         );
     }
     let src = plain.src;
-    equal(rt, bank.last_src(), src);
-    equal(rt, bank.read().get(), plain.main[usize::from(src)]);
+    expect_equal(rt, bank.last_src(), src);
+    expect_equal(rt, bank.read().get(), plain.main[usize::from(src)]);
     for k in 0..4u8 {
-        equal(
+        expect_equal(
             rt,
             bank.read_status(k).get(),
             plain.status[usize::from(src / 16 * 4 + k)],
@@ -191,9 +191,9 @@ fn compare_bank<const CHIPS: usize>(rt: &impl Abort, bank: &Bank<CHIPS>, plain: 
 /// Makes two rounds of 1,500 random calls on a bank and its model, and compares the two after every
 /// 30 calls. Clears the bank after each round.
 fn run_bank<const CHIPS: usize>(rt: &impl Abort, bank: &mut Bank<CHIPS>, wired: usize) {
-    let mut numbers = Numbers::new(4002);
+    let mut numbers = RandomNumbers::new(4002);
     for _ in 0..2 {
-        let mut plain = PlainBank::new(wired);
+        let mut plain = BankModel::new(wired);
         for _ in 0..50 {
             for _ in 0..30 {
                 call_bank(bank, &mut plain, &mut numbers);
@@ -201,12 +201,12 @@ fn run_bank<const CHIPS: usize>(rt: &impl Abort, bank: &mut Bank<CHIPS>, wired: 
             compare_bank(rt, bank, &plain);
         }
         bank.clear();
-        compare_bank(rt, bank, &PlainBank::new(wired));
+        compare_bank(rt, bank, &BankModel::new(wired));
     }
 }
 
 #[test]
-fn banks_under_seeded_calls(rt: HostRuntime) {
+fn banks_match_their_model(rt: HostRuntime) {
     for wired in 0..=1 {
         run_bank(&rt, &mut Bank::<1>::new(wired), wired);
     }
@@ -224,14 +224,14 @@ fn banks_under_seeded_calls(rt: HostRuntime) {
 /// A reference model of a chain of at most 80 bits, with one list element for each bit. The list is
 /// longer than the chain. Its elements after the end of the chain are 0.
 #[derive(Drop)]
-struct PlainChain {
+struct ChainModel {
     list: [u8; 96],
 }
 
-impl PlainChain {
+impl ChainModel {
     /// Returns the ten bits from the index `first` on as a number. The bit at `first` is the lowest
     /// bit.
-    fn ten_from(&self, first: usize) -> u16
+    fn ten_bits_from(&self, first: usize) -> u16
         requires { first ≤ 80 }
     {
         let mut ten: u16 = 0;
@@ -258,8 +258,8 @@ impl PlainChain {
 /// Makes one random call on a chain, and the same change in the chain's model.
 fn call_chain<const MAX: usize>(
     chain: &mut Chain<MAX>,
-    plain: &mut PlainChain,
-    numbers: &mut Numbers,
+    plain: &mut ChainModel,
+    numbers: &mut RandomNumbers,
 ) {
     let bits = chain.bits();
     let level = Bit::low_of(numbers.below(2));
@@ -277,25 +277,29 @@ fn call_chain<const MAX: usize>(
 }
 
 /// Compares all bits that can be read from a chain with the chain's model.
-fn compare_chain<const MAX: usize>(rt: &impl Abort, chain: &Chain<MAX>, plain: &PlainChain) {
+fn compare_chain<const MAX: usize>(rt: &impl Abort, chain: &Chain<MAX>, plain: &ChainModel) {
     let bits = chain.bits();
     if bits > 80 {
         return;
     }
     for i in 0..bits {
         assert_eq!(rt; chain.bit(i), Bit::of(plain.list[i]), "bit {i} of {bits}");
-        assert_eq!(rt; chain.ten_from(i), plain.ten_from(i), "from {i} of {bits}");
+        assert_eq!(rt;
+            chain.ten_bits_from(i),
+            plain.ten_bits_from(i),
+            "from {i} of {bits}"
+        );
     }
-    equal(rt, chain.bit(bits), None);
-    equal(rt, chain.ten_from(bits), 0);
+    expect_equal(rt, chain.bit(bits), None);
+    expect_equal(rt, chain.ten_bits_from(bits), 0);
 }
 
 /// Makes 2,000 random calls on a chain and its model, and compares the two after every five calls.
 /// Clears the chain before every 100 calls.
 fn run_chain<const MAX: usize>(rt: &impl Abort, chain: &mut Chain<MAX>) {
-    let mut numbers = Numbers::new(4003);
+    let mut numbers = RandomNumbers::new(4003);
     for _ in 0..20 {
-        let mut plain = PlainChain { list: [0; 96] };
+        let mut plain = ChainModel { list: [0; 96] };
         chain.clear();
         for _ in 0..20 {
             for _ in 0..5 {
@@ -307,7 +311,7 @@ fn run_chain<const MAX: usize>(rt: &impl Abort, chain: &mut Chain<MAX>) {
 }
 
 #[test]
-fn chains_under_seeded_calls(rt: HostRuntime) {
+fn chains_match_their_model(rt: HostRuntime) {
     run_chain(&rt, &mut Chain::<7>::new(7));
     run_chain(&rt, &mut Chain::<10>::new(10));
     run_chain(&rt, &mut Chain::<10>::new(0));

@@ -1,19 +1,19 @@
 //! Tests of the command `state`.
-use mcs_lines::requests::{Request, read_request};
+use mcs_lines::requests::{Request, parse_request};
 use mcs_model::query::Query;
 use std::process::Abort;
 
 /// Returns true if a line parses as the query `state`, which reports the whole state in one line.
-fn asks_for_the_state(line: &[u8]) -> bool {
-    matches!(read_request(line), Request::Ask(Query::State))
+fn is_state_query(line: &[u8]) -> bool {
+    matches!(parse_request(line), Request::Ask(Query::State))
 }
 
 #[test]
-fn the_state_is_asked_for_by_its_word_alone(rt: HostRuntime) {
+fn only_the_word_state_is_the_query(rt: HostRuntime) {
     for line in [b"state".as_slice(), b"\tstate  "] {
-        assert!(rt; asks_for_the_state(line));
+        assert!(rt; is_state_query(line));
     }
     for line in [b"state 1".as_slice(), b"State", b"states", b"stat", b"seq"] {
-        assert!(rt; !asks_for_the_state(line));
+        assert!(rt; !is_state_query(line));
     }
 }

@@ -18,7 +18,7 @@ fn is_refused(alloc: Global, text: &str, number: u8) -> bool {
 
 /// Board texts that are rejected. Each has a byte other than printable ASCII, or does not end with
 /// LF.
-const REFUSED: [Row; 7] = [
+const REJECTED_TEXTS: [Row; 7] = [
     ("\u{0}", 20),
     ("\"\u{e9}\" = 1", 21),
     ("[[rom", 20),
@@ -29,14 +29,14 @@ const REFUSED: [Row; 7] = [
 ];
 
 #[test]
-fn texts_that_no_script_gives_are_refused(rt: HostRuntime) {
-    for (text, number) in REFUSED {
+fn texts_outside_scripts_are_rejected(rt: HostRuntime) {
+    for (text, number) in REJECTED_TEXTS {
         assert!(rt; is_refused(rt.alloc(), text, number), "at {text}");
     }
 }
 
 /// Checks that `board_text` writes the board that `text` describes as the text `plain`.
-fn expect_spelling(rt: &impl Abort, alloc: Global, text: &str, plain: &str) -> Result<(), Fail> {
+fn expect_board_text(rt: &impl Abort, alloc: Global, text: &str, plain: &str) -> Result<(), Fail> {
     let board = board_of(alloc, text)?;
     let found = board_text(alloc, &board)?;
     assert_eq!(rt; found.as_str(), plain);
@@ -45,7 +45,7 @@ fn expect_spelling(rt: &impl Abort, alloc: Global, text: &str, plain: &str) -> R
 
 /// Different texts for the same board, which has one ROM. Some have CR at line ends, and some do
 /// not end with LF.
-const SPELLINGS: &[&str] = &[
+const EQUIVALENT_TEXTS: &[&str] = &[
     "rom = [{ chip = 10, port = \"1i0i\" }]",
     "rom = [ # one\n  { port = '1i0i', chip = 0x0A },\n]",
     "[[\"rom\"]]\r\n\"chip\" = +1_0\r\nport = \"\\u0031i0i\"\r\n",
@@ -54,10 +54,10 @@ const SPELLINGS: &[&str] = &[
 
 /// Checks that `board_text` returns the same text for all texts that describe the same board.
 #[test]
-fn spellings(rt: HostRuntime) -> Result<(), Fail> {
-    for text in SPELLINGS {
+fn equivalent_texts_are_written_alike(rt: HostRuntime) -> Result<(), Fail> {
+    for text in EQUIVALENT_TEXTS {
         let plain = "[[rom]]\nchip = 10\nport = \"1i0i\"\n";
-        expect_spelling(&rt, rt.alloc(), text, plain)?;
+        expect_board_text(&rt, rt.alloc(), text, plain)?;
     }
     Ok(())
 }
@@ -89,7 +89,7 @@ fn reports_of_board_texts(rt: HostRuntime) -> Result<(), Fail> {
 }
 
 #[test]
-fn numbers_of_refusals(rt: HostRuntime) {
+fn faults_have_their_refusal_numbers(rt: HostRuntime) {
     for (fault, number) in [
         (WiringFault::BadToml, 20),
         (WiringFault::UnknownKey, 21),

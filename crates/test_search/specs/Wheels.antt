@@ -3,8 +3,8 @@
 use Rattle.std.specs.Prelude.{ℕ}
 use Rattle.mcs_search.specs.Rules.{Rules}
 
-abbrev pub free : ℕ → Rules
-free n = record {
+abbrev pub trivial_rules : ℕ → Rules
+trivial_rules n = record {
   is_state = λ _. Unit {0};
   covers = λ _ _. Unit {0};
   leads = λ _ _ _. Unit {0};

@@ -1,6 +1,6 @@
 //! A test of a search in which one allocation fails. `checks/allocations` runs it repeatedly and makes another
 //! allocation fail each time. When `./test gate` runs it, no allocation fails.
-use crate::wheels::{Wheels, go_on};
+use crate::wheels::{Wheels, resume};
 use mcs_search::{Search, Verdict};
 use std::alloc::Global;
 use std::process::Abort;
@@ -9,7 +9,7 @@ use std::process::Abort;
 const START: [u8; 3] = [0; 3];
 
 /// The number of positions of a wheel. It is large enough that the states do not fit in one block.
-const PLACES: u8 = 41;
+const POSITION_COUNT: u8 = 41;
 
 /// The number of states: 41 * 41 * 41, one for each combination of positions.
 const STATES: usize = 68_921;
@@ -27,16 +27,16 @@ fn expect_all(rt: &impl Abort, verdict: Option<Verdict>) {
 
 /// Runs a search to its end, and resumes it if an allocation fails. Returns the part whose allocation failed, or
 /// `nothing`.
-fn go_to_end(rt: &impl Abort, search: &mut Search) -> &'static str {
-    let mut wheels = Wheels::new(3, PLACES);
-    match go_on(search, &mut wheels, STEPS) {
+fn run_to_end(rt: &impl Abort, search: &mut Search) -> &'static str {
+    let mut wheels = Wheels::new(3, POSITION_COUNT);
+    match resume(search, &mut wheels, STEPS) {
         Ok(verdict) => {
             expect_all(rt, verdict);
             "nothing"
         }
         Err(_) => {
             assert!(rt; search.followed() < STATES);
-            expect_all(rt, go_on(search, &mut wheels, STEPS).expect(rt, "memory"));
+            expect_all(rt, resume(search, &mut wheels, STEPS).expect(rt, "memory"));
             "a step"
         }
     }
@@ -46,10 +46,10 @@ fn go_to_end(rt: &impl Abort, search: &mut Search) -> &'static str {
 /// allocation failed, or `nothing`.
 fn run(alloc: Global, rt: &impl Abort) -> &'static str {
     match Search::begin(alloc, &START, STATES) {
-        Ok(mut search) => go_to_end(rt, &mut search),
+        Ok(mut search) => run_to_end(rt, &mut search),
         Err(_) => {
             let mut search = Search::begin(alloc, &START, STATES).expect(rt, "memory");
-            let _ = go_to_end(rt, &mut search);
+            let _ = run_to_end(rt, &mut search);
             "the search"
         }
     }

@@ -1,5 +1,5 @@
 //! Tests of searches that run to their end, and of their verdicts.
-use crate::wheels::{Wheels, searched};
+use crate::wheels::{Wheels, search_wheels};
 use mcs_search::Verdict;
 use std::alloc::Global;
 use std::process::Abort;
@@ -19,7 +19,11 @@ fn expect_too_many(rt: &impl Abort, verdict: &Verdict) {
 /// Checks that a search finds all states of `count` wheels with `places` positions each.
 fn expect_all(alloc: Global, rt: &impl Abort, count: usize, places: u8, states: usize) {
     let mut wheels = Wheels::new(count, places);
-    expect_holds(rt, &searched(alloc, rt, &mut wheels, 1_000_000), states);
+    expect_holds(
+        rt,
+        &search_wheels(alloc, rt, &mut wheels, 1_000_000),
+        states,
+    );
 }
 
 #[test]
@@ -32,7 +36,7 @@ fn all_states_are_found(rt: HostRuntime) {
 }
 
 #[test]
-fn more_states_than_a_block_has(rt: HostRuntime) {
+fn states_exceed_one_block(rt: HostRuntime) {
     expect_all(rt.alloc(), &rt, 3, 51, 132_651);
 }
 
@@ -40,7 +44,7 @@ fn more_states_than_a_block_has(rt: HostRuntime) {
 fn expect_shortest(alloc: Global, rt: &impl Abort, places: u8, bad: [u8; 3]) {
     let mut wheels = Wheels::new(3, places);
     wheels.bad = bad;
-    let verdict = searched(alloc, rt, &mut wheels, 1_000_000);
+    let verdict = search_wheels(alloc, rt, &mut wheels, 1_000_000);
     let Verdict::Broken(choices) = &verdict else {
         panic!(rt; "no counterexample")
     };
@@ -54,7 +58,7 @@ fn expect_shortest(alloc: Global, rt: &impl Abort, places: u8, bad: [u8; 3]) {
 }
 
 #[test]
-fn a_counterexample_is_shortest(rt: HostRuntime) {
+fn counterexamples_are_shortest(rt: HostRuntime) {
     expect_shortest(rt.alloc(), &rt, 5, [0, 1, 0]);
     expect_shortest(rt.alloc(), &rt, 5, [2, 1, 3]);
     expect_shortest(rt.alloc(), &rt, 5, [4, 4, 4]);
@@ -62,14 +66,14 @@ fn a_counterexample_is_shortest(rt: HostRuntime) {
 }
 
 #[test]
-fn no_state_more_than_asked_for(rt: HostRuntime) {
+fn search_keeps_to_its_limit(rt: HostRuntime) {
     let mut one = Wheels::new(1, 1);
-    expect_too_many(&rt, &searched(rt.alloc(), &rt, &mut one, 0));
-    expect_holds(&rt, &searched(rt.alloc(), &rt, &mut one, 1), 1);
+    expect_too_many(&rt, &search_wheels(rt.alloc(), &rt, &mut one, 0));
+    expect_holds(&rt, &search_wheels(rt.alloc(), &rt, &mut one, 1), 1);
     let mut wheels = Wheels::new(3, 5);
-    expect_too_many(&rt, &searched(rt.alloc(), &rt, &mut wheels, 1));
-    expect_too_many(&rt, &searched(rt.alloc(), &rt, &mut wheels, 124));
-    expect_holds(&rt, &searched(rt.alloc(), &rt, &mut wheels, 125), 125);
+    expect_too_many(&rt, &search_wheels(rt.alloc(), &rt, &mut wheels, 1));
+    expect_too_many(&rt, &search_wheels(rt.alloc(), &rt, &mut wheels, 124));
+    expect_holds(&rt, &search_wheels(rt.alloc(), &rt, &mut wheels, 125), 125);
 }
 
 #[test]
@@ -78,7 +82,7 @@ fn a_system_may_give_up(rt: HostRuntime) {
     wheels.stuck = [1, 2, 0];
     assert!(&rt;
         matches!(
-            searched(rt.alloc(), &rt, &mut wheels, 1_000),
+            search_wheels(rt.alloc(), &rt, &mut wheels, 1_000),
             Verdict::GaveUp
         )
     );
@@ -86,7 +90,7 @@ fn a_system_may_give_up(rt: HostRuntime) {
     wheels.bad = [0, 2, 0];
     assert!(&rt;
         matches!(
-            searched(rt.alloc(), &rt, &mut wheels, 1_000),
+            search_wheels(rt.alloc(), &rt, &mut wheels, 1_000),
             Verdict::Broken(_)
         )
     );

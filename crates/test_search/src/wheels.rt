@@ -34,19 +34,19 @@ impl Wheels {
 
 /// Returns true if the wheels of a state are at the given positions. Returns false if there are no wheels or more
 /// than three.
-fn are_at(key: &[u8], places: &[u8; 3]) -> bool {
+fn wheels_are_at(key: &[u8], places: &[u8; 3]) -> bool {
     !key.is_empty() && key.len() <= 3 && key == &places[..key.len()]
 }
 
 impl System for Wheels {
     ghost use Rattle.std.specs.Prelude.{ℕ};
-    ghost use Rattle.test_search.specs.Wheels.{free};
+    ghost use Rattle.test_search.specs.Wheels.{trivial_rules};
 
     ghost Setting = { ℕ };
 
     ghost setting = { λ _. 0 };
 
-    ghost rules = { free };
+    ghost rules = { trivial_rules };
 
     fn choices(&mut self, key: &[u8], into: &mut Vec<u8>) -> Result<(), AllocError> {
         into.clear();
@@ -58,38 +58,38 @@ impl System for Wheels {
         Ok(())
     }
 
-    fn go(&mut self, key: &[u8], choice: u8, into: &mut [u8]) -> Option<bool> {
+    fn apply_choice(&mut self, key: &[u8], choice: u8, into: &mut [u8]) -> Option<bool> {
         into.copy_from_slice(key);
         let at = usize::from(choice);
         if at < into.len() {
             let turned = into[at].wrapping_add(1);
             into[at] = if turned < self.places { turned } else { 0 };
         }
-        if are_at(into, &self.stuck) {
+        if wheels_are_at(into, &self.stuck) {
             return None;
         }
-        Some(!are_at(into, &self.bad))
+        Some(!wheels_are_at(into, &self.bad))
     }
 }
 
 /// Resumes a search for at most `steps` states.
-#[tactic(auto, using(crate::proofs::Free::free_under_way))]
-pub(crate) fn go_on(
+#[tactic(auto, using(crate::proofs::TrivialRules::trivial_rules_under_way))]
+pub(crate) fn resume(
     search: &mut Search,
     wheels: &mut Wheels,
     steps: usize,
 ) -> Result<Option<Verdict>, AllocError> {
-    search.go_on(wheels, steps)
+    search.resume(wheels, steps)
 }
 
 /// Searches all states of the wheels, up to `most` states.
-pub(crate) fn searched(
+pub(crate) fn search_wheels(
     alloc: Global,
     rt: &impl Abort,
     wheels: &mut Wheels,
     most: usize,
 ) -> Verdict {
     let start = vec![in alloc; 0u8; wheels.count].expect(rt, "memory");
-    let most = most.min(mcs_search::MOST);
+    let most = most.min(mcs_search::MAX_STATES);
     search_all(alloc, wheels, &start, most).expect(rt, "memory")
 }

@@ -18,12 +18,12 @@ fn read(rt: &impl Abort, alloc: Global, bytes: &[u8]) -> Option<Command> {
     command_of(alloc, bytes).expect(rt, "memory")
 }
 
-fn is_read(rt: &impl Abort, alloc: Global, bytes: &[u8]) -> bool {
+fn is_decoded(rt: &impl Abort, alloc: Global, bytes: &[u8]) -> bool {
     read(rt, alloc, bytes).is_some()
 }
 
 /// Checks that the bytes decode to a command that is encoded as the same bytes.
-fn expect_same(rt: &impl Abort, alloc: Global, want: &[u8]) {
+fn expect_round_trip(rt: &impl Abort, alloc: Global, want: &[u8]) {
     match read(rt, alloc, want) {
         Some(command) => expect_bytes(rt, &command, want),
         None => panic!(rt; "a command was not read"),
@@ -32,14 +32,14 @@ fn expect_same(rt: &impl Abort, alloc: Global, want: &[u8]) {
 
 /// Checks that a command is encoded as the given bytes. Also checks that decoding these bytes and
 /// encoding the result gives the same bytes.
-fn expect_both(rt: &impl Abort, alloc: Global, command: &Command, want: &[u8]) {
+fn expect_bytes_and_round_trip(rt: &impl Abort, alloc: Global, command: &Command, want: &[u8]) {
     expect_bytes(rt, command, want);
-    expect_same(rt, alloc, want);
+    expect_round_trip(rt, alloc, want);
 }
 
 #[test]
-fn what_no_session_has(rt: HostRuntime) {
+fn encodes_commands_that_no_session_has(rt: HostRuntime) {
     let alloc = rt.alloc();
-    expect_both(&rt, alloc, &Command::Release(0, 255), &[4, 0, 255]);
-    assert!(rt; !is_read(&rt, alloc, &[]));
+    expect_bytes_and_round_trip(&rt, alloc, &Command::Release(0, 255), &[4, 0, 255]);
+    assert!(rt; !is_decoded(&rt, alloc, &[]));
 }

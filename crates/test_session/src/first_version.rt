@@ -1,9 +1,11 @@
 //! Tests of a stop during the migration of a session of version 1, which happens when it is first
 //! opened.
-use crate::checks::equal;
-use crate::desk::{blank, expect_bytes, expect_register, leave, mended, open};
+use crate::checks::expect_equal;
+use crate::session_helpers::{
+    blank_disk, expect_bytes, expect_register, open, overwrite, repaired_disk,
+};
 use mcs_disk::{FuseDisk, MemDisk};
-use mcs_fixtures::files::{NEW_BENCH, POKE};
+use mcs_fixtures::files::{NEW_BENCH, POKE_RECORD};
 use mcs_journal::StoreFault;
 use std::alloc::Global;
 use std::process::Abort;
@@ -11,24 +13,24 @@ use std::process::Abort;
 const SECOND_SLOT: usize = 81_936;
 
 /// Returns a disk with a file of version 1: a new bench, and the record of the command `poke r5 9`.
-fn one_register(alloc: Global, rt: &impl Abort) -> MemDisk {
-    let mut disk = blank(alloc, rt);
+fn version_1_disk(alloc: Global, rt: &impl Abort) -> MemDisk {
+    let mut disk = blank_disk(alloc, rt);
     for (at, bytes) in NEW_BENCH {
-        leave(rt, &mut disk, at, bytes);
+        overwrite(rt, &mut disk, at, bytes);
     }
-    leave(rt, &mut disk, POKE.0, POKE.1);
+    overwrite(rt, &mut disk, POKE_RECORD.0, POKE_RECORD.1);
     disk
 }
 
 /// Opens the file of version 1 on a disk on which every call after the first `calls` calls fails.
 /// Returns the repaired disk if opening fails, or `None` if the file opens.
-fn stopped(alloc: Global, rt: &impl Abort, calls: usize) -> Option<FuseDisk> {
-    let disk = FuseDisk::after(one_register(alloc, rt), calls);
+fn disk_after_stop(alloc: Global, rt: &impl Abort, calls: usize) -> Option<FuseDisk> {
+    let disk = FuseDisk::after(version_1_disk(alloc, rt), calls);
     match open(alloc, disk) {
         Ok(_) => None,
         Err((fault, disk)) => {
-            equal(rt, fault, StoreFault::Device);
-            Some(mended(disk))
+            expect_equal(rt, fault, StoreFault::Device);
+            Some(repaired_disk(disk))
         }
     }
 }
@@ -37,7 +39,7 @@ fn stopped(alloc: Global, rt: &impl Abort, calls: usize) -> Option<FuseDisk> {
 fn count_calls(alloc: Global, rt: &impl Abort) -> usize {
     let mut calls = 0usize;
     for _ in 0..64 {
-        if stopped(alloc, rt, calls).is_some() {
+        if disk_after_stop(alloc, rt, calls).is_some() {
             calls = calls.saturating_add(1);
         }
     }
@@ -46,10 +48,10 @@ fn count_calls(alloc: Global, rt: &impl Abort) -> usize {
 }
 
 /// Returns the disk of an opening that stopped `before` calls before its end.
-fn stopped_before(alloc: Global, rt: &impl Abort, calls: usize, before: usize) -> FuseDisk {
+fn disk_after_stop_before(alloc: Global, rt: &impl Abort, calls: usize, before: usize) -> FuseDisk {
     assert!(rt; before <= calls);
     let call = calls - before;
-    match stopped(alloc, rt, call) {
+    match disk_after_stop(alloc, rt, call) {
         Some(disk) => disk,
         None => panic!(rt; "the call {call} did not fail"),
     }
@@ -68,23 +70,23 @@ fn expect_stage(rt: &impl Abort, disk: &mut FuseDisk, before: usize) {
 }
 
 #[test]
-fn a_stop_at_each_call(rt: HostRuntime) {
+fn stop_at_each_call_keeps_the_session(rt: HostRuntime) {
     let alloc = rt.alloc();
     let calls = count_calls(alloc, &rt);
     for call in 0..calls {
-        let mut disk = stopped_before(alloc, &rt, calls, calls - call);
+        let mut disk = disk_after_stop_before(alloc, &rt, calls, calls - call);
         expect_stage(&rt, &mut disk, calls - call);
         expect_register(alloc, &rt, disk, 1, (5, 9));
     }
 }
 
 #[test]
-fn a_selector_left_as_anything(rt: HostRuntime) {
+fn any_torn_selector_opens(rt: HostRuntime) {
     let alloc = rt.alloc();
     let calls = count_calls(alloc, &rt);
     for selector in [0x7F, 0x40] {
-        let mut disk = stopped_before(alloc, &rt, calls, 2);
-        leave(&rt, &mut disk, 8, &[selector]);
+        let mut disk = disk_after_stop_before(alloc, &rt, calls, 2);
+        overwrite(&rt, &mut disk, 8, &[selector]);
         expect_register(alloc, &rt, disk, 1, (5, 9));
     }
 }

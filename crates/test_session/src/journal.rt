@@ -1,8 +1,9 @@
-use crate::checks::equal;
+use crate::checks::expect_equal;
 use mcs_disk::{
-    Disk, FuseDisk, MemDisk, cut_is_before_a_stretch_or_since_its_start,
-    cut_is_since_an_earlier_time, cut_leaves_what_is_durable, cut_of_what_a_cut_left,
-    images_have_the_size_of_the_disk, read_bytes_are_an_image, reads_and_syncs_add_no_image,
+    Disk, FuseDisk, MemDisk, current_bytes_are_an_image,
+    cut_is_before_a_stretch_or_since_its_start, cut_keeps_durable_bytes,
+    cut_since_later_is_since_earlier, images_have_the_size_of_the_disk,
+    reads_and_syncs_add_no_image, second_cut_adds_no_outcome,
 };
 use mcs_journal::{
     FILE_SIZE, Opened, Store, StoreFault, cut_leaves_durable_contents,
@@ -12,7 +13,7 @@ use std::alloc::Global;
 use std::process::Abort;
 use std::test::Fail;
 
-const SNAP: [u8; 3] = [1, 2, 3];
+const SNAPSHOT: [u8; 3] = [1, 2, 3];
 
 const NEXT_SNAPSHOT: [u8; 2] = [8, 9];
 
@@ -22,8 +23,8 @@ fn blank(alloc: Global, rt: &impl Abort) -> MemDisk {
     MemDisk::new(alloc, FILE_SIZE).expect(rt, "memory")
 }
 
-fn created(alloc: Global, rt: &impl Abort) -> Store<MemDisk> {
-    match Store::create(alloc, blank(alloc, rt), &SNAP) {
+fn created_store(alloc: Global, rt: &impl Abort) -> Store<MemDisk> {
+    match Store::create(alloc, blank(alloc, rt), &SNAPSHOT) {
         Ok(store) => store,
         Err(_) => panic!(rt; "create was refused"),
     }
@@ -46,7 +47,7 @@ fn damage(rt: &impl Abort, disk: &mut MemDisk, at: usize, bytes: &[u8]) {
 
 /// Checks that the disk stores the given snapshot and `records` copies of `RECORD`. Returns the
 /// disk.
-fn expect_pair<D: Disk + Drop>(
+fn expect_contents<D: Disk + Drop>(
     alloc: Global,
     rt: &impl Abort,
     disk: D,
@@ -61,11 +62,11 @@ fn expect_pair<D: Disk + Drop>(
                 records: list,
             },
         ) => {
-            equal(rt, found.bytes(), snap);
-            equal(rt, list.len(), records);
-            equal(rt, list.is_empty(), records == 0);
+            expect_equal(rt, found.bytes(), snap);
+            expect_equal(rt, list.len(), records);
+            expect_equal(rt, list.is_empty(), records == 0);
             for i in 0..list.len() {
-                equal(rt, list.get(i), RECORD.as_slice());
+                expect_equal(rt, list.get(i), RECORD.as_slice());
             }
             store.into_disk()
         }
@@ -73,7 +74,7 @@ fn expect_pair<D: Disk + Drop>(
     }
 }
 
-fn reopened(alloc: Global, rt: &impl Abort, disk: MemDisk) -> Store<MemDisk> {
+fn reopened_store(alloc: Global, rt: &impl Abort, disk: MemDisk) -> Store<MemDisk> {
     match Store::open(alloc, disk) {
         Ok(opened) => opened.store,
         Err(_) => panic!(rt; "open was refused"),
@@ -83,38 +84,38 @@ fn reopened(alloc: Global, rt: &impl Abort, disk: MemDisk) -> Store<MemDisk> {
 fn expect_refusal<D: Disk + Drop>(alloc: Global, rt: &impl Abort, disk: D, want: StoreFault) {
     match Store::open(alloc, disk) {
         Ok(_) => panic!(rt; "the disk was taken"),
-        Err((fault, _)) => equal(rt, fault, want),
+        Err((fault, _)) => expect_equal(rt, fault, want),
     }
 }
 
 #[test]
 fn writes_the_format(rt: HostRuntime) -> Result<(), Fail> {
     let alloc = rt.alloc();
-    let mut disk = created(alloc, &rt).into_disk();
+    let mut disk = created_store(alloc, &rt).into_disk();
     expect_bytes(&rt, &mut disk, 0, b"MCS4BEN1\0\0\0\0\0\0\0\0");
     expect_bytes(&rt, &mut disk, 16, &[0, 0, 0, 3, 1, 2, 3]);
     expect_bytes(&rt, &mut disk, 16_400, &[0]);
 
-    let mut store = reopened(alloc, &rt, disk);
+    let mut store = reopened_store(alloc, &rt, disk);
     assert!(rt; store.is_open() && store.has_room(RECORD.len()));
     store.append(&RECORD)?;
-    let mut disk = expect_pair(alloc, &rt, store.into_disk(), &SNAP, 1);
+    let mut disk = expect_contents(alloc, &rt, store.into_disk(), &SNAPSHOT, 1);
     expect_bytes(&rt, &mut disk, 16_400, &[1, 0, 4, 7, 3, 5, 9, 0]);
 
-    let mut store = reopened(alloc, &rt, disk);
+    let mut store = reopened_store(alloc, &rt, disk);
     assert!(rt; store.is_open());
     store.replace(&NEXT_SNAPSHOT)?;
     assert!(rt; store.is_open() && store.has_room(RECORD.len()));
     store.append(&RECORD)?;
-    let mut disk = expect_pair(alloc, &rt, store.into_disk(), &NEXT_SNAPSHOT, 1);
+    let mut disk = expect_contents(alloc, &rt, store.into_disk(), &NEXT_SNAPSHOT, 1);
     expect_bytes(&rt, &mut disk, 8, &[1]);
     expect_bytes(&rt, &mut disk, 81_936, &[0, 0, 0, 2, 8, 9]);
     expect_bytes(&rt, &mut disk, 98_320, &[1, 0, 4, 7, 3, 5, 9, 0]);
 
-    let mut store = reopened(alloc, &rt, disk);
+    let mut store = reopened_store(alloc, &rt, disk);
     assert!(rt; store.is_open());
-    store.replace(&SNAP)?;
-    let mut disk = expect_pair(alloc, &rt, store.into_disk(), &SNAP, 0);
+    store.replace(&SNAPSHOT)?;
+    let mut disk = expect_contents(alloc, &rt, store.into_disk(), &SNAPSHOT, 0);
     expect_bytes(&rt, &mut disk, 8, &[0]);
     Ok(())
 }
@@ -123,7 +124,11 @@ fn writes_the_format(rt: HostRuntime) -> Result<(), Fail> {
 /// after the first `passed` calls fails. Returns the disk. The three operations make 5, 4 and 4
 /// device calls.
 fn run_until_fault(alloc: Global, rt: &impl Abort, passed: usize) -> FuseDisk {
-    let mut store = match Store::create(alloc, FuseDisk::after(blank(alloc, rt), passed), &SNAP) {
+    let mut store = match Store::create(
+        alloc,
+        FuseDisk::after(blank(alloc, rt), passed),
+        &SNAPSHOT,
+    ) {
         Ok(store) => store,
         Err((fault, disk)) => {
             assert!(rt; fault == StoreFault::Device && passed < 5);
@@ -132,11 +137,11 @@ fn run_until_fault(alloc: Global, rt: &impl Abort, passed: usize) -> FuseDisk {
     };
     assert!(rt; passed >= 5 && store.is_open() && store.has_room(RECORD.len()));
     let appended = store.append(&RECORD).is_ok();
-    equal(rt, appended, passed >= 9);
+    expect_equal(rt, appended, passed >= 9);
     if store.is_open() {
         let replaced = store.replace(&NEXT_SNAPSHOT).is_ok();
-        equal(rt, replaced, passed >= 13);
-        equal(rt, store.is_open(), replaced);
+        expect_equal(rt, replaced, passed >= 13);
+        expect_equal(rt, store.is_open(), replaced);
     }
     store.into_disk()
 }
@@ -161,25 +166,28 @@ fn stops_at_each_device_call(rt: HostRuntime) {
     ] {
         let mut disk = run_until_fault(alloc, &rt, passed);
         disk.mend();
-        let _disk = expect_pair(alloc, &rt, disk, &SNAP, records);
+        let _disk = expect_contents(alloc, &rt, disk, &SNAPSHOT, records);
     }
     for passed in [12, 13] {
         let mut disk = run_until_fault(alloc, &rt, passed);
         disk.mend();
-        let _disk = expect_pair(alloc, &rt, disk, &NEXT_SNAPSHOT, 0);
+        let _disk = expect_contents(alloc, &rt, disk, &NEXT_SNAPSHOT, 0);
     }
 }
 
 #[test]
-fn fails_one_call_alone(rt: HostRuntime) {
+fn creation_fails_if_one_call_fails(rt: HostRuntime) {
     let alloc = rt.alloc();
     for passed in 0..5 {
-        match Store::create(alloc, FuseDisk::once(blank(alloc, &rt), passed), &SNAP) {
+        match Store::create(alloc, FuseDisk::once(blank(alloc, &rt), passed), &SNAPSHOT) {
             Ok(_) => panic!(rt; "the call {passed} did not fail"),
             Err((fault, disk)) => {
-                equal(&rt, fault, StoreFault::Device);
+                expect_equal(&rt, fault, StoreFault::Device);
                 if passed < 4 {
-                    assert!(rt; Store::create(alloc, disk, &SNAP).is_ok(), "after {passed}");
+                    assert!(rt;
+                        Store::create(alloc, disk, &SNAPSHOT).is_ok(),
+                        "after {passed}"
+                    );
                 }
             }
         }
@@ -187,23 +195,23 @@ fn fails_one_call_alone(rt: HostRuntime) {
 }
 
 #[test]
-fn finds_what_a_stop_left(rt: HostRuntime) {
+fn opens_after_an_interrupted_write(rt: HostRuntime) {
     let alloc = rt.alloc();
     for (at, left, snap, records) in [
-        (16_401, &[255u8, 255, 7, 3, 5, 9, 1][..], &SNAP[..], 0),
-        (16_400, &[37, 0, 4, 7, 3, 5, 9, 0][..], &SNAP[..], 0),
-        (16_400, &[1, 0, 4, 7, 3, 5, 9, 0][..], &SNAP[..], 1),
-        (8, &[0x7E][..], &SNAP[..], 0),
+        (16_401, &[255u8, 255, 7, 3, 5, 9, 1][..], &SNAPSHOT[..], 0),
+        (16_400, &[37, 0, 4, 7, 3, 5, 9, 0][..], &SNAPSHOT[..], 0),
+        (16_400, &[1, 0, 4, 7, 3, 5, 9, 0][..], &SNAPSHOT[..], 1),
+        (8, &[0x7E][..], &SNAPSHOT[..], 0),
         (8, &[0x7F][..], &[][..], 0),
     ] {
-        let mut disk = created(alloc, &rt).into_disk();
+        let mut disk = created_store(alloc, &rt).into_disk();
         damage(&rt, &mut disk, at, left);
-        let _disk = expect_pair(alloc, &rt, disk, snap, records);
+        let _disk = expect_contents(alloc, &rt, disk, snap, records);
     }
 }
 
 #[test]
-fn refuses_what_holds_no_pair(rt: HostRuntime) {
+fn rejects_damaged_disks(rt: HostRuntime) {
     let alloc = rt.alloc();
     for (at, left, fault) in [
         (0, &[0u8][..], StoreFault::NotASession),
@@ -212,7 +220,7 @@ fn refuses_what_holds_no_pair(rt: HostRuntime) {
         (16_400, &[1, 0, 0][..], StoreFault::Damaged),
         (16_400, &[1, 32, 1][..], StoreFault::Damaged),
     ] {
-        let mut disk = created(alloc, &rt).into_disk();
+        let mut disk = created_store(alloc, &rt).into_disk();
         damage(&rt, &mut disk, at, left);
         expect_refusal(alloc, &rt, disk, fault);
     }
@@ -221,14 +229,14 @@ fn refuses_what_holds_no_pair(rt: HostRuntime) {
 }
 
 #[test]
-fn makes_a_store_on_a_blank_disk_only(rt: HostRuntime) {
+fn creates_a_store_only_on_a_blank_disk(rt: HostRuntime) {
     let alloc = rt.alloc();
     let short = MemDisk::new(alloc, FILE_SIZE - 1).expect(&rt, "memory");
-    let used = created(alloc, &rt).into_disk();
+    let used = created_store(alloc, &rt).into_disk();
     for disk in [short, used] {
-        match Store::create(alloc, disk, &SNAP) {
+        match Store::create(alloc, disk, &SNAPSHOT) {
             Ok(_) => panic!(rt; "a disk that is not blank was taken"),
-            Err((fault, _)) => equal(&rt, fault, StoreFault::NotBlank),
+            Err((fault, _)) => expect_equal(&rt, fault, StoreFault::NotBlank),
         }
     }
 }
@@ -237,13 +245,13 @@ fn makes_a_store_on_a_blank_disk_only(rt: HostRuntime) {
 /// types of disks.
 #[test]
 fn laws_of_power_cuts_hold_of_disks_in_memory(_rt: HostRuntime) {
-    read_bytes_are_an_image::<FuseDisk>();
+    current_bytes_are_an_image::<FuseDisk>();
     images_have_the_size_of_the_disk::<FuseDisk>();
     reads_and_syncs_add_no_image::<FuseDisk>();
-    cut_is_since_an_earlier_time::<MemDisk, FuseDisk>();
-    cut_leaves_what_is_durable::<MemDisk, FuseDisk>();
+    cut_since_later_is_since_earlier::<MemDisk, FuseDisk>();
+    cut_keeps_durable_bytes::<MemDisk, FuseDisk>();
     cut_is_before_a_stretch_or_since_its_start::<FuseDisk, MemDisk>();
-    cut_of_what_a_cut_left::<FuseDisk, MemDisk, MemDisk>();
+    second_cut_adds_no_outcome::<FuseDisk, MemDisk, MemDisk>();
     cut_leaves_old_or_new_contents::<FuseDisk, MemDisk>();
     cut_leaves_durable_contents::<MemDisk, MemDisk>();
 }

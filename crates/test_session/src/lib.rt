@@ -8,8 +8,6 @@ mod checks;
 #[cfg(test)]
 mod commands;
 #[cfg(test)]
-mod desk;
-#[cfg(test)]
 mod first_version;
 #[cfg(test)]
 mod journal;
@@ -17,5 +15,7 @@ mod journal;
 mod lists;
 #[cfg(test)]
 mod restored;
+#[cfg(test)]
+mod session_helpers;
 #[cfg(test)]
 mod tests;

@@ -1,7 +1,7 @@
 //! Tests of states whose lists do not have the lengths that the board requires. No file encodes a
 //! state of this kind.
 use mcs_bench::Flat;
-use mcs_fixtures::boards::worked;
+use mcs_fixtures::boards::example_board;
 use std::alloc::Global;
 use std::process::Abort;
 
@@ -16,12 +16,12 @@ fn is_valid(flat: &Flat) -> bool {
 /// Checks that two states are invalid: one with a key on a board without keys, and one with empty
 /// lists for a board with chains and keys.
 #[test]
-fn lists_are_as_long_as_the_board_has_them(rt: HostRuntime) {
+fn rejects_lists_of_wrong_length(rt: HostRuntime) {
     let mut flat = new_state(rt.alloc(), &rt);
     assert!(rt; is_valid(&flat));
     assert!(rt; flat.keys.try_push(0).is_ok());
     assert!(rt; !is_valid(&flat));
     let mut flat = new_state(rt.alloc(), &rt);
-    flat.board = worked().expect(&rt, "a board");
+    flat.board = example_board().expect(&rt, "a board");
     assert!(rt; !is_valid(&flat));
 }

@@ -1,8 +1,8 @@
 //! Tests of benches that are restored from plain numbers or from bytes.
-use crate::checks::equal;
+use crate::checks::expect_equal;
 use mcs_bench::{Bench, Flat};
 use mcs_codec::{STATE_BYTES, bench_of, state_bytes};
-use mcs_fixtures::boards::worked;
+use mcs_fixtures::boards::example_board;
 use mcs_model::command::Command;
 use mcs_model::image::Image;
 use mcs_model::refusals::BenchFault;
@@ -19,20 +19,20 @@ fn restored(alloc: Global, rt: &impl Abort, flat: &Flat) -> Bench {
 /// Checks that a bench that has accepted the maximum number of commands rejects any further
 /// command.
 #[test]
-fn a_worn_bench(rt: HostRuntime) {
+fn rejects_commands_after_the_maximum(rt: HostRuntime) {
     let alloc = rt.alloc();
     let mut flat = Flat::new(alloc).expect(&rt, "memory");
     flat.seq = u32::MAX;
     let bench = restored(alloc, &rt, &flat);
-    equal(&rt, bench.seq(), u32::MAX);
-    equal(&rt, bench.check(&Command::Reset), Err(BenchFault::Worn));
+    expect_equal(&rt, bench.seq(), u32::MAX);
+    expect_equal(&rt, bench.check(&Command::Reset), Err(BenchFault::Worn));
     flat.seq = u32::MAX - 1;
     let bench = restored(alloc, &rt, &flat);
-    equal(&rt, bench.check(&Command::Reset), Ok(()));
+    expect_equal(&rt, bench.check(&Command::Reset), Ok(()));
 }
 
 /// Applies a command that the bench must accept.
-fn done(rt: &impl Abort, bench: &mut Bench, command: &Command) {
+fn apply_accepted(rt: &impl Abort, bench: &mut Bench, command: &Command) {
     match bench.check(command) {
         Ok(()) => {
             let _reply = bench.apply(command);
@@ -42,7 +42,7 @@ fn done(rt: &impl Abort, bench: &mut Bench, command: &Command) {
 }
 
 /// Returns an image with `JUN 0x123` at address 0.
-fn jump(alloc: Global, rt: &impl Abort) -> Image {
+fn jump_image(alloc: Global, rt: &impl Abort) -> Image {
     let mut image = Image::new(alloc).expect(rt, "memory");
     assert!(rt; image.push(Addr::ZERO, 0x41).is_ok());
     assert!(rt; image.push(Addr::ZERO.plus(1), 0x23).is_ok());
@@ -51,17 +51,17 @@ fn jump(alloc: Global, rt: &impl Abort) -> Image {
 
 /// Returns a bench that has executed only the first cycle of a jump, so that the second cycle is
 /// pending.
-fn owing(alloc: Global, rt: &impl Abort) -> Bench {
+fn bench_with_pending_cycle(alloc: Global, rt: &impl Abort) -> Bench {
     let mut bench = Bench::new(alloc).expect(rt, "memory");
-    let board = worked().expect(rt, "a board");
-    done(rt, &mut bench, &Command::Wire(board));
-    done(rt, &mut bench, &Command::Load(jump(alloc, rt)));
-    done(rt, &mut bench, &Command::Run(1));
+    let board = example_board().expect(rt, "a board");
+    apply_accepted(rt, &mut bench, &Command::Wire(board));
+    apply_accepted(rt, &mut bench, &Command::Load(jump_image(alloc, rt)));
+    apply_accepted(rt, &mut bench, &Command::Run(1));
     bench
 }
 
 /// Returns the encoded state of a bench in a buffer, and the number of its bytes.
-fn written(bench: &Bench) -> ([u8; STATE_BYTES], usize) {
+fn encoded_state(bench: &Bench) -> ([u8; STATE_BYTES], usize) {
     let mut bytes = [0; STATE_BYTES];
     let count = state_bytes(bench, &mut bytes);
     (bytes, count)
@@ -69,17 +69,17 @@ fn written(bench: &Bench) -> ([u8; STATE_BYTES], usize) {
 
 /// Checks that encoding and decoding a state keeps a pending second cycle and all other values.
 #[test]
-fn an_owed_cycle(rt: HostRuntime) {
+fn keeps_a_pending_cycle(rt: HostRuntime) {
     let alloc = rt.alloc();
-    let bench = owing(alloc, &rt);
-    equal(&rt, bench.regs().owed, 1);
-    equal(&rt, bench.regs().pc.get(), 0x123);
-    let (bytes, count) = written(&bench);
+    let bench = bench_with_pending_cycle(alloc, &rt);
+    expect_equal(&rt, bench.regs().owed, 1);
+    expect_equal(&rt, bench.regs().pc.get(), 0x123);
+    let (bytes, count) = encoded_state(&bench);
     assert!(rt; count <= STATE_BYTES);
     let found = bench_of(alloc, &bytes[..count]).expect(&rt, "memory");
     let again = found.expect(&rt, "a state");
-    equal(&rt, again.seq(), 3);
-    equal(&rt, again.regs(), bench.regs());
-    let (found, length) = written(&again);
+    expect_equal(&rt, again.seq(), 3);
+    expect_equal(&rt, again.regs(), bench.regs());
+    let (found, length) = encoded_state(&again);
     assert!(rt; length == count && found[..count] == bytes[..count]);
 }

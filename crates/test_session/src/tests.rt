@@ -1,8 +1,9 @@
 //! Tests of sessions whose disk fails: the state that remains on the disk, and the results that the
 //! session returns.
-use crate::checks::equal;
-use crate::desk::{
-    bench_of, done, expect_fault, expect_seq, fused, leave, left, made, mended, poke, run,
+use crate::checks::expect_equal;
+use crate::session_helpers::{
+    bench_of, create_session, disk_of_session, expect_done, expect_fault, expect_seq, failing_disk,
+    overwrite, poke, repaired_disk, run,
 };
 use mcs_disk::{Disk, FuseDisk};
 use mcs_session::fault::SessionFault;
@@ -15,28 +16,28 @@ use std::process::Abort;
 fn fill_log<D: Disk + Drop>(rt: &impl Abort, session: &mut Session<D>) {
     let one = poke(rt, 0, 1);
     for _ in 0..9_361 {
-        done(rt, session, &one);
+        expect_done(rt, session, &one);
     }
     run(rt, session, 1);
 }
 
 /// Fills the log of a session, then applies `poke r0 2`, during which the disk fails. Returns the
 /// repaired disk.
-fn stopped_in_the_turn(alloc: Global, rt: &impl Abort) -> FuseDisk {
+fn disk_after_stop_in_replace(alloc: Global, rt: &impl Abort) -> FuseDisk {
     // Creating the session takes five calls, and each of the 9,362 commands takes four. Two more
     // calls write and sync the snapshot.
-    let mut session = made(alloc, rt, fused(alloc, rt, 5 + 4 * 9_362 + 2));
+    let mut session = create_session(alloc, rt, failing_disk(alloc, rt, 5 + 4 * 9_362 + 2));
     fill_log(rt, &mut session);
     expect_fault(rt, &mut session, &poke(rt, 0, 2), SessionFault::Device);
-    mended(left(session))
+    repaired_disk(disk_of_session(session))
 }
 
 #[test]
-fn a_stop_in_the_turn_leaves_the_state_before(rt: HostRuntime) {
+fn stop_in_replace_keeps_the_state_before(rt: HostRuntime) {
     let alloc = rt.alloc();
     for selector in [0x7F, 0x40] {
-        let mut disk = stopped_in_the_turn(alloc, &rt);
-        leave(&rt, &mut disk, 8, &[selector]);
+        let mut disk = disk_after_stop_in_replace(alloc, &rt);
+        overwrite(&rt, &mut disk, 8, &[selector]);
         expect_seq(alloc, &rt, disk, 9_362);
     }
 }
@@ -48,7 +49,7 @@ fn expect_close(rt: &impl Abort, session: &mut Session<FuseDisk>) {
     expect_fault(rt, session, &command, SessionFault::Device);
     assert!(rt; !session.is_open());
     expect_fault(rt, session, &command, SessionFault::Closed);
-    equal(rt, bench_of(session).seq(), 0);
+    expect_equal(rt, bench_of(session).seq(), 0);
 }
 
 #[test]
@@ -57,8 +58,8 @@ fn a_session_is_closed_after_a_fault(rt: HostRuntime) {
     // In the first row, the write of the commit byte fails. In the second row, the sync after this
     // write fails.
     for (calls, seq) in [(7, 0), (8, 1)] {
-        let mut session = made(alloc, &rt, fused(alloc, &rt, calls));
+        let mut session = create_session(alloc, &rt, failing_disk(alloc, &rt, calls));
         expect_close(&rt, &mut session);
-        expect_seq(alloc, &rt, mended(left(session)), seq);
+        expect_seq(alloc, &rt, repaired_disk(disk_of_session(session)), seq);
     }
 }

@@ -1,9 +1,9 @@
 //! A test with a reader and a writer that count their failures.
 ghost use Rattle.std.specs.Prelude.{Some};
 
-use crate::checks::equal;
+use crate::checks::expect_equal;
 use crate::faults::{ANSWERS, SCRIPT};
-use crate::sessions::new_in_memory;
+use crate::sessions::new_session_in_memory;
 use mcs_disk::Disk;
 use mcs_fixtures::streams::{CutReader, CutWriter};
 use mcs_session::session::Session;
@@ -67,14 +67,14 @@ impl<W: Write + Drop> AnswerSink for CountedWriter<W> {
 /// Checks that a failed read or write ends the shell and is counted once. The reader returns the whole script, or
 /// fails once after 12 bytes. The writer accepts all answers, or fails once before the last three bytes.
 #[test]
-fn a_fault_is_counted_where_it_was(rt: HostRuntime) {
+fn a_failure_is_counted_once(rt: HostRuntime) {
     let rows = [
         (0, 0, ShellEnd::End),
         (1, 0, ShellEnd::ReadFault),
         (0, 1, ShellEnd::WriteFault),
     ];
     for (reads, writes, wanted) in rows {
-        let mut session = new_in_memory(rt.alloc(), &rt);
+        let mut session = new_session_in_memory(rt.alloc(), &rt);
         let mut reader = CountedReader {
             reader: CutReader::new(SCRIPT, 12, reads),
             faults: 0,
@@ -84,8 +84,8 @@ fn a_fault_is_counted_where_it_was(rt: HostRuntime) {
             faults: 0,
         };
         let end = run_shell(rt.alloc(), &mut reader, &mut writer, &mut session);
-        equal(&rt, end, wanted);
-        equal(&rt, reader.faults, reads as u64);
-        equal(&rt, writer.faults, writes as u64);
+        expect_equal(&rt, end, wanted);
+        expect_equal(&rt, reader.faults, reads as u64);
+        expect_equal(&rt, writer.faults, writes as u64);
     }
 }

@@ -1,6 +1,8 @@
 //! Tests of readers and writers that fail.
-use crate::checks::equal;
-use crate::sessions::{answered, disk_behind, new_in_memory, opened, seq_of, serve};
+use crate::checks::expect_equal;
+use crate::sessions::{
+    disk_of_session, new_session_in_memory, open_or_panic, run_and_collect, seq_of, serve,
+};
 use mcs_fixtures::streams::{CutReader, CutWriter};
 use mcs_shell::ends::{ShellEnd, status};
 use std::alloc::Global;
@@ -17,12 +19,12 @@ const FAILURES: [usize; 2] = [1, usize::MAX];
 /// Checks that the shell ends if the reader fails after `left` bytes of the script. The reader fails `failures`
 /// times. By then, the shell has written the first `size` bytes of the answers.
 fn expect_cut_reading(rt: &impl Abort, alloc: Global, left: usize, failures: usize, size: usize) {
-    let mut session = new_in_memory(alloc, rt);
+    let mut session = new_session_in_memory(alloc, rt);
     let mut reader = CutReader::new(SCRIPT, left, failures);
-    let (end, written) = answered(alloc, &mut reader, &mut session);
-    equal(rt, end, ShellEnd::ReadFault);
-    equal(rt, status(end), 1);
-    equal(rt, Some(written.as_slice()), ANSWERS.get(..size));
+    let (end, written) = run_and_collect(alloc, &mut reader, &mut session);
+    expect_equal(rt, end, ShellEnd::ReadFault);
+    expect_equal(rt, status(end), 1);
+    expect_equal(rt, Some(written.as_slice()), ANSWERS.get(..size));
 }
 
 #[test]
@@ -45,15 +47,15 @@ fn the_reader_fails_after_each_count_of_bytes(rt: HostRuntime) {
 /// Checks that the shell ends if the writer fails after `left` bytes of the answers. The writer fails `failures`
 /// times. The command is recorded if the session's first line was written completely.
 fn expect_cut_writing(rt: &impl Abort, alloc: Global, left: usize, failures: usize) {
-    let mut session = new_in_memory(alloc, rt);
+    let mut session = new_session_in_memory(alloc, rt);
     let mut writer = CutWriter::new(alloc, left, failures);
     let mut reader = SCRIPT;
     let end = serve(alloc, &mut reader, &mut writer, &mut session);
-    equal(rt, end, ShellEnd::WriteFault);
-    equal(rt, status(end), 1);
-    equal(rt, Some(writer.held()), ANSWERS.get(..left));
-    let again = opened(alloc, rt, disk_behind(session));
-    equal(rt, seq_of(&again) == 1, 10 <= left);
+    expect_equal(rt, end, ShellEnd::WriteFault);
+    expect_equal(rt, status(end), 1);
+    expect_equal(rt, Some(writer.accepted_bytes()), ANSWERS.get(..left));
+    let again = open_or_panic(alloc, rt, disk_of_session(session));
+    expect_equal(rt, seq_of(&again) == 1, 10 <= left);
 }
 
 #[test]

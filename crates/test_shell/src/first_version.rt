@@ -1,19 +1,22 @@
 //! Tests of session files of version 1: they are converted when they are opened, and the conversion may be stopped.
 use crate::scripts::INPUTS;
-use crate::sessions::{expect, expect_state, failing_disk_of, file_of, found, left_on, open, put};
+use crate::sessions::{
+    bytes_after_mending, expect, expect_state, failing_disk_of, file_of, open, overwrite,
+    state_in_file,
+};
 use mcs_fixtures::files::NEW_BENCH;
 use mcs_journal::{FILE_SIZE, StoreFault};
 use std::alloc::Global;
 use std::process::Abort;
 
 /// The offset of the log of the first slot in a session file.
-const LOG: usize = 16_400;
+const LOG_OFFSET: usize = 16_400;
 
 /// Returns a session file of version 1 with a new bench.
 pub(crate) fn new_file(alloc: Global, rt: &impl Abort) -> Vec<u8> {
     let mut file = vec![in alloc; 0u8; FILE_SIZE].expect(rt, "memory");
     for (at, bytes) in NEW_BENCH {
-        put(rt, file.as_mut_slice(), at, bytes);
+        overwrite(rt, file.as_mut_slice(), at, bytes);
     }
     file
 }
@@ -23,8 +26,8 @@ pub(crate) fn new_file(alloc: Global, rt: &impl Abort) -> Vec<u8> {
 fn file_of_inputs(alloc: Global, rt: &impl Abort) -> Vec<u8> {
     let mut file = new_file(alloc, rt);
     let later = file_of(alloc, rt, &INPUTS, 0, b"");
-    match later.get(LOG..LOG + 800) {
-        Some(records) => put(rt, file.as_mut_slice(), LOG, records),
+    match later.get(LOG_OFFSET..LOG_OFFSET + 800) {
+        Some(records) => overwrite(rt, file.as_mut_slice(), LOG_OFFSET, records),
         None => panic!(rt; "a file without a log"),
     }
     file
@@ -32,26 +35,31 @@ fn file_of_inputs(alloc: Global, rt: &impl Abort) -> Vec<u8> {
 
 /// Opens a file on a disk that fails each call after the first `calls`. Returns the bytes left on the disk if the
 /// file does not open, or `None` if it opens.
-fn left_by_a_stop(alloc: Global, rt: &impl Abort, file: &[u8], calls: usize) -> Option<Vec<u8>> {
+fn bytes_after_failed_open(
+    alloc: Global,
+    rt: &impl Abort,
+    file: &[u8],
+    calls: usize,
+) -> Option<Vec<u8>> {
     match open(alloc, failing_disk_of(alloc, rt, file, calls)) {
         Ok(_) => None,
         Err((fault, disk)) => {
             expect(rt, fault == StoreFault::Device, calls);
-            Some(left_on(alloc, rt, disk))
+            Some(bytes_after_mending(alloc, rt, disk))
         }
     }
 }
 
 #[test]
-fn stopped_at_each_call_of_opening(rt: HostRuntime) {
+fn a_stop_at_each_call_of_conversion(rt: HostRuntime) {
     let alloc = rt.alloc();
     let file = file_of_inputs(alloc, &rt);
-    let Ok(state) = found(alloc, &rt, file.as_slice()) else {
+    let Ok(state) = state_in_file(alloc, &rt, file.as_slice()) else {
         panic!(rt; "no state")
     };
     let mut stops = 0usize;
     for calls in 0..64usize {
-        if let Some(left) = left_by_a_stop(alloc, &rt, file.as_slice(), calls) {
+        if let Some(left) = bytes_after_failed_open(alloc, &rt, file.as_slice(), calls) {
             stops = stops.saturating_add(1);
             expect_state(alloc, &rt, left.as_slice(), Some(&state), calls);
         }

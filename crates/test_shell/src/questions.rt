@@ -38,7 +38,7 @@ const ANSWERS: [(&[u8], &str); 5] = [
 ];
 
 /// Returns the part of the script that failed for lack of memory, given the output.
-fn left_out(rt: &impl Abort, output: &[u8]) -> &'static str {
+fn failed_part(rt: &impl Abort, output: &[u8]) -> &'static str {
     for (answers, what) in ANSWERS {
         if output == answers {
             return what;
@@ -64,7 +64,7 @@ fn run(alloc: Global, rt: &impl Abort, mut session: Session<MemDisk>) -> &'stati
             assert!(rt; writer.is_empty());
             "the shell"
         }
-        ShellEnd::End => left_out(rt, writer.as_slice()),
+        ShellEnd::End => failed_part(rt, writer.as_slice()),
         _ => panic!(rt; "another end"),
     };
     assert!(rt; seq_of(&session) == 0 && session.is_open());
@@ -72,7 +72,7 @@ fn run(alloc: Global, rt: &impl Abort, mut session: Session<MemDisk>) -> &'stati
 }
 
 /// Creates a session, and runs the script on the session. Returns the part that ran out of memory, or `nothing`.
-fn make_and_run(alloc: Global, rt: &impl Abort) -> &'static str {
+fn create_and_run(alloc: Global, rt: &impl Abort) -> &'static str {
     let Ok(disk) = MemDisk::new(alloc, FILE_SIZE) else {
         return "the disk";
     };
@@ -88,6 +88,6 @@ fn make_and_run(alloc: Global, rt: &impl Abort) -> &'static str {
 
 #[test]
 fn one_allocation(rt: HostRuntime) {
-    let refused = make_and_run(rt.alloc(), &rt);
+    let refused = create_and_run(rt.alloc(), &rt);
     let _ = println!(rt; "refused: {refused}");
 }

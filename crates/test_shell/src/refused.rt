@@ -1,11 +1,13 @@
 //! Tests of the shell with one failing allocation. `checks/allocations` runs each test once per allocation, and makes
 //! that allocation fail. In an ordinary run, no allocation fails.
 use crate::first_version::new_file;
-use crate::sessions::{bytes_of, create, disk_behind, open, opened, put, seq_of, serve};
+use crate::sessions::{
+    bytes_of, create, disk_of_session, open, open_or_panic, overwrite, seq_of, serve,
+};
 use arrayvec::ArrayVec;
 use mcs_disk::{Disk, DiskFault, MemDisk};
 use mcs_fixtures::files::{NEW_BENCH, POKE};
-use mcs_fixtures::texts::{WIRE_WORKED, board_in};
+use mcs_fixtures::texts::{WIRE_EXAMPLE, board_text_in};
 use mcs_journal::{FILE_SIZE, StoreFault};
 use mcs_session::session::Session;
 use mcs_shell::ends::ShellEnd;
@@ -96,7 +98,7 @@ fn is_answered(output: &[u8], answers: &[&[u8]], is_device: bool) -> bool {
         };
         rest = behind;
         if *answer == BOARD {
-            let Some(behind) = rest.strip_prefix(board_in(WIRE_WORKED)) else {
+            let Some(behind) = rest.strip_prefix(board_text_in(WIRE_EXAMPLE)) else {
                 return false;
             };
             rest = behind;
@@ -106,7 +108,7 @@ fn is_answered(output: &[u8], answers: &[&[u8]], is_device: bool) -> bool {
 }
 
 /// The part of the script that fails for lack of memory, for each row of `ANSWERS`.
-const LEFT_OUT: [&str; 5] = [
+const FAILED_PARTS: [&str; 5] = [
     "nothing",
     "the board",
     "the program",
@@ -116,8 +118,8 @@ const LEFT_OUT: [&str; 5] = [
 
 /// Returns the part of the script that failed, given the output. Returns `None` if one failed allocation cannot cause
 /// this output.
-fn left_out(output: &[u8], is_device: bool) -> Option<&'static str> {
-    for (answers, what) in ANSWERS.iter().zip(LEFT_OUT.iter()) {
+fn failed_part(output: &[u8], is_device: bool) -> Option<&'static str> {
+    for (answers, what) in ANSWERS.iter().zip(FAILED_PARTS.iter()) {
         if is_answered(output, answers, is_device) {
             return Some(*what);
         }
@@ -128,7 +130,7 @@ fn left_out(output: &[u8], is_device: bool) -> Option<&'static str> {
 /// Returns the script: the command that wires the board, then `QUESTIONS`.
 fn script() -> ArrayVec<u8, 1_024> {
     let mut script = ArrayVec::new();
-    for part in [WIRE_WORKED, QUESTIONS] {
+    for part in [WIRE_EXAMPLE, QUESTIONS] {
         for byte in part {
             let _ = script.try_push(*byte);
         }
@@ -137,7 +139,7 @@ fn script() -> ArrayVec<u8, 1_024> {
 }
 
 /// Runs the script on a session. Returns the part that ran out of memory, or `nothing`.
-fn do_script(alloc: Global, rt: &impl Abort, session: &mut Session<MemDisk>) -> &'static str {
+fn run_script(alloc: Global, rt: &impl Abort, session: &mut Session<MemDisk>) -> &'static str {
     let script = script();
     let mut reader = script.as_slice();
     let mut writer = FixedWriter {
@@ -150,9 +152,9 @@ fn do_script(alloc: Global, rt: &impl Abort, session: &mut Session<MemDisk>) -> 
             assert!(rt; output.is_empty() && seq_of(session) == 0);
             "the shell"
         }
-        ShellEnd::End => left_out(output, false).expect(rt, "other answers"),
+        ShellEnd::End => failed_part(output, false).expect(rt, "other answers"),
         ShellEnd::DeviceFault => {
-            assert!(rt; left_out(output, true).is_some());
+            assert!(rt; failed_part(output, true).is_some());
             "a record of a command"
         }
         _ => panic!(rt; "another end"),
@@ -161,10 +163,10 @@ fn do_script(alloc: Global, rt: &impl Abort, session: &mut Session<MemDisk>) -> 
 
 /// Runs the script on a session, then opens the session again. Returns the part that ran out of memory, or `nothing`.
 fn run(alloc: Global, rt: &impl Abort, mut session: Session<MemDisk>) -> &'static str {
-    let served = do_script(alloc, rt, &mut session);
+    let served = run_script(alloc, rt, &mut session);
     let seq = seq_of(&session);
     let is_closed = !session.is_open();
-    let (again, refused) = open_again(alloc, rt, disk_behind(session));
+    let (again, refused) = open_again(alloc, rt, disk_of_session(session));
     let kept = seq_of(&again);
     assert!(rt; kept == seq || (is_closed && kept == seq.saturating_add(1)));
     refused.unwrap_or(served)
@@ -183,12 +185,12 @@ fn open_again(
         Err((StoreFault::Device, disk)) => ("a record at opening", disk),
         Err(_) => panic!(rt; "the session was not opened"),
     };
-    (opened(alloc, rt, disk), Some(refused))
+    (open_or_panic(alloc, rt, disk), Some(refused))
 }
 
 /// Creates a session, and tries a second time if memory runs out. Then runs the script on the session. Returns the
 /// part that ran out of memory, or `nothing`.
-fn make_and_run(alloc: Global, rt: &impl Abort) -> &'static str {
+fn create_and_run(alloc: Global, rt: &impl Abort) -> &'static str {
     let Ok(disk) = MemDisk::new(alloc, FILE_SIZE) else {
         return "the disk";
     };
@@ -210,12 +212,12 @@ fn make_and_run(alloc: Global, rt: &impl Abort) -> &'static str {
 
 #[test]
 fn one_allocation(rt: HostRuntime) {
-    let refused = make_and_run(rt.alloc(), &rt);
+    let refused = create_and_run(rt.alloc(), &rt);
     let _ = println!(rt; "refused: {refused}");
 }
 
 /// Writes a session of version 1 to a disk: a new bench and the record of `poke r5 9`.
-fn put_first(disk: &mut MemDisk) -> Result<(), DiskFault> {
+fn write_version_1(disk: &mut MemDisk) -> Result<(), DiskFault> {
     for (at, bytes) in [NEW_BENCH[0], NEW_BENCH[1], NEW_BENCH[2], NEW_BENCH[3], POKE] {
         if at <= disk.size() && bytes.len() <= disk.size() - at {
             disk.write(at, bytes)?;
@@ -232,11 +234,11 @@ fn expect_register(rt: &impl Abort, session: &Session<MemDisk>) {
 
 /// Opens a session of version 1, and tries a second time if that fails. Returns the part that ran out of memory, or
 /// `nothing`.
-fn carry_over(alloc: Global, rt: &impl Abort) -> &'static str {
+fn convert_version_1(alloc: Global, rt: &impl Abort) -> &'static str {
     let Ok(mut disk) = MemDisk::new(alloc, FILE_SIZE) else {
         return "the disk";
     };
-    if put_first(&mut disk).is_err() {
+    if write_version_1(&mut disk).is_err() {
         return "a record of the file";
     }
     match open(alloc, disk) {
@@ -246,15 +248,15 @@ fn carry_over(alloc: Global, rt: &impl Abort) -> &'static str {
         }
         Err((StoreFault::NoMemory, mut disk)) => {
             let mut file = new_file(alloc, rt);
-            put(rt, file.as_mut_slice(), POKE.0, POKE.1);
+            overwrite(rt, file.as_mut_slice(), POKE.0, POKE.1);
             let left = bytes_of(alloc, rt, &mut disk);
             assert!(rt; left.as_slice() == file.as_slice());
-            expect_register(rt, &opened(alloc, rt, disk));
+            expect_register(rt, &open_or_panic(alloc, rt, disk));
             "the session carried over"
         }
         Err((fault, disk)) => {
             assert_eq!(rt; fault, StoreFault::Device);
-            expect_register(rt, &opened(alloc, rt, disk));
+            expect_register(rt, &open_or_panic(alloc, rt, disk));
             "a record at carrying over"
         }
     }
@@ -262,6 +264,6 @@ fn carry_over(alloc: Global, rt: &impl Abort) -> &'static str {
 
 #[test]
 fn a_session_of_version_1(rt: HostRuntime) {
-    let refused = carry_over(rt.alloc(), &rt);
+    let refused = convert_version_1(rt.alloc(), &rt);
     let _ = println!(rt; "refused: {refused}");
 }

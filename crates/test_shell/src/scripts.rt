@@ -1,11 +1,11 @@
 //! A script of commands with its answers, and the questions that show a session's state.
-use mcs_fixtures::texts::WIRE_WORKED;
+use mcs_fixtures::texts::WIRE_EXAMPLE;
 
 /// The commands of the script, in order. The first wires a board with three ROMs, two RAM banks, a shift-register
 /// chain, keys and lamps. The second loads a program that drives two rows of keys and reads four columns. The others
 /// press a key, run all cycles before the program's last instruction, and set a register.
 pub(crate) const INPUTS: [&[u8]; 5] = [
-    WIRE_WORKED,
+    WIRE_EXAMPLE,
     b"asm
 LDM 3
 WRR

@@ -20,7 +20,7 @@ pub(crate) fn expect(rt: &impl Abort, holds: bool, at: usize) {
 }
 
 /// Returns a disk in memory with the size of a session file. All bytes are 0.
-pub(crate) fn blank(alloc: Global, rt: &impl Abort) -> MemDisk {
+pub(crate) fn blank_disk(alloc: Global, rt: &impl Abort) -> MemDisk {
     MemDisk::new(alloc, FILE_SIZE).expect(rt, "memory")
 }
 
@@ -39,7 +39,7 @@ pub(crate) fn bytes_of<D: Disk>(alloc: Global, rt: &impl Abort, disk: &mut D) ->
 }
 
 /// Overwrites the bytes of a file, beginning at the offset `at`.
-pub(crate) fn put(rt: &impl Abort, file: &mut [u8], at: usize, bytes: &[u8]) {
+pub(crate) fn overwrite(rt: &impl Abort, file: &mut [u8], at: usize, bytes: &[u8]) {
     assert!(rt; at <= file.len() && bytes.len() <= file.len() - at);
     file[at..at + bytes.len()].copy_from_slice(bytes);
 }
@@ -85,7 +85,7 @@ pub(crate) fn seq_of<D: Disk + Drop>(session: &Session<D>) -> u32 {
 }
 
 /// Ends a session, and returns its disk.
-pub(crate) fn disk_behind<D: Disk + Drop>(session: Session<D>) -> D {
+pub(crate) fn disk_of_session<D: Disk + Drop>(session: Session<D>) -> D {
     session.into_disk()
 }
 
@@ -100,7 +100,7 @@ pub(crate) fn failing_disk_of(
 }
 
 /// Mends a failing disk so that its calls succeed again, and returns all its bytes.
-pub(crate) fn left_on(alloc: Global, rt: &impl Abort, mut disk: FuseDisk) -> Vec<u8> {
+pub(crate) fn bytes_after_mending(alloc: Global, rt: &impl Abort, mut disk: FuseDisk) -> Vec<u8> {
     disk.mend();
     bytes_of(alloc, rt, &mut disk)
 }
@@ -114,13 +114,13 @@ pub(crate) fn new_session<D: Disk + Drop>(alloc: Global, rt: &impl Abort, disk: 
 }
 
 /// Returns a session with a new bench on a disk in memory.
-pub(crate) fn new_in_memory(alloc: Global, rt: &impl Abort) -> Session<MemDisk> {
-    new_session(alloc, rt, blank(alloc, rt))
+pub(crate) fn new_session_in_memory(alloc: Global, rt: &impl Abort) -> Session<MemDisk> {
+    new_session(alloc, rt, blank_disk(alloc, rt))
 }
 
 /// Runs the shell on a session with the input of a reader. Returns the reason for the end of the shell, and the
 /// answers.
-pub(crate) fn answered<R: Read, D: Disk + Drop>(
+pub(crate) fn run_and_collect<R: Read, D: Disk + Drop>(
     alloc: Global,
     reader: &mut R,
     session: &mut Session<D>,
@@ -137,14 +137,18 @@ pub(crate) fn answers_to<D: Disk + Drop>(
     session: &mut Session<D>,
     mut script: &[u8],
 ) -> Vec<u8> {
-    let (end, answers) = answered(alloc, &mut script, session);
+    let (end, answers) = run_and_collect(alloc, &mut script, session);
     assert!(rt; end == ShellEnd::End);
     answers
 }
 
 /// Opens the session in a file and returns its state, in the form of its answers to `QUESTIONS`. Returns the error if
 /// the session does not open.
-pub(crate) fn found(alloc: Global, rt: &impl Abort, file: &[u8]) -> Result<Vec<u8>, StoreFault> {
+pub(crate) fn state_in_file(
+    alloc: Global,
+    rt: &impl Abort,
+    file: &[u8],
+) -> Result<Vec<u8>, StoreFault> {
     match open(alloc, disk_of(alloc, rt, file)) {
         Ok(mut session) => Ok(answers_to(alloc, rt, &mut session, QUESTIONS)),
         Err((fault, _)) => Err(fault),
@@ -159,7 +163,7 @@ pub(crate) fn expect_state(
     state: Option<&Vec<u8>>,
     at: usize,
 ) {
-    match (found(alloc, rt, file), state) {
+    match (state_in_file(alloc, rt, file), state) {
         (Ok(answers_to), Some(state)) => {
             expect(rt, answers_to.as_slice() == state.as_slice(), at);
         }
@@ -169,22 +173,22 @@ pub(crate) fn expect_state(
 
 /// Executes commands on a session. Returns the state before the commands and the state after each command. A state
 /// has the form of the session's answers to `QUESTIONS`.
-pub(crate) fn states_behind<D: Disk + Drop>(
+pub(crate) fn states_after_commands<D: Disk + Drop>(
     alloc: Global,
     rt: &impl Abort,
     session: &mut Session<D>,
     commands: &[&[u8]],
 ) -> Vec<Vec<u8>> {
     let mut states = Vec::new(alloc);
-    keep(rt, &mut states, answers_to(alloc, rt, session, QUESTIONS));
+    push_state(rt, &mut states, answers_to(alloc, rt, session, QUESTIONS));
     for command in commands {
         let _answers = answers_to(alloc, rt, session, command);
-        keep(rt, &mut states, answers_to(alloc, rt, session, QUESTIONS));
+        push_state(rt, &mut states, answers_to(alloc, rt, session, QUESTIONS));
     }
     states
 }
 
-fn keep(rt: &impl Abort, states: &mut Vec<Vec<u8>>, state: Vec<u8>) {
+fn push_state(rt: &impl Abort, states: &mut Vec<Vec<u8>>, state: Vec<u8>) {
     states.push(state).expect(rt, "memory");
 }
 
@@ -203,26 +207,26 @@ pub(crate) fn file_of(
     pokes: usize,
     last: &[u8],
 ) -> Vec<u8> {
-    let mut session = new_in_memory(alloc, rt);
+    let mut session = new_session_in_memory(alloc, rt);
     for command in commands {
         let _answers = answers_to(alloc, rt, &mut session, command);
     }
     poke_often(rt, &mut session, pokes);
     let _answers = answers_to(alloc, rt, &mut session, last);
-    bytes_behind(alloc, rt, session)
+    bytes_of_session(alloc, rt, session)
 }
 
 /// Ends a session, and returns all bytes of its disk.
-pub(crate) fn bytes_behind<D: Disk + Drop>(
+pub(crate) fn bytes_of_session<D: Disk + Drop>(
     alloc: Global,
     rt: &impl Abort,
     session: Session<D>,
 ) -> Vec<u8> {
-    bytes_of(alloc, rt, &mut disk_behind(session))
+    bytes_of(alloc, rt, &mut disk_of_session(session))
 }
 
 /// Returns the session that is stored on a disk.
-pub(crate) fn opened<D: Disk + Drop>(alloc: Global, rt: &impl Abort, disk: D) -> Session<D> {
+pub(crate) fn open_or_panic<D: Disk + Drop>(alloc: Global, rt: &impl Abort, disk: D) -> Session<D> {
     match open(alloc, disk) {
         Ok(session) => session,
         Err(_) => panic!(rt; "the session was not opened"),
@@ -230,6 +234,6 @@ pub(crate) fn opened<D: Disk + Drop>(alloc: Global, rt: &impl Abort, disk: D) ->
 }
 
 /// Returns the session that is stored in a file, on a disk in memory.
-pub(crate) fn opened_in_memory(alloc: Global, rt: &impl Abort, file: &[u8]) -> Session<MemDisk> {
-    opened(alloc, rt, disk_of(alloc, rt, file))
+pub(crate) fn open_in_memory(alloc: Global, rt: &impl Abort, file: &[u8]) -> Session<MemDisk> {
+    open_or_panic(alloc, rt, disk_of(alloc, rt, file))
 }

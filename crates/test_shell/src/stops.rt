@@ -1,11 +1,12 @@
 //! Tests in which the shell is stopped at each call of the disk, or after each byte that is read or written.
 use crate::scripts::{ANSWERS, INPUTS, POKE, POKES};
 use crate::sessions::{
-    answered, blank, bytes_of, create, disk_behind, expect, expect_state, failing_disk_of, file_of,
-    left_on, new_in_memory, open, opened, opened_in_memory, poke, seq_of, serve, states_behind,
+    blank_disk, bytes_after_mending, bytes_of, create, disk_of_session, expect, expect_state,
+    failing_disk_of, file_of, new_session_in_memory, open, open_in_memory, open_or_panic, poke,
+    run_and_collect, seq_of, serve, states_after_commands,
 };
 use mcs_disk::{FuseDisk, MemDisk};
-use mcs_fixtures::streams::{CutReader, CutWriter, EndlessReader, joined};
+use mcs_fixtures::streams::{CutReader, CutWriter, EndlessReader, concatenate};
 use mcs_journal::StoreFault;
 use mcs_model::limits::INPUT_BYTES;
 use mcs_session::fault::SessionFault;
@@ -15,12 +16,12 @@ use std::alloc::Global;
 use std::process::Abort;
 
 /// The first line of a new session's answers.
-const FIRST: &[u8] = b"session 0\n";
+const FIRST_LINE: &[u8] = b"session 0\n";
 
 /// Returns the expected output of a new session: its first line, the answers to the first `done` commands, and
 /// `then`.
 fn answers_to(alloc: Global, rt: &impl Abort, done: usize, then: &[u8]) -> Vec<u8> {
-    let mut answers = joined(alloc, &[FIRST]).expect(rt, "memory");
+    let mut answers = concatenate(alloc, &[FIRST_LINE]).expect(rt, "memory");
     for answer in ANSWERS.iter().take(done) {
         answers.extend_from_slice(answer).expect(rt, "memory");
     }
@@ -30,16 +31,16 @@ fn answers_to(alloc: Global, rt: &impl Abort, done: usize, then: &[u8]) -> Vec<u
 
 /// Returns a script with all commands of `INPUTS`.
 fn script_of_inputs(alloc: Global, rt: &impl Abort) -> Vec<u8> {
-    joined(alloc, &INPUTS).expect(rt, "memory")
+    concatenate(alloc, &INPUTS).expect(rt, "memory")
 }
 
-/// Returns the number of pieces that end at or before the offset `place`, if the pieces follow one another.
-fn whole_pieces(pieces: &[&[u8]], place: usize) -> usize {
+/// Returns the number of pieces that end at or before the offset `offset`, if the pieces follow one another.
+fn count_complete_pieces(pieces: &[&[u8]], offset: usize) -> usize {
     let mut count = 0usize;
     let mut end = 0usize;
     for piece in pieces {
         end = end.saturating_add(piece.len());
-        if end <= place {
+        if end <= offset {
             count = count.saturating_add(1);
         }
     }
@@ -48,8 +49,8 @@ fn whole_pieces(pieces: &[&[u8]], place: usize) -> usize {
 
 /// Returns a blank disk that fails each call after the first `calls`, or only the first of these if `is_once` is
 /// true.
-fn failing(alloc: Global, rt: &impl Abort, calls: usize, is_once: bool) -> FuseDisk {
-    let disk = blank(alloc, rt);
+fn failing_blank_disk(alloc: Global, rt: &impl Abort, calls: usize, is_once: bool) -> FuseDisk {
+    let disk = blank_disk(alloc, rt);
     if is_once {
         FuseDisk::once(disk, calls)
     } else {
@@ -59,7 +60,7 @@ fn failing(alloc: Global, rt: &impl Abort, calls: usize, is_once: bool) -> FuseD
 
 /// Checks that the shell executes the first `done` commands. If more commands follow, checks that the device fails
 /// during the next command, and that the session is then closed.
-fn expect_stopped(
+fn expect_executed_before_stop(
     alloc: Global,
     rt: &impl Abort,
     session: &mut Session<FuseDisk>,
@@ -67,7 +68,7 @@ fn expect_stopped(
     calls: usize,
 ) {
     let script = script_of_inputs(alloc, rt);
-    let (end, answers) = answered(alloc, &mut script.as_slice(), session);
+    let (end, answers) = run_and_collect(alloc, &mut script.as_slice(), session);
     let (wanted_end, then): (ShellEnd, &[u8]) = if done < INPUTS.len() {
         (ShellEnd::DeviceFault, b"no 53\n")
     } else {
@@ -84,7 +85,7 @@ fn expect_stopped(
 
 /// Checks a stop during the commands of a session. Creating the session takes five device calls, and each command
 /// takes four. The last of the four acknowledges the command. A disk that fails only one call needs no mending.
-fn stop_in_commands(
+fn expect_stop_in_commands(
     alloc: Global,
     rt: &impl Abort,
     mut session: Session<FuseDisk>,
@@ -94,27 +95,27 @@ fn stop_in_commands(
 ) {
     assert!(rt; 5 <= calls, "the call {calls} did not fail");
     let done = (calls - 5) / 4;
-    expect_stopped(alloc, rt, &mut session, done, calls);
-    let mut disk = disk_behind(session);
+    expect_executed_before_stop(alloc, rt, &mut session, done, calls);
+    let mut disk = disk_of_session(session);
     let file = if is_once && done < INPUTS.len() {
         bytes_of(alloc, rt, &mut disk)
     } else {
-        left_on(alloc, rt, disk)
+        bytes_after_mending(alloc, rt, disk)
     };
     let state = states.get((calls - 4) / 4);
     expect_state(alloc, rt, file.as_slice(), state, calls);
 }
 
 #[test]
-fn at_each_call_of_the_disk(rt: HostRuntime) {
+fn a_stop_at_each_call_of_the_disk(rt: HostRuntime) {
     let alloc = rt.alloc();
-    let mut session = new_in_memory(alloc, &rt);
-    let states = states_behind(alloc, &rt, &mut session, &INPUTS);
+    let mut session = new_session_in_memory(alloc, &rt);
+    let states = states_after_commands(alloc, &rt, &mut session, &INPUTS);
     for is_once in [false, true] {
         for calls in 0..26usize {
-            match create(alloc, failing(alloc, &rt, calls, is_once)) {
+            match create(alloc, failing_blank_disk(alloc, &rt, calls, is_once)) {
                 Ok(session) => {
-                    stop_in_commands(alloc, &rt, session, calls, is_once, states.as_slice())
+                    expect_stop_in_commands(alloc, &rt, session, calls, is_once, states.as_slice())
                 }
                 Err((fault, _disk)) => {
                     expect(&rt, fault == StoreFault::Device && calls < 5, calls);
@@ -131,7 +132,7 @@ fn is_stopped_opening(alloc: Global, rt: &impl Abort, file: &[u8], calls: usize)
         Ok(_) => false,
         Err((fault, disk)) => {
             expect(rt, fault == StoreFault::Device, calls);
-            let bytes = left_on(alloc, rt, disk);
+            let bytes = bytes_after_mending(alloc, rt, disk);
             expect(rt, bytes.as_slice() == file, calls);
             true
         }
@@ -152,9 +153,9 @@ fn calls_of_open(alloc: Global, rt: &impl Abort, file: &[u8]) -> usize {
 
 /// Checks a stop at each device call of a poke. The poke takes eight calls, because the file's log is full and the
 /// poke needs a checkpoint. `accepted` is the end of the answers if there is no stop.
-fn stop_in_a_checkpoint(alloc: Global, rt: &impl Abort, file: &[u8], accepted: &[u8]) {
-    let mut session = opened_in_memory(alloc, rt, file);
-    let states = states_behind(alloc, rt, &mut session, &[POKE]);
+fn expect_stop_in_checkpoint(alloc: Global, rt: &impl Abort, file: &[u8], accepted: &[u8]) {
+    let mut session = open_in_memory(alloc, rt, file);
+    let states = states_after_commands(alloc, rt, &mut session, &[POKE]);
     let opening = calls_of_open(alloc, rt, file);
     for calls in 0..9usize {
         let disk = failing_disk_of(alloc, rt, file, opening.saturating_add(calls));
@@ -163,7 +164,7 @@ fn stop_in_a_checkpoint(alloc: Global, rt: &impl Abort, file: &[u8], accepted: &
         } else {
             (ShellEnd::End, accepted)
         };
-        let left = left_by_a_poke(alloc, rt, disk, (wanted, answer), calls);
+        let left = bytes_after_poke(alloc, rt, disk, (wanted, answer), calls);
         let state = states.get(if calls < 7 { 0 } else { 1 });
         expect_state(alloc, rt, left.as_slice(), state, calls);
     }
@@ -171,32 +172,32 @@ fn stop_in_a_checkpoint(alloc: Global, rt: &impl Abort, file: &[u8], accepted: &
 
 /// Serves a poke on the session stored on a disk, and returns the bytes on the disk afterwards. Checks the reason for
 /// the end of the shell, and the last bytes of its answers.
-fn left_by_a_poke(
+fn bytes_after_poke(
     alloc: Global,
     rt: &impl Abort,
     disk: FuseDisk,
     (wanted, answer): (ShellEnd, &[u8]),
     calls: usize,
 ) -> Vec<u8> {
-    let mut session = opened(alloc, rt, disk);
+    let mut session = open_or_panic(alloc, rt, disk);
     let mut reader = POKE;
-    let (end, answers) = answered(alloc, &mut reader, &mut session);
+    let (end, answers) = run_and_collect(alloc, &mut reader, &mut session);
     expect(rt, end == wanted, calls);
     expect(rt, answers.as_slice().ends_with(answer), calls);
-    left_on(alloc, rt, disk_behind(session))
+    bytes_after_mending(alloc, rt, disk_of_session(session))
 }
 
 #[test]
-fn at_each_call_of_a_checkpoint(rt: HostRuntime) {
+fn a_stop_at_each_call_of_a_checkpoint(rt: HostRuntime) {
     let alloc = rt.alloc();
     let full = file_of(alloc, &rt, &[], 9_361, b"run 1\n");
-    stop_in_a_checkpoint(alloc, &rt, full.as_slice(), b"\nok 9363\n");
+    expect_stop_in_checkpoint(alloc, &rt, full.as_slice(), b"\nok 9363\n");
     let full = file_of(alloc, &rt, &INPUTS, POKES, b"");
-    stop_in_a_checkpoint(alloc, &rt, full.as_slice(), b"\nok 9270\n");
+    expect_stop_in_checkpoint(alloc, &rt, full.as_slice(), b"\nok 9270\n");
 }
 
 #[test]
-fn at_each_call_of_opening(rt: HostRuntime) {
+fn a_stop_at_each_call_of_opening(rt: HostRuntime) {
     let alloc = rt.alloc();
     let file = file_of(alloc, &rt, &INPUTS, 0, b"");
     let opening = calls_of_open(alloc, &rt, file.as_slice());
@@ -213,16 +214,16 @@ fn at_each_call_of_opening(rt: HostRuntime) {
 /// Checks that the shell ends if the reader fails after `left` bytes, and that it has answered the inputs that it
 /// read completely.
 fn expect_cut_reading(alloc: Global, rt: &impl Abort, script: &[u8], left: usize) {
-    let mut session = new_in_memory(alloc, rt);
+    let mut session = new_session_in_memory(alloc, rt);
     let mut reader = CutReader::new(script, left, usize::MAX);
-    let (end, answers) = answered(alloc, &mut reader, &mut session);
+    let (end, answers) = run_and_collect(alloc, &mut reader, &mut session);
     expect(rt, end == ShellEnd::ReadFault && status(end) == 1, left);
-    let wanted = answers_to(alloc, rt, whole_pieces(&INPUTS, left), b"");
+    let wanted = answers_to(alloc, rt, count_complete_pieces(&INPUTS, left), b"");
     expect(rt, answers.as_slice() == wanted.as_slice(), left);
 }
 
 #[test]
-fn at_each_byte_that_is_read(rt: HostRuntime) {
+fn a_stop_at_each_byte_that_is_read(rt: HostRuntime) {
     let alloc = rt.alloc();
     let script = script_of_inputs(alloc, &rt);
     for left in 0..=script.len() {
@@ -233,25 +234,25 @@ fn at_each_byte_that_is_read(rt: HostRuntime) {
 /// Checks that the shell reads an endless input only up to the input limit. The input consists of empty lines, which
 /// have no answers.
 #[test]
-fn at_the_limit_of_an_endless_input(rt: HostRuntime) {
+fn reading_ends_at_the_input_limit(rt: HostRuntime) {
     let alloc = rt.alloc();
-    let mut session = new_in_memory(alloc, &rt);
+    let mut session = new_session_in_memory(alloc, &rt);
     let mut reader = EndlessReader::new(b'\n');
-    let (end, answers) = answered(alloc, &mut reader, &mut session);
+    let (end, answers) = run_and_collect(alloc, &mut reader, &mut session);
     expect(&rt, end == ShellEnd::InputLimit && status(end) == 1, 0);
-    expect(&rt, reader.given() == INPUT_BYTES as u64, 1);
-    expect(&rt, answers.as_slice() == FIRST, 2);
+    expect(&rt, reader.bytes_returned() == INPUT_BYTES as u64, 1);
+    expect(&rt, answers.as_slice() == FIRST_LINE, 2);
 }
 
 /// Checks that the shell ends if the writer fails after `left` bytes of the answers. Returns the disk of the session.
-fn cut_writing(
+fn disk_after_cut_writing(
     alloc: Global,
     rt: &impl Abort,
     script: &[u8],
     answers: &[u8],
     left: usize,
 ) -> MemDisk {
-    let mut session = new_in_memory(alloc, rt);
+    let mut session = new_session_in_memory(alloc, rt);
     let mut writer = CutWriter::new(alloc, left, usize::MAX);
     let mut reader = script;
     let end = serve(alloc, &mut reader, &mut writer, &mut session);
@@ -261,23 +262,23 @@ fn cut_writing(
         ShellEnd::WriteFault
     };
     expect(rt, end == wanted_end, left);
-    expect(rt, answers.starts_with(writer.held()), left);
-    expect(rt, writer.held().len() == left, left);
-    disk_behind(session)
+    expect(rt, answers.starts_with(writer.accepted_bytes()), left);
+    expect(rt, writer.accepted_bytes().len() == left, left);
+    disk_of_session(session)
 }
 
 #[test]
-fn at_each_byte_that_is_written(rt: HostRuntime) {
+fn a_stop_at_each_byte_that_is_written(rt: HostRuntime) {
     let alloc = rt.alloc();
     let script = script_of_inputs(alloc, &rt);
     let answers = answers_to(alloc, &rt, ANSWERS.len(), b"");
     // A command is recorded if all earlier answers were written.
     let [one, two, three, four, _] = ANSWERS;
-    let before = [FIRST, one, two, three, four];
+    let before = [FIRST_LINE, one, two, three, four];
     for left in 0..=answers.len() {
-        let disk = cut_writing(alloc, &rt, script.as_slice(), answers.as_slice(), left);
-        let again = opened(alloc, &rt, disk);
-        let kept = whole_pieces(&before, left);
+        let disk = disk_after_cut_writing(alloc, &rt, script.as_slice(), answers.as_slice(), left);
+        let again = open_or_panic(alloc, &rt, disk);
+        let kept = count_complete_pieces(&before, left);
         expect(&rt, seq_of(&again) as usize == kept, left);
     }
 }

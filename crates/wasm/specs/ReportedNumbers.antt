@@ -1,7 +1,7 @@
 -- The meaning of the numbers that the page's calls report.
 use Rattle.std.specs.Prelude.{◌≡◌, ◌<◌, ◌≤◌, ℕ, List, length, drop}
 use Rattle.mcs_journal.specs.declared.fault.StoreFault.TheVariants as store_fault
-use Rattle.mcs_wasm.specs.Page.{AnswersInBuffer, AnswersAndSettles, IsWhyNotServed, WouldAnswer}
+use Rattle.mcs_wasm.specs.Page.{AnswersInBuffer, AnswersAndSettles, IsServeFault, WouldAnswer}
 use Rattle.mcs_wasm.specs.declared.fault.ServeFault.{ServeFault}
 use Rattle.mcs_wasm.specs.declared.fault.ServeFault.TheVariants.{Refused, NoRoom}
 use Rattle.mcs_shell.specs.RefusalNumbers.{store_fault_number}
@@ -47,7 +47,7 @@ pub record ReportsFault (file input : List ℕ) (number count room : ℕ) : Type
   pub fault : ServeFault
   pub number_reported : number ≡ number_of_fault fault
   pub count_reported : count ≡ count_of_fault fault
-  pub is_fault : IsWhyNotServed fault file input room
+  pub is_fault : IsServeFault fault file input room
 
 -- Holds if this fault can prevent the prover from writing its answer line: memory ran out, or the line
 -- has `count` bytes, more than the `room` bytes of the buffer.

@@ -4,7 +4,7 @@
 
 ghost use Rattle.std.specs.Prelude.{◌≡◌, length, true, false};
 ghost use Rattle.mcs_journal.specs.declared.format.TheConstants.{FILE_SIZE};
-ghost use Rattle.mcs_wasm.specs.Page.{IsNewFile, StandsForSameState};
+ghost use Rattle.mcs_wasm.specs.Page.{IsNewFile, RepresentsSameState};
 ghost use Rattle.wasm.specs.ReportedNumbers.{HasLineAtFront, ReportsAnswers, ReportsAnswersAndSettles, ReportsDryRun, ReportsProverFault};
 ghost use Rattle.wasm.specs.ReportedNumbers.{ReportsFault, count_of_fault, number_of_fault};
 ghost use Rattle.mcs_shell.specs.Shell.{exit_status_of};
@@ -12,9 +12,9 @@ ghost use Rattle.mcs_shell.specs.Shell.{exit_status_of};
 use mcs_journal::StoreFault;
 use mcs_prove::{Answer, answer_to};
 use mcs_shell::ends::status;
-use mcs_shell::faults::store_number;
+use mcs_shell::faults::number_of_store_fault;
 use mcs_wasm::fault::ServeFault;
-use mcs_wasm::page::{ServedInput, ask, begin, put_in_front, serve, serve_and_settle, settle};
+use mcs_wasm::page::{ServedInput, ask, begin, copy_to_front, serve, serve_and_settle, settle};
 use std::alloc::Global;
 use std::str;
 
@@ -51,7 +51,7 @@ fn report_fault(fault: ServeFault, report: &mut CallResult) -> bool
 {
     *report = match fault {
         ServeFault::Refused(fault) => CallResult {
-            number: u32::from(store_number(fault)),
+            number: u32::from(number_of_store_fault(fault)),
             count: 0,
         },
         ServeFault::NoRoom(count) => CallResult { number: 0, count },
@@ -149,7 +149,7 @@ pub extern "C" fn bench_ask(
 /// runs out. The file is then unchanged.
 #[unsafe(no_mangle)]
 pub extern "C" fn bench_settle(alloc: Global, file: &mut [u8]) -> bool
-    ensures settled { result ≡ true → StandsForSameState file.old file.new }
+    ensures settled { result ≡ true → RepresentsSameState file.old file.new }
     ensures unchanged { result ≡ false → file.new ≡ file.old }
 {
     settle(alloc, file).is_ok()
@@ -182,7 +182,7 @@ pub extern "C" fn bench_prove(
     }
     *report = CallResult {
         number: u32::from(status),
-        count: put_in_front(answers, line),
+        count: copy_to_front(answers, line),
     };
     true
 }

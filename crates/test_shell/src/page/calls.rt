@@ -1,11 +1,11 @@
 //! Tests of the calls that the page makes: one session over several calls, rejected files, and buffers that are too
 //! short for the answers.
-use crate::checks::equal;
+use crate::checks::expect_equal;
 use crate::page::files::{
-    CALLS, CARRIED_OVER, Call, answers, copy, expect_answers, expect_answers_by, file_of_version_1,
-    new_file, served, settled,
+    CALLS, CONVERTED_ANSWERS, Call, answers, copy, expect_answers, expect_answers_by,
+    file_of_version_1, new_file, served, settled,
 };
-use crate::sessions::put;
+use crate::sessions::overwrite;
 use mcs_disk::{Disk, MemDisk};
 use mcs_journal::{FILE_SIZE, StoreFault};
 use mcs_session::session::Session;
@@ -14,7 +14,7 @@ use mcs_wasm::fault::ServeFault;
 use std::alloc::Global;
 use std::process::Abort;
 
-const FIRST: &[u8] = b"wire
+const FIRST_INPUT: &[u8] = b"wire
 [[rom]]
 chip = 0
 port = \"0000\"
@@ -28,7 +28,7 @@ JUN 2
 run 1000
 ";
 
-const SECOND: &[u8] = b"seq\nregs\n";
+const SECOND_INPUT: &[u8] = b"seq\nregs\n";
 
 const FIRST_ANSWERS: &[u8] = b"session 0\nok 1\nok 2\nok 3 bytes 4\nok 4 ran 1000 end\n";
 
@@ -36,7 +36,7 @@ const SECOND_ANSWERS: &[u8] =
     b"session 4\nseq 4\nacc 0 cy 0 pc 002 owed 0 dcl 0 test 1 r 0000390000000000 ret 000 000 000\n";
 
 /// Runs the shell on a session with an input. The session stays open for further inputs.
-fn serve_on(alloc: Global, session: &mut Session<MemDisk>, input: &[u8]) {
+fn serve_input(alloc: Global, session: &mut Session<MemDisk>, input: &[u8]) {
     let mut reader = input;
     let mut writer = Vec::new(alloc);
     let _ = run_shell(alloc, &mut reader, &mut writer, session);
@@ -49,14 +49,14 @@ fn bytes_of(alloc: Global, rt: &impl Abort, mut disk: MemDisk) -> Vec<u8> {
     bytes
 }
 
-/// Returns the bytes of a new file on which a single session has served the inputs `FIRST` and `SECOND`.
+/// Returns the bytes of a new file on which a single session has served the inputs `FIRST_INPUT` and `SECOND_INPUT`.
 fn file_of_one_session(alloc: Global, rt: &impl Abort) -> Vec<u8> {
     let disk = MemDisk::new(alloc, FILE_SIZE).expect(rt, "memory");
     let Ok(mut session) = Session::create(alloc, disk) else {
         panic!(rt; "not made");
     };
-    for input in [FIRST, SECOND] {
-        serve_on(alloc, &mut session, input);
+    for input in [FIRST_INPUT, SECOND_INPUT] {
+        serve_input(alloc, &mut session, input);
     }
     bytes_of(alloc, rt, session.into_disk())
 }
@@ -65,7 +65,7 @@ fn file_of_one_session(alloc: Global, rt: &impl Abort) -> Vec<u8> {
 fn one_session_over_two_calls(rt: HostRuntime) {
     let alloc = rt.alloc();
     let mut file = new_file(alloc, &rt);
-    for row in [(FIRST, FIRST_ANSWERS), (SECOND, SECOND_ANSWERS)] {
+    for row in [(FIRST_INPUT, FIRST_ANSWERS), (SECOND_INPUT, SECOND_ANSWERS)] {
         expect_answers(alloc, &rt, file.as_mut_slice(), row);
     }
     let whole = file_of_one_session(alloc, &rt);
@@ -86,8 +86,8 @@ fn commit_byte(file: &[u8]) -> Option<u8> {
 /// Settles a file, and checks that it has no records. Then serves the input in `row` on the file, and checks the
 /// answers.
 fn expect_settled(alloc: Global, rt: &impl Abort, file: &mut [u8], row: (&[u8], &[u8])) {
-    equal(rt, settled(alloc, file), Ok(()));
-    equal(rt, commit_byte(file), Some(0));
+    expect_equal(rt, settled(alloc, file), Ok(()));
+    expect_equal(rt, commit_byte(file), Some(0));
     expect_answers(alloc, rt, file, row);
 }
 
@@ -95,82 +95,97 @@ fn expect_settled(alloc: Global, rt: &impl Abort, file: &mut [u8], row: (&[u8], 
 fn a_settled_file_has_no_records(rt: HostRuntime) {
     let alloc = rt.alloc();
     let mut file = new_file(alloc, &rt);
-    expect_answers(alloc, &rt, file.as_mut_slice(), (FIRST, FIRST_ANSWERS));
-    equal(&rt, commit_byte(file.as_slice()), Some(1));
+    expect_answers(
+        alloc,
+        &rt,
+        file.as_mut_slice(),
+        (FIRST_INPUT, FIRST_ANSWERS),
+    );
+    expect_equal(&rt, commit_byte(file.as_slice()), Some(1));
     // settle the file again, now into the other slot
     let third: (&[u8], &[u8]) = (b"step\nseq\n", b"session 4\nok 5 ran 2 end\nseq 5\n");
-    for row in [(SECOND, SECOND_ANSWERS), third] {
+    for row in [(SECOND_INPUT, SECOND_ANSWERS), third] {
         expect_settled(alloc, &rt, file.as_mut_slice(), row);
     }
 }
 
 /// Checks that a file was converted from version 1: the active slot has a snapshot of version 2, and the answers to
 /// `regs` are unchanged.
-fn expect_carried_over(alloc: Global, rt: &impl Abort, file: &mut [u8]) {
+fn expect_converted(alloc: Global, rt: &impl Abort, file: &mut [u8]) {
     let at = if file.get(8) == Some(&0) { 24 } else { 81_944 };
-    equal(rt, file.get(at), Some(&2));
-    expect_answers(alloc, rt, file, (b"regs\n", CARRIED_OVER));
+    expect_equal(rt, file.get(at), Some(&2));
+    expect_answers(alloc, rt, file, (b"regs\n", CONVERTED_ANSWERS));
 }
 
 #[test]
-fn a_file_of_version_1_is_carried_over(rt: HostRuntime) {
+fn a_file_of_version_1_is_converted(rt: HostRuntime) {
     let alloc = rt.alloc();
     let mut file = file_of_version_1(alloc, &rt);
-    expect_answers(alloc, &rt, file.as_mut_slice(), (b"regs\n", CARRIED_OVER));
-    expect_carried_over(alloc, &rt, file.as_mut_slice());
+    expect_answers(
+        alloc,
+        &rt,
+        file.as_mut_slice(),
+        (b"regs\n", CONVERTED_ANSWERS),
+    );
+    expect_converted(alloc, &rt, file.as_mut_slice());
 }
 
 #[test]
-fn a_settled_file_of_version_1_is_carried_over(rt: HostRuntime) {
+fn settling_converts_a_file_of_version_1(rt: HostRuntime) {
     let alloc = rt.alloc();
     let mut file = file_of_version_1(alloc, &rt);
-    equal(&rt, settled(alloc, file.as_mut_slice()), Ok(()));
-    expect_carried_over(alloc, &rt, file.as_mut_slice());
+    expect_equal(&rt, settled(alloc, file.as_mut_slice()), Ok(()));
+    expect_converted(alloc, &rt, file.as_mut_slice());
 }
 
 /// Checks that a single call that serves an input and settles the file gives the same answers, and leaves the same
 /// bytes in the file, as two separate calls.
-fn expect_both_at_once(alloc: Global, rt: &impl Abort, file: &mut [u8], row: (&[u8], &[u8])) {
+fn expect_serve_and_settle(alloc: Global, rt: &impl Abort, file: &mut [u8], row: (&[u8], &[u8])) {
     let mut other = copy(alloc, rt, file);
     expect_answers(alloc, rt, other.as_mut_slice(), row);
-    equal(rt, settled(alloc, other.as_mut_slice()), Ok(()));
+    expect_equal(rt, settled(alloc, other.as_mut_slice()), Ok(()));
     expect_answers_by(alloc, rt, Call::ServeAndSettle, file, row);
     assert!(rt; other.as_slice() == file);
 }
 
 #[test]
-fn serving_and_settling_at_once(rt: HostRuntime) {
+fn one_call_serves_and_settles(rt: HostRuntime) {
     let alloc = rt.alloc();
     let mut file = new_file(alloc, &rt);
-    for row in [(FIRST, FIRST_ANSWERS), (SECOND, SECOND_ANSWERS)] {
-        expect_both_at_once(alloc, &rt, file.as_mut_slice(), row);
-        equal(&rt, commit_byte(file.as_slice()), Some(0));
+    for row in [(FIRST_INPUT, FIRST_ANSWERS), (SECOND_INPUT, SECOND_ANSWERS)] {
+        expect_serve_and_settle(alloc, &rt, file.as_mut_slice(), row);
+        expect_equal(&rt, commit_byte(file.as_slice()), Some(0));
     }
     let mut first_version = file_of_version_1(alloc, &rt);
-    let row: (&[u8], &[u8]) = (b"regs\n", CARRIED_OVER);
-    expect_both_at_once(alloc, &rt, first_version.as_mut_slice(), row);
-    expect_carried_over(alloc, &rt, first_version.as_mut_slice());
+    let row: (&[u8], &[u8]) = (b"regs\n", CONVERTED_ANSWERS);
+    expect_serve_and_settle(alloc, &rt, first_version.as_mut_slice(), row);
+    expect_converted(alloc, &rt, first_version.as_mut_slice());
 }
 
 #[test]
-fn questions_leave_the_file(rt: HostRuntime) {
+fn questions_do_not_change_the_file(rt: HostRuntime) {
     let alloc = rt.alloc();
     let mut file = new_file(alloc, &rt);
     let before = copy(alloc, &rt, file.as_slice());
     // `Ask` answers commands as if it executed them, but does not change the file; a second call gives the same
     // answers
     for _ in 0..2 {
-        let row = (FIRST, FIRST_ANSWERS);
+        let row = (FIRST_INPUT, FIRST_ANSWERS);
         expect_answers_by(alloc, &rt, Call::Ask, file.as_mut_slice(), row);
         assert!(rt; file.as_slice() == before.as_slice());
     }
-    expect_answers(alloc, &rt, file.as_mut_slice(), (FIRST, FIRST_ANSWERS));
+    expect_answers(
+        alloc,
+        &rt,
+        file.as_mut_slice(),
+        (FIRST_INPUT, FIRST_ANSWERS),
+    );
     expect_answers_by(
         alloc,
         &rt,
         Call::Ask,
         file.as_mut_slice(),
-        (SECOND, SECOND_ANSWERS),
+        (SECOND_INPUT, SECOND_ANSWERS),
     );
 }
 
@@ -178,10 +193,10 @@ fn questions_leave_the_file(rt: HostRuntime) {
 fn expect_refused(alloc: Global, rt: &impl Abort, file: &[u8], fault: StoreFault) {
     let mut kept = copy(alloc, rt, file);
     for call in CALLS {
-        let why = answers(alloc, rt, call, kept.as_mut_slice(), SECOND).err();
-        equal(rt, why, Some(ServeFault::Refused(fault)));
+        let why = answers(alloc, rt, call, kept.as_mut_slice(), SECOND_INPUT).err();
+        expect_equal(rt, why, Some(ServeFault::Refused(fault)));
     }
-    equal(rt, settled(alloc, kept.as_mut_slice()), Err(fault));
+    expect_equal(rt, settled(alloc, kept.as_mut_slice()), Err(fault));
     assert!(rt; kept.as_slice() == file);
 }
 
@@ -198,7 +213,7 @@ fn files_of_another_size(rt: HostRuntime) {
 }
 
 #[test]
-fn files_of_one_byte_over_and_over(rt: HostRuntime) {
+fn files_that_repeat_one_byte(rt: HostRuntime) {
     let alloc = rt.alloc();
     // all bytes 0xA5, and all bytes 0
     for byte in [0xA5, 0] {
@@ -221,12 +236,12 @@ fn files_that_hold_no_session(rt: HostRuntime) {
     ];
     for (at, bytes, fault) in changes {
         let mut changed = copy(alloc, &rt, made.as_slice());
-        put(&rt, changed.as_mut_slice(), at, bytes);
+        overwrite(&rt, changed.as_mut_slice(), at, bytes);
         expect_refused(alloc, &rt, changed.as_slice(), fault);
     }
 }
 
-/// Checks that the call fails if the buffer has only `room` bytes for the answers to the input `FIRST`, and that it
+/// Checks that the call fails if the buffer has only `room` bytes for the answers to the input `FIRST_INPUT`, and that it
 /// leaves the buffer unchanged.
 fn expect_no_room(alloc: Global, rt: &impl Abort, file: &mut [u8], room: usize) {
     let mut buffer = [b'#'; 128];
@@ -234,26 +249,26 @@ fn expect_no_room(alloc: Global, rt: &impl Abort, file: &mut [u8], room: usize) 
         panic!(rt; "a short buffer");
     };
     for call in CALLS {
-        let why = served(alloc, call, file, FIRST, short).err();
-        equal(rt, why, Some(ServeFault::NoRoom(FIRST_ANSWERS.len())));
+        let why = served(alloc, call, file, FIRST_INPUT, short).err();
+        expect_equal(rt, why, Some(ServeFault::NoRoom(FIRST_ANSWERS.len())));
     }
-    equal(rt, buffer, [b'#'; 128]);
+    expect_equal(rt, buffer, [b'#'; 128]);
 }
 
-/// Checks that the answers to the input `FIRST` are written to the start of a buffer that is longer.
+/// Checks that the answers to the input `FIRST_INPUT` are written to the start of a buffer that is longer.
 fn expect_room(alloc: Global, rt: &impl Abort, file: &mut [u8]) {
     let count = FIRST_ANSWERS.len();
     let mut buffer = [b'#'; 128];
-    let Ok(served) = served(alloc, Call::Serve, file, FIRST, &mut buffer) else {
+    let Ok(served) = served(alloc, Call::Serve, file, FIRST_INPUT, &mut buffer) else {
         panic!(rt; "not served");
     };
-    equal(rt, served.count, count);
-    equal(rt, buffer.get(..count), Some(FIRST_ANSWERS));
-    equal(rt, buffer.get(count), Some(&b'#'));
+    expect_equal(rt, served.count, count);
+    expect_equal(rt, buffer.get(..count), Some(FIRST_ANSWERS));
+    expect_equal(rt, buffer.get(count), Some(&b'#'));
 }
 
 #[test]
-fn answers_that_have_no_room(rt: HostRuntime) {
+fn answers_that_do_not_fit(rt: HostRuntime) {
     let alloc = rt.alloc();
     let mut file = new_file(alloc, &rt);
     let before = copy(alloc, &rt, file.as_slice());

@@ -1,6 +1,6 @@
 //! Session files as the page stores them, and the page's calls on these files.
-use crate::checks::equal;
-use crate::sessions::put;
+use crate::checks::expect_equal;
+use crate::sessions::overwrite;
 use mcs_fixtures::files::{NEW_BENCH, POKE};
 use mcs_journal::{FILE_SIZE, StoreFault};
 use mcs_shell::ends::ShellEnd;
@@ -22,23 +22,23 @@ pub(crate) fn copy(alloc: Global, rt: &impl Abort, bytes: &[u8]) -> Vec<u8> {
 }
 
 /// Overwrites a file with a session of version 1: a new bench and the record of `poke r5 9`.
-pub(crate) fn put_version_1(rt: &impl Abort, file: &mut [u8]) {
+pub(crate) fn overwrite_with_version_1(rt: &impl Abort, file: &mut [u8]) {
     file.fill(0);
     for (at, bytes) in NEW_BENCH {
-        put(rt, file, at, bytes);
+        overwrite(rt, file, at, bytes);
     }
-    put(rt, file, POKE.0, POKE.1);
+    overwrite(rt, file, POKE.0, POKE.1);
 }
 
 /// Returns a session file of version 1 with a new bench and the record of `poke r5 9`.
 pub(crate) fn file_of_version_1(alloc: Global, rt: &impl Abort) -> Vec<u8> {
     let mut file = vec![in alloc; 0u8; FILE_SIZE].expect(rt, "memory");
-    put_version_1(rt, file.as_mut_slice());
+    overwrite_with_version_1(rt, file.as_mut_slice());
     file
 }
 
 /// The answers to `regs` on the file that `file_of_version_1` returns.
-pub(crate) const CARRIED_OVER: &[u8] =
+pub(crate) const CONVERTED_ANSWERS: &[u8] =
     b"session 1\nacc 0 cy 0 pc 000 owed 0 dcl 0 test 1 r 0000090000000000 ret 000 000 000\n";
 
 /// The kinds of calls that answer an input.
@@ -83,7 +83,7 @@ pub(crate) fn answers(
 ) -> Result<Vec<u8>, ServeFault> {
     let mut buffer = vec![in alloc; 0u8; 65_536].expect(rt, "memory");
     let served = served(alloc, call, file, input, buffer.as_mut_slice())?;
-    equal(rt, served.end, ShellEnd::End);
+    expect_equal(rt, served.end, ShellEnd::End);
     buffer.truncate(served.count);
     Ok(buffer)
 }
@@ -102,7 +102,7 @@ pub(crate) fn expect_answers_by(
     (input, wanted): (&[u8], &[u8]),
 ) {
     match answers(alloc, rt, call, file, input) {
-        Ok(text) => equal(rt, text.as_slice(), wanted),
+        Ok(text) => expect_equal(rt, text.as_slice(), wanted),
         Err(_) => panic!(rt; "not served"),
     }
 }

@@ -1,9 +1,9 @@
 //! Tests of the page's calls with one failing allocation. `checks/allocations` runs each test once per allocation,
 //! and makes that allocation fail. In an ordinary run, no allocation fails. A call that runs out of memory leaves the
 //! file and the buffer unchanged, and succeeds if it is repeated.
-use crate::checks::equal;
-use crate::page::files::{CARRIED_OVER, Call, put_version_1, served, settled};
-use crate::sessions::put;
+use crate::checks::expect_equal;
+use crate::page::files::{CONVERTED_ANSWERS, Call, overwrite_with_version_1, served, settled};
+use crate::sessions::overwrite;
 use mcs_journal::{FILE_SIZE, StoreFault};
 use mcs_shell::ends::ShellEnd;
 use mcs_wasm::fault::ServeFault;
@@ -14,18 +14,18 @@ use std::process::Abort;
 /// The arguments of a call: the file and the buffer for the answers. `before` has the bytes of the file before the
 /// call.
 #[derive(Drop)]
-struct Desk {
+struct PageFixture {
     file: Vec<u8>,
     before: Vec<u8>,
     buffer: [u8; 128],
 }
 
-/// The result of a call. `is_second` is true if the call was repeated because the first attempt ran out of memory.
+/// The result of a call. `is_repeated` is true if the call was repeated because the first attempt ran out of memory.
 #[derive(Drop)]
 struct CallReport {
     /// The length of the answers in bytes. It is an `Err` if the answers did not fit into the buffer.
     count: Result<usize, usize>,
-    is_second: bool,
+    is_repeated: bool,
 }
 
 /// Returns the length of the answers to a call in bytes. The length is an `Err` if the answers did not fit into the
@@ -33,7 +33,7 @@ struct CallReport {
 fn count_of(rt: &impl Abort, report: Result<ServedInput, ServeFault>) -> Result<usize, usize> {
     match report {
         Ok(served) => {
-            equal(rt, served.end, ShellEnd::End);
+            expect_equal(rt, served.end, ShellEnd::End);
             Ok(served.count)
         }
         Err(ServeFault::NoRoom(count)) => Err(count),
@@ -41,10 +41,10 @@ fn count_of(rt: &impl Abort, report: Result<ServedInput, ServeFault>) -> Result<
     }
 }
 
-impl Desk {
+impl PageFixture {
     /// Creates a desk with a file of the right size that holds no session.
-    fn new(alloc: Global) -> Result<Desk, AllocError> {
-        Ok(Desk {
+    fn new(alloc: Global) -> Result<PageFixture, AllocError> {
+        Ok(PageFixture {
             file: vec![in alloc; 0xA5u8; FILE_SIZE]?,
             before: vec![in alloc; 0u8; FILE_SIZE]?,
             buffer: [b'#'; 128],
@@ -82,9 +82,9 @@ impl Desk {
     fn settle(&mut self, alloc: Global, rt: &impl Abort) -> bool {
         self.prepare(rt);
         if let Err(fault) = settled(alloc, self.file.as_mut_slice()) {
-            equal(rt, fault, StoreFault::NoMemory);
+            expect_equal(rt, fault, StoreFault::NoMemory);
             self.expect_untouched(rt);
-            equal(rt, settled(alloc, self.file.as_mut_slice()), Ok(()));
+            expect_equal(rt, settled(alloc, self.file.as_mut_slice()), Ok(()));
             return true;
         }
         false
@@ -120,45 +120,45 @@ impl Desk {
         self.prepare(rt);
         let first = self.call_once(alloc, call, input, room);
         if let Err(ServeFault::Refused(fault)) = first {
-            equal(rt, fault, StoreFault::NoMemory);
+            expect_equal(rt, fault, StoreFault::NoMemory);
             self.expect_untouched(rt);
             let again = self.call_once(alloc, call, input, room);
             return CallReport {
                 count: count_of(rt, again),
-                is_second: true,
+                is_repeated: true,
             };
         }
         CallReport {
             count: count_of(rt, first),
-            is_second: false,
+            is_repeated: false,
         }
     }
 
     /// Returns true if the last call wrote the given answers to the start of the buffer and left the rest of the
     /// buffer unchanged.
-    fn has(&self, rt: &impl Abort, report: &CallReport, answers: &[u8]) -> bool {
+    fn has_answers(&self, rt: &impl Abort, report: &CallReport, answers: &[u8]) -> bool {
         let mut wanted = [b'#'; 128];
-        put(rt, &mut wanted, 0, answers);
+        overwrite(rt, &mut wanted, 0, answers);
         report.count == Ok(answers.len()) && self.buffer == wanted
     }
 }
 
-const FIRST: &[u8] =
+const FIRST_INPUT: &[u8] =
     b"wire\n[[rom]]\nchip = 0\nport = \"0000\"\n.\nasm\nLDM 1\n.\nlist 0 1\nboard\nseq\n";
 
-const SECOND: &[u8] = b"poke r5 9\nlist 0 1\nseq\n";
+const SECOND_INPUT: &[u8] = b"poke r5 9\nlist 0 1\nseq\n";
 
-/// The answers to the input `FIRST` if one of its parts failed for lack of memory, and the answers that `SECOND` then
-/// gets. `left_out` names the part that failed, or is `nothing`.
-struct Row {
-    left_out: &'static str,
+/// The answers to the input `FIRST_INPUT` if one of its parts failed for lack of memory, and the answers that `SECOND_INPUT` then
+/// gets. `failed_part` names the part that failed, or is `nothing`.
+struct ExpectedAnswers {
+    failed_part: &'static str,
     first: &'static [u8],
     second: &'static [u8],
 }
 
-const ROWS: [Row; 5] = [
-    Row {
-        left_out: "nothing",
+const EXPECTED_ANSWERS: [ExpectedAnswers; 5] = [
+    ExpectedAnswers {
+        failed_part: "nothing",
         first: b"session 0
 ok 1
 ok 2 bytes 1
@@ -175,8 +175,8 @@ ok 3
 seq 3
 ",
     },
-    Row {
-        left_out: "the board",
+    ExpectedAnswers {
+        failed_part: "the board",
         first: b"session 0
 no 90
 no 42
@@ -190,8 +190,8 @@ ok 1
 seq 1
 ",
     },
-    Row {
-        left_out: "the program",
+    ExpectedAnswers {
+        failed_part: "the program",
         first: b"session 0
 ok 1
 no 90
@@ -208,8 +208,8 @@ ok 2
 seq 2
 ",
     },
-    Row {
-        left_out: "the listing",
+    ExpectedAnswers {
+        failed_part: "the listing",
         first: b"session 0
 ok 1
 ok 2 bytes 1
@@ -226,8 +226,8 @@ ok 3
 seq 3
 ",
     },
-    Row {
-        left_out: "the question for the board",
+    ExpectedAnswers {
+        failed_part: "the question for the board",
         first: b"session 0
 ok 1
 ok 2 bytes 1
@@ -243,101 +243,111 @@ seq 3
     },
 ];
 
-/// The answers to the input `SECOND` if its listing fails for lack of memory.
-const SECOND_WITHOUT: &[u8] = b"session 2\nok 3\nno 90\nseq 3\n";
+/// The answers to the input `SECOND_INPUT` if its listing fails for lack of memory.
+const SECOND_WITHOUT_LISTING: &[u8] = b"session 2\nok 3\nno 90\nseq 3\n";
 
 /// The record of the part of a test that ran out of memory. At most one part can, because one allocation fails.
 #[derive(Drop)]
-struct Refusals {
+struct MemoryFailure {
     report: &'static str,
 }
 
-impl Refusals {
+impl MemoryFailure {
     fn note(&mut self, rt: &impl Abort, is_refused: bool, what: &'static str) {
         if is_refused {
-            equal(rt, self.report, "nothing");
+            expect_equal(rt, self.report, "nothing");
             self.report = what;
         }
     }
 }
 
-/// Checks that the answers to the input `FIRST` do not fit into eight bytes. The length that the call reports shows
+/// Checks that the answers to the input `FIRST_INPUT` do not fit into eight bytes. The length that the call reports shows
 /// which part, if any, failed for lack of memory.
-fn look_for_room(alloc: Global, rt: &impl Abort, desk: &mut Desk, refusals: &mut Refusals) {
-    let report = desk.serve(alloc, rt, FIRST, 8);
-    desk.expect_untouched(rt);
-    refusals.note(rt, report.is_second, "the input without room");
-    for row in ROWS.iter() {
+fn expect_too_long_answers(
+    alloc: Global,
+    rt: &impl Abort,
+    fixture: &mut PageFixture,
+    failure: &mut MemoryFailure,
+) {
+    let report = fixture.serve(alloc, rt, FIRST_INPUT, 8);
+    fixture.expect_untouched(rt);
+    failure.note(rt, report.is_repeated, "the input without room");
+    for row in EXPECTED_ANSWERS.iter() {
         if report.count == Err(row.first.len()) {
-            refusals.note(rt, row.left_out != "nothing", "an answer without room");
+            failure.note(rt, row.failed_part != "nothing", "an answer without room");
             return;
         }
     }
     panic!(rt; "another count");
 }
 
-/// Serves the input `FIRST`, and returns the answers that `SECOND` must get afterwards.
+/// Serves the input `FIRST_INPUT`, and returns the answers that `SECOND_INPUT` must get afterwards.
 fn serve_first(
     alloc: Global,
     rt: &impl Abort,
-    desk: &mut Desk,
-    refusals: &mut Refusals,
+    fixture: &mut PageFixture,
+    failure: &mut MemoryFailure,
 ) -> &'static [u8] {
-    let report = desk.serve(alloc, rt, FIRST, 128);
-    refusals.note(rt, report.is_second, "the input");
-    for row in ROWS.iter() {
-        if desk.has(rt, &report, row.first) {
-            refusals.note(rt, row.left_out != "nothing", row.left_out);
+    let report = fixture.serve(alloc, rt, FIRST_INPUT, 128);
+    failure.note(rt, report.is_repeated, "the input");
+    for row in EXPECTED_ANSWERS.iter() {
+        if fixture.has_answers(rt, &report, row.first) {
+            failure.note(rt, row.failed_part != "nothing", row.failed_part);
             return row.second;
         }
     }
     panic!(rt; "other answers");
 }
 
-/// Serves the input `SECOND`, and checks the answers.
+/// Serves the input `SECOND_INPUT`, and checks the answers.
 fn serve_second(
     alloc: Global,
     rt: &impl Abort,
-    desk: &mut Desk,
-    refusals: &mut Refusals,
+    fixture: &mut PageFixture,
+    failure: &mut MemoryFailure,
     wanted: &[u8],
 ) {
-    let report = desk.serve(alloc, rt, SECOND, 128);
-    refusals.note(rt, report.is_second, "the second input");
-    if !desk.has(rt, &report, wanted) {
-        refusals.note(rt, true, "the second listing");
-        assert!(rt; desk.has(rt, &report, SECOND_WITHOUT));
+    let report = fixture.serve(alloc, rt, SECOND_INPUT, 128);
+    failure.note(rt, report.is_repeated, "the second input");
+    if !fixture.has_answers(rt, &report, wanted) {
+        failure.note(rt, true, "the second listing");
+        assert!(rt; fixture.has_answers(rt, &report, SECOND_WITHOUT_LISTING));
     }
 }
 
 /// Queries the number of commands with two calls, the second of which also settles the file. Checks that both calls
 /// give answers of the same length.
-fn ask_and_settle(alloc: Global, rt: &impl Abort, desk: &mut Desk, refusals: &mut Refusals) {
-    let asked = desk.call(alloc, rt, Call::Ask, (b"seq\n", 128));
-    refusals.note(rt, asked.is_second, "the question");
-    let answers = desk.buffer;
-    let settled = desk.call(alloc, rt, Call::ServeAndSettle, (b"seq\n", 128));
-    refusals.note(rt, settled.is_second, "the input settled");
+fn ask_and_settle(
+    alloc: Global,
+    rt: &impl Abort,
+    fixture: &mut PageFixture,
+    failure: &mut MemoryFailure,
+) {
+    let asked = fixture.call(alloc, rt, Call::Ask, (b"seq\n", 128));
+    failure.note(rt, asked.is_repeated, "the question");
+    let answers = fixture.buffer;
+    let settled = fixture.call(alloc, rt, Call::ServeAndSettle, (b"seq\n", 128));
+    failure.note(rt, settled.is_repeated, "the input settled");
     // the length of the lines `session N` and `seq N` with their line feeds
-    equal(rt, asked.count, Ok(16));
-    equal(rt, settled.count, Ok(16));
-    equal(rt, desk.buffer, answers);
+    expect_equal(rt, asked.count, Ok(16));
+    expect_equal(rt, settled.count, Ok(16));
+    expect_equal(rt, fixture.buffer, answers);
 }
 
-/// Starts a session, serves the inputs `FIRST` and `SECOND`, and settles the file between them. Then queries the
+/// Starts a session, serves the inputs `FIRST_INPUT` and `SECOND_INPUT`, and settles the file between them. Then queries the
 /// session with the other calls. Returns the part that ran out of memory, or `nothing`.
 fn begin_and_serve(alloc: Global, rt: &impl Abort) -> &'static str {
-    let Ok(mut desk) = Desk::new(alloc) else {
+    let Ok(mut fixture) = PageFixture::new(alloc) else {
         return "a file";
     };
-    let mut refusals = Refusals { report: "nothing" };
-    refusals.note(rt, desk.begin(alloc, rt), "the file begun");
-    look_for_room(alloc, rt, &mut desk, &mut refusals);
-    let second = serve_first(alloc, rt, &mut desk, &mut refusals);
-    refusals.note(rt, desk.settle(alloc, rt), "the file settled");
-    serve_second(alloc, rt, &mut desk, &mut refusals, second);
-    ask_and_settle(alloc, rt, &mut desk, &mut refusals);
-    refusals.report
+    let mut failure = MemoryFailure { report: "nothing" };
+    failure.note(rt, fixture.begin(alloc, rt), "the file begun");
+    expect_too_long_answers(alloc, rt, &mut fixture, &mut failure);
+    let second = serve_first(alloc, rt, &mut fixture, &mut failure);
+    failure.note(rt, fixture.settle(alloc, rt), "the file settled");
+    serve_second(alloc, rt, &mut fixture, &mut failure, second);
+    ask_and_settle(alloc, rt, &mut fixture, &mut failure);
+    failure.report
 }
 
 #[test]
@@ -348,22 +358,22 @@ fn one_allocation(rt: HostRuntime) {
 
 /// Settles a file of version 1, and serves an input on another file of version 1. Returns the part that ran out of
 /// memory, or `nothing`.
-fn carry_over(alloc: Global, rt: &impl Abort) -> &'static str {
-    let Ok(mut desk) = Desk::new(alloc) else {
+fn convert_version_1(alloc: Global, rt: &impl Abort) -> &'static str {
+    let Ok(mut fixture) = PageFixture::new(alloc) else {
         return "a file";
     };
-    let mut refusals = Refusals { report: "nothing" };
-    put_version_1(rt, desk.file.as_mut_slice());
-    refusals.note(rt, desk.settle(alloc, rt), "the file settled");
-    put_version_1(rt, desk.file.as_mut_slice());
-    let report = desk.serve(alloc, rt, b"regs\n", 128);
-    refusals.note(rt, report.is_second, "the input");
-    assert!(rt; desk.has(rt, &report, CARRIED_OVER));
-    refusals.report
+    let mut failure = MemoryFailure { report: "nothing" };
+    overwrite_with_version_1(rt, fixture.file.as_mut_slice());
+    failure.note(rt, fixture.settle(alloc, rt), "the file settled");
+    overwrite_with_version_1(rt, fixture.file.as_mut_slice());
+    let report = fixture.serve(alloc, rt, b"regs\n", 128);
+    failure.note(rt, report.is_repeated, "the input");
+    assert!(rt; fixture.has_answers(rt, &report, CONVERTED_ANSWERS));
+    failure.report
 }
 
 #[test]
 fn a_file_of_version_1(rt: HostRuntime) {
-    let refused = carry_over(rt.alloc(), &rt);
+    let refused = convert_version_1(rt.alloc(), &rt);
     let _ = println!(rt; "refused: {refused}");
 }

@@ -3,8 +3,8 @@ use Rattle.std.specs.List.{flat_map}
 use Rattle.std.proofs.lemmas.List.{append-nil}
 use Rattle.mcs_model.specs.Command.{machine_of, stops_of}
 use Rattle.mcs_model.specs.TextLines.{as_line}
-use Rattle.mcs_model.specs.Running.{run_length, run_stop}
-use Rattle.mcs_probe.specs.Forecast.{begun_in}
+use Rattle.mcs_model.specs.Running.{run_length, run_stop_reason}
+use Rattle.mcs_probe.specs.Forecast.{instructions_begun_in}
 use Rattle.mcs_answers.specs.ForecastTexts.{addresses, count_line, count_lines}
 use Rattle.mcs_answers.proofs.ForecastLines.{addresses-more, addresses-none, address_line, head-same, head_of, length-more, line-none, line-some, lines_text, text-more}
 use Rattle.mcs_answers.proofs.counts.put_count.Goals as goal
@@ -14,7 +14,7 @@ pub loop-i-init : goal.loop-i-init
 loop-i-init c =
     let b = c.args.bench.now in
     let s = machine_of b in
-    let none = addresses-none (count_line (begun_in (stops_of b) c.args.n s) s) in
+    let none = addresses-none (count_line (instructions_begun_in (stops_of b) c.args.n s) s) in
     record {
       report = c.new-text.ensures.items ∙ sym (ap lines_text none);
       count = sym (ap length none);
@@ -25,27 +25,27 @@ pub loop-i-preserved : goal.loop-i-preserved
 loop-i-preserved c =
     let b = c.args.bench.now in
     let s = machine_of b in
-    let begun = begun_in (stops_of b) c.args.n s in
+    let begun = instructions_begun_in (stops_of b) c.args.n s in
     let i : ℕ = c.loop-i.i in
     let f : ℕ → List (List ℕ) = count_line begun s in
     let below : i < 4096 = omega arith in
     let at : c.plus-at.result ≡ i = omega arith in
-    let runs = c.number_at-runs.ensures ∙ ap (λ (k : ℕ). slice_index c.in_ok-counts.counts.runs.items k) at ∙ c.in_ok-counts.ensures.runs.each i below in
-    let jumps = c.number_at-jumps.ensures ∙ ap (λ (k : ℕ). slice_index c.in_ok-counts.counts.jumps.items k) at ∙ c.in_ok-counts.ensures.jumps.each i below in
+    let runs = c.count_at-runs.ensures ∙ ap (λ (k : ℕ). slice_index c.in_ok-counts.counts.runs.items k) at ∙ c.in_ok-counts.ensures.runs.each i below in
+    let jumps = c.count_at-jumps.ensures ∙ ap (λ (k : ℕ). slice_index c.in_ok-counts.counts.jumps.items k) at ∙ c.in_ok-counts.ensures.jumps.each i below in
     elim c.if-runs-gt0.branch [
       | then-runs-gt0+in_ok-extend_from_slice w ↦ (
-          let line : List ℕ = address_line s c.plus-at.result c.number_at-runs.result c.number_at-jumps.result in
-          let report : f i ≡ line ∷ [] = line-some begun s i c.number_at-runs.result c.number_at-jumps.result runs jumps w.if-runs-gt0.true ∙ ap (λ (a : ℕ). address_line s a c.number_at-runs.result c.number_at-jumps.result ∷ []) (sym at) in
+          let line : List ℕ = address_line s c.plus-at.result c.count_at-runs.result c.count_at-jumps.result in
+          let report : f i ≡ line ∷ [] = line-some begun s i c.count_at-runs.result c.count_at-jumps.result runs jumps w.if-runs-gt0.true ∙ ap (λ (a : ℕ). address_line s a c.count_at-runs.result c.count_at-jumps.result ∷ []) (sym at) in
           let more = addresses-more f i (line ∷ []) report in
           let text : c.if-runs-gt0.text.items ≡ c.loop-i.text.items ++ lines_text (line ∷ []) =
-          ap (λ (v : Vec ℕ Global). v.items) w.text-is ∙ w.in_ok-extend_from_slice.ensures.items ∙ ap (λ v. c.loop-i.text.items ++ v) (w.as_slice.ensures.value ∙ w.put_line.ensures ∙ sym (append-nil (as_line line))) in
+          ap (λ (v : Vec ℕ Global). v.items) w.text-is ∙ w.in_ok-extend_from_slice.ensures.items ∙ ap (λ v. c.loop-i.text.items ++ v) (w.as_slice.ensures.value ∙ w.put_count_line.ensures ∙ sym (append-nil (as_line line))) in
           record {
             report = text-more (flat_map f (addresses i)) (line ∷ []) _ c.loop-i.text.items _ more c.loop-i.invariant.report text;
             count = length-more (flat_map f (addresses i)) (line ∷ []) _ c.loop-i.lines _ more c.loop-i.invariant.count w.lines-is;
             few = (let is = w.lines-is in let few = c.loop-i.invariant.few in omega arith);
           })
       | else-runs-gt0 w ↦ (
-          let none : f i ≡ [] = line-none begun s i c.number_at-runs.result runs (let no = w.if-runs-gt0.false in omega arith) in
+          let none : f i ≡ [] = line-none begun s i c.count_at-runs.result runs (let no = w.if-runs-gt0.false in omega arith) in
           let more = addresses-more f i [] none in
           record {
             report = text-more (flat_map f (addresses i)) [] _ c.loop-i.text.items _ more c.loop-i.invariant.report (ap (λ (v : Vec ℕ Global). v.items) w.text-is ∙ sym (append-nil c.loop-i.text.items));
@@ -59,9 +59,9 @@ returns c =
     let b = c.args.bench.now in
     let s = machine_of b in
     let n : ℕ = c.args.n in
-    let f : ℕ → List (List ℕ) = count_line (begun_in (stops_of b) n s) s in
+    let f : ℕ → List (List ℕ) = count_line (instructions_begun_in (stops_of b) n s) s in
     let all : c.loop-i.i ≡ 4096 = omega arith in
     let report : c.loop-i.text.items ≡ lines_text (count_lines b n) = c.loop-i.invariant.report ∙ ap (λ (k : ℕ). lines_text (flat_map f (addresses k))) all in
     let lines : c.loop-i.lines ≡ length (count_lines b n) = c.loop-i.invariant.count ∙ ap (λ (k : ℕ). length (flat_map f (addresses k))) all in
     let head = c.put.ensures.text ∙ ap as_line (c.put_head.ensures.text ∙ head-same (codes "count") _ _ _ _ _ _ c.in_ok-counts.ensures.cycles c.in_ok-counts.ensures.stop lines) in
-    ap (λ v. v ++ c.loop-i.text.items) head ∙ ap (λ v. as_line (head_of (codes "count") (run_length (stops_of b) n s) (run_stop (stops_of b) n s) (length (count_lines b n))) ++ v) report
+    ap (λ v. v ++ c.loop-i.text.items) head ∙ ap (λ v. as_line (head_of (codes "count") (run_length (stops_of b) n s) (run_stop_reason (stops_of b) n s) (length (count_lines b n))) ++ v) report

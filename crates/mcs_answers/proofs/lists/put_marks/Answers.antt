@@ -5,7 +5,7 @@ use Rattle.mcs_model.specs.declared.board.BoardParts.{BoardParts}
 use Rattle.mcs_model.specs.declared.board.Line.TheVariants.{Rom}
 use Rattle.mcs_model.specs.Levels.{level}
 use Rattle.mcs_model.specs.QueryText.{lamp_mark}
-use Rattle.mcs_answers.proofs.Growing.{mapped}
+use Rattle.mcs_answers.proofs.AppendedTexts.{append_mapped}
 use Rattle.mcs_answers.proofs.lists.put_marks.Goals as goal
 
 pub loop-i-preserved : goal.loop-i-preserved
@@ -19,7 +19,7 @@ loop-i-preserved c =
     c.unwrap_or-level.ensures
     ∙ ap (λ o. unwrap_or o 0) (c.lamp.ensures ∙ ap (option_map (level bus)) (slice_get-get_or lines c.loop-i.i (Rom 0 0) inside)) in
     record {
-      text = mapped (λ line. lamp_mark (level bus line)) lines c.loop-i.i (Rom 0 0) _ _ _ inside c.loop-i.invariant.text
+      text = append_mapped (λ line. lamp_mark (level bus line)) lines c.loop-i.i (Rom 0 0) _ _ _ inside c.loop-i.invariant.text
           (c.push.ensures.items ∙ ap (λ v. c.loop-i.answer.items ++ v ∷ []) (c.lamp_mark.ensures ∙ ap lamp_mark lit));
       count = omega arith;
     }

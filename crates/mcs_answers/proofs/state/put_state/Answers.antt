@@ -1,23 +1,23 @@
 use Rattle.std.proofs.Common.{◌≡◌, ℕ, List, ◌++◌, codes, map, ap, ◌∙◌, arith}
 use Rattle.std.specs.Fmt.{decimal}
 use Rattle.mcs_model.specs.declared.regs.Regs.{Regs}
-use Rattle.mcs_model.specs.QueryText.{address_text, hex_2, one_word, watch_text}
-use Rattle.mcs_answers.proofs.StateText.{state_is}
+use Rattle.mcs_model.specs.QueryText.{address_text, two_hex_digits, comma_list, watch_text}
+use Rattle.mcs_answers.proofs.StateText.{state_text_is}
 use Rattle.mcs_answers.proofs.state.put_state.Goals as goal
 
 pub returns : goal.returns
 returns c =
     let s = c.args.bench.now in
     let count : c.from.result ≡ s.seq = omega arith in
-    state_is s _ _ _ _ _ _ _ _ _ _ _ _ _ _ _
-    (c.put_counted.ensures.text
+    state_text_is s _ _ _ _ _ _ _ _ _ _ _ _ _ _ _
+    (c.put_word_and_number.ensures.text
     ∙ ap (λ (v : List ℕ). v ++ (codes "state seq " ++ decimal c.from.result)) c.requires
     ∙ ap (λ (n : ℕ). codes "state seq " ++ decimal n) count)
     c.put.ensures.text
     c.put_registers.ensures.text
     (c.put_address_list.ensures.text
-    ∙ ap (λ (r : Regs). c.put_registers.new.answer.items ++ codes " ret " ++ one_word (map address_text r.ret)) c.regs.ensures.same)
-    (c.put_byte.ensures.text ∙ ap (λ (n : ℕ). c.put_address_list.new.answer.items ++ codes " src " ++ hex_2 n) c.rom_src.ensures)
+    ∙ ap (λ (r : Regs). c.put_registers.new.answer.items ++ codes " ret " ++ comma_list (map address_text r.ret)) c.regs.ensures.same)
+    (c.put_byte.ensures.text ∙ ap (λ (n : ℕ). c.put_address_list.new.answer.items ++ codes " src " ++ two_hex_digits n) c.rom_src.ensures)
     c.put_bank_list.ensures.text
     c.put_rom_list.ensures.text
     c.put_ram_list.ensures.text
@@ -26,7 +26,7 @@ returns c =
     c.put-2.ensures.text
     c.add_lamps.ensures.text
     (c.put_address_list-2.ensures.text
-    ∙ ap (λ (v : List ℕ). c.add_lamps.new.answer.items ++ codes " breaks " ++ one_word (map address_text v)) c.breaks.ensures.same)
+    ∙ ap (λ (v : List ℕ). c.add_lamps.new.answer.items ++ codes " breaks " ++ comma_list (map address_text v)) c.breaks.ensures.same)
     (c.put_watch_list.ensures.text
-    ∙ ap (λ (v : List ℕ). c.put_address_list-2.new.answer.items ++ codes " watches " ++ one_word (map watch_text v)) c.watches.ensures.same)
+    ∙ ap (λ (v : List ℕ). c.put_address_list-2.new.answer.items ++ codes " watches " ++ comma_list (map watch_text v)) c.watches.ensures.same)
     c.put-3.ensures.text

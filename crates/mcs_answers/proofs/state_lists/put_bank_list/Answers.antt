@@ -1,15 +1,15 @@
 use Rattle.std.proofs.Common.{◌≡◌, ◌++◌, ap, ◌∙◌, sym, arith}
 use Rattle.std.specs.List.{flat_map, range_with_len}
 use Rattle.mcs_model.specs.declared.limits.TheConstants.{BANKS}
-use Rattle.mcs_model.specs.QueryText.{bank_items, one_word}
+use Rattle.mcs_model.specs.QueryText.{bank_items, comma_list}
 use Rattle.mcs_answers.specs.Commas.{with_commas}
-use Rattle.mcs_answers.proofs.Growing.{pieced}
+use Rattle.mcs_answers.proofs.AppendedTexts.{append_piece}
 use Rattle.mcs_answers.proofs.ListedWords.{commas-flat_map}
 use Rattle.mcs_answers.proofs.state_lists.put_bank_list.Goals as goal
 
 pub loop-bank-preserved : goal.loop-bank-preserved
 loop-bank-preserved c = record {
-  text = pieced (λ bank. with_commas (bank_items c.args.bench.now.bus bank)) c.loop-bank.bank _ _ _ c.loop-bank.invariant.text c.put_bank_item.ensures.text;
+  text = append_piece (λ bank. with_commas (bank_items c.args.bench.now.bus bank)) c.loop-bank.bank _ _ _ c.loop-bank.invariant.text c.put_bank_item.ensures.text;
   count = omega arith;
 }
 
@@ -22,4 +22,4 @@ returns-clause-text c =
     ∙ ap (λ n. c.put.new.answer.items ++ flat_map (λ bank. with_commas (bank_items c.args.bench.now.bus bank)) (range_with_len 0 n)) all
     ∙ ap (λ v. c.put.new.answer.items ++ v) (sym (commas-flat_map (bank_items c.args.bench.now.bus) (range_with_len 0 BANKS))) in
     c.end_list.ensures.text c.put.new.answer.items items (omega arith) listed
-    ∙ ap (λ v. v ++ one_word items) c.put.ensures.text
+    ∙ ap (λ v. v ++ comma_list items) c.put.ensures.text

@@ -3,13 +3,13 @@ use Rattle.std.specs.List.{flat_map, range_with_len}
 use Rattle.mcs_model.specs.Bus.{chips_of}
 use Rattle.mcs_answers.specs.PortPieces.{ram_item}
 use Rattle.mcs_answers.specs.Commas.{with_comma}
-use Rattle.mcs_answers.proofs.Growing.{pieced}
+use Rattle.mcs_answers.proofs.AppendedTexts.{append_piece}
 use Rattle.mcs_answers.proofs.ListedWords.{commas-map}
 use Rattle.mcs_answers.proofs.state_lists.put_ram_items.Goals as goal
 
 pub loop-chip-preserved : goal.loop-chip-preserved
 loop-chip-preserved c = record {
-  text = pieced (λ chip. with_comma (ram_item c.args.bench.now.bus c.args.bank chip)) c.loop-chip.chip _ _ _ c.loop-chip.invariant.text c.put_ram_item.ensures.text;
+  text = append_piece (λ chip. with_comma (ram_item c.args.bench.now.bus c.args.bank chip)) c.loop-chip.chip _ _ _ c.loop-chip.invariant.text c.put_ram_item.ensures.text;
   count = omega arith;
 }
 

@@ -2,13 +2,13 @@ use Rattle.std.proofs.Common.{◌≡◌, ◌++◌, ap, ◌∙◌, sym, arith}
 use Rattle.std.specs.List.{flat_map, range_with_len}
 use Rattle.mcs_model.specs.QueryText.{key_item}
 use Rattle.mcs_answers.specs.Commas.{with_commas}
-use Rattle.mcs_answers.proofs.Growing.{pieced}
+use Rattle.mcs_answers.proofs.AppendedTexts.{append_piece}
 use Rattle.mcs_answers.proofs.ListedWords.{commas-flat_map}
 use Rattle.mcs_answers.proofs.state_lists.put_row_items.Goals as goal
 
 pub loop-column-preserved : goal.loop-column-preserved
 loop-column-preserved c = record {
-  text = pieced (λ column. with_commas (key_item c.args.bench.now.bus c.args.row column)) c.loop-column.column _ _ _ c.loop-column.invariant.text c.put_key_item.ensures.text;
+  text = append_piece (λ column. with_commas (key_item c.args.bench.now.bus c.args.row column)) c.loop-column.column _ _ _ c.loop-column.invariant.text c.put_key_item.ensures.text;
   count = omega arith;
 }
 

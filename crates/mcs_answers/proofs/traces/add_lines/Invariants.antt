@@ -1,14 +1,14 @@
 use Rattle.std.proofs.Common.{◌≡◌, ◌-◌}
 use Rattle.mcs_model.specs.Command.{machine_of, stops_of}
-use Rattle.mcs_bench.specs.Runs.{GoesOn}
-use Rattle.mcs_answers.proofs.ForecastLines.{Reported}
+use Rattle.mcs_bench.specs.Runs.{RunContinuesAt}
+use Rattle.mcs_answers.proofs.ForecastLines.{IsTraceSoFar}
 use Rattle.mcs_answers.proofs.traces.add_lines.Given as goal
 
 abbrev pub invariant-loop-done : goal.invariant-loop-done
 invariant-loop-done g l = record {
-  going : GoesOn (stops_of l.fn.bench) l.n l.done (machine_of l.fn.bench) (machine_of l.copy);
+  going : RunContinuesAt (stops_of l.fn.bench) l.n l.done (machine_of l.fn.bench) (machine_of l.copy);
   stops : stops_of l.copy ≡ stops_of l.fn.bench;
-  report : Reported l.probes l.done (machine_of l.fn.bench) (machine_of l.copy) l.rows.last.items l.text.items l.lines;
+  report : IsTraceSoFar l.probes l.done (machine_of l.fn.bench) (machine_of l.copy) l.rows.last.items l.text.items l.lines;
 }
 
 abbrev pub decreases-loop-done : goal.decreases-loop-done

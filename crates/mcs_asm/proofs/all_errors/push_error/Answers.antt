@@ -1,9 +1,9 @@
 use Rattle.std.proofs.Common.{◌∙◌, arith}
-use Rattle.mcs_asm.proofs.ErrorLists.{room_for, no_room_for}
+use Rattle.mcs_asm.proofs.ErrorLists.{reports_if_room, drops_if_full}
 use Rattle.mcs_asm.proofs.all_errors.push_error.Goals as goal
 
 pub returns-in_ok-push : goal.returns-in_ok-push
-returns-in_ok-push c = c.in_ok-push.ensures.items ∙ room_for c.args.errors.now.items _ (omega (arith, c.len.ensures, c.if-len-lt-ERROR_ROWS.true))
+returns-in_ok-push c = c.in_ok-push.ensures.items ∙ reports_if_room c.args.errors.now.items _ (omega (arith, c.len.ensures, c.if-len-lt-MAX_REPORTED_ERRORS.true))
 
-pub returns-else-len-lt-ERROR_ROWS : goal.returns-else-len-lt-ERROR_ROWS
-returns-else-len-lt-ERROR_ROWS c = no_room_for c.args.errors.now.items _ c.requires.room (omega (arith, c.len.ensures, c.if-len-lt-ERROR_ROWS.false))
+pub returns-else-len-lt-MAX_REPORTED_ERRORS : goal.returns-else-len-lt-MAX_REPORTED_ERRORS
+returns-else-len-lt-MAX_REPORTED_ERRORS c = drops_if_full c.args.errors.now.items _ c.requires.room (omega (arith, c.len.ensures, c.if-len-lt-MAX_REPORTED_ERRORS.false))

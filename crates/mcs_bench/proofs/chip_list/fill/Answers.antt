@@ -4,7 +4,7 @@ use Rattle.mcs_bench.proofs.chip_list.fill.Goals as goal
 
 pub loop-i-init : goal.loop-i-init
 loop-i-init c =
-    fills-none c.args.rig.now c.args.list c.args.numbers.now (count-of c.args.rig.now c.show_state_is_valid.ensures.in_range c.args.list ∙ sym c.requires.fit.count_is)
+    fills-none c.args.rig.now c.args.list c.args.numbers.now (count-of c.args.rig.now c.show_state_is_valid.ensures.in_range c.args.list ∙ sym c.requires.fit.has_count)
 
 pub loop-i-preserved : goal.loop-i-preserved
 loop-i-preserved c =

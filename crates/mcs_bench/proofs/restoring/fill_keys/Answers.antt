@@ -5,10 +5,10 @@ use Rattle.mcs_bench.proofs.Filling.{filled-all}
 use Rattle.mcs_bench.proofs.restoring.fill_keys.Goals as goal
 
 pub nonzero_div-i : goal.nonzero_div-i
-nonzero_div-i c = (c.columns_of-columns.ensures c.loop-i.i (subst (λ (b : BoardParts). c.loop-i.i < key_count b) (sym c.board.ensures) (let r = c.requires.fit.count_is in omega arith))).some
+nonzero_div-i c = (c.key_column_count-columns.ensures c.loop-i.i (subst (λ (b : BoardParts). c.loop-i.i < key_count b) (sym c.board.ensures) (let r = c.requires.fit.has_count in omega arith))).some
 
 pub nonzero_rem-i : goal.nonzero_rem-i
-nonzero_rem-i c = (c.columns_of-columns.ensures c.loop-i.i (subst (λ (b : BoardParts). c.loop-i.i < key_count b) (sym c.board.ensures) (let r = c.requires.fit.count_is in omega arith))).some
+nonzero_rem-i c = (c.key_column_count-columns.ensures c.loop-i.i (subst (λ (b : BoardParts). c.loop-i.i < key_count b) (sym c.board.ensures) (let r = c.requires.fit.has_count in omega arith))).some
 
 pub returns : goal.returns
 returns c =

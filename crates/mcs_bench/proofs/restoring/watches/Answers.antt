@@ -1,7 +1,7 @@
 use Rattle.std.proofs.Common.{◌≡◌, ◌∙◌, ◌/◌, ◌%◌, ℕ, List, ap, arith, length, length-take-le, take, get_or}
 use Rattle.mcs_model.specs.Listed.{with_listed}
 use Rattle.mcs_model.specs.Bus.{ram_index}
-use Rattle.mcs_bench.proofs.Marks.{with-next, room-of}
+use Rattle.mcs_bench.proofs.Marks.{with-next, room-if-few}
 use Rattle.mcs_bench.proofs.restoring.watches.Goals as goal
 
 pub loop-at-preserved : goal.loop-at-preserved
@@ -19,4 +19,4 @@ set-requires-clause-room c =
     let all : length c.loop-at.watches ≡ length (take i list) = ap length c.loop-at.invariant in
     let some : length (take i list) ≡ i = length-take-le i list (omega arith) in
     let few = c.requires.few in
-    room-of _ (length c.loop-at.watches) (omega arith)
+    room-if-few _ (length c.loop-at.watches) (omega arith)

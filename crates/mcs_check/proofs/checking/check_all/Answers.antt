@@ -3,21 +3,21 @@ use Rattle.std.proofs.Math.Seq.{take-append_seam}
 use Rattle.std.proofs.lemmas.List.{length-map}
 use Rattle.mcs_search.specs.Verdicts.{IsProved}
 use Rattle.mcs_check.specs.declared.cells.KeyByte.{KeyByte}
-use Rattle.mcs_check.specs.Cells.{byte_at, key_of}
-use Rattle.mcs_check.specs.Conditions.{keeps_to}
+use Rattle.mcs_check.specs.Cells.{key_byte_value, key_of}
+use Rattle.mcs_check.specs.Conditions.{meets_none}
 use Rattle.mcs_check.specs.Keys.{setting_of}
-use Rattle.mcs_check.specs.Searched.{rules_of}
-use Rattle.mcs_check.proofs.Beginning.{held-holds, held-key}
+use Rattle.mcs_check.specs.SearchRules.{rules_of}
+use Rattle.mcs_check.proofs.Beginning.{with_all_pressed-holds, with_all_pressed-key}
 use Rattle.mcs_check.proofs.checking.check_all.Goals as goal
 
 pub returns-in-Holds : goal.returns-in-Holds
 returns-in-Holds c =
-    let m = c.hold.new.self in
+    let m = c.press_all_keys.new.self in
     let layout = c.in_ok-layout.layout.items in
-    let aim = c.args.aim in
+    let property = c.args.property in
     let key = c.deref-2.result.now in
     let saved : c.save.new.key ≡ key_of layout m = c.save.ensures ∙ ap (λ (l : List KeyByte). key_of l m) c.deref.ensures.value in
-    let mapped = ap length c.save.ensures ∙ length-map c.deref.result.now (byte_at m) in
+    let mapped = ap length c.save.ensures ∙ length-map c.deref.result.now (key_byte_value m) in
     let few = c.deref.ensures.len in
     let many = c.len.ensures in
     let made = c.in_ok-key.ensures.len in
@@ -25,7 +25,7 @@ returns-in-Holds c =
     let rest = drop (length c.save.new.key) c.in_ok-key.key.items in
     let whole = subst (λ (n : ℕ). take n (c.save.new.key ++ rest) ≡ c.save.new.key) len (take-append_seam c.save.new.key rest) in
     let cells : key ≡ key_of layout m = c.deref-2.ensures.value ∙ (whole ∙ saved) in
-    let well : keeps_to aim.nevers m ≡ true = sym c.keeps.ensures ∙ c.if-not-keeps.false in
-    let is = held-key layout aim key c.args.replica m c.hold.ensures c.show_state_is_valid.ensures.registers c.show_state_is_valid.ensures.bus well cells in
-    held-holds layout aim key c.in-Holds.states c.args.replica m c.hold.ensures is
-    (subst (IsProved (rules_of (setting_of m layout aim)) key) c.in-Holds.is c.in_ok-states.ensures.proved)
+    let property_holds : meets_none property.never_lists m ≡ true = sym c.keeps.ensures ∙ c.if-not-keeps.false in
+    let is = with_all_pressed-key layout property key c.args.replica m c.press_all_keys.ensures c.show_state_is_valid.ensures.registers c.show_state_is_valid.ensures.bus property_holds cells in
+    with_all_pressed-holds layout property key c.in-Holds.states c.args.replica m c.press_all_keys.ensures is
+    (subst (IsProved (rules_of (setting_of m layout property)) key) c.in-Holds.is c.in_ok-states.ensures.proved)

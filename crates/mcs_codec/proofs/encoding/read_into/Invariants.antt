@@ -1,8 +1,8 @@
 use Rattle.std.proofs.Common.{◌≡◌, ◌-◌, length, take}
-use Rattle.mcs_codec.specs.Reading.{many}
+use Rattle.mcs_codec.specs.Reading.{read_times}
 use Rattle.mcs_codec.proofs.Loops.{with_front}
 use Rattle.mcs_codec.proofs.encoding.read_into.Given as goal
 
 -- the values already read, with those still to be read, are all values
 abbrev pub invariant-loop-i : goal.invariant-loop-i
-invariant-loop-i g l = with_front (take l.i l.items) (many (length l.items - l.i) g.T.Decode.reading l.reader) ≡ many (length l.fn.items) g.T.Decode.reading l.fn.reader
+invariant-loop-i g l = with_front (take l.i l.items) (read_times (length l.items - l.i) g.T.Decode.reading l.reader) ≡ read_times (length l.fn.items) g.T.Decode.reading l.fn.reader

@@ -1,5 +1,5 @@
 use Rattle.std.proofs.Common.{◌≡◌, ◌-◌, length}
-use Rattle.mcs_codec.specs.Reading.{many}
+use Rattle.mcs_codec.specs.Reading.{read_times}
 use Rattle.mcs_codec.proofs.Loops.{with_front}
 use Rattle.mcs_codec.proofs.encoding.read_list.Given as goal
 
@@ -7,5 +7,5 @@ use Rattle.mcs_codec.proofs.encoding.read_list.Given as goal
 abbrev pub invariant-loop : goal.invariant-loop
 invariant-loop g l = record {
   count : length l.items.items ≡ l.counter;
-  all : with_front l.items.items (many (l.count - l.counter) g.T.Decode.reading l.reader) ≡ many l.count g.T.Decode.reading l.fn.reader;
+  all : with_front l.items.items (read_times (l.count - l.counter) g.T.Decode.reading l.reader) ≡ read_times l.count g.T.Decode.reading l.fn.reader;
 }

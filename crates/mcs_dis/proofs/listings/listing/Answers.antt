@@ -1,7 +1,7 @@
 use Rattle.std.proofs.Common.{◌≡◌, ◌<◌, ◌≤◌, length, eqb, true, false, arith, sym, ◌∙◌, string_bytes}
 use Rattle.std.proofs.lemmas.Bool.{eqb-true, eqb-false}
 use Rattle.mcs_source.specs.Text.{listing_text}
-use Rattle.mcs_dis.proofs.Loops.{next_listed, rom_ends, lines_end, listing_starts}
+use Rattle.mcs_dis.proofs.Loops.{next_listed, listing_ends_with_rom, listing_ends_with_count, listing_starts}
 use Rattle.mcs_dis.proofs.listings.listing.Goals as goal
 
 pub loop-line-init : goal.loop-line-init
@@ -12,7 +12,7 @@ loop-line-init c =
 pub returns-then-is_empty : goal.returns-then-is_empty
 returns-then-is_empty c =
     let none : eqb (length c.loop-line.rest.now) 0 ≡ true = sym c.is_empty.ensures ∙ c.if-is_empty.true in
-    rom_ends (listing_text c.args.rom.now c.args.from c.args.lines) (string_bytes c.loop-line.out) c.loop-line.rest.now _ c.loop-line.at (eqb-true _ _ none) c.loop-line.invariant
+    listing_ends_with_rom (listing_text c.args.rom.now c.args.from c.args.lines) (string_bytes c.loop-line.out) c.loop-line.rest.now _ c.loop-line.at (eqb-true _ _ none) c.loop-line.invariant
 
 pub overflow_add-at : goal.overflow_add-at
 overflow_add-at c =
@@ -28,4 +28,4 @@ loop-line-preserved c =
     c.loop-line-test.true some c.loop-line.invariant here c.in_ok-size.ensures.size c.in_ok-size.ensures.line
 
 pub returns : goal.returns
-returns c = lines_end (listing_text c.args.rom.now c.args.from c.args.lines) (string_bytes c.loop-line.out) c.loop-line.rest.now c.args.lines c.loop-line._line c.loop-line.at c.loop-line-test.false c.loop-line.invariant
+returns c = listing_ends_with_count (listing_text c.args.rom.now c.args.from c.args.lines) (string_bytes c.loop-line.out) c.loop-line.rest.now c.args.lines c.loop-line._line c.loop-line.at c.loop-line-test.false c.loop-line.invariant

@@ -2,7 +2,7 @@ use Rattle.std.proofs.Common.{◌≡◌, ◌<◌, ◌≤◌, ◌++◌, List, ℕ
 use Rattle.std.proofs.lemmas.Bool.{eqb-true, eqb-false}
 use Rattle.mcs_source.specs.SourceText.{source_text, origin_text}
 use Rattle.mcs_model.specs.TextLines.{as_line}
-use Rattle.mcs_dis.proofs.Loops.{next_text, all_written, source_starts}
+use Rattle.mcs_dis.proofs.Loops.{next_text, source_is_complete, source_starts}
 use Rattle.mcs_dis.proofs.listings.source.Goals as goal
 
 pub loop-rest-init : goal.loop-rest-init
@@ -27,4 +27,4 @@ loop-rest-preserved c =
 pub returns : goal.returns
 returns c =
     let none : eqb (length c.loop-rest.rest.now) 0 ≡ true = sym c.is_empty.ensures ∙ c.loop-rest-test.false in
-    all_written (source_text c.args.rom.now c.args.from c.args.to) (string_bytes c.loop-rest.out) c.loop-rest.rest.now c.loop-rest.at (eqb-true _ _ none) c.loop-rest.invariant
+    source_is_complete (source_text c.args.rom.now c.args.from c.args.to) (string_bytes c.loop-rest.out) c.loop-rest.rest.now c.loop-rest.at (eqb-true _ _ none) c.loop-rest.invariant

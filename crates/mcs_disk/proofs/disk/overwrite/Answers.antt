@@ -1,5 +1,5 @@
 use Rattle.std.proofs.Common.{◌+◌, ◌-◌, ◌++◌, List, ℕ, length, take, drop, sym, ◌∙◌, ap, arith}
-use Rattle.mcs_disk.proofs.Kept.{put_is}
+use Rattle.mcs_disk.proofs.WrittenBytes.{put_is}
 use Rattle.mcs_disk.proofs.disk.overwrite.Goals as goal
 
 pub returns : goal.returns

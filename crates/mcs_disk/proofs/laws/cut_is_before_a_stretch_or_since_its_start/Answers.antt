@@ -1,6 +1,6 @@
 use Rattle.std.proofs.Common.{inl, inr, ⊎_elim}
 use Rattle.mcs_disk.specs.Disk.{bytes_of}
-use Rattle.mcs_disk.proofs.Composing.{later_before}
+use Rattle.mcs_disk.proofs.StretchComposition.{later_before}
 use Rattle.mcs_disk.proofs.laws.cut_is_before_a_stretch_or_since_its_start.Goals as goal
 
 pub returns : goal.returns

@@ -1,5 +1,5 @@
 use Rattle.mcs_disk.proofs.CallLaws.{lawful}
-use Rattle.mcs_disk.proofs.Composing.{since_size}
+use Rattle.mcs_disk.proofs.StretchComposition.{since_size}
 use Rattle.mcs_disk.proofs.laws.images_have_the_size_of_the_disk.Goals as goal
 
 pub returns-clause-now : goal.returns-clause-now

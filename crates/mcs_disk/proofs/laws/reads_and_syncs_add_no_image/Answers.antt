@@ -1,11 +1,11 @@
-use Rattle.mcs_disk.proofs.Composing.{rests_bytes, rests_images, rests_since}
+use Rattle.mcs_disk.proofs.StretchComposition.{rests_bytes, rests_images, rests_since}
 use Rattle.mcs_disk.proofs.laws.reads_and_syncs_add_no_image.Goals as goal
 
 pub returns-clause-bytes : goal.returns-clause-bytes
 returns-clause-bytes g c = λ old new. rests_bytes (g.D.Disk.state old) (g.D.Disk.state new)
 
 pub returns-clause-now : goal.returns-clause-now
-returns-clause-now g c = λ old new image rests. rests_images (g.D.Disk.state old) (g.D.Disk.state new) rests image
+returns-clause-now g c = λ old new image adds_no_image. rests_images (g.D.Disk.state old) (g.D.Disk.state new) adds_no_image image
 
 pub returns-clause-since : goal.returns-clause-since
-returns-clause-since g c = λ time old new image rests. rests_since (g.D.Disk.state old) (g.D.Disk.state new) rests time image
+returns-clause-since g c = λ time old new image adds_no_image. rests_since (g.D.Disk.state old) (g.D.Disk.state new) adds_no_image time image

@@ -1,7 +1,7 @@
 use Rattle.std.proofs.Common.{rules, ◌≡◌, ◌∙◌, sym, ap, map, codes, List, ℕ, Some, false, refl}
 use Rattle.std.specs.Str.{bytes_eq}
 use Rattle.clap.specs.Words.{found_of, rows_of}
-use Rattle.mcs_host.specs.CommandLine.{file_in}
+use Rattle.mcs_host.specs.CommandLine.{subcommand_and_file}
 use Rattle.mcs_host.proofs.ArgumentsGiven.{chosen_from, chosen_none, file_in_new, file_in_open, no_file}
 use Rattle.mcs_host.proofs.command_line.choice.Goals as goal
 
@@ -18,7 +18,7 @@ returns-in-new-clause-given g c =
     let name : c.in-Some.name.now ≡ codes "new" = search rules in
     let file : c.in-Some-get_str.file.now ≡ c.new-file.result = search rules in
     chosen_from (map g.S.AsStr.text c.args.arguments.now) c.in-Ok.found c.in-Some.inner.now c.in-Some.name.now c.in-Ok.ensures.ok (sym c.in-Some.ensures.name) (sym c.in-Some.ensures.rows)
-    ∙ ap (λ (n : List ℕ). file_in (n, rows_of (found_of c.in-Some.inner.now))) name
+    ∙ ap (λ (n : List ℕ). subcommand_and_file (n, rows_of (found_of c.in-Some.inner.now))) name
     ∙ file_in_new c.in-Some.inner.now c.in-Some-get_str.file.now (sym c.in-Some-get_str.ensures)
     ∙ ap (λ (f : List ℕ). Some (codes "new", f)) file
 
@@ -27,7 +27,7 @@ returns-in-open-clause-given g c =
     let name : c.in-Some.name.now ≡ codes "open" = search rules in
     let file : c.in-Some-get_str.file.now ≡ c.new-file.result = search rules in
     chosen_from (map g.S.AsStr.text c.args.arguments.now) c.in-Ok.found c.in-Some.inner.now c.in-Some.name.now c.in-Ok.ensures.ok (sym c.in-Some.ensures.name) (sym c.in-Some.ensures.rows)
-    ∙ ap (λ (n : List ℕ). file_in (n, rows_of (found_of c.in-Some.inner.now))) name
+    ∙ ap (λ (n : List ℕ). subcommand_and_file (n, rows_of (found_of c.in-Some.inner.now))) name
     ∙ file_in_open c.in-Some.inner.now c.in-Some-get_str.file.now (sym c.in-Some-get_str.ensures)
     ∙ ap (λ (f : List ℕ). Some (codes "open", f)) file
 

@@ -1,6 +1,6 @@
 use Rattle.std.proofs.Common.{rules, ◌≡◌, min, ◌+◌, length, true}
 use Rattle.mcs_journal.specs.declared.format.TheConstants.{FILE_SIZE}
-use Rattle.mcs_host.specs.HostCalls.{IsSame, Length, asked}
+use Rattle.mcs_host.specs.HostCalls.{KeepsNameAndNumber, Length, asked}
 use Rattle.mcs_host.specs.Opening.{AreZeros, IsAllZeros, IsWrittenAfter}
 use Rattle.mcs_host.proofs.OpenedFile.{filled_as_opened, rewritten_as_opened}
 use Rattle.mcs_host.proofs.ZeroBytes.{zeros_taken}
@@ -14,8 +14,8 @@ returns-then-found-eq0-clause-asked g c =
     let size : length c.fill_and_read.new.bytes.items ≡ FILE_SIZE = search rules in
     let written : length c.truncate.new.self.items ≡ FILE_SIZE = search rules in
     let zeros : AreZeros c.truncate.new.self.items = rw c.truncate.ensures.items (zeros_taken FILE_SIZE c.args.bytes.now.items c.requires.zeros) in
-    filled_as_opened c.args.make c.args.file.now c.fill_and_read.new.bytes.items c.truncate.new.self.items _ (state c.args.opened.now) (state c.lock.new.opened) (state c.length.new.self) _
-    c.if-make.true c.requires.named c.requires.begun c.in_ok-lock.ensures.same c.in_ok-lock.ensures.asked measured none
+    filled_as_opened c.args.create_if_missing c.args.file.now c.fill_and_read.new.bytes.items c.truncate.new.self.items _ (state c.args.opened.now) (state c.lock.new.opened) (state c.length.new.self) _
+    c.if-create_if_missing.true c.requires.named c.requires.begun c.in_ok-lock.ensures.same c.in_ok-lock.ensures.asked measured none
     c.in_ok-fill_and_read.ensures.same c.in_ok-fill_and_read.ensures.asked size (record { size = written; zeros = zeros })
 
 pub returns-in_ok-write_whole-clause-asked : goal.returns-in_ok-write_whole-clause-asked
@@ -26,14 +26,14 @@ returns-in_ok-write_whole-clause-asked g c =
     let size : length bytes ≡ min c.in_ok-found.found (FILE_SIZE + 1) = search rules in
     let blank : IsAllZeros bytes = search rules in
     let these : c.deref-then-is_blank.result.now ≡ bytes = search rules in
-    let still : IsSame (state c.sync_and_read.new.opened) (state c.write_whole.new.opened) = search rules in
+    let still : KeepsNameAndNumber (state c.sync_and_read.new.opened) (state c.write_whole.new.opened) = search rules in
     let writes : IsWrittenAfter c.args.file.now c.deref-then-is_blank.result.now (state c.sync_and_read.new.opened).calls (state c.write_whole.new.opened).calls = search rules in
-    rewritten_as_opened c.args.make c.args.file.now bytes c.deref-then-is_blank.result.now _ c.in_ok-found.found (state c.args.opened.now) (state c.lock.new.opened) (state c.length.new.self)
-    (state c.sync_and_read.new.opened) _ c.if-make-2.true c.requires.named c.requires.begun c.in_ok-lock.ensures.same c.in_ok-lock.ensures.asked measured size
+    rewritten_as_opened c.args.create_if_missing c.args.file.now bytes c.deref-then-is_blank.result.now _ c.in_ok-found.found (state c.args.opened.now) (state c.lock.new.opened) (state c.length.new.self)
+    (state c.sync_and_read.new.opened) _ c.if-create_if_missing-2.true c.requires.named c.requires.begun c.in_ok-lock.ensures.same c.in_ok-lock.ensures.asked measured size
     c.in_ok-is_name_stable.ensures.same c.in_ok-is_name_stable.ensures.asked blank still these writes
 
-pub returns-else-make-2-clause-asked : goal.returns-else-make-2-clause-asked
-returns-else-make-2-clause-asked g c = search rules
+pub returns-else-create_if_missing-2-clause-asked : goal.returns-else-create_if_missing-2-clause-asked
+returns-else-create_if_missing-2-clause-asked g c = search rules
 
 pub returns-then-found-eq0-clause-not_empty : goal.returns-then-found-eq0-clause-not_empty
 returns-then-found-eq0-clause-not_empty g c = search rules

@@ -1,4 +1,4 @@
-use Rattle.mcs_journal.proofs.Unique.{same_snap, same_records}
+use Rattle.mcs_journal.proofs.UniqueContents.{same_snap, same_records}
 use Rattle.mcs_journal.proofs.laws.contents_are_unique.Goals as goal
 
 pub returns : goal.returns

@@ -1,6 +1,6 @@
 use Rattle.std.proofs.Common.{List, ℕ, subst, sym}
 use Rattle.mcs_disk.specs.Disk.{bytes_of}
-use Rattle.mcs_disk.proofs.Composing.{durable_since}
+use Rattle.mcs_disk.proofs.StretchComposition.{durable_since}
 use Rattle.mcs_journal.specs.File.{Holds}
 use Rattle.mcs_journal.proofs.laws.cut_leaves_durable_contents.Goals as goal
 

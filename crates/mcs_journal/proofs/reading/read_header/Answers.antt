@@ -13,5 +13,5 @@ returns-then-ne-2-clause-damaged g c = λ h erred.
 pub returns-clause-header : goal.returns-clause-header
 returns-clause-header g c = λ h. header_is _ _ (c.in_ok-read_at.ensures.given h) _ c.if-ne.ensures c.if-ne-2.ensures (sym c.named.ensures)
 
-pub returns-then-ne-2-clause-refused_calls : goal.returns-then-ne-2-clause-refused_calls
-returns-then-ne-2-clause-refused_calls g c = record { count = 1; all = c.in_ok-read_at.ensures.calls.all }
+pub returns-then-ne-2-clause-error_calls : goal.returns-then-ne-2-clause-error_calls
+returns-then-ne-2-clause-error_calls g c = record { count = 1; all = c.in_ok-read_at.ensures.calls.all }

@@ -1,7 +1,7 @@
 use Rattle.mcs_disk.specs.Changes.{ReadsOnly}
-use Rattle.mcs_disk.proofs.Composing.{rests_bytes, reads_then, reads_as}
+use Rattle.mcs_disk.proofs.StretchComposition.{rests_bytes, reads_then, reads_as}
 use Rattle.mcs_journal.specs.Calls.{AreReads}
-use Rattle.mcs_journal.proofs.Asked.{on_err, read_failed, reads_more, reads_sum}
+use Rattle.mcs_journal.proofs.ReadCalls.{on_err, read_failed, reads_more, reads_sum}
 use Rattle.std.proofs.Common.{rules, ◌≡◌, ◌+◌, ◌*◌, ◌++◌, ℕ, length, take, drop, get_or, refl, ◌∙◌, ap, arith}
 use Rattle.std.proofs.lemmas.List.{take_at}
 use Rattle.mcs_disk.specs.Disk.{part, bytes_of}
@@ -13,7 +13,7 @@ pub returns-then-len-eq0-clause-damaged : goal.returns-then-len-eq0-clause-damag
 returns-then-len-eq0-clause-damaged g c = λ h erred.
     let f = bytes_of (g.D.Disk.state c.args.disk.now) in
     let commit_byte = c.in_ok-read_at.ensures.given h in
-    let first = c.read_at.ensures.reads.rests in
+    let first = c.read_at.ensures.reads.adds_no_image in
     let prefix = c.in_ok-read_at-2.ensures.given (c.read_at.ensures.reads.counts.honest.1 h) ∙ ap (part (c.args.at + 1) 2) (rests_bytes _ _ first) in
     no_record f c.args.at c.args.room _ _ _ commit_byte (search rules) prefix refl (λ some few fits. elim c.then-len-eq0.branch [
       | then-len-eq0-via-then-len-eq0 w ↦ omega arith
@@ -25,9 +25,9 @@ pub returns-clause-next : goal.returns-clause-next
 returns-clause-next g c = λ h.
     let f = bytes_of (g.D.Disk.state c.args.disk.now) in
     let commit_byte = c.in_ok-read_at.ensures.given h in
-    let first = c.read_at.ensures.reads.rests in
+    let first = c.read_at.ensures.reads.adds_no_image in
     let h1 = c.read_at.ensures.reads.counts.honest.1 h in
-    let second = c.read_at-2.ensures.reads.rests in
+    let second = c.read_at-2.ensures.reads.adds_no_image in
     let h2 = c.read_at-2.ensures.reads.counts.honest.1 h1 in
     let prefix = c.in_ok-read_at-2.ensures.given h1 ∙ ap (part (c.args.at + 1) 2) (rests_bytes _ _ first) in
     let payload = c.in_ok-read_at-3.ensures.given h2 in
@@ -39,17 +39,17 @@ returns-clause-next g c = λ h.
     let given : c.read_at-3.new.into ≡ part (c.args.at + 3) n f = payload ∙ ap (λ (k : ℕ). part (c.args.at + 3) k (bytes_of (g.D.Disk.state c.read_at-2.new.disk))) (c.deref_mut.ensures.len ∙ count) ∙ ap (part (c.args.at + 3) n) same in
     next_is f c.args.at n c.read_at.new.into c.read_at-2.new.into _ commit_byte (search rules) (search rules) prefix (search rules) (search rules) refl (is_r ∙ given) (ap length is_r ∙ long ∙ count) (omega arith) (omega arith)
 
-pub returns-then-len-eq0-clause-refused_calls : goal.returns-then-len-eq0-clause-refused_calls
-returns-then-len-eq0-clause-refused_calls g c = record { count = 2; all = reads_sum 1 1 _ _ _ c.in_ok-read_at.ensures.calls.all c.in_ok-read_at-2.ensures.calls.all }
+pub returns-then-len-eq0-clause-error_calls : goal.returns-then-len-eq0-clause-error_calls
+returns-then-len-eq0-clause-error_calls g c = record { count = 2; all = reads_sum 1 1 _ _ _ c.in_ok-read_at.ensures.calls.all c.in_ok-read_at-2.ensures.calls.all }
 
-pub returns-in_err-bytes-clause-refused_calls : goal.returns-in_err-bytes-clause-refused_calls
-returns-in_err-bytes-clause-refused_calls g c =
+pub returns-in_err-bytes-clause-error_calls : goal.returns-in_err-bytes-clause-error_calls
+returns-in_err-bytes-clause-error_calls g c =
     let two : AreReads (g.D.Disk.state c.args.disk.now).calls (g.D.Disk.state c.read_at-2.new.disk).calls =
     record { count = 2; all = reads_sum 1 1 _ _ _ c.in_ok-read_at.ensures.calls.all c.in_ok-read_at-2.ensures.calls.all } in
     on_err _ two
 
-pub returns-in_err-read_at-3-clause-refused_calls : goal.returns-in_err-read_at-3-clause-refused_calls
-returns-in_err-read_at-3-clause-refused_calls g c =
+pub returns-in_err-read_at-3-clause-error_calls : goal.returns-in_err-read_at-3-clause-error_calls
+returns-in_err-read_at-3-clause-error_calls g c =
     on_err _ (reads_more 2 _ _ _ (reads_sum 1 1 _ _ _ c.in_ok-read_at.ensures.calls.all c.in_ok-read_at-2.ensures.calls.all) (read_failed _ _ _ c.in_err-read_at-3.ensures.calls))
 
 pub returns-then-len-eq0-clause-reads : goal.returns-then-len-eq0-clause-reads

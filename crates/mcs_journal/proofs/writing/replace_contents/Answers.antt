@@ -5,9 +5,9 @@ use Rattle.mcs_journal.specs.File.{Holds, slot_of, slot_named, start_of}
 use Rattle.mcs_journal.specs.Writing.{IsArea, other_slot, selector_of}
 use Rattle.mcs_journal.specs.declared.slot.Slot.{Slot}
 use Rattle.mcs_journal.specs.declared.slot.Slot.TheVariants.{A, B}
-use Rattle.mcs_journal.proofs.Stretch.{both_steps, first_step}
-use Rattle.mcs_journal.proofs.Parts.{part_at}
-use Rattle.mcs_journal.proofs.Swapping.{other_torn, selector_torn, selector_done}
+use Rattle.mcs_journal.proofs.TwoCommits.{both_steps, first_step}
+use Rattle.mcs_journal.proofs.ByteRanges.{part_at}
+use Rattle.mcs_journal.proofs.ReplacingContents.{other_torn, selector_torn, selector_done}
 use Rattle.mcs_journal.proofs.writing.replace_contents.Goals as goal
 
 selector_names : (slot : Slot) → slot_named (selector_of slot) ≡ slot

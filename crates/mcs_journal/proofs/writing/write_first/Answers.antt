@@ -1,6 +1,6 @@
 use Rattle.std.proofs.Common.{◌≡◌, inr, List, [], ℕ, length, get_or, sym, ◌∙◌, ap, arith}
 use Rattle.std.proofs.lemmas.Result.{on_ok_weaker}
-use Rattle.mcs_disk.proofs.Composing.{later_then}
+use Rattle.mcs_disk.proofs.StretchComposition.{later_then}
 use Rattle.mcs_disk.proofs.CallLaws.{size_of-bytes}
 use Rattle.mcs_disk.specs.Disk.{Torn, part, bytes_of}
 use Rattle.mcs_journal.specs.File.{Holds, slot_of, slot_named, start_of}
@@ -8,7 +8,7 @@ use Rattle.mcs_journal.specs.Writing.{IsArea}
 use Rattle.mcs_journal.specs.declared.format.TheConstants.{FIRST_HEADER}
 use Rattle.mcs_journal.specs.declared.slot.Slot.TheVariants.{A}
 use Rattle.mcs_journal.proofs.Contents.{area_holds}
-use Rattle.mcs_journal.proofs.Parts.{part_at, part_part, part_same}
+use Rattle.mcs_journal.proofs.ByteRanges.{part_at, part_part, part_same}
 use Rattle.mcs_journal.proofs.writing.write_first.Goals as goal
 
 named : (c : List ℕ) → part 0 16 c ≡ FIRST_HEADER → slot_of c ≡ A
@@ -35,5 +35,5 @@ returns-clause-made g c = λ h.
 pub returns-clause-named : goal.returns-clause-named
 returns-clause-named g c = λ h. on_ok_weaker _ (λ (here : part 0 16 (bytes_of (g.D.Disk.state c.commit-2.new.disk)) ≡ FIRST_HEADER). named _ here) (c.commit-2.ensures.commits (c.commit.ensures.call.honest.1 h)).written
 
-pub returns-clause-goes_on : goal.returns-clause-goes_on
-returns-clause-goes_on g c = λ h. later_then _ _ _ (c.commit.ensures.commits h).later (c.commit-2.ensures.commits (c.commit.ensures.call.honest.1 h)).later
+pub returns-clause-is_later : goal.returns-clause-is_later
+returns-clause-is_later g c = λ h. later_then _ _ _ (c.commit.ensures.commits h).later (c.commit-2.ensures.commits (c.commit.ensures.call.honest.1 h)).later

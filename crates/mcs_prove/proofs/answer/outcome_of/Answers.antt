@@ -13,7 +13,7 @@ returns-then-max_entries-gt0 c =
     ap (λ (a : QuestionSoFar). a.board) own ∙ ap (option_map string_bytes) in_text.is-0 ∙ ap Some (sym c.as_str.ensures.value) in
     let program : q.program ≡ Some c.as_str-then-max_entries-gt0.result.now =
     ap (λ (a : QuestionSoFar). a.program) own ∙ ap (option_map string_bytes) in_text.is-1 ∙ ap Some (sym c.as_str-then-max_entries-gt0.ensures.value) in
-    let nevers = ap (map (λ (n : Vec Condition Global). n.items)) c.deref.ensures.value ∙ ap (λ (a : QuestionSoFar). a.nevers) c.question.view_is in
+    let never_lists = ap (map (λ (n : Vec Condition Global). n.items)) c.deref.ensures.value ∙ ap (λ (a : QuestionSoFar). a.never_lists) c.question.view_is in
     answered-alone c.args.text.now c.as_str.result.now c.as_str-then-max_entries-gt0.result.now q _ c.prove_by_sets.result
     c.in_ok-question.ensures (ap (λ (a : QuestionSoFar). a.has_prove_line) own ∙ in_text.is-3) (sym in_text.ensures') board program
-    (subst (λ (a : QuestionSoFar). 0 < a.max_entries) c.question.view_is c.if-max_entries-gt0.true) nevers c.prove_by_sets.ensures
+    (subst (λ (a : QuestionSoFar). 0 < a.max_entries) c.question.view_is c.if-max_entries-gt0.true) never_lists c.prove_by_sets.ensures

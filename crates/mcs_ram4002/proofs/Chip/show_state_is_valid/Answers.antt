@@ -1,5 +1,5 @@
 use Rattle.std.proofs.Common.{arith}
-use Rattle.mcs_ram4002.proofs.Packed.{valid}
+use Rattle.mcs_ram4002.proofs.PackedNibbles.{valid}
 use Rattle.mcs_ram4002.proofs.Chip.show_state_is_valid.Goals as goal
 
 pub returns : goal.returns

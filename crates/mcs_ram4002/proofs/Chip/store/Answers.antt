@@ -1,6 +1,6 @@
 use Rattle.std.proofs.Common.{◌≡◌, ◌+◌, ◌-◌, ◌*◌, ◌/◌, ◌%◌, ◌<◌, ◌∙◌, List, ℕ, sym, ap, arith, rules, length, slice_set, slice_index}
-use Rattle.mcs_ram4002.specs.RamBank.{cells_of, half_of, characters_of, chip_after}
-use Rattle.mcs_ram4002.proofs.Packed.{unpacked-set, sized}
+use Rattle.mcs_ram4002.specs.RamBank.{contents_of_chip, half_of, unpacked_nibbles, chip_after}
+use Rattle.mcs_ram4002.proofs.PackedNibbles.{unpacked-set, sized}
 use Rattle.mcs_ram4002.proofs.Chip.store.Goals as goal
 
 pub returns-in-Character-clause-stored : goal.returns-in-Character-clause-stored
@@ -9,11 +9,11 @@ returns-in-Character-clause-stored c =
     let main = chip.main in
     let len : length main ≡ 32 = search rules in
     let at = c.in-Character.src % 64 in
-    let new = c.with_half.result in
+    let new = c.byte_with_nibble.result in
     let old : half_of (slice_index main c.from-i.result) (1 - at % 2) ≡ half_of (slice_index main (at / 2)) (1 - at % 2) = ap (λ i. half_of (slice_index main i) (1 - at % 2)) c.from-i.ensures in
-    let set : characters_of (slice_set main c.from-i.result new) ≡ slice_set (characters_of main) at c.in-Character.n =
-    ap (λ i. characters_of (slice_set main i new)) c.from-i.ensures ∙ unpacked-set main at c.in-Character.n new (omega arith) c.with_half.ensures.set (c.with_half.ensures.kept ∙ old) in
-    ap (λ (cells : List ℕ). record (cells_of chip) { main = cells }) set ∙ ap (chip_after (cells_of chip)) (sym c.in-Character.is)
+    let set : unpacked_nibbles (slice_set main c.from-i.result new) ≡ slice_set (unpacked_nibbles main) at c.in-Character.n =
+    ap (λ i. unpacked_nibbles (slice_set main i new)) c.from-i.ensures ∙ unpacked-set main at c.in-Character.n new (omega arith) c.byte_with_nibble.ensures.set (c.byte_with_nibble.ensures.kept ∙ old) in
+    ap (λ (cells : List ℕ). record (contents_of_chip chip) { main = cells }) set ∙ ap (chip_after (contents_of_chip chip)) (sym c.in-Character.is)
 
 pub returns-in-Character-clause-sized : goal.returns-in-Character-clause-sized
 returns-in-Character-clause-sized c = sized c.args.self.now (search rules) (search rules)
@@ -28,13 +28,13 @@ returns-in-Status-clause-stored c =
     let small : k < 4 = rw c.in-Status.is at c.requires in
     let at = c.get.result % 4 * 4 + k in
     let place : at ≡ high % 4 * 4 + k = ap (λ h. h % 4 * 4 + k) c.get.ensures.value in
-    let new = c.with_half-in-Status.result in
+    let new = c.byte_with_nibble-in-Status.result in
     let old : half_of (slice_index status c.from-i-in-Status.result) (1 - at % 2) ≡ half_of (slice_index status (at / 2)) (1 - at % 2) = ap (λ i. half_of (slice_index status i) (1 - at % 2)) c.from-i-in-Status.ensures in
-    let set : characters_of (slice_set status c.from-i-in-Status.result new) ≡ slice_set (characters_of status) (high % 4 * 4 + k) c.in-Status.n =
-    ap (λ i. characters_of (slice_set status i new)) c.from-i-in-Status.ensures
-    ∙ unpacked-set status at c.in-Status.n new (omega arith) c.with_half-in-Status.ensures.set (c.with_half-in-Status.ensures.kept ∙ old)
-    ∙ ap (λ i. slice_set (characters_of status) i c.in-Status.n) place in
-    ap (λ (cells : List ℕ). record (cells_of chip) { status = cells }) set ∙ ap (chip_after (cells_of chip)) (sym c.in-Status.is)
+    let set : unpacked_nibbles (slice_set status c.from-i-in-Status.result new) ≡ slice_set (unpacked_nibbles status) (high % 4 * 4 + k) c.in-Status.n =
+    ap (λ i. unpacked_nibbles (slice_set status i new)) c.from-i-in-Status.ensures
+    ∙ unpacked-set status at c.in-Status.n new (omega arith) c.byte_with_nibble-in-Status.ensures.set (c.byte_with_nibble-in-Status.ensures.kept ∙ old)
+    ∙ ap (λ i. slice_set (unpacked_nibbles status) i c.in-Status.n) place in
+    ap (λ (cells : List ℕ). record (contents_of_chip chip) { status = cells }) set ∙ ap (chip_after (contents_of_chip chip)) (sym c.in-Status.is)
 
 pub returns-in-Status-clause-sized : goal.returns-in-Status-clause-sized
 returns-in-Status-clause-sized c = sized c.args.self.now (search rules) (search rules)

@@ -6,5 +6,5 @@ use Rattle.mcs_rom4001.proofs.RomPort.write_port.Goals as goal
 pub invariant_of-self : goal.invariant_of-self
 invariant_of-self c =
     let mask = c.self.inside.mask in
-    let written = c.held_port-self-inside.ensures in
+    let written = c.latched_port-self-inside.ensures in
     ap (latch_value mask) written ∙ latch_value-latch_value mask c.args.n ∙ sym written

@@ -14,34 +14,34 @@ use Rattle.mcs_session.proofs.replaying.replay.Goals.{After-apply-reply}
 
 pub returns-in-Ok-None-command_of-clause-none : goal.returns-in-Ok-None-command_of-clause-none
 returns-in-Ok-None-command_of-clause-none c = λ v s pair.
-    no_pair _ _ _ _ c.loop-at.at _ s c.get.ensures c.loop-at.invariant.so_far.stand (λ d spells accepted. (rw c.in-Ok-None-command_of.field-0-is at c.in-Ok-None-command_of.ensures.none) d spells.0) (at_version v _ _ _ _ s c.loop-at.invariant.so_far.stand.snapshot pair)
+    no_pair _ _ _ _ c.loop-at.at _ s c.get.ensures c.loop-at.invariant.so_far.records_represent (λ d spells accepted. (rw c.in-Ok-None-command_of.field-0-is at c.in-Ok-None-command_of.ensures.none) d spells.0) (at_version v _ _ _ _ s c.loop-at.invariant.so_far.records_represent.snapshot pair)
 
 pub returns-then-is_err-clause-none : goal.returns-then-is_err-clause-none
 returns-then-is_err-clause-none c = λ v s pair.
-    no_pair _ _ _ _ c.loop-at.at _ s c.get.ensures c.loop-at.invariant.so_far.stand
+    no_pair _ _ _ _ c.loop-at.at _ s c.get.ensures c.loop-at.invariant.so_far.records_represent
     (λ d spells accepted.
     let same = same_command _ d c.in-Ok-Some-command_of.command spells.0 (rw c.in-Ok-Some-command_of.field-0-is at c.in-Ok-Some-command_of.ensures.some) in
     let was : refusal c.loop-at.bench c.in-Ok-Some-command_of.command ≡ None = subst (λ (x : Command). refusal c.loop-at.bench x ≡ None) same accepted in
     search rules)
-    (at_version v _ _ _ _ s c.loop-at.invariant.so_far.stand.snapshot pair)
+    (at_version v _ _ _ _ s c.loop-at.invariant.so_far.records_represent.snapshot pair)
 
 pub returns-then-more-cycles-clause-none : goal.returns-then-more-cycles-clause-none
 returns-then-more-cycles-clause-none c = λ v s pair.
     let bounded = c.loop-at.invariant.bounded in
     let over = c.if-more-cycles.true in
     let more = c.replay_cycles-more.ensures in
-    too_long _ _ _ _ c.loop-at.at _ _ s _ c.get.ensures c.loop-at.invariant.so_far (rw c.in-Ok-Some-command_of.field-0-is at c.in-Ok-Some-command_of.ensures.some, sym c.has.ensures ∙ c.if-not-has.false) (omega (arith, bounded, over, more)) (at_version v _ _ _ _ s c.loop-at.invariant.so_far.stand.snapshot pair)
+    too_long _ _ _ _ c.loop-at.at _ _ s _ c.get.ensures c.loop-at.invariant.so_far (rw c.in-Ok-Some-command_of.field-0-is at c.in-Ok-Some-command_of.ensures.some, sym c.has.ensures ∙ c.if-not-has.false) (omega (arith, bounded, over, more)) (at_version v _ _ _ _ s c.loop-at.invariant.so_far.records_represent.snapshot pair)
 
 pub returns-then-not-has-clause-none : goal.returns-then-not-has-clause-none
 returns-then-not-has-clause-none c = λ v s pair.
-    no_pair _ _ _ _ c.loop-at.at _ s c.get.ensures c.loop-at.invariant.so_far.stand
+    no_pair _ _ _ _ c.loop-at.at _ s c.get.ensures c.loop-at.invariant.so_far.records_represent
     (λ d spells accepted.
     let same : d ≡ c.in-Ok-Some-command_of.command = same_command _ d c.in-Ok-Some-command_of.command spells.0 (rw c.in-Ok-Some-command_of.field-0-is at c.in-Ok-Some-command_of.ensures.some) in
     let version : Version = c.in-Ok-Some.read.0 in
     let yes : has_command version c.in-Ok-Some-command_of.command ≡ true = ap (λ (x : Command). has_command version x) (sym same) ∙ spells.1 in
     let no : has_command version c.in-Ok-Some-command_of.command ≡ false = sym c.has.ensures ∙ c.if-not-has.true in
     cc)
-    (at_version v _ _ _ _ s c.loop-at.invariant.so_far.stand.snapshot pair)
+    (at_version v _ _ _ _ s c.loop-at.invariant.so_far.records_represent.snapshot pair)
 
 pub loop-at-init : goal.loop-at-init
 loop-at-init c = record {

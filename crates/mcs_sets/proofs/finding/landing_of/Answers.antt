@@ -2,5 +2,5 @@ use Rattle.std.proofs.Common.{◌∙◌, sym}
 use Rattle.mcs_sets.proofs.Running.{instruction-in}
 use Rattle.mcs_sets.proofs.finding.landing_of.Goals as goal
 
-pub land-requires-clause-instruction : goal.land-requires-clause-instruction
-land-requires-clause-instruction c = sym (instruction-in (record c.new.result { pc = c.args.entry.now.at }) c.args.rig.now) ∙ sym c.in-Some.ensures
+pub compute_landing-requires-clause-instruction : goal.compute_landing-requires-clause-instruction
+compute_landing-requires-clause-instruction c = sym (instruction-in (record c.new.result { pc = c.args.entry.now.at }) c.args.rig.now) ∙ sym c.in-Some.ensures

@@ -1,4 +1,4 @@
-use Rattle.mcs_shell.proofs.Surviving.{survives}
+use Rattle.mcs_shell.proofs.SurvivingCommands.{survives}
 use Rattle.mcs_shell.proofs.headline.a_run_answers_and_survives_power_cuts.Goals as goal
 
 pub returns : goal.returns

@@ -1,4 +1,4 @@
-use Rattle.mcs_shell.proofs.Counting.{serves_all}
+use Rattle.mcs_shell.proofs.FaultCounts.{serves_all}
 use Rattle.mcs_shell.proofs.headline.a_run_without_a_fault_answers_all.Goals as goal
 
 pub returns : goal.returns

@@ -1,9 +1,9 @@
 use Rattle.mcs_shell.proofs.MayAnswer.{may_answer}
-use Rattle.mcs_shell.proofs.Doing.{meets_one}
+use Rattle.mcs_shell.proofs.AnsweredInputs.{serves_one_input}
 use Rattle.mcs_shell.proofs.serving.serve_request.Goals as goal
 
 pub returns-clause-served : goal.returns-clause-served
-returns-clause-served g c = meets_one _ _ _ _ _ _ c.answer_request-outcome.ensures c.deliver.ensures.wrote
+returns-clause-served g c = serves_one_input _ _ _ _ _ _ c.answer_request-outcome.ensures c.deliver.ensures.wrote
 
 pub deliver-requires : goal.deliver-requires
-deliver-requires g c = may_answer _ c.args.session.now _ _ _ _ c.answer_request-outcome.ensures c.bench-before.ensures.stands c.bench-bench.ensures.stands
+deliver-requires g c = may_answer _ c.args.session.now _ _ _ _ c.answer_request-outcome.ensures c.bench-before.ensures.represents c.bench-bench.ensures.represents

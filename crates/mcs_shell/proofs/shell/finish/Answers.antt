@@ -1,5 +1,5 @@
 use Rattle.std.proofs.Common.{rules, ◌<◌, length}
-use Rattle.mcs_shell.proofs.Looping.{finished_halt, finished_line}
+use Rattle.mcs_shell.proofs.ShellLoop.{finished_halt, finished_line}
 use Rattle.mcs_shell.proofs.shell.finish.Goals as goal
 
 pub returns-in-Ok-clause-served : goal.returns-in-Ok-clause-served

@@ -1,5 +1,5 @@
 use Rattle.mcs_source.specs.Assembly.{assembly_of_text}
-use Rattle.mcs_shell.proofs.ByAddress.{loads}
+use Rattle.mcs_shell.proofs.LoadCommands.{loads}
 use Rattle.mcs_shell.proofs.texts.read_program.Goals as goal
 
 pub returns-in-Ok : goal.returns-in-Ok

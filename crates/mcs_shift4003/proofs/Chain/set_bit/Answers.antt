@@ -1,10 +1,10 @@
 use Rattle.std.proofs.Common.{◌≡◌, ◌≢◌, ◌<◌, ap, ◌∙◌, arith, List, ℕ, length, slice_set}
 use Rattle.mcs_shift4003.specs.Packing.{packed_bit, chain_bits_of}
-use Rattle.mcs_shift4003.proofs.WordLemmas.{length-row, set-row, set-packed, back}
+use Rattle.mcs_shift4003.proofs.WordLemmas.{length-row, set-row, set-packed, refill-all}
 use Rattle.mcs_shift4003.proofs.Chain.set_bit.Goals as goal
 
-pub put-requires-clause-there : goal.put-requires-clause-there
-put-requires-clause-there g c =
+pub set_packed_bit-requires-clause-there : goal.set_packed_bit-requires-clause-there
+set_packed_bit-requires-clause-there g c =
     let i = c.self.inside in
     let len = length-row i.bits i.words.items in
     let same = ap length c.self.view_is in
@@ -16,23 +16,23 @@ put-requires-clause-there g c =
 pub invariant_of-self : goal.invariant_of-self
 invariant_of-self g c =
     let i = c.self.inside in
-    let put = c.put.ensures in
+    let set_packed_bit = c.set_packed_bit.ensures in
     let words = c.deref_mut.ensures.value in
-    let len : length c.put.new.words ≡ length i.words.items = put.len ∙ ap length words in
+    let len : length c.set_packed_bit.new.words ≡ length i.words.items = set_packed_bit.len ∙ ap length words in
     let within : c.args.i < i.bits = let h = c.requires in let e = length-row i.bits i.words.items in let same = ap length c.self.view_is in omega arith in
-    let others : (k : ℕ) → k ≢ c.args.i → packed_bit c.put.new.words k ≡ packed_bit i.words.items k = λ k ne. put.others k ne ∙ ap (λ (ws : List ℕ). packed_bit ws k) words in
+    let others : (k : ℕ) → k ≢ c.args.i → packed_bit c.set_packed_bit.new.words k ≡ packed_bit i.words.items k = λ k ne. set_packed_bit.others k ne ∙ ap (λ (ws : List ℕ). packed_bit ws k) words in
     record {
       fits = c.self.invariant.fits;
-      packed = rw (back i.words.items c.put.new.words len) (set-packed i.bits i.words.items c.put.new.words c.args.i c.self.invariant.packed within len put.ten others);
+      packed = rw (refill-all i.words.items c.set_packed_bit.new.words len) (set-packed i.bits i.words.items c.set_packed_bit.new.words c.args.i c.self.invariant.packed within len set_packed_bit.ten others);
     }
 
 pub returns : goal.returns
 returns g c =
     let i = c.self.inside in
-    let put = c.put.ensures in
+    let set_packed_bit = c.set_packed_bit.ensures in
     let words = c.deref_mut.ensures.value in
-    let len : length c.put.new.words ≡ length i.words.items = put.len ∙ ap length words in
+    let len : length c.set_packed_bit.new.words ≡ length i.words.items = set_packed_bit.len ∙ ap length words in
     let within : c.args.i < i.bits = let h = c.requires in let e = length-row i.bits i.words.items in let same = ap length c.self.view_is in omega arith in
-    ap (chain_bits_of i.bits) (back i.words.items c.put.new.words len)
-    ∙ set-row i.bits i.words.items c.put.new.words c.args.i c.args.bit within put.set (λ k ne. put.others k ne ∙ ap (λ (ws : List ℕ). packed_bit ws k) words)
+    ap (chain_bits_of i.bits) (refill-all i.words.items c.set_packed_bit.new.words len)
+    ∙ set-row i.bits i.words.items c.set_packed_bit.new.words c.args.i c.args.bit within set_packed_bit.set (λ k ne. set_packed_bit.others k ne ∙ ap (λ (ws : List ℕ). packed_bit ws k) words)
     ∙ ap (λ (row : List ℕ). slice_set row c.args.i c.args.bit) c.self.view_is

@@ -1,10 +1,10 @@
 use Rattle.std.proofs.Common.{◌≡◌, ◌∙◌, ◌+◌, ◌-◌, ℕ, ◌&&◌, None, sym, ap, subst, arith}
 use Rattle.mcs_model.specs.BenchState.{BenchState}
 use Rattle.mcs_model.specs.Command.{machine_of, stops_of}
-use Rattle.mcs_model.specs.Running.{Machine, Stops}
-use Rattle.mcs_bench.specs.declared.running.Went.{Went}
-use Rattle.mcs_bench.specs.Runs.{GoesOn, WentTo, stop_by}
-use Rattle.mcs_bench.proofs.Runs.{begins, ends, goes-full, goes-out, went-goes, went-stops}
+use Rattle.mcs_model.specs.Running.{Machine, StopConditions}
+use Rattle.mcs_bench.specs.declared.running.InstructionResult.{InstructionResult}
+use Rattle.mcs_bench.specs.Runs.{RunContinuesAt, IsInstructionResult, stop_reason}
+use Rattle.mcs_bench.proofs.Runs.{begins, ends, run-is-complete, goes-out, went-goes, went-stops}
 use Rattle.mcs_probe.specs.Forecast.{is_at, jumps}
 use Rattle.mcs_trace.proofs.CountLemmas.{counted-by, same-tally, tally-few, tally-none, runs-next, jumps-next}
 use Rattle.mcs_trace.proofs.counting.count_run.Goals as goal
@@ -15,20 +15,20 @@ loop-done-init c =
     let s : Machine = machine_of b in
     record {
       counting = record {
-        going = subst (λ (x : BenchState). GoesOn (stops_of b) c.args.n 0 s (machine_of x)) (sym c.in_ok-copy.ensures) (begins (stops_of b) c.args.n s);
+        going = subst (λ (x : BenchState). RunContinuesAt (stops_of b) c.args.n 0 s (machine_of x)) (sym c.in_ok-copy.ensures) (begins (stops_of b) c.args.n s);
         run_tally = tally-none s (λ a. is_at a) _ c.in_ok-runs.ensures;
         jump_tally = tally-none s (λ a x. is_at a x && jumps x) _ c.in_ok-jumps.ensures;
       };
       stops = ap stops_of c.in_ok-copy.ensures;
     }
 
-pub note-requires-clause-few_runs : goal.note-requires-clause-few_runs
-note-requires-clause-few_runs c =
+pub count_instruction-requires-clause-few_runs : goal.count_instruction-requires-clause-few_runs
+count_instruction-requires-clause-few_runs c =
     let few = tally-few c.loop-done.done (machine_of c.args.bench.now) c.loop-done.runs.items (λ a. is_at a) c.regs-before.result.pc (omega arith) c.loop-done.invariant.counting.run_tally in
     omega arith
 
-pub note-requires-clause-few_jumps : goal.note-requires-clause-few_jumps
-note-requires-clause-few_jumps c =
+pub count_instruction-requires-clause-few_jumps : goal.count_instruction-requires-clause-few_jumps
+count_instruction-requires-clause-few_jumps c =
     let few = tally-few c.loop-done.done (machine_of c.args.bench.now) c.loop-done.jumps.items (λ a x. is_at a x && jumps x) c.regs-before.result.pc (omega arith) c.loop-done.invariant.counting.jump_tally in
     omega arith
 
@@ -41,7 +41,7 @@ returns-in-None c =
     let counting = c.loop-done.invariant.counting in
     let noted = c.in-None.ensures.went in
     let came = c.counts_of in
-    let stop = came.ensures.stop ∙ ap (λ (x : BenchState). stop_by (machine_of x) None) noted.1 in
+    let stop = came.ensures.stop ∙ ap (λ (x : BenchState). stop_reason (machine_of x) None) noted.1 in
     counted-by (stops_of b) c.args.n s t k came.result (ends (stops_of b) c.args.n k s t None came.result.stop (goes-out (stops_of b) c.args.n k s t counting.going noted.0) stop) came.ensures.cycles
     (same-tally s k _ _ (λ a. is_at a) came.ensures.runs counting.run_tally) (same-tally s k _ _ (λ a x. is_at a x && jumps x) came.ensures.jumps counting.jump_tally)
 
@@ -52,15 +52,15 @@ returns-in-Some-mark c =
     let n : ℕ = c.args.n in
     let k : ℕ = c.loop-done.done in
     let t : Machine = machine_of c.loop-done.copy in
-    let u : Machine = machine_of c.go_on.new.self in
-    let w : Went = c.in-Some.went in
+    let u : Machine = machine_of c.continue_run.new.self in
+    let w : InstructionResult = c.in-Some.went in
     let counting = c.loop-done.invariant.counting in
-    let went : WentTo (stops_of b) (n - k) t u w = subst (λ (x : Stops). WentTo x (n - k) t u w) c.loop-done.invariant.stops c.in-Some.ensures.went in
+    let went : IsInstructionResult (stops_of b) (n - k) t u w = subst (λ (x : StopConditions). IsInstructionResult x (n - k) t u w) c.loop-done.invariant.stops c.in-Some.ensures.went in
     let ran = went-stops (stops_of b) n k s t u w c.in-Some-mark.why counting.going went c.loop-done-test.true c.in-Some-mark.is in
     let came = c.counts_of-in-Some-mark in
-    counted-by (stops_of b) n s u (k + w.cycles) came.result (ends (stops_of b) n (k + w.cycles) s u w.mark came.result.stop ran (came.ensures.stop ∙ ap (stop_by u) (sym c.in-Some-mark.is))) came.ensures.cycles
-    (same-tally s (k + w.cycles) _ _ (λ a. is_at a) came.ensures.runs (runs-next (n - k) k w.cycles s t u c.regs-before.result c.loop-done.runs.items c.note.new.runs.items counting.going.at went.ran went.some c.regs-before.ensures.same (omega arith) c.note.ensures.runs counting.run_tally))
-    (same-tally s (k + w.cycles) _ _ (λ a x. is_at a x && jumps x) came.ensures.jumps (jumps-next (n - k) k w.cycles s t u c.regs-before.result c.regs.result c.loop-done.jumps.items c.note.new.jumps.items counting.going.at went.ran went.some c.regs-before.ensures.same c.regs.ensures.same (omega arith) c.note.ensures.jumps counting.jump_tally))
+    counted-by (stops_of b) n s u (k + w.cycles) came.result (ends (stops_of b) n (k + w.cycles) s u w.mark came.result.stop ran (came.ensures.stop ∙ ap (stop_reason u) (sym c.in-Some-mark.is))) came.ensures.cycles
+    (same-tally s (k + w.cycles) _ _ (λ a. is_at a) came.ensures.runs (runs-next (n - k) k w.cycles s t u c.regs-before.result c.loop-done.runs.items c.count_instruction.new.runs.items counting.going.at went.ran went.some c.regs-before.ensures.same (omega arith) c.count_instruction.ensures.runs counting.run_tally))
+    (same-tally s (k + w.cycles) _ _ (λ a x. is_at a x && jumps x) came.ensures.jumps (jumps-next (n - k) k w.cycles s t u c.regs-before.result c.regs.result c.loop-done.jumps.items c.count_instruction.new.jumps.items counting.going.at went.ran went.some c.regs-before.ensures.same c.regs.ensures.same (omega arith) c.count_instruction.ensures.jumps counting.jump_tally))
 
 pub loop-done-preserved : goal.loop-done-preserved
 loop-done-preserved c =
@@ -69,17 +69,17 @@ loop-done-preserved c =
     let n : ℕ = c.args.n in
     let k : ℕ = c.loop-done.done in
     let t : Machine = machine_of c.loop-done.copy in
-    let u : Machine = machine_of c.go_on.new.self in
-    let w : Went = c.in-Some.went in
+    let u : Machine = machine_of c.continue_run.new.self in
+    let w : InstructionResult = c.in-Some.went in
     let counting = c.loop-done.invariant.counting in
-    let went : WentTo (stops_of b) (n - k) t u w = subst (λ (x : Stops). WentTo x (n - k) t u w) c.loop-done.invariant.stops c.in-Some.ensures.went in
+    let went : IsInstructionResult (stops_of b) (n - k) t u w = subst (λ (x : StopConditions). IsInstructionResult x (n - k) t u w) c.loop-done.invariant.stops c.in-Some.ensures.went in
     record {
       counting = record {
         going = went-goes (stops_of b) n k s t u w counting.going went c.loop-done-test.true c.in_default.is;
-        run_tally = runs-next (n - k) k w.cycles s t u c.regs-before.result c.loop-done.runs.items c.note.new.runs.items counting.going.at went.ran went.some c.regs-before.ensures.same (omega arith) c.note.ensures.runs counting.run_tally;
-        jump_tally = jumps-next (n - k) k w.cycles s t u c.regs-before.result c.regs.result c.loop-done.jumps.items c.note.new.jumps.items counting.going.at went.ran went.some c.regs-before.ensures.same c.regs.ensures.same (omega arith) c.note.ensures.jumps counting.jump_tally;
+        run_tally = runs-next (n - k) k w.cycles s t u c.regs-before.result c.loop-done.runs.items c.count_instruction.new.runs.items counting.going.at went.ran went.some c.regs-before.ensures.same (omega arith) c.count_instruction.ensures.runs counting.run_tally;
+        jump_tally = jumps-next (n - k) k w.cycles s t u c.regs-before.result c.regs.result c.loop-done.jumps.items c.count_instruction.new.jumps.items counting.going.at went.ran went.some c.regs-before.ensures.same c.regs.ensures.same (omega arith) c.count_instruction.ensures.jumps counting.jump_tally;
       };
-      stops = ap stops_of c.go_on.ensures.rest ∙ c.loop-done.invariant.stops;
+      stops = ap stops_of c.continue_run.ensures.rest ∙ c.loop-done.invariant.stops;
     }
 
 pub returns : goal.returns
@@ -93,5 +93,5 @@ returns c =
     let within = counting.going.within in
     let full : n ≡ k = omega arith in
     let came = c.counts_of-2 in
-    counted-by (stops_of b) n s t k came.result (ends (stops_of b) n k s t None came.result.stop (goes-full (stops_of b) n k s t counting.going (sym full)) came.ensures.stop) (came.ensures.cycles ∙ full)
+    counted-by (stops_of b) n s t k came.result (ends (stops_of b) n k s t None came.result.stop (run-is-complete (stops_of b) n k s t counting.going (sym full)) came.ensures.stop) (came.ensures.cycles ∙ full)
     (same-tally s k _ _ (λ a. is_at a) came.ensures.runs counting.run_tally) (same-tally s k _ _ (λ a x. is_at a x && jumps x) came.ensures.jumps counting.jump_tally)

@@ -7,8 +7,8 @@ use Rattle.mcs_wasm.proofs.page.ask.Goals as goal
 pub returns-clause-served : goal.returns-clause-served
 returns-clause-served c =
     let output = c.deref.ensures.value in
-    let count = c.put_in_front-count.ensures.count ∙ ap (λ (bytes : List ℕ). length bytes) output in
+    let count = c.copy_to_front-count.ensures.count ∙ ap (λ (bytes : List ℕ). length bytes) output in
     record {
       after = bytes_of (mem_disk_state c.in-Ok.answered.session.disk);
-      answers = answers_of _ _ _ _ _ _ _ _ _ c.in-Ok.ensures.served c.in-Ok.ensures.room count (c.put_in_front-count.ensures.answers ∙ output) c.put_in_front-count.ensures.rest refl;
+      answers = answers_of _ _ _ _ _ _ _ _ _ c.in-Ok.ensures.served c.in-Ok.ensures.room count (c.copy_to_front-count.ensures.answers ∙ output) c.copy_to_front-count.ensures.rest refl;
     }

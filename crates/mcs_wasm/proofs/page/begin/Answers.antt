@@ -6,4 +6,4 @@ use Rattle.mcs_wasm.proofs.page.begin.Goals as goal
 
 pub returns-clause-made : goal.returns-clause-made
 returns-clause-made c =
-    rw c.write_back.ensures.written (rw (sym c.into_disk.ensures.is) at (stands_now (mem_disk_state c.in-Ok.begun.disk) new_bench_state (c.in-Ok.ensures.created tt).stands))
+    rw c.write_back.ensures.written (rw (sym c.into_disk.ensures.is) at (stands_now (mem_disk_state c.in-Ok.opened.disk) new_bench_state (c.in-Ok.ensures.created tt).represents))

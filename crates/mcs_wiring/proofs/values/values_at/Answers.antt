@@ -2,7 +2,7 @@ use Rattle.std.proofs.Common.{◌≡◌, ◌∙◌, Some, map, sym, ap}
 use Rattle.toml.specs.View.{view}
 use Rattle.toml.proofs.Views.{view-Array}
 use Rattle.mcs_wiring.specs.Wiring.{array_values}
-use Rattle.mcs_wiring.proofs.Seen.{values_seen}
+use Rattle.mcs_wiring.proofs.TomlViews.{values_in_view}
 use Rattle.mcs_wiring.proofs.values.values_at.Goals as goal
 
 pub returns-in-Some-Array : goal.returns-in-Some-Array
@@ -10,4 +10,4 @@ returns-in-Some-Array c =
     let values = c.in-Some-Array.values in
     let same : c.deref.result.now ≡ values.items = cc (c.deref.ensures.value, c.in-Some-Array.values-is) in
     let seen = ap view c.in-Some-Array.field-0-is ∙ view-Array values in
-    ap (map view) same ∙ (values_seen values.items ∙ ap array_values (ap Some (sym seen) ∙ c.in-Some-Array.ensures))
+    ap (map view) same ∙ (values_in_view values.items ∙ ap array_values (ap Some (sym seen) ∙ c.in-Some-Array.ensures))

@@ -9,5 +9,5 @@ use Rattle.mcs_bench.proofs.bench.Bench.refusal_of_command.Goals as goal
 pub returns-in-Load : goal.returns-in-Load
 returns-in-Load c =
     let board = c.board-board.ensures ∙ ap (λ (s : BenchState). s.bus.board) c.self.view_is in
-    let lacking = c.lacks_a_rom.ensures ∙ ap (λ (b : BoardParts). list_any (λ p. lacks_rom b p.0) c.in-Load.image) board in
-    c.when.ensures ∙ ap (λ (b : Bool). if b then Some NoRom else None) lacking ∙ sym (ap (refusal_of_command c.args.self.now) c.in-Load.is)
+    let lacking = c.image_lacks_rom.ensures ∙ ap (λ (b : BoardParts). list_any (λ p. lacks_rom b p.0) c.in-Load.image) board in
+    c.fault_if.ensures ∙ ap (λ (b : Bool). if b then Some NoRom else None) lacking ∙ sym (ap (refusal_of_command c.args.self.now) c.in-Load.is)

@@ -2,12 +2,12 @@ use Rattle.std.proofs.Common.{arith, ap, ◌∙◌}
 use Rattle.mcs_model.specs.declared.board.BoardParts.{BoardParts}
 use Rattle.mcs_model.specs.declared.board.ChainPart.{ChainPart}
 use Rattle.mcs_model.specs.Boards.{chain_part, is_output_line}
-use Rattle.mcs_board.specs.Rises.{is_raised}
+use Rattle.mcs_board.specs.ClockEdges.{line_rises}
 use Rattle.mcs_board.proofs.BoardLemmas.{clock-output}
 use Rattle.mcs_board.proofs.rig.Rig.clock_rises.Goals as goal
 
-pub is_raised-requires : goal.is_raised-requires
-is_raised-requires g c =
+pub line_rises-requires : goal.line_rises-requires
+line_rises-requires g c =
     let s = c.args.self.now in
     let part = c.chain.ensures ∙ ap (λ (b : BoardParts). chain_part b c.args.i) c.board.ensures in
     (omega arith, ap (λ (p : ChainPart). is_output_line s.board p.clock) part ∙ clock-output s.board c.args.i c.parts-parts.ensures.valid c.requires)
@@ -15,4 +15,4 @@ is_raised-requires g c =
 pub returns : goal.returns
 returns g c =
     let part = c.chain.ensures ∙ ap (λ (b : BoardParts). chain_part b c.args.i) c.board.ensures in
-    c.is_raised.ensures ∙ ap (λ (p : ChainPart). is_raised c.args.port c.args.before c.args.after p.clock) part
+    c.line_rises.ensures ∙ ap (λ (p : ChainPart). line_rises c.args.port c.args.before c.args.after p.clock) part

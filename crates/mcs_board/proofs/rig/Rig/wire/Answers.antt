@@ -4,9 +4,9 @@ use Rattle.mcs_model.specs.declared.board.BoardParts.{BoardParts}
 use Rattle.mcs_model.specs.Boards.{key_count}
 use Rattle.mcs_model.specs.ChipWrites.{after_wire}
 use Rattle.mcs_keypad.specs.Keys.{KeyState}
-use Rattle.mcs_board.specs.RigState.{RigParts, rig_of}
+use Rattle.mcs_board.specs.RigState.{RigParts, state_of_rig}
 use Rattle.mcs_board.specs.RigFields.{rig_parts}
-use Rattle.mcs_board.proofs.MakingLemmas.{IsRewired, rewired-every, wire-state, wire-fitted}
+use Rattle.mcs_board.proofs.LifecycleLemmas.{IsRewired, rewired-each_socket, wire-state, wire-fitted}
 use Rattle.mcs_board.proofs.rig.Rig.wire.Goals as goal
 
 -- A key pad for a copy of board b is the key pad of b, with all keys up.
@@ -20,10 +20,10 @@ returns-then-is_empty g c =
     let b = c.args.board.now in
     let fits = c.requires in
     let none : length i.chains.items ≡ 0 = ap length (sym c.as_slice.ensures.value) ∙ eqb-true (length c.as_slice.result.now) 0 (sym c.is_empty.ensures ∙ c.if-is_empty.true) in
-    let new : RigParts = record (rig_parts i) { board = b; roms = c.rewire_roms.new.roms.items; program = c.clear_absent.new.program.items; banks = c.rewire_banks.new.banks.items; keys = replicate (key_count b) 0; rom_src = 0 } in
+    let new : RigParts = record (rig_parts i) { board = b; roms = c.rewire_roms.new.roms.items; program = c.clear_absent_roms.new.program.items; banks = c.rewire_banks.new.banks.items; keys = replicate (key_count b) 0; rom_src = 0 } in
     let is : IsRewired (rig_parts i) new = record {
-      roms = rewired-every b i.roms.items c.rewire_roms.new.roms.items c.rewire_roms.ensures.count c.rewire_roms.ensures.roms (λ k h. fits.roms k (let l = v.roms_len in omega arith));
-      program = c.clear_absent.ensures;
+      roms = rewired-each_socket b i.roms.items c.rewire_roms.new.roms.items c.rewire_roms.ensures.count c.rewire_roms.ensures.roms (λ k h. fits.roms k (let l = v.roms_len in omega arith));
+      program = c.clear_absent_roms.ensures;
       banks = record { at = λ k h. c.rewire_banks.ensures.banks k (let n = c.rewire_banks.ensures.count in omega arith) };
       fit = omega (arith, fits.chains, v.chains_len);
       chains = λ k h. absurd (omega (arith, fits.chains, v.chains_len));
@@ -31,7 +31,7 @@ returns-then-is_empty g c =
       src = refl;
       test = refl;
     } in
-    ap (λ (k : KeyState). rig_of (record new { board = k.board; keys = k.down })) (made b c.copy.result c.of-self-inside.result c.of-self-inside.ensures c.copy.ensures)
+    ap (λ (k : KeyState). state_of_rig (record new { board = k.board; keys = k.down })) (made b c.copy.result c.of-self-inside.result c.of-self-inside.ensures c.copy.ensures)
     ∙ wire-state (rig_parts i) new is
     ∙ ap (λ s. after_wire s b) c.self.view_is
 
@@ -42,10 +42,10 @@ invariant_of-self g c =
     let b = c.args.board.now in
     let fits = c.requires in
     let none : length i.chains.items ≡ 0 = ap length (sym c.as_slice.ensures.value) ∙ eqb-true (length c.as_slice.result.now) 0 (sym c.is_empty.ensures ∙ c.if-is_empty.true) in
-    let new : RigParts = record (rig_parts i) { board = b; roms = c.rewire_roms.new.roms.items; program = c.clear_absent.new.program.items; banks = c.rewire_banks.new.banks.items; keys = replicate (key_count b) 0; rom_src = 0 } in
+    let new : RigParts = record (rig_parts i) { board = b; roms = c.rewire_roms.new.roms.items; program = c.clear_absent_roms.new.program.items; banks = c.rewire_banks.new.banks.items; keys = replicate (key_count b) 0; rom_src = 0 } in
     let is : IsRewired (rig_parts i) new = record {
-      roms = rewired-every b i.roms.items c.rewire_roms.new.roms.items c.rewire_roms.ensures.count c.rewire_roms.ensures.roms (λ k h. fits.roms k (let l = v.roms_len in omega arith));
-      program = c.clear_absent.ensures;
+      roms = rewired-each_socket b i.roms.items c.rewire_roms.new.roms.items c.rewire_roms.ensures.count c.rewire_roms.ensures.roms (λ k h. fits.roms k (let l = v.roms_len in omega arith));
+      program = c.clear_absent_roms.ensures;
       banks = record { at = λ k h. c.rewire_banks.ensures.banks k (let n = c.rewire_banks.ensures.count in omega arith) };
       fit = omega (arith, fits.chains, v.chains_len);
       chains = λ k h. absurd (omega (arith, fits.chains, v.chains_len));
@@ -62,10 +62,10 @@ invariant_of-self-2 g c =
     let v = c.self.invariant in
     let b = c.args.board.now in
     let fits = c.requires in
-    let new : RigParts = record { board = b; roms = c.rewire_roms.new.roms.items; program = c.clear_absent.new.program.items; banks = c.rewire_banks.new.banks.items; chains = c.rewire_chains.new.chains.items; keys = replicate (key_count b) 0; rom_src = 0; test = i.test } in
+    let new : RigParts = record { board = b; roms = c.rewire_roms.new.roms.items; program = c.clear_absent_roms.new.program.items; banks = c.rewire_banks.new.banks.items; chains = c.rewire_chains.new.chains.items; keys = replicate (key_count b) 0; rom_src = 0; test = i.test } in
     let is : IsRewired (rig_parts i) new = record {
-      roms = rewired-every b i.roms.items c.rewire_roms.new.roms.items c.rewire_roms.ensures.count c.rewire_roms.ensures.roms (λ k h. fits.roms k (let l = v.roms_len in omega arith));
-      program = c.clear_absent.ensures;
+      roms = rewired-each_socket b i.roms.items c.rewire_roms.new.roms.items c.rewire_roms.ensures.count c.rewire_roms.ensures.roms (λ k h. fits.roms k (let l = v.roms_len in omega arith));
+      program = c.clear_absent_roms.ensures;
       banks = record { at = λ k h. c.rewire_banks.ensures.banks k (let n = c.rewire_banks.ensures.count in omega arith) };
       fit = omega (arith, fits.chains, v.chains_len, c.rewire_chains.ensures.count);
       chains = λ k h. c.rewire_chains.ensures.rows k (omega (arith, fits.chains, v.chains_len));
@@ -82,10 +82,10 @@ returns g c =
     let v = c.self.invariant in
     let b = c.args.board.now in
     let fits = c.requires in
-    let new : RigParts = record { board = b; roms = c.rewire_roms.new.roms.items; program = c.clear_absent.new.program.items; banks = c.rewire_banks.new.banks.items; chains = c.rewire_chains.new.chains.items; keys = replicate (key_count b) 0; rom_src = 0; test = i.test } in
+    let new : RigParts = record { board = b; roms = c.rewire_roms.new.roms.items; program = c.clear_absent_roms.new.program.items; banks = c.rewire_banks.new.banks.items; chains = c.rewire_chains.new.chains.items; keys = replicate (key_count b) 0; rom_src = 0; test = i.test } in
     let is : IsRewired (rig_parts i) new = record {
-      roms = rewired-every b i.roms.items c.rewire_roms.new.roms.items c.rewire_roms.ensures.count c.rewire_roms.ensures.roms (λ k h. fits.roms k (let l = v.roms_len in omega arith));
-      program = c.clear_absent.ensures;
+      roms = rewired-each_socket b i.roms.items c.rewire_roms.new.roms.items c.rewire_roms.ensures.count c.rewire_roms.ensures.roms (λ k h. fits.roms k (let l = v.roms_len in omega arith));
+      program = c.clear_absent_roms.ensures;
       banks = record { at = λ k h. c.rewire_banks.ensures.banks k (let n = c.rewire_banks.ensures.count in omega arith) };
       fit = omega (arith, fits.chains, v.chains_len, c.rewire_chains.ensures.count);
       chains = λ k h. c.rewire_chains.ensures.rows k (omega (arith, fits.chains, v.chains_len));
@@ -93,9 +93,9 @@ returns g c =
       src = refl;
       test = refl;
     } in
-    ap (λ (k : KeyState). rig_of (record new { board = k.board; keys = k.down })) (made b c.copy.result c.of-self-inside.result c.of-self-inside.ensures c.copy.ensures)
+    ap (λ (k : KeyState). state_of_rig (record new { board = k.board; keys = k.down })) (made b c.copy.result c.of-self-inside.result c.of-self-inside.ensures c.copy.ensures)
     ∙ wire-state (rig_parts i) new is
     ∙ ap (λ s. after_wire s b) c.self.view_is
 
-pub clear_absent-requires : goal.clear_absent-requires
-clear_absent-requires g c = c.self.invariant.program_len
+pub clear_absent_roms-requires : goal.clear_absent_roms-requires
+clear_absent_roms-requires g c = c.self.invariant.program_len

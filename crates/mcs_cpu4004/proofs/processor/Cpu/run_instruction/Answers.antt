@@ -1,7 +1,7 @@
 use Rattle.std.proofs.Common.{◌≢◌, ◌-◌, ◌∙◌, sym, ap, subst, arith}
 use Rattle.mcs_model.specs.declared.regs.Regs.{Regs}
 use Rattle.mcs_model.specs.Bus.{BusState}
-use Rattle.mcs_cpu4004.specs.InstructionRan.{InstructionRan}
+use Rattle.mcs_cpu4004.specs.IsInstructionRun.{IsInstructionRun}
 use Rattle.mcs_cpu4004.proofs.InstructionRuns.{ran-whole}
 use Rattle.mcs_cpu4004.proofs.processor.Cpu.run_instruction.Goals as goal
 
@@ -22,4 +22,4 @@ returns-clause-ran g c =
     let whole =
     ran-whole c.args.left c.args.op (record before { pc = c.args.at }, m) regs n c.execute-next.result.0 c.from-whole.result (omega arith) free (cc)
     (ap (λ x. (record regs { pc = c.execute-next.result.0; owed = x - 1 }, n)) cycles ∙ c.execute-next.ensures.effect) (omega arith) (omega arith) (omega arith) in
-    subst (λ (r : Regs). InstructionRan c.args.left (record r { pc = c.args.at }, m) (record regs { pc = c.execute-next.result.0 }, n) c.from-whole.result) c.self.view_is whole
+    subst (λ (r : Regs). IsInstructionRun c.args.left (record r { pc = c.args.at }, m) (record regs { pc = c.execute-next.result.0 }, n) c.from-whole.result) c.self.view_is whole

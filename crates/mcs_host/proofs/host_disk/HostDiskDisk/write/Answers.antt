@@ -1,4 +1,4 @@
-use Rattle.mcs_disk.proofs.Kept.{failed_kept}
+use Rattle.mcs_disk.proofs.WrittenBytes.{failed_kept}
 use Rattle.mcs_host.proofs.host_disk.HostDiskDisk.write.Goals as goal
 
 pub invariant_of-self-clause-kept : goal.invariant_of-self-clause-kept

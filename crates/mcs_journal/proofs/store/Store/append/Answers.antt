@@ -1,12 +1,12 @@
-use Rattle.mcs_disk.specs.CallList.{unsynced}
-use Rattle.mcs_journal.proofs.Asking.{append_one}
+use Rattle.mcs_disk.specs.CallList.{unsynced_writes}
+use Rattle.mcs_journal.proofs.StoreMethodCalls.{append_one}
 use Rattle.std.proofs.Common.{◌≡◌, ◌+◌, List, [], ◌∷◌, ◌++◌, ℕ, length, sym, ◌∙◌, ap, subst, arith, IsTrue, length-take, length-append, length-drop}
 use Rattle.mcs_disk.specs.Disk.{DiskState, bytes_of}
 use Rattle.mcs_journal.specs.Store.{StoreView, IsIntactStore}
 use Rattle.mcs_journal.specs.File.{Holds, HasRoom, slot_named, frames_of, frame_of, start_of}
 use Rattle.mcs_journal.specs.Writing.{IsCommitOffset}
 use Rattle.mcs_journal.specs.declared.slot.Slot.{Slot}
-use Rattle.mcs_journal.proofs.Unique.{same_records}
+use Rattle.mcs_journal.proofs.UniqueContents.{same_records}
 use Rattle.mcs_journal.proofs.Contents.{start_bounds}
 use Rattle.mcs_journal.proofs.Logs.{spelled-push, length-framed}
 use Rattle.mcs_journal.proofs.store.Store.append.Goals as goal
@@ -42,7 +42,7 @@ invariant_of-self g c =
       disk_size = ap length c.add_record.ensures.call.start ∙ c.self.invariant.disk_size;
       within = omega (arith, room);
       room = simp (length-take, length-append, length-drop) (omega (arith, c.deref_mut.ensures.len, ap length c.deref_mut.ensures.value, c.add_record.auto.buffer, c.self.invariant.room));
-      synced = λ alive. ap unsynced c.in-Ok.ensures.calls.all;
+      synced = λ alive. ap unsynced_writes c.in-Ok.ensures.calls.all;
       intact = λ alive h.
           let beyond = start_bounds c.self.inside.slot in
           let was = c.add_record.ensures.call.honest.0 h in

@@ -1,6 +1,6 @@
 use Rattle.std.proofs.Common.{List, ℕ, length, ◌∙◌, ap, rules}
 use Rattle.mcs_journal.specs.File.{frames_of}
-use Rattle.mcs_journal.proofs.Unique.{same_records}
+use Rattle.mcs_journal.proofs.UniqueContents.{same_records}
 use Rattle.mcs_journal.proofs.store.Store.has_room.Goals as goal
 
 pub returns-clause-used : goal.returns-clause-used

@@ -1,5 +1,5 @@
-use Rattle.mcs_disk.specs.CallList.{unsynced}
-use Rattle.mcs_journal.proofs.Asking.{replace_one}
+use Rattle.mcs_disk.specs.CallList.{unsynced_writes}
+use Rattle.mcs_journal.proofs.StoreMethodCalls.{replace_one}
 use Rattle.std.proofs.Common.{[], length, refl, sym, ◌∙◌, ap, subst, arith, IsTrue, length-take, length-append, length-drop, rules}
 use Rattle.mcs_journal.specs.Store.{StoreView}
 use Rattle.mcs_journal.specs.Writing.{other_slot}
@@ -24,7 +24,7 @@ invariant_of-self g c = record {
   disk_size = ap length c.replace_contents.ensures.call.start ∙ c.self.invariant.disk_size;
   within = omega arith;
   room = simp (length-take, length-append, length-drop) (omega (arith, c.deref_mut.ensures.len, ap length c.deref_mut.ensures.value, c.replace_contents.auto.buffer, c.self.invariant.room));
-  synced = λ alive. ap unsynced c.in-Ok.ensures.calls.made.all;
+  synced = λ alive. ap unsynced_writes c.in-Ok.ensures.calls.made.all;
   intact = λ alive h.
       let live : IsTrue c.self.inside.live = subst (λ (v : StoreView g.row.D.Denot). IsTrue v.live) (sym c.self.view_is) c.requires.live in
       let was = c.replace_contents.ensures.call.honest.0 h in

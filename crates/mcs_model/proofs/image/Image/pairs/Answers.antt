@@ -1,5 +1,5 @@
 use Rattle.std.proofs.Common.{◌≡◌}
-use Rattle.mcs_model.proofs.Rising.{length-rising}
+use Rattle.mcs_model.proofs.ImageLength.{length-rising}
 use Rattle.mcs_model.proofs.image.Image.pairs.Goals as goal
 
 pub returns-clause-few : goal.returns-clause-few

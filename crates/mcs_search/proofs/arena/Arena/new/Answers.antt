@@ -1,13 +1,13 @@
 use Rattle.std.proofs.Common.{◌++◌, ap, ◌∙◌}
-use Rattle.mcs_search.specs.Keys.{Stored, keys_of}
-use Rattle.mcs_search.proofs.Blocks.{arena-none}
+use Rattle.mcs_search.specs.Keys.{KeyStore, keys_of_blocks}
+use Rattle.mcs_search.proofs.Blocks.{arena-empty}
 use Rattle.mcs_search.proofs.arena.Arena.new.Goals as goal
 
 pub invariant_of-result : goal.invariant_of-result
-invariant_of-result c = arena-none c.args.width c.new.result.items c.new-2.result c.new.ensures.items c.new-2.ensures
+invariant_of-result c = arena-empty c.args.width c.new.result.items c.new-2.result c.new.ensures.items c.new-2.ensures
 
 pub returns : goal.returns
-unfolding keys_of
+unfolding keys_of_blocks
 returns c =
-    ap (λ bs. record { width = c.args.width; keys = keys_of bs ++ c.new-2.result.keys }) c.new.ensures.items
-    ∙ ap (λ (s : Stored). record { width = c.args.width; keys = s.keys }) c.new-2.ensures
+    ap (λ bs. record { width = c.args.width; keys = keys_of_blocks bs ++ c.new-2.result.keys }) c.new.ensures.items
+    ∙ ap (λ (s : KeyStore). record { width = c.args.width; keys = s.keys }) c.new-2.ensures

@@ -1,6 +1,6 @@
-use Rattle.mcs_disk.proofs.Composing.{changes_map}
+use Rattle.mcs_disk.proofs.StretchComposition.{changes_map}
 use Rattle.mcs_journal.specs.File.{Holds}
-use Rattle.mcs_session.specs.StandsFor.{HoldsState}
+use Rattle.mcs_session.specs.Represents.{HoldsState}
 use Rattle.mcs_session.proofs.recording.CommandLog.checkpoint.Goals as goal
 use Rattle.std.proofs.Common.{List, ℕ}
 

@@ -1,4 +1,4 @@
-use Rattle.mcs_disk.proofs.Calling.{one_then}
+use Rattle.mcs_disk.proofs.CallSequences.{one_then}
 use Rattle.std.proofs.Common.{arith}
 use Rattle.mcs_session.proofs.Room.{acknowledged, appended, few_cycles, recorded_more}
 use Rattle.mcs_session.proofs.recording.CommandLog.record.Goals as goal
@@ -11,7 +11,7 @@ returns-in_err-append-clause-moments g c = λ honest was.
     let made = c.in_ok-make_room.ensures.made honest was c.args.command.now c.encode_command-count.ensures.count c.replay_cycles-more.ensures in
     let now = made.recorded in
     let still = c.in_ok-make_room.ensures.counts.honest.1 honest in
-    let changes = c.in_err-append.ensures.appends still now.stands.snap now.stands.records now.stands.holds in
+    let changes = c.in_err-append.ensures.appends still now.represents.snap now.represents.records now.represents.holds in
     appended _ _ _ _ _ _ _ now (rw (c.as_slice.ensures.value, c.in_ok-make_room.ensures.payload) c.encode_command-count.ensures.spells) c.requires.accepted (omega (arith, c.in_ok-make_room.ensures.room.1, c.replay_cycles-more.ensures))
     (c.in_ok-make_room.ensures.moments honest was) changes.leaves
 
@@ -20,7 +20,7 @@ returns-clause-moments g c = λ honest was.
     let made = c.in_ok-make_room.ensures.made honest was c.args.command.now c.encode_command-count.ensures.count c.replay_cycles-more.ensures in
     let now = made.recorded in
     let still = c.in_ok-make_room.ensures.counts.honest.1 honest in
-    let changes = c.in_ok-append.ensures.appends still now.stands.snap now.stands.records now.stands.holds in
+    let changes = c.in_ok-append.ensures.appends still now.represents.snap now.represents.records now.represents.holds in
     appended _ _ _ _ _ _ _ now (rw (c.as_slice.ensures.value, c.in_ok-make_room.ensures.payload) c.encode_command-count.ensures.spells) c.requires.accepted (omega (arith, c.in_ok-make_room.ensures.room.1, c.replay_cycles-more.ensures))
     (c.in_ok-make_room.ensures.moments honest was) changes.leaves
 
@@ -28,7 +28,7 @@ pub returns-clause-recorded : goal.returns-clause-recorded
 returns-clause-recorded g c = λ honest was.
     let now = (c.in_ok-make_room.ensures.made honest was c.args.command.now c.encode_command-count.ensures.count c.replay_cycles-more.ensures).recorded in
     let still = c.in_ok-make_room.ensures.counts.honest.1 honest in
-    let changes = c.in_ok-append.ensures.appends still now.stands.snap now.stands.records now.stands.holds in
+    let changes = c.in_ok-append.ensures.appends still now.represents.snap now.represents.records now.represents.holds in
     recorded_more _ _ _ _ _ _ _ now (rw (c.as_slice.ensures.value, c.in_ok-make_room.ensures.payload) c.encode_command-count.ensures.spells) c.requires.accepted c.replay_cycles-more.ensures c.in_ok-make_room.ensures.room.1 changes.durable changes.after
 
 pub returns-clause-acknowledges : goal.returns-clause-acknowledges
@@ -36,7 +36,7 @@ returns-clause-acknowledges g c = λ honest was.
     let made = c.in_ok-make_room.ensures.made honest was c.args.command.now c.encode_command-count.ensures.count c.replay_cycles-more.ensures in
     let now = made.recorded in
     let still = c.in_ok-make_room.ensures.counts.honest.1 honest in
-    let changes = c.in_ok-append.ensures.appends still now.stands.snap now.stands.records now.stands.holds in
+    let changes = c.in_ok-append.ensures.appends still now.represents.snap now.represents.records now.represents.holds in
     acknowledged (g.D.Disk.state c.args.self.now.store.disk) (g.D.Disk.state c.make_room.new.self.store.disk) (g.D.Disk.state c.append.new.self.disk) _ _ _ _ _ (returns-clause-moments g c honest was) made changes.ticks (returns-clause-recorded g c honest was)
     (rw (c.as_slice.ensures.value, c.in_ok-make_room.ensures.payload) c.encode_command-count.ensures.spells) c.requires.accepted (omega (arith, c.in_ok-make_room.ensures.room.1, c.replay_cycles-more.ensures)) changes.after
 

@@ -1,4 +1,4 @@
-use Rattle.mcs_disk.proofs.Calling.{none_added}
+use Rattle.mcs_disk.proofs.CallSequences.{none_added}
 use Rattle.std.proofs.Common.{rules, IsTrue}
 use Rattle.mcs_session.proofs.Room.{leaves_state, recorded_there, settles}
 use Rattle.mcs_session.proofs.session.Session.settle.Goals as goal
@@ -12,7 +12,7 @@ invariant_of-self g c =
       recorded = λ alive h.
           let honest = c.checkpoint.ensures.counts.honest.0 h in
           let was = c.self.invariant.recorded live honest in
-          recorded_there _ _ _ _ _ _ _ was (rw c.checkpoint.ensures.live at alive) (c.checkpoint.ensures.replaces honest was.stands.snap was.stands.records was.stands.holds) c.checkpoint.ensures.used;
+          recorded_there _ _ _ _ _ _ _ was (rw c.checkpoint.ensures.live at alive) (c.checkpoint.ensures.replaces honest was.represents.snap was.represents.records was.represents.holds) c.checkpoint.ensures.used;
     }
 
 pub returns-clause-settles : goal.returns-clause-settles
@@ -22,11 +22,11 @@ returns-clause-settles g c = λ h.
     let was = c.self.invariant.recorded live honest in
     elim c.match-checkpoint.branch [
       | in-Ok w ↦
-          let changes = w.in-Ok.ensures.replaces honest was.stands.snap was.stands.records was.stands.holds in
+          let changes = w.in-Ok.ensures.replaces honest was.represents.snap was.represents.records was.represents.holds in
           rw (w.result-is, ← c.self.view_is) (settles _ _ _ _ was changes.leaves changes.after changes.durable changes.ticks)
       | in-Err w ↦
-          let changes = w.in-Err.ensures.replaces honest was.stands.snap was.stands.records was.stands.holds in
-          rw (w.result-is, ← c.self.view_is) (was.stands, leaves_state _ _ _ _ was changes.leaves)
+          let changes = w.in-Err.ensures.replaces honest was.represents.snap was.represents.records was.represents.holds in
+          rw (w.result-is, ← c.self.view_is) (was.represents, leaves_state _ _ _ _ was changes.leaves)
     ]
 
 pub returns-then-not-is_open-clause-one_unsynced : goal.returns-then-not-is_open-clause-one_unsynced

@@ -1,7 +1,0 @@
-use Rattle.mcs_model.specs.Command.{machine_of, stops_of}
-use Rattle.mcs_probe.specs.Forecast.{begun_in}
-use Rattle.mcs_answers.proofs.ForecastLaws.{counts-lines}
-use Rattle.mcs_answers.proofs.laws.counts_are_of_the_trace.Goals as goal
-
-pub returns : goal.returns
-returns c = λ b n at. counts-lines at (begun_in (stops_of b) n (machine_of b))

@@ -1,5 +1,0 @@
-use Rattle.mcs_answers.proofs.RamTexts.{few_chips}
-use Rattle.mcs_answers.proofs.ram.are_whole.Goals as goal
-
-pub returns-clause-chips : goal.returns-clause-chips
-returns-clause-chips c bank = few_chips c.args.bench.now.bus.board bank c.show_state_is_valid.ensures.bus.board.valid

@@ -1,5 +1,0 @@
-use Rattle.mcs_asm.proofs.ErrorLists.{first_of_text}
-use Rattle.mcs_asm.proofs.all_errors.the_first_error_is_the_fault.Goals as goal
-
-pub returns : goal.returns
-returns c = λ text. first_of_text text

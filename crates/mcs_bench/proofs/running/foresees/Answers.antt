@@ -1,5 +1,0 @@
-use Rattle.std.proofs.Common.{refl, inl}
-use Rattle.mcs_bench.proofs.running.foresees.Goals as goal
-
-pub returns-then-is_empty : goal.returns-then-is_empty
-returns-then-is_empty c = inl (inl (c.is_empty.ensures c.if-is_empty.true), refl)

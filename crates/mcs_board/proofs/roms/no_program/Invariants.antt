@@ -1,5 +1,0 @@
-use Rattle.std.proofs.Common.{◌≡◌, replicate}
-use Rattle.mcs_board.proofs.roms.no_program.Given as goal
-
-abbrev pub invariant-loop : goal.invariant-loop
-invariant-loop l = l.program.items ≡ replicate l.counter 0

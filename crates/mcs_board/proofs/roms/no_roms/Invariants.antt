@@ -1,5 +1,0 @@
-use Rattle.std.proofs.Common.{◌≡◌, replicate, None}
-use Rattle.mcs_board.proofs.roms.no_roms.Given as goal
-
-abbrev pub invariant-loop : goal.invariant-loop
-invariant-loop l = l.roms.items ≡ replicate l.counter None

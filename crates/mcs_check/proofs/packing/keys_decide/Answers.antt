@@ -1,5 +1,0 @@
-use Rattle.mcs_check.proofs.Packed.{same-machine}
-use Rattle.mcs_check.proofs.packing.keys_decide.Goals as goal
-
-pub returns : goal.returns
-returns c = same-machine

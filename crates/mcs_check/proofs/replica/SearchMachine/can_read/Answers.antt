@@ -1,0 +1,21 @@
+use Rattle.std.proofs.Common.{◌∙◌, sym, subst, eqb}
+use Rattle.std.proofs.lemmas.Bool.{or_parts, eqb-false, ltb-false}
+use Rattle.mcs_check.specs.ReadPoints.{Reads}
+use Rattle.mcs_check.proofs.ValuesRead.{nothing-cannot, test-cannot, port-cannot}
+use Rattle.mcs_check.proofs.replica.SearchMachine.can_read.Goals as goal
+
+pub returns-in-NoInput : goal.returns-in-NoInput
+returns-in-NoInput c = λ no.
+    let s = c.args.self.now in
+    let parts = or_parts (eqb c.args.value 0) (eqb s.0.owed 1) (sym c.may_answer_without_read.ensures ∙ no) in
+    nothing-cannot c.args.value s (subst (Reads s) c.in-NoInput.is c.requires.reads) parts.1 (eqb-false c.args.value 0 parts.0)
+
+pub returns-in-Test : goal.returns-in-Test
+returns-in-Test c = λ no.
+    let s = c.args.self.now in
+    test-cannot c.args.value s (subst (Reads s) c.in-Test.is c.requires.reads) (ltb-false c.args.value 2 no)
+
+pub returns-in-Port : goal.returns-in-Port
+returns-in-Port c = λ no.
+    let s = c.args.self.now in
+    port-cannot c.args.value s (subst (Reads s) c.in-Port.is c.requires.reads) c.requires.keys (sym c.port_may_read.ensures ∙ no)

@@ -1,0 +1,67 @@
+use Rattle.std.proofs.Common.{◌≡◌, ◌∙◌, inl, inr, true, sym, ap}
+use Rattle.mcs_drive.specs.TrackedMachine.{TrackedMachine}
+use Rattle.mcs_check.specs.Conditions.{meets_none, observer_of_property}
+use Rattle.mcs_check.specs.Scopes.{has_all_lists}
+use Rattle.mcs_check.proofs.Going.{walked-none, walked-more, walked-reaches, walked-keeps}
+use Rattle.mcs_check.proofs.Scoping.{known-keeps, known-next}
+use Rattle.mcs_check.proofs.Spinning.{spun-apart, spun-walked}
+use Rattle.mcs_check.proofs.replica.SearchMachine.run_to_read_point.Goals as goal
+
+pub loop-init : goal.loop-init
+loop-init c = record { walked = walked-none (observer_of_property c.args.property.now) (meets_none c.args.property.now.never_lists) c.args.self.now; known = λ has rest. absurd (cc) }
+
+pub property_still_holds-requires : goal.property_still_holds-requires
+property_still_holds-requires c = λ has rest free. known-keeps c.scope-scope.result c.args.property.now.never_lists c.loop.self (sym c.is_covered_by-has_all_lists.ensures ∙ has) (c.loop.invariant.known has rest) (sym c.next_cycle_facts-next_cycle_facts.ensures.makes_mistake_in_scope ∙ free)
+
+pub loop-preserved : goal.loop-preserved
+loop-preserved c =
+    let scope = c.scope-scope.result in
+    let never_lists = c.args.property.now.never_lists in
+    let s = c.loop.self in
+    let t = c.run_step.new.self in
+    let property_holds = c.property_still_holds.ensures c.if-not-property_still_holds.false in
+    elim c.run_step.ensures [
+      | inl e ↦ record {
+        walked = walked-more (observer_of_property c.args.property.now) (meets_none never_lists) c.args.self.now s t c.loop.invariant.walked property_holds (c.next_cycle_facts-next_cycle_facts.ensures.quiet c.if-next_cycle_facts.false) e;
+        known = λ has rest.
+            let same = c.has_changed-changed.ensures rest in
+            let seen = same.1 ∙ ap (λ (m : TrackedMachine). m.2.seen) c.self.view_is in
+            known-next (observer_of_property c.args.property.now) scope never_lists s t (sym c.is_covered_by-has_all_lists.ensures ∙ has) seen (sym c.next_cycle_facts-next_cycle_facts.ensures.changes ∙ same.0) property_holds e;
+      }
+      | inr spun ↦
+          let may = c.may_spin-may.ensures spun.0 in
+          let has : has_all_lists scope never_lists ≡ true = sym c.is_covered_by-has_all_lists.ensures ∙ may.0 in
+          let rest = sym c.next_cycle_facts-next_cycle_facts.ensures.changes ∙ may.1.1 in
+          let sound = sym c.next_cycle_facts-next_cycle_facts.ensures.makes_mistake_in_scope ∙ may.1.0 in
+          record {
+            walked = spun-walked (observer_of_property c.args.property.now) scope never_lists c.args.self.now s t has rest sound property_holds spun.1 c.loop.invariant.walked;
+            known = λ _ _. spun-apart (observer_of_property c.args.property.now) scope never_lists s t has rest sound property_holds spun.1;
+          }
+    ]
+
+pub returns-then-left-eq0-clause-reaches : goal.returns-then-left-eq0-clause-reaches
+returns-then-left-eq0-clause-reaches c = λ h. walked-reaches (observer_of_property c.args.property.now) (meets_none c.args.property.now.never_lists) c.args.self.now c.loop.self c.loop.invariant.walked (sym c.keeps.ensures ∙ h)
+
+pub returns-then-left-eq0-clause-keeps : goal.returns-then-left-eq0-clause-keeps
+returns-then-left-eq0-clause-keeps c = walked-keeps (observer_of_property c.args.property.now) (meets_none c.args.property.now.never_lists) c.args.self.now c.loop.self c.loop.invariant.walked
+
+pub returns-then-not-property_still_holds-clause-keeps : goal.returns-then-not-property_still_holds-clause-keeps
+returns-then-not-property_still_holds-clause-keeps c = walked-keeps (observer_of_property c.args.property.now) (meets_none c.args.property.now.never_lists) c.args.self.now c.loop.self c.loop.invariant.walked
+
+pub returns-then-next_cycle_facts-clause-reaches : goal.returns-then-next_cycle_facts-clause-reaches
+returns-then-next_cycle_facts-clause-reaches c = λ _. walked-reaches (observer_of_property c.args.property.now) (meets_none c.args.property.now.never_lists) c.args.self.now c.loop.self c.loop.invariant.walked (c.property_still_holds.ensures c.if-not-property_still_holds.false)
+
+pub returns-then-next_cycle_facts-clause-keeps : goal.returns-then-next_cycle_facts-clause-keeps
+returns-then-next_cycle_facts-clause-keeps c = walked-keeps (observer_of_property c.args.property.now) (meets_none c.args.property.now.never_lists) c.args.self.now c.loop.self c.loop.invariant.walked
+
+pub returns-then-is_back_at_key-clause-reaches : goal.returns-then-is_back_at_key-clause-reaches
+returns-then-is_back_at_key-clause-reaches c = λ _. walked-reaches (observer_of_property c.args.property.now) (meets_none c.args.property.now.never_lists) c.args.self.now c.loop.self c.loop.invariant.walked (c.property_still_holds.ensures c.if-not-property_still_holds.false)
+
+pub returns-then-is_back_at_key-clause-keeps : goal.returns-then-is_back_at_key-clause-keeps
+returns-then-is_back_at_key-clause-keeps c = walked-keeps (observer_of_property c.args.property.now) (meets_none c.args.property.now.never_lists) c.args.self.now c.loop.self c.loop.invariant.walked
+
+pub returns-clause-reaches : goal.returns-clause-reaches
+returns-clause-reaches c = λ h. walked-reaches (observer_of_property c.args.property.now) (meets_none c.args.property.now.never_lists) c.args.self.now c.loop.self c.loop.invariant.walked (sym c.keeps-2.ensures ∙ h)
+
+pub returns-clause-keeps : goal.returns-clause-keeps
+returns-clause-keeps c = walked-keeps (observer_of_property c.args.property.now) (meets_none c.args.property.now.never_lists) c.args.self.now c.loop.self c.loop.invariant.walked

@@ -1,0 +1,5 @@
+use Rattle.mcs_check.specs.Keys.{KeepsBoardAndInputs}
+use Rattle.mcs_check.proofs.replica.SearchMachine.set_changed_cells.Given as goal
+
+abbrev pub invariant-loop-i : goal.invariant-loop-i
+invariant-loop-i l = KeepsBoardAndInputs l.fn.self.1 l.self.1

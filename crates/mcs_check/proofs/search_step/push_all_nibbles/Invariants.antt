@@ -1,0 +1,6 @@
+use Rattle.std.proofs.Common.{◌<◌, ℕ}
+use Rattle.std.specs.List.{Contains}
+use Rattle.mcs_check.proofs.search_step.push_all_nibbles.Given as goal
+
+abbrev pub invariant-loop-value : goal.invariant-loop-value
+invariant-loop-value l = (v : ℕ) → v < l.value → Contains l.into.items v

@@ -1,0 +1,24 @@
+use Rattle.mcs_check.specs.Conditions.{meets_none, observer_of_property}
+use Rattle.mcs_check.specs.Keys.{IsOnBoard, IsKeyOf, setting_of}
+use Rattle.mcs_check.proofs.Ignoring.{conditions-ignore}
+use Rattle.mcs_check.proofs.Keeping.{keeps-on}
+use Rattle.mcs_check.proofs.Steps.{on-board-kept, reaches-property_holds, walked-leads}
+use Rattle.mcs_check.proofs.search_step.run_to_next_key.Goals as goal
+
+pub returns-clause-leads : goal.returns-clause-leads
+returns-clause-leads c = λ _.
+    let start = c.args.replica.now in
+    let m = c.reload.new.self in
+    let x = c.read.new.self in
+    let n = c.run_to_read_point.new.self in
+    let p = meets_none c.args.property.now.never_lists in
+    let g = setting_of start c.args.layout.now c.args.property.now in
+    let on : IsOnBoard start.1.board start.1.rom m = on-board-kept start m c.show_state_is_valid.ensures.registers c.show_state_is_valid.ensures.bus c.requires.keys c.requires.test c.reload.ensures.keeps in
+    let kept = keeps-on start.1 x.1 n.1 (keeps-on start.1 m.1 x.1 c.reload.ensures.keeps c.read.ensures.keeps) c.run_to_read_point.ensures.keeps in
+    let reaches = c.run_to_read_point.ensures.reaches c.if-not-run_to_read_point.false in
+    let next : IsKeyOf g c.save.new.key n = record {
+      on = on-board-kept start n c.show_state_is_valid-2.ensures.registers c.show_state_is_valid-2.ensures.bus c.requires.keys c.requires.test kept;
+      property_holds = reaches-property_holds (observer_of_property c.args.property.now) p x n reaches;
+      cells = c.save.ensures;
+    } in
+    walked-leads g c.args.key.now c.save.new.key c.args.value m x n (conditions-ignore c.args.property.now.never_lists) c.requires.complete on (c.reload.ensures.loaded c.if-not-reload.false) (c.read.ensures.read c.if-not-read.false) reaches next

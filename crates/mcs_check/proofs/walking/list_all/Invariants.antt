@@ -1,6 +1,0 @@
-use Rattle.std.proofs.Common.{◌<◌, ℕ}
-use Rattle.std.specs.List.{Contains}
-use Rattle.mcs_check.proofs.walking.list_all.Given as goal
-
-abbrev pub invariant-loop-value : goal.invariant-loop-value
-invariant-loop-value l = (v : ℕ) → v < l.value → Contains l.into.items v

@@ -1,0 +1,26 @@
+-- A transition system whose keys identify machines.
+use Rattle.std.specs.Prelude.{◌≡◌, ℕ, List, Bool, true, false, None}
+use Rattle.std.specs.List.{Contains}
+use Rattle.mcs_model.specs.Boards.{board_fault_of}
+use Rattle.mcs_drive.specs.DrivenRuns.{Levels, FitsBoard}
+use Rattle.mcs_drive.specs.TrackedMachine.{Observer, TrackedMachine, with_levels, after_cycles, answer}
+use Rattle.mcs_drive.specs.RunsBetweenReads.{LeadsTo}
+use Rattle.mcs_search.specs.Rules.{Rules}
+
+-- holds if a key may identify the machine: the machine's board is sound, and property p holds for it
+pub record MayHaveKey (p : TrackedMachine → Bool) (a : TrackedMachine) : Type 0 where
+  pub sound : board_fault_of a.1.board ≡ None
+  pub property_holds : p a ≡ true
+
+-- the rules of a search whose keys identify machines. A choice is the value that a machine reads. A
+-- choice leads from a key to a next key if the first key's machine runs to the next key's machine at all
+-- input levels that give this value, and p holds at every step.
+abbrev pub machine_rules : Observer → (TrackedMachine → Bool) → (List ℕ → Type 0) → (List ℕ → TrackedMachine → Type 0) → Rules
+machine_rules w p is_state is_key_of = record {
+  is_state = is_state;
+  covers = λ key choices. (a : TrackedMachine) → is_key_of key a → (l : Levels) → FitsBoard a.1.board l → Contains choices (answer l a);
+  leads = λ key c next. (a : TrackedMachine) → is_key_of key a →
+      (b : TrackedMachine) × is_key_of next b × ((l : Levels) → FitsBoard a.1.board l → answer l a ≡ c → LeadsTo w p a b l);
+  fails = λ key c. (a : TrackedMachine) → is_key_of key a →
+      (l : Levels) × FitsBoard a.1.board l × ((k : ℕ) × (p (after_cycles w k (with_levels l a)) ≡ false));
+}

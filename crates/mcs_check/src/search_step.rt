@@ -1,0 +1,120 @@
+//! One step of the search, from the machine that a key identifies to the next machine.
+ghost use Rattle.std.specs.Prelude.{◌≡◌, ◌<◌, ◌⊎◌, ℕ, length, true, replicate, IfSome, OnOk};
+ghost use Rattle.std.specs.List.{Contains};
+ghost use Rattle.mcs_model.specs.Boards.{key_count};
+ghost use Rattle.mcs_check.specs.Cells.{IsComplete};
+ghost use Rattle.mcs_check.specs.Conditions.{PropertyConditions};
+ghost use Rattle.mcs_check.specs.Keys.{KeepsBoardAndInputs, setting_of};
+ghost use Rattle.mcs_check.specs.SearchRules.{Covers};
+ghost use Rattle.mcs_check.specs.ReadPoints.{CannotRead};
+ghost use Rattle.mcs_check.specs.SearchStep.{IsState, Leads};
+
+use crate::cells::KeyByte;
+use crate::property::Property;
+use crate::replica::SearchMachine;
+use std::alloc::AllocError;
+
+/// The number of values that a nibble can have.
+const VALUES: u8 = 16;
+
+/// Appends all 16 values of a nibble to `into`. Fails if memory runs out.
+fn push_all_nibbles(into: &mut Vec<u8>) -> Result<(), AllocError>
+    ensures { OnOk result ((value : ℕ) → value < 16 → Contains into.new.items value) }
+{
+    for value in 0..VALUES {
+        into.push(value)?;
+    }
+    Ok(())
+}
+
+/// Appends to `into` every value that the machine's next cycle can read. All keys of the machine must be pressed.
+/// Fails if memory runs out.
+fn push_readable_values(replica: &SearchMachine, into: &mut Vec<u8>) -> Result<(), AllocError>
+    requires keys { replica.now.1.keys ≡ replicate (key_count replica.now.1.board) 1 }
+    ensures { OnOk result ((value : ℕ) → value < 16 → CannotRead value replica.now ⊎ Contains into.new.items value) }
+{
+    let source = replica.source();
+    for value in 0..VALUES {
+        if replica.can_read(source, value) {
+            into.push(value)?;
+        }
+    }
+    Ok(())
+}
+
+/// Loads the machine that `key` identifies, and lists in `into` the values that it can read in its next cycle. Lists
+/// all 16 values if the key cannot be loaded. `last` is the replica's previous key, which `key` replaces. Fails if
+/// memory runs out.
+pub(crate) fn list_readable_values(
+    replica: &mut SearchMachine,
+    layout: &[KeyByte],
+    last: &mut [u8],
+    key: &[u8],
+    into: &mut Vec<u8>,
+) -> Result<(), AllocError>
+    requires keys { replica.old.1.keys ≡ replicate (key_count replica.old.1.board) 1 }
+    requires test { replica.old.1.test ≡ 0 }
+    requires complete { IsComplete replica.old.1.board layout.now }
+    ensures keeps { KeepsBoardAndInputs replica.old.1 replica.new.1 }
+    ensures covers { OnOk result ((property : PropertyConditions) →
+        Covers (setting_of replica.old layout.now property) key.now into.new.items) }
+{
+    into.clear();
+    if key.len() != layout.len() || !replica.reload(layout, last, key) {
+        push_all_nibbles(into)?;
+        return Ok(());
+    }
+    replica.show_state_is_valid();
+    push_readable_values(replica, into)?;
+    Ok(())
+}
+
+/// Copies a key into `last` if it has the same length.
+fn copy_key(last: &mut [u8], key: &[u8]) {
+    if last.len() == key.len() {
+        last.copy_from_slice(key);
+    }
+}
+
+/// Loads the machine that `key` identifies and runs it until its next read (see `run_to_read_point`). The first cycle
+/// reads `value`. Saves the machine's new key into `into` if the property holds. Returns whether the property holds
+/// at every step, or `None` if the key cannot be loaded or the first cycle cannot read `value`. `last` is the
+/// replica's previous key, which its new key replaces.
+pub(crate) fn run_to_next_key(
+    replica: &mut SearchMachine,
+    layout: &[KeyByte],
+    last: &mut [u8],
+    property: &Property,
+    most: u32,
+    key: &[u8],
+    value: u8,
+    into: &mut [u8],
+) -> Option<bool>
+    requires keys { replica.old.1.keys ≡ replicate (key_count replica.old.1.board) 1 }
+    requires test { replica.old.1.test ≡ 0 }
+    requires complete { IsComplete replica.old.1.board layout.now }
+    requires into { length into.old ≡ length key.now }
+    requires state { IsState (setting_of replica.old layout.now property.now) key.now }
+    ensures keeps { KeepsBoardAndInputs replica.old.1 replica.new.1 }
+    ensures leads { IfSome result (λ property_holds. property_holds ≡ true →
+        Leads (setting_of replica.old layout.now property.now) key.now value into.new) }
+    ensures state { IfSome result (λ property_holds. property_holds ≡ true →
+        IsState (setting_of replica.old layout.now property.now) into.new) }
+{
+    if key.len() != layout.len() || !replica.reload(layout, last, key) {
+        return None;
+    }
+    replica.show_state_is_valid();
+    let at = replica.program_counter();
+    let source = replica.source();
+    if !replica.read(property, source, value) {
+        return None;
+    }
+    if !replica.run_to_read_point(property, most, layout, key, at) {
+        return Some(false);
+    }
+    replica.show_state_is_valid();
+    replica.save(layout, into);
+    copy_key(last, into);
+    Some(true)
+}

@@ -1,5 +1,0 @@
-use Rattle.std.proofs.Common.{rules}
-use Rattle.mcs_cpu4004.proofs.execute.adjust.Goals as goal
-
-pub returns : goal.returns
-returns c = search rules

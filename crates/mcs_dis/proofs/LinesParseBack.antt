@@ -1,0 +1,24 @@
+-- The lines of a text that was written line by line, each line followed by LF, are these same
+-- lines.
+use Rattle.std.proofs.Common.{◌≡◌, ℕ, ◌-◌, Bool, true, false, eqb, length, slice_index, List, [], ◌∷◌, refl, ap, ◌∙◌, append_assoc}
+use Rattle.std.specs.List.{flat_map, AllByRecursion}
+use Rattle.std.specs.Str.Lines.{strip_carriage_return}
+use Rattle.mcs_model.specs.Cutting.{HasNoSeparator}
+use Rattle.mcs_model.specs.TextLines.{as_line, is_line_feed, lines, lines_of}
+use Rattle.mcs_model.proofs.LineLemmas.{lines-feed}
+
+abbrev pub ends_in_cr : List ℕ → Bool
+ends_in_cr line = eqb (slice_index line (length line - 1)) 13
+
+-- a line that does not end in CR, in front of other lines, is unchanged
+line_before_others : (l : List ℕ) (ls : List (List ℕ)) → ends_in_cr l ≡ false → lines_of (flat_map as_line ls) ≡ ls → strip_carriage_return l ∷ lines_of (flat_map as_line ls) ≡ l ∷ ls
+line_before_others l ls e again = rw (e, again) refl
+
+abbrev pub IsLine : List ℕ → Type 0
+IsLine l = HasNoSeparator is_line_feed l × (ends_in_cr l ≡ false)
+
+pub written_lines_parse_back : (ls : List (List ℕ)) → AllByRecursion IsLine ls → lines_of (flat_map as_line ls) ≡ ls
+unfolding lines
+written_lines_parse_back [] all = refl
+written_lines_parse_back (l ∷ ls) all =
+    ap (λ (t : List ℕ). lines_of t) (append_assoc l (10 ∷ []) (flat_map as_line ls)) ∙ lines-feed l (flat_map as_line ls) true all.0.0 ∙ line_before_others l ls all.0.1 (written_lines_parse_back ls all.1)

@@ -1,5 +1,0 @@
-use Rattle.mcs_dis.proofs.ReadBack.{read_back}
-use Rattle.mcs_dis.proofs.laws.reads_back.Goals as goal
-
-pub returns : goal.returns
-returns c = read_back

@@ -1,0 +1,5 @@
+use Rattle.mcs_disk.proofs.CallLaws.{lawful}
+use Rattle.mcs_disk.proofs.laws.current_bytes_are_an_image.Goals as goal
+
+pub returns : goal.returns
+returns g c = λ disk. (lawful (g.D.Disk.state disk)).current

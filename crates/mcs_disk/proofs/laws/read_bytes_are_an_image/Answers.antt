@@ -1,5 +1,0 @@
-use Rattle.mcs_disk.proofs.CallLaws.{lawful}
-use Rattle.mcs_disk.proofs.laws.read_bytes_are_an_image.Goals as goal
-
-pub returns : goal.returns
-returns g c = λ disk. (lawful (g.D.Disk.state disk)).current

@@ -1,0 +1,5 @@
+use Rattle.mcs_drive.proofs.PassedMarkLemmas.{opens-only-after}
+use Rattle.mcs_drive.proofs.laws.marks_precede_condition.Goals as goal
+
+pub returns : goal.returns
+returns c = opens-only-after

@@ -1,5 +1,0 @@
-use Rattle.mcs_drive.proofs.Tracking.{tracks-machine}
-use Rattle.mcs_drive.proofs.laws.tracks_machine.Goals as goal
-
-pub returns : goal.returns
-returns c = tracks-machine

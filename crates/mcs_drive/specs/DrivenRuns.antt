@@ -1,0 +1,33 @@
+-- The effects of inputs on a machine. Before each cycle the environment sets the keys and the TEST
+-- pin to any levels. The machine then executes one cycle, as the instruction table defines it. To
+-- believe the results, a reader must trust only this file, Tracked, and the definitions of
+-- mcs_model that these two use. (Our own choice.)
+use Rattle.std.specs.Prelude.{◌<◌, ℕ, zero, suc, List, unwrap_or}
+use Rattle.mcs_model.specs.declared.board.BoardParts.{BoardParts}
+use Rattle.mcs_model.specs.Boards.{key_count}
+use Rattle.mcs_model.specs.Effect.{cycle_of}
+use Rattle.mcs_model.specs.Running.{Machine}
+use Rattle.mcs_model.specs.Validity.{AreBelow}
+
+-- the input levels of a machine: one for each key, row by row, and one for the TEST pin
+pub record Levels : Type 0 where
+  pub keys : List ℕ
+  pub test : ℕ
+
+-- holds if l has a level, 0 or 1, for each key of the board and for TEST
+pub record FitsBoard (b : BoardParts) (l : Levels) : Type 0 where
+  pub keys : AreBelow (key_count b) 2 l.keys
+  pub test : l.test < 2
+
+-- a machine with its keys and TEST set to the input levels l
+abbrev pub with_levels : Levels → Machine → Machine
+with_levels l s = (s.0, record s.1 { keys = l.keys; test = l.test })
+
+-- a machine after one cycle; an opcode outside the instruction table leaves it unchanged
+abbrev pub cycled : Machine → Machine
+cycled s = unwrap_or (cycle_of s.0 s.1) s
+
+-- a machine after k cycles, if its inputs are set to the levels f i before cycle i
+abbrev pub driven : (ℕ → Levels) → ℕ → Machine → Machine
+driven f zero s = s
+driven f (suc k) s = cycled (with_levels (f k) (driven f k s))

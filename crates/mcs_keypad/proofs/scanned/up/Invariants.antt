@@ -1,5 +1,0 @@
-use Rattle.std.proofs.Common.{◌≡◌, replicate}
-use Rattle.mcs_keypad.proofs.scanned.up.Given as goal
-
-abbrev pub invariant-loop : goal.invariant-loop
-invariant-loop l = l.down.items ≡ replicate l.counter 0

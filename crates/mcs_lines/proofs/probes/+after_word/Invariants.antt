@@ -1,5 +1,0 @@
-use Rattle.std.proofs.Common.{length}
-use Rattle.mcs_lines.proofs.probes.+after_word.Given as goal
-
-abbrev pub decreases-after_word : goal.decreases-after_word
-decreases-after_word l = length l.start.now

@@ -1,8 +1,0 @@
-use Rattle.std.proofs.Common.{rules}
-use Rattle.mcs_lines.proofs.requests.read_with_two.Goals as goal
-
-pub returns : goal.returns
-returns c = search rules
-
-pub returns-in_err-bank : goal.returns-in_err-bank
-returns-in_err-bank c = search rules

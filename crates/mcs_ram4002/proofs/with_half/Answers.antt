@@ -1,8 +1,0 @@
-use Rattle.std.proofs.Common.{rules}
-use Rattle.mcs_ram4002.proofs.with_half.Goals as goal
-
-pub returns-then-at-eq0-clause-set : goal.returns-then-at-eq0-clause-set
-returns-then-at-eq0-clause-set c = search rules
-
-pub returns-then-at-eq0-clause-kept : goal.returns-then-at-eq0-clause-kept
-returns-then-at-eq0-clause-kept c = search rules

@@ -1,0 +1,85 @@
+use Rattle.std.proofs.Common.{◌≡◌, ◌<◌, ℕ, List, [], length, get_or, sym, ap, ◌∙◌, subst, arith}
+use Rattle.std.specs.List.{All}
+use Rattle.mcs_search.specs.Rules.{LeadsInto, Closure}
+use Rattle.mcs_search.specs.Verdicts.{IsUnderWay, SearchProgress, IsFollowOutcome, start_of}
+use Rattle.mcs_search.specs.declared.following.FollowOutcome.{FollowOutcome}
+use Rattle.mcs_search.proofs.Closures.{under-way-grows, under-way-next, closure}
+use Rattle.mcs_search.proofs.searching.Search.follow_next_state.Goals as goal
+
+pub returns-then-self-len-2-clause-proved : goal.returns-then-self-len-2-clause-proved
+returns-then-self-len-2-clause-proved g c =
+    let a = c.self.inside in
+    let r = g.S.System.rules (g.S.System.setting c.args.system.now) in
+    let u = subst (IsUnderWay r) (sym c.self.view_is) c.requires.under_way in
+    let all : a.followed ≡ length a.visited.keys = (let t = c.if-self-len-2.true in let l = c.len-len.ensures in omega arith) in
+    let n : a.followed ≡ c.len-len.result = all ∙ sym c.len-len.ensures in
+    let here = closure r a.visited.keys a.followed c.self.invariant.some all u in
+    let start : get_or a.visited.keys 0 [] ≡ start_of c.args.self.now = ap (λ (p : SearchProgress). start_of p) c.self.view_is in
+    subst (λ (k : ℕ). Closure r (start_of c.args.self.now) k) n (subst (λ (s : List ℕ). Closure r s a.followed) start here)
+
+pub returns-in_err-follow_choices-clause-under_way : goal.returns-in_err-follow_choices-clause-under_way
+returns-in_err-follow_choices-clause-under_way g c =
+    let a = c.self.inside in
+    let r = g.S.System.rules (g.S.System.setting c.args.system.now) in
+    let u = subst (IsUnderWay r) (sym c.self.view_is) c.requires.under_way in
+    let states = subst (λ s. All (g.S.System.rules s).is_state c.follow_choices.new.visited.keys) c.choices.ensures.setting c.follow_choices.ensures.states in
+    under-way-grows r a.followed c.follow_choices.ensures.grows c.self.invariant.within states u
+
+pub counterexample-requires : goal.counterexample-requires
+counterexample-requires g c =
+    let a = c.self.inside in
+    let r = g.S.System.rules (g.S.System.setting c.args.system.now) in
+    let u = subst (IsUnderWay r) (sym c.self.view_is) c.requires.under_way in
+    let states = subst (λ s. All (g.S.System.rules s).is_state c.follow_choices.new.visited.keys) c.choices.ensures.setting c.follow_choices.ensures.states in
+    let grown = under-way-grows r a.followed c.follow_choices.ensures.grows c.self.invariant.within states u in
+    record { under_way = subst (λ s. IsUnderWay (g.S.System.rules s) (record { keys = c.follow_choices.new.visited.keys; followed = a.followed })) (sym (c.follow_choices.ensures.setting ∙ c.choices.ensures.setting)) grown }
+
+pub returns-in_err-counterexample-in-Broken-clause-under_way : goal.returns-in_err-counterexample-in-Broken-clause-under_way
+returns-in_err-counterexample-in-Broken-clause-under_way g c =
+    let a = c.self.inside in
+    let r = g.S.System.rules (g.S.System.setting c.args.system.now) in
+    let u = subst (IsUnderWay r) (sym c.self.view_is) c.requires.under_way in
+    let states = subst (λ s. All (g.S.System.rules s).is_state c.follow_choices.new.visited.keys) c.choices.ensures.setting c.follow_choices.ensures.states in
+    subst (IsUnderWay r) (sym c.counterexample.ensures.same) (under-way-grows r a.followed c.follow_choices.ensures.grows c.self.invariant.within states u)
+
+pub returns-in_ok-counterexample-in-Broken-clause-under_way : goal.returns-in_ok-counterexample-in-Broken-clause-under_way
+returns-in_ok-counterexample-in-Broken-clause-under_way g c =
+    let a = c.self.inside in
+    let r = g.S.System.rules (g.S.System.setting c.args.system.now) in
+    let u = subst (IsUnderWay r) (sym c.self.view_is) c.requires.under_way in
+    let states = subst (λ s. All (g.S.System.rules s).is_state c.follow_choices.new.visited.keys) c.choices.ensures.setting c.follow_choices.ensures.states in
+    subst (IsUnderWay r) (sym c.counterexample.ensures.same) (under-way-grows r a.followed c.follow_choices.ensures.grows c.self.invariant.within states u)
+
+pub returns-in-TooMany-clause-under_way : goal.returns-in-TooMany-clause-under_way
+returns-in-TooMany-clause-under_way g c =
+    let a = c.self.inside in
+    let r = g.S.System.rules (g.S.System.setting c.args.system.now) in
+    let u = subst (IsUnderWay r) (sym c.self.view_is) c.requires.under_way in
+    let states = subst (λ s. All (g.S.System.rules s).is_state c.follow_choices.new.visited.keys) c.choices.ensures.setting c.follow_choices.ensures.states in
+    under-way-grows r a.followed c.follow_choices.ensures.grows c.self.invariant.within states u
+
+pub returns-in-GaveUp-clause-under_way : goal.returns-in-GaveUp-clause-under_way
+returns-in-GaveUp-clause-under_way g c =
+    let a = c.self.inside in
+    let r = g.S.System.rules (g.S.System.setting c.args.system.now) in
+    let u = subst (IsUnderWay r) (sym c.self.view_is) c.requires.under_way in
+    let states = subst (λ s. All (g.S.System.rules s).is_state c.follow_choices.new.visited.keys) c.choices.ensures.setting c.follow_choices.ensures.states in
+    under-way-grows r a.followed c.follow_choices.ensures.grows c.self.invariant.within states u
+
+pub returns-in-All-clause-under_way : goal.returns-in-All-clause-under_way
+returns-in-All-clause-under_way g c =
+    let a = c.self.inside in
+    let r = g.S.System.rules (g.S.System.setting c.args.system.now) in
+    let u = subst (IsUnderWay r) (sym c.self.view_is) c.requires.under_way in
+    let keys = c.follow_choices.new.visited.keys in
+    let key = get_or a.visited.keys a.followed [] in
+    let states = subst (λ s. All (g.S.System.rules s).is_state keys) c.choices.ensures.setting c.follow_choices.ensures.states in
+    let choices = c.choices.new.into.items in
+    let stored : c.copy_from_slice.new.self.items ≡ key = c.copy_from_slice.ensures.items ∙ c.key.ensures.key in
+    let covers = subst (λ (k : List ℕ). r.covers k choices) (c.deref.ensures.value ∙ stored) c.in_ok-choices.ensures.covers in
+    let outcome = subst (λ (f : FollowOutcome). IsFollowOutcome (g.S.System.rules (g.S.System.setting c.choices.new.self)) keys c.deref-2.result.now c.deref-3.result.now f) c.in-All.is c.in_ok-follow_choices.ensures.outcome in
+    let here = subst (λ s. All (LeadsInto (g.S.System.rules s) keys c.deref-2.result.now) c.deref-3.result.now) c.choices.ensures.setting outcome in
+    let at = subst (λ (k : List ℕ). All (LeadsInto r keys k) c.deref-3.result.now) (c.deref-2.ensures.value ∙ stored) here in
+    let leads = subst (λ (cs : List ℕ). All (LeadsInto r keys key) cs) c.deref-3.ensures.value at in
+    let within : a.followed < length a.visited.keys = (let t = c.if-self-len-2.false in let l = c.len-len.ensures in let w = c.self.invariant.within in omega arith) in
+    under-way-next r a.followed c.follow_choices.ensures.grows within states u (choices, covers, leads)

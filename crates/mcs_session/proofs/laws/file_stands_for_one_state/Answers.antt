@@ -1,5 +1,0 @@
-use Rattle.mcs_session.proofs.Files.{one_either}
-use Rattle.mcs_session.proofs.laws.file_stands_for_one_state.Goals as goal
-
-pub returns : goal.returns
-returns c = one_either

@@ -1,5 +1,0 @@
-use Rattle.mcs_session.proofs.Reopening.{reopened}
-use Rattle.mcs_session.proofs.laws.reopened_bench_holds_what_was_acknowledged.Goals as goal
-
-pub returns : goal.returns
-returns g c = λ t old new found opened. reopened t (g.D.Disk.state old) (g.D.Disk.state new) (g.E.Disk.state found) (g.E.Disk.state opened)

@@ -1,0 +1,8 @@
+use Rattle.mcs_session.proofs.Files.{opens_first, refused_first}
+use Rattle.mcs_session.proofs.laws.version_1_file_keeps_its_state.Goals as goal
+
+pub returns-clause-opened : goal.returns-clause-opened
+returns-clause-opened g c = λ old new s u honest each opens does. opens_first _ _ s u each opens does
+
+pub returns-clause-refused : goal.returns-clause-refused
+returns-clause-refused g c = λ old new s fault honest each left. refused_first fault _ _ s each left

@@ -1,0 +1,7 @@
+use Rattle.std.proofs.Common.{refl}
+use Rattle.mcs_shell.specs.TextMeanings.{meaning_of_text}
+use Rattle.mcs_shell.proofs.laws.a_wiring_report_requests_no_command.Goals as goal
+
+pub returns : goal.returns
+unfolding meaning_of_text
+returns c = λ text. refl

@@ -1,0 +1,28 @@
+-- The bytes that are stored for unfinished lines and texts while input arrives in chunks.
+use Rattle.std.specs.Prelude.{◌≡◌, ◌⊎◌, ◌<◌, ℕ, List, [], ◌++◌, length, Option, Some, None}
+use Rattle.std.specs.Str.Lines.{strip_carriage_return}
+use Rattle.mcs_lines.specs.declared.requests.TextKind.{TextKind}
+use Rattle.mcs_model.specs.declared.limits.TheConstants.{TEXT_BYTES}
+use Rattle.mcs_model.specs.TextLines.{as_line}
+use Rattle.mcs_shell.specs.UnfinishedInputView.{LineMode, OutsideText, InText, UnfinishedInputView}
+
+-- the mode of the unfinished line, given the kind of the open text, if one is open, and its stored bytes
+abbrev pub mode_of : Option TextKind → List ℕ → LineMode
+mode_of None text = OutsideText
+mode_of (Some kind) text = InText kind text
+
+-- Holds if `new` is the text with the line and a line feed appended. If that would be more than
+-- `TEXT_BYTES` bytes, `new` may instead be any text with more than `TEXT_BYTES` bytes, because both are
+-- refused in the same way, whatever follows.
+abbrev pub AppendsLine : List ℕ → List ℕ → List ℕ → Type 0
+AppendsLine text line new =
+    (new ≡ text ++ as_line line)
+    ⊎ ((TEXT_BYTES < length (text ++ as_line line)) × (TEXT_BYTES < length new))
+
+-- Holds if the unfinished line was appended to the open text, without a carriage return at its end. Claims nothing
+-- if no text is open.
+abbrev pub AppendsLineToText : LineMode → List ℕ → UnfinishedInputView → Type 0
+AppendsLineToText OutsideText line q = Unit {0}
+AppendsLineToText (InText kind text) line q =
+    (new : List ℕ) × AppendsLine text (strip_carriage_return line) new
+    × (q ≡ record { mode = InText kind new; line = [] })

@@ -1,5 +1,0 @@
-use Rattle.mcs_trace.proofs.Parts.{begun-add-up}
-use Rattle.mcs_trace.proofs.laws.begun_add_up.Goals as goal
-
-pub returns : goal.returns
-returns c = λ stops m n s e. begun-add-up stops m n s e

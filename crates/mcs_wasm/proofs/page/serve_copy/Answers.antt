@@ -1,0 +1,42 @@
+use Rattle.std.proofs.Common.{◌∙◌, IsTrue, Some, refl, rules, subst, sym}
+use Rattle.mcs_wasm.proofs.WholeInput.{keeps_open, keeps_size, size_resumed}
+use Rattle.mcs_wasm.specs.Page.{IsAllServed}
+use Rattle.mcs_wasm.proofs.page.serve_copy.Goals as goal
+
+pub returns-then-room-len-clause-refused : goal.returns-then-room-len-clause-refused
+returns-then-room-len-clause-refused c = record {
+  end = c.run_shell-end.result;
+  whole = search rules;
+  answers = c.run_shell-end.new.writer.items;
+  after = _;
+  served = record {
+    left = c.run_shell-end.new.session;
+    run_on_file = record {
+      session = c.in-Ok.session;
+      resumes = c.in-Ok.ensures.resumed;
+      rest = _;
+      ran = rw c.new-output.ensures.items at c.run_shell-end.ensures.ran;
+    };
+    disk_bytes = record { honest = tt; bytes = refl };
+  };
+  counted = search rules;
+  short = search rules;
+}
+
+pub returns-clause-served : goal.returns-clause-served
+returns-clause-served c =
+    let whole : IsAllServed c.run_shell-end.result = search rules in
+    let resumed = c.in-Ok.ensures.resumed in
+    let size = keeps_size _ _ _ _ _ whole c.run_shell-end.ensures.ran in
+    let stays_open = keeps_open _ _ _ _ _ whole c.run_shell-end.ensures.ran in
+    record {
+      whole = whole;
+      run_on_file = record {
+        session = c.in-Ok.session;
+        resumes = resumed;
+        rest = Some c.run_shell-end.new.reader.now;
+        ran = rw c.new-output.ensures.items at c.run_shell-end.ensures.ran;
+      };
+      is_open = subst IsTrue (sym stays_open) resumed.opened.is_open;
+      size = size ∙ size_resumed c.args.file.now c.in-Ok.session resumed;
+    }
