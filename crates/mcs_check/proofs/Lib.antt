@@ -10,7 +10,7 @@ pub mod Going
 pub mod Steps
 pub mod Ignoring
 pub mod Always
-pub mod Pressing
+pub mod PressedKeys
 pub mod Beginning
 pub mod Scoping
 pub mod Spinning

@@ -1,6 +1,6 @@
 use Rattle.std.proofs.Common.{◌<◌, ◌∙◌, ℕ, List, replicate, sym, ap, subst, arith}
 use Rattle.mcs_model.specs.Boards.{key_count}
-use Rattle.mcs_check.proofs.Pressing.{pressed-all}
+use Rattle.mcs_check.proofs.PressedKeys.{pressed-all}
 use Rattle.mcs_check.proofs.pressing.press_all.Goals as goal
 
 pub nonzero_div-i : goal.nonzero_div-i

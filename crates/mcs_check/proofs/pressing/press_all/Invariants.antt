@@ -1,5 +1,5 @@
 use Rattle.std.proofs.Common.{◌≡◌}
-use Rattle.mcs_check.proofs.Pressing.{IsPressed}
+use Rattle.mcs_check.proofs.PressedKeys.{IsPressed}
 use Rattle.mcs_check.proofs.pressing.press_all.Given as goal
 
 abbrev pub invariant-loop-i : goal.invariant-loop-i
