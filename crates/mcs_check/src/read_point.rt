@@ -33,6 +33,16 @@ fn is_bit_subset(n: Nibble, most: Nibble) -> bool
         && n.bit(3).get() <= most.bit(3).get()
 }
 
+/// Returns whether each bit of `value` is at least the same bit of `least` and at most that of `most`. `value` must be
+/// less than 16.
+fn lies_between(least: Nibble, value: u8, most: Nibble) -> bool
+    requires { value < 16 }
+    ensures { result ≡ (is_bit_subset least value && is_bit_subset value most) }
+{
+    let value = Nibble::low_of(value);
+    is_bit_subset(least, value) && is_bit_subset(value, most)
+}
+
 /// Returns the number of open calls after an instruction, if `calls` are open before it.
 fn calls_after_op(op: &Op, calls: u8) -> u8
     ensures { result ≡ calls_after (Some op.now) calls }
@@ -272,29 +282,36 @@ impl SearchMachine {
         }
     }
 
-    /// Returns whether each bit of `value` is at least the selected port's level with no key pressed, and at most its
-    /// present level. `value` must be less than 16.
-    fn port_may_read(&self, value: u8) -> bool
-        requires { value < 16 }
-        ensures { result ≡ (is_bit_subset (port_unpressed self.now.1) value && is_bit_subset value (port_of self.now.1)) }
+    /// Returns the value that the selected port reads with no key pressed, and the value that it reads at present.
+    pub(crate) fn port_bounds(&self) -> (Nibble, Nibble)
+        ensures least { result.0 ≡ port_unpressed self.now.1 }
+        ensures most { result.1 ≡ port_of self.now.1 }
     {
-        let value = Nibble::low_of(value);
         let most = self.rig.read_port(Nibble::high_of(self.rig.rom_src()));
-        is_bit_subset(self.unpressed_port(), value) && is_bit_subset(value, most)
+        (self.unpressed_port(), most)
     }
 
     /// Returns false only if the next cycle cannot read this value at any levels of the keys and TEST. All keys of
-    /// the machine must be pressed, and `value` must be less than 16.
-    pub fn can_read(&self, source: InputSource, value: u8) -> bool
+    /// the machine must be pressed, and `value` must be less than 16. `least` and `most` are the values of
+    /// `port_bounds`.
+    pub(crate) fn can_read(
+        &self,
+        source: InputSource,
+        least: Nibble,
+        most: Nibble,
+        value: u8,
+    ) -> bool
         requires reads { Reads self.now source }
         requires keys { self.now.1.keys ≡ replicate (key_count self.now.1.board) 1 }
+        requires least { least ≡ port_unpressed self.now.1 }
+        requires most { most ≡ port_of self.now.1 }
         requires value { value < 16 }
         ensures { result ≡ false → CannotRead value self.now }
     {
         match source {
             InputSource::NoInput => self.may_answer_without_read(value),
             InputSource::Test => value < 2,
-            InputSource::Port => self.port_may_read(value),
+            InputSource::Port => lies_between(least, value, most),
         }
     }
 

@@ -34,8 +34,9 @@ fn push_readable_values(replica: &SearchMachine, into: &mut Vec<u8>) -> Result<(
     ensures { OnOk result ((value : ℕ) → value < 16 → CannotRead value replica.now ⊎ Contains into.new.items value) }
 {
     let source = replica.source();
+    let (least, most) = replica.port_bounds();
     for value in 0..VALUES {
-        if replica.can_read(source, value) {
+        if replica.can_read(source, least, most, value) {
             into.push(value)?;
         }
     }

@@ -1,6 +1,7 @@
-use Rattle.std.proofs.Common.{◌∙◌, sym, subst, eqb}
+use Rattle.std.proofs.Common.{◌∙◌, ◌&&◌, ap, sym, subst, eqb}
 use Rattle.std.proofs.lemmas.Bool.{or_parts, eqb-false, ltb-false}
-use Rattle.mcs_check.specs.ReadPoints.{Reads}
+use Rattle.mcs_model.specs.Levels.{port_of}
+use Rattle.mcs_check.specs.ReadPoints.{Reads, is_bit_subset}
 use Rattle.mcs_check.proofs.ValuesRead.{nothing-cannot, test-cannot, port-cannot}
 use Rattle.mcs_check.proofs.replica.SearchMachine.can_read.Goals as goal
 
@@ -18,4 +19,7 @@ returns-in-Test c = λ no.
 pub returns-in-Port : goal.returns-in-Port
 returns-in-Port c = λ no.
     let s = c.args.self.now in
-    port-cannot c.args.value s (subst (Reads s) c.in-Port.is c.requires.reads) c.requires.keys (sym c.port_may_read.ensures ∙ no)
+    let v = c.args.value in
+    let same = sym (ap (λ n. is_bit_subset n v && is_bit_subset v (port_of s.1)) c.requires.least)
+    ∙ sym (ap (λ n. is_bit_subset c.args.least v && is_bit_subset v n) c.requires.most) in
+    port-cannot v s (subst (Reads s) c.in-Port.is c.requires.reads) c.requires.keys (same ∙ sym c.lies_between.ensures ∙ no)
