@@ -1,5 +1,5 @@
-// Serves the lines that users type in the debug console: bench lines (with labels as addresses), key names, moves that have no button, and
-// expressions.
+// Serves the lines that a user types in the debug console: bench lines (in which labels can replace addresses), key presses, moves that
+// have no button, and expressions.
 
 import { ANSWER_FORMS, isQuery } from "../bench/answer_table.js";
 import { readRun, parseRefusal } from "../bench/answers.js";
@@ -19,11 +19,12 @@ import { noKey } from "../../words/testing.js";
  * @typedef {import("./expression_values.js").ExpressionContext} ExpressionContext
  * @typedef {import("../bench/error_messages.js").ErrorMessages} ErrorMessages
  *
- * The result of a line: the text to show, whether the machine changed, and a move that begins after the text is shown (null for none).
+ * The result of a line. `words` is the text to show. `changes` is true if the line changed the machine. `move` starts a move after the text
+ * is shown; null for none.
  * @typedef {{ words: string, changes: boolean, move: (() => void) | null }} LineResult
  *
- * A callback between two steps of long work. It receives the number of processed characters. If it resolves to false, the work is cancelled
- * and no line has an effect.
+ * A callback that is called between two pieces of long work, with the number of processed characters. If it resolves to false, the work is
+ * cancelled and no line has an effect.
  * @typedef {(done: number) => Promise<boolean>} MayContinue
  */
 
@@ -31,7 +32,7 @@ import { noKey } from "../../words/testing.js";
 export const FIRST_WORDS = [
   "press", "release", "keys", "until", "change", "back", "forward", "set", "help", "display", ...ANSWER_FORMS.keys(),
 ];
-/** The maximum length of a console input in characters, and its maximum number of bench lines. */
+/** The maximum length of a console input in characters, and the maximum number of bench lines in it. */
 const MAX_LENGTH = 65536;
 const MAX_INPUTS = 1000;
 const COMPARISON_LINE = /^[^\n]*[=<>]/;
@@ -45,7 +46,7 @@ export class Console {
   /**
    * @param {Machine} machine
    * @param {ExpressionContext} context
-   * @param {ErrorMessages} words the messages for refusal numbers
+   * @param {ErrorMessages} words the messages for the error numbers of the bench
    * @param {{ breaksChanged: () => void, romChanged: () => void }} calls
    */
   constructor(machine, context, words, calls) {
@@ -103,7 +104,8 @@ export class Console {
   }
 
   /**
-   * Presses or releases keys. While time is paused, a key stays in its new position. While the machine runs, `press` also releases the key.
+   * Presses or releases keys. While the machine is paused, a key stays in its new position. While the machine runs, `press` also releases
+   * the key.
    * @param {"press" | "release"} word
    * @param {string[]} names
    */
@@ -160,7 +162,7 @@ export class Console {
   }
 
   /**
-   * Parses the goal of a move through time: a place or a condition.
+   * Parses the goal of a move: a place or a condition.
    * @param {string} text
    */
   readGoal(text) {
@@ -209,7 +211,7 @@ export class Console {
 }
 
 /**
- * Returns the address for a label or number; fails if the text is neither.
+ * Returns the address that a label or number denotes; throws AdapterError if the text is neither.
  * @param {string} text a label with or without `@`, or a number
  * @param {ExpressionContext} context
  * @returns {number}

@@ -1,9 +1,9 @@
 // The debug adapter: an editor launches a program on a board, or opens a session file. The editor then sets breakpoints, runs forward and
 // back, and shows the machine state. The page uses the same debugger (debug/debug_session.js).
 //
-//     const adapter = new DebugAdapter(new AdapterConnection(write), engine, data, host);     session_launch.js describes the host
-//     connection.take(bytes);                                                                for all bytes of the client
-//     await adapter.leave();                                                                 after the end of the connection
+//     const adapter = new DebugAdapter(new AdapterConnection(write), engine, data, host);     // session_launch.js describes the host
+//     connection.take(bytes);                                            // whenever bytes from the client arrive
+//     await adapter.leave();                                             // after the connection has ended
 
 import { Face } from "../board/face.js";
 import { instructionForLine } from "../debug/breakpoints.js";
@@ -34,7 +34,7 @@ import * as say from "../../words/adapter.js";
  * @typedef {import("./session_launch.js").LaunchResult} LaunchResult
  * @typedef {import("./debugged_machine.js").MoveEnd} MoveEnd
  *
- * The parts of a debug session, which exists from launch or attach until the end of debugging.
+ * The parts of a debug session. A debug session exists from `launch` or `attach` until the end of debugging.
  * @typedef {{ launchResult: LaunchResult, machine: Machine, breakpoints: ClientBreakpoints, console: Console,
  *   queryHandlers: QueryHandlers }} OpenSession
  */
@@ -88,7 +88,7 @@ export class DebugAdapter {
     this.host = host;
     this.words = new ErrorMessages(refusals);
     this.instructions = readInstructions(manual);
-    /** The client's first line number and first column number, and the optional events that the client accepts. */
+    /** The client's numbers of the first line and the first column (0 or 1), and which optional events the client accepts. */
     this.firstLine = 1;
     this.firstColumn = 1;
     this.acceptsInvalidated = false;
@@ -190,7 +190,7 @@ export class DebugAdapter {
   }
 
   /**
-   * Warns the user if the bytes in ROM differ from the source.
+   * Warns the user if the bytes in ROM differ from the assembled source.
    * @param {LaunchResult} launchResult
    */
   reportRom({ session }) {
@@ -421,7 +421,7 @@ export class DebugAdapter {
     });
   }
 
-  /** Makes the client read the state again after a console line has changed the machine. */
+  /** Makes the client read the machine state again, after a console line has changed the machine. */
   sendInvalidated() {
     this.lastStop = this.pauseEnd("step");
     if (this.acceptsInvalidated) this.connection.sendEvent("invalidated", { areas: ["all"] });
@@ -452,7 +452,7 @@ export class DebugAdapter {
 
   // --- events ---
 
-  /** Sends the changes of the front panel if the client draws the board. */
+  /** Sends the changes of the front panel, if the client draws the front panel. */
   sendBoard() {
     const { shownBoard } = this;
     const news = shownBoard ? shownBoard.take() : {};
@@ -460,7 +460,7 @@ export class DebugAdapter {
   }
 
   /**
-   * Returns the end of a move that no stop of the debugger has ended.
+   * Returns a `MoveEnd` for a pause that is not a stop of the debugger, for example after a launch or a `goto`.
    * @param {string} reason a stop reason of the protocol
    * @returns {MoveEnd}
    */

@@ -14,10 +14,11 @@ import * as say from "../../words/adapter.js";
 /**
  * @typedef {import("../debug/debug_session.js").DebugSession} DebugSession
  *
- * A memory range: the memory reference of its first byte, its contents, and a function that returns the `poke` place of an index.
+ * A memory range. `begin` is the memory reference of its first byte. `bytes` are its contents. `place` returns the place, as a `poke` line
+ * names it, of the byte at an index.
  * @typedef {{ begin: number, bytes: Uint8Array, place: (at: number) => string }} MemoryRange
  *
- * The location that a request names: a range, and an index that can be outside the range.
+ * The location that a request names: a range, and an index in this range (`from`), which can be out of bounds.
  * @typedef {{ range: MemoryRange, from: number }} RangePlace
  */
 
@@ -50,7 +51,7 @@ export function memoryNumberForPlace(name) {
 
 /**
  * Parses a memory reference. Returns it as a number.
- * @param {string} reference a number, a bank such as `ram.0`, a RAM or status character, or an address expression
+ * @param {string} reference a number, a bank such as `ram.0`, a RAM or status character, or a label
  * @param {(reference: string) => number} addressOf
  */
 function parseReference(reference, addressOf) {
@@ -130,7 +131,7 @@ export async function writeMemory(args, session, addressOf) {
   const dataInRange = end > first ? newBytes.subarray(first - from, end - from) : new Uint8Array(0);
   const lines = [...dataInRange].map((byte, at) => `poke ${place(first + at)} ${byte}\n`).join("");
   const bench = session.debugger.session;
-  // A copy of the session serves the lines first. If a line is rejected, nothing is written.
+  // A copy of the session serves the lines first. If it rejects a line, nothing is written.
   const answers = lines === "" ? [] : bench.ask(lines);
   const rejectedIndex = answers.findIndex((answer) => parseRefusal(answer));
   if (rejectedIndex >= 0) fail(say.benchAnswered(lines.split("\n")[rejectedIndex], answers[rejectedIndex]));

@@ -1,4 +1,4 @@
-// Handlers for requests that move time: continue, step, go back, restart a frame, go to a line.
+// Handlers for requests that move the machine: continue, step, go back, restart a frame, go to a line.
 
 import { LAST_ADDRESS, hex } from "../bench/numbers.js";
 import { instructionForLine } from "../debug/breakpoints.js";
@@ -17,6 +17,7 @@ import { NO_CALL_WAITS } from "../../words/stops.js";
  * @typedef {import("./debugged_machine.js").Machine} Machine
  */
 
+/** The thread id of the processor, the only thread. */
 export const THREAD = 1;
 
 export class Moves {

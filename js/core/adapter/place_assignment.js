@@ -30,7 +30,7 @@ export function evaluateNumber(text, session, begin = 0) {
 }
 
 /**
- * Returns the bench lines that set a place, even if the place already has the value.
+ * Returns the bench lines that set a place. The place can already have the value.
  * @param {string} place a place from `settablePlace`, or a key in the form `key 0 2`
  * @param {string} text the value as an expression
  * @param {DebugSession} session
@@ -63,7 +63,7 @@ export function compileSetLine(text, session) {
 }
 
 /**
- * Returns the name of the place to set, for a key `key 0 2`; throws AdapterError if the text names nothing that can be set.
+ * Returns the name of the place to set, for a key in the form `key 0 2`. Throws AdapterError if the text names nothing that can be set.
  * @param {string} text a place of the machine, or `key NAME`
  * @param {import("../board/face.js").Face} face
  * @returns {string}

@@ -17,16 +17,16 @@ import { sourceOfBank } from "../../words/debug.js";
  *
  * A variable:
  * - `evaluateName`: an expression with the same value;
- * - `place`: the place that place_assignment.js sets, "" if it cannot be set;
+ * - `place`: the place that an assignment to the variable sets, "" for a read-only variable;
  * - `variablesReference`: the reference of its child variables, 0 for none; `count`: the number of children;
  * - `memory`: its memory reference;
  * - `isDecimal`: true if its value is a decimal number;
- * - `watchPlace`: the place to watch for changes, if this place differs from `place`.
+ * - `watchPlace`: the place that a data breakpoint on the variable watches, if it differs from `place`.
  * @typedef {{ name: string, value: string, evaluateName?: string, place: string, variablesReference: number, count?: number,
  *   memory?: string, isDecimal?: boolean, watchPlace?: string }} Variable
  * @typedef {import("./number_format.js").Base} Base
  *
- * The state that the scopes show.
+ * The state from which the variables are read.
  * @typedef {{ machineState: MachineState, face: Face, session: DebugSession, board: import("../bench/answers.js").Board }} ShownState
  */
 
@@ -35,7 +35,7 @@ const [REGISTERS, PAIRS, RAM, PORTS, LAMPS, KEYS, NAMES] = [1, 2, 3, 4, 5, 6, 7]
 /** Bank B has the variables reference BANK_BASE + B; RAM register R of bank B has the reference REGISTER_BASE + 16 * B + R. */
 const [BANK_BASE, REGISTER_BASE] = [100, 200];
 
-/** @type {(digit: string) => string} returns hexadecimal digits with the prefix 0x */
+/** @type {(digit: string) => string} adds the prefix 0x to hexadecimal digits */
 const toHex = (digit) => `0x${digit}`;
 
 /**
@@ -110,7 +110,7 @@ function listBankRegisters({ machineState }, bank) {
 const placeReference = (place) => formatReference(memoryNumberForPlace(place));
 
 /**
- * Returns the nibbles and status characters of a RAM register. The name of a nibble includes the program constants with its number.
+ * Returns the nibbles and status characters of a RAM register. The name of a nibble includes the program constants that equal its SRC byte.
  * @param {ShownState} state
  * @param {number} bank
  * @param {number} register
@@ -149,7 +149,7 @@ function ports({ machineState, face }) {
   ];
 }
 
-/** @param {string} source the SRC byte stored in the ROMs (`21`), or in a RAM bank (`0.21`) */
+/** @param {string} source the SRC byte latched in the ROMs (`21`), or in a RAM bank (`0.21` for bank 0) */
 function sourceVariable(source) {
   const [bank, byte] = source.split(".");
   if (byte === undefined) return variable("SRC", say.selectsRom(toHex(bank), parseInt(bank[0], 16)));

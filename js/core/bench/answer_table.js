@@ -1,15 +1,16 @@
-// The answer format of each input line, and whether a text follows the line. Both come from the table tools/lib/answers.txt; its header
-// explains the columns.
+// Defines the answer format of each input line, and whether a text follows the line. Both come from the table tools/lib/answers.txt; its
+// header explains the columns.
 
 import table from "#answer-table";
 
 /**
  * The format of the answer to an input line. `opensText`: true if a text follows the input line. `isQuery`: true if the line does not
  * change the session. `first`: the pattern of the first answer line. `further`: the pattern of the other answer lines, null if there are
- * none. `count`: the number of further lines, in the notation of the table.
+ * none. `count`: the number of these other lines, in the notation of the table.
  * @typedef {{ opensText: boolean, isQuery: boolean, first: RegExp, further: RegExp | null, count: string }} Form
  */
 
+/** The number of columns in a row of the table. */
 const COLUMN_COUNT = 5;
 /** The start of the pattern for the answer to a command. */
 const COMMAND_ANSWER = "^ok ";

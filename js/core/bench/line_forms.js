@@ -1,4 +1,4 @@
-// The grammar of bench lines: their words and number ranges. If the bench rejects a line, `findLineError` names the wrong word.
+// Defines the grammar of bench lines: their words and number ranges. If the bench rejects a line, `findLineError` names the wrong word.
 
 import { ANSWER_FORMS } from "./answer_table.js";
 import { INVALID_CHARACTER, LINE_TOO_LONG, MAX_LINE_LENGTH, MAX_PLACES, NOT_ASCII } from "./inputs.js";
@@ -7,7 +7,7 @@ import { findSimilarWords } from "../text/similar_words.js";
 import * as say from "../../words/lines.js";
 
 /**
- * The error in a line: the refusal number, and a message that names the wrong word.
+ * The error in a line: the bench's error number, and a message that names the wrong word.
  * @typedef {{ number: number, words: string }} LineFault
  *
  * The syntax of a kind of place: the pattern of its name, the maximum of each number in the name (`most`), and the maximum value of the
@@ -16,6 +16,7 @@ import * as say from "../../words/lines.js";
  * @typedef {[number, number]} Range the first and the last number
  */
 
+/** The error numbers of the bench for a line that is no command, and for a number that is out of range. */
 const NOT_A_COMMAND = 10;
 const BAD_NUMBER = 11;
 const MAX_BIT = 1;
@@ -23,13 +24,15 @@ const MAX_BANK = 7;
 const MAX_NIBBLE = 15;
 const MAX_BYTE = 255;
 const MAX_ADDRESS = 4095;
+/** The maximum number of cycles in a `trace` or `count` line. */
 const MAX_CYCLES = 100000;
 const MAX_NUMBER = 4294967295;
+/** The maximum number of lines that a `list` query can ask for. */
 const MAX_LISTED = 256;
 
 /** @type {(most: number) => Range} */
 const rangeTo = (max) => [0, max];
-/** @type {Record<string, Range[]>} the number ranges after the first word */
+/** @type {Record<string, Range[]>} the ranges of the numbers in a line, by the first word of the line */
 const NUMBER_RANGES = {
   press: [rangeTo(MAX_BYTE), rangeTo(MAX_BYTE)],
   release: [rangeTo(MAX_BYTE), rangeTo(MAX_BYTE)],
@@ -45,7 +48,9 @@ const NUMBER_RANGES = {
 };
 const NUMERAL = "(0x[0-9a-fA-F]+|[0-9]+)";
 
-/** @type {(form: string, most: number[], value?: number) => PlaceSyntax} creates a syntax; each `N` in `form` stands for a number */
+/**
+ * @type {(form: string, most: number[], value?: number) => PlaceSyntax} creates the syntax of a place; each `N` in `form` matches a number
+ */
 const syntaxOf = (form, most, value = 0) => ({
   pattern: new RegExp(`^${form.replace(/\./g, "\\.").replace(/N/g, NUMERAL)}$`), most, value,
 });
@@ -80,7 +85,7 @@ function findNumberError(word, [first, last]) {
 }
 
 /**
- * Returns the kind of a place; null if the word is not a place.
+ * Returns the syntax that a place matches; null if the word is not a place.
  * @param {string} word
  * @param {PlaceSyntax[]} places
  */
@@ -146,7 +151,7 @@ function findWordError([first, ...words]) {
 }
 
 /**
- * Returns the first character in a line that the bench accepts nowhere; "" if there is none.
+ * Returns the first character in a line that the bench never accepts; "" if there is none.
  * @param {string} line
  */
 export function invalidCharacterIn(line) {

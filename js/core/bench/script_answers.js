@@ -1,4 +1,4 @@
-// Assigns the answers of a session to the inputs of a script. Rejects answers that the inputs cannot have.
+// Assigns the answers of a session to the inputs of a script. Reports an error if an answer cannot belong to its input.
 
 import { ANSWER_FORMS } from "./answer_table.js";
 import { parseRefusal } from "./answers.js";
@@ -74,7 +74,7 @@ class AnswerMatcher {
   }
 
   /**
-   * Consumes the answer to the next input. Returns its first line; "" if the input has no answer.
+   * Takes the answer to the next input from the list. Returns the first line of the answer; "" if the input has no answer.
    * @param {Input} input
    * @param {number} line the input's line number
    */

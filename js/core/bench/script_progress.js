@@ -16,15 +16,15 @@ import * as say from "../../words/bench.js";
  */
 
 const BANK_COUNT = 8;
-/** The minimum number of characters that are served at once. Between two such pieces the user can interrupt the work. */
+/** The minimum length of a piece of a script, in characters. Between two pieces, the user can interrupt the work. */
 const PIECE_LENGTH = 4096;
 /** The maximum number of differing lines that are shown. */
 const MAX_DIFFERING_LINES = 4;
-/** The queries whose answers are compared between the two sessions. */
+/** The queries whose answers are compared between the session and a new session that has served the script. */
 const QUERIES = `seq\nboard\nstate\n${indices(BANK_COUNT).map((bank) => `ram ${bank}\n`).join("")}${listQueries(PAGE_NUMBERS)}`;
 
 /**
- * Splits each answer to `state` into one line per key and value. Returns these lines and the other answers, in order.
+ * Splits each answer to `state` into lines, one for each value with its name. Returns these lines and the other answers, in order.
  * @param {string[]} answers
  */
 function splitState(answers) {
@@ -55,7 +55,7 @@ export function differingLines(actual, expected) {
 }
 
 /**
- * Returns the number of script lines up to the last of the first `commands` accepted inputs; -1 if the script has fewer accepted inputs.
+ * Returns the number of script lines up to the end of the accepted input number `commands`; -1 if the script has fewer accepted inputs.
  * @param {import("./script_answers.js").AnsweredInput[]} inputs
  * @param {number} commands
  */

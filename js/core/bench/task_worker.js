@@ -15,7 +15,7 @@ import { WorkerDiedError } from "./bench_errors.js";
 export class TaskWorker {
   /**
    * @param {() => Bench} makeBench
-   * @param {boolean} isPatient true if a silent worker never counts as dead
+   * @param {boolean} isPatient true if a worker that does not answer pings is never terminated
    */
   constructor(makeBench, isPatient) {
     this.makeBench = makeBench;
@@ -35,7 +35,7 @@ export class TaskWorker {
 
   /**
    * Starts the worker, runs the work in it, and ends the worker.
-   * @param {AbortSignal} signal terminates the worker at once
+   * @param {AbortSignal} signal terminates the worker at once when it is aborted
    * @param {(bench: Bench) => Promise<TextFault[]>} work
    * @returns {Promise<TaskResult>}
    */

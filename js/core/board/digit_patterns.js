@@ -5,9 +5,10 @@ import { SEGMENT_CHARACTERS } from "./face_words.js";
 
 /** @typedef {import("./face.js").Group} Group */
 
+/** The pattern of a minus sign: segment g. */
 export const MINUS_PATTERN = 64;
 export const POINT_BIT = 128;
-/** The value for a multiplexed digit whose digit line is currently 0, so that it shows no pattern. */
+/** The pattern of a multiplexed digit that is not selected, because its digit line is 0. */
 export const UNLIT_PATTERN = -1;
 const LIT_CODE = "*".charCodeAt(0);
 
@@ -48,7 +49,7 @@ function segmentsAt(marks, firstLamp) {
 }
 
 /**
- * Returns whether digits with this number of lamps have a decimal point.
+ * Returns whether a digit with this number of lamps has a decimal point.
  * @param {number} columns
  */
 export function hasPoints(columns) {

@@ -1,5 +1,5 @@
-// Compares a front panel with its board: finds front-panel parts that are missing on the board, and looks up the groups, names and colours
-// of existing lamps.
+// Compares a front panel with its board. Finds front-panel parts that the board lacks. Returns the groups, names and colours of the lamps
+// that the board has.
 
 import { sortByLine } from "./face.js";
 import { LINE_KINDS, formatMessage } from "./face_words.js";
@@ -114,7 +114,7 @@ export function printerLines({ strobe, port }) {
 }
 
 /**
- * Returns an error for each front-panel part that is missing on the board, sorted by line.
+ * Returns an error for each front-panel part that the board lacks, sorted by line.
  * @param {Face} face
  * @param {Board} board
  * @returns {Fault[]}
@@ -174,7 +174,7 @@ export function lampColours(face, count) {
 }
 
 /**
- * Returns the number of the last lamp that each colour line colours, by line number.
+ * Returns the number of the last lamp that each colour line applies to, by line number.
  * @param {Face} face
  */
 function lastColouredLamps(face) {

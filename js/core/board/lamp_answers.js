@@ -14,11 +14,14 @@ import * as say from "../../words/board.js";
  * @typedef {{ lines: string[], words: string }} DisplayTexts
  */
 
-/** The first line of an answer to `trace` with `lamps` as its only place. */
+/**
+ * Matches the first line of an answer to `trace` with `lamps` as its only place. Captures the number of further lines, and the lamp marks.
+ */
 const TRACE_ANSWER = /^trace ran \d+ \w+ lines (\d+) ([.*]+|-)$/;
+/** Matches an answer that reports an error. */
 const REFUSAL_ANSWER = /^no \d/;
 
-/** Converts answers about the lamps of a board that has a display. */
+/** Converts answers about the lamps of a board that has a display to display text. */
 class LampAnswerReader {
   /**
    * @param {Face} face

@@ -1,5 +1,5 @@
-// Computes the routes of wires in the wiring diagram, in SVG units. A wire runs straight to its pin. If a part is in the way, the wire runs
-// through the gap above or below that part. After the user moves parts, a wire can run from right to left. This module does not draw.
+// Computes the routes of wires in the wiring diagram, in SVG units. A wire runs directly to its pin. If a part is in the way, the wire runs
+// above or below that part. If the user has moved parts, a wire can run from right to left. This module does not draw.
 
 /**
  * @typedef {import("./wiring.js").Point} Point
@@ -13,11 +13,11 @@
 const CONTROL_OFFSET = 12;
 /** The distance from pins and parts to the turning points of a wire. */
 const TURN_DISTANCE = 8;
-/** The minimum distance from a curve end to its control point, for other wires. */
+/** The minimum distance from a pin to a control point, for all other wires. */
 const MIN_BEND = 30;
-/** The distance between a wire and the part that it runs along. */
+/** The distance between a wire and the part that it passes. */
 const LANE_DISTANCE = 5;
-/** The offsets from a lane that separate several wires along the same part. */
+/** The offsets that separate several wires which pass the same part. A lane is the horizontal line along which a wire passes a part. */
 const LANE_OFFSETS = [0, -2, 2, -4, 4];
 /** The number of intervals into which a curve is divided to test whether a part covers it. */
 const SAMPLES = 24;

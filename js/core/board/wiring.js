@@ -41,7 +41,7 @@ const PART_GAP = 14;
 const MARGIN = 10;
 /** The maximum number of unused bits that the diagram shows for each chain, so that the user can wire them. */
 const MAX_FREE_BITS = 6;
-/** The columns of the diagram: their widths, and the space for wires (`room`) on their left, in SVG units. */
+/** The columns of the diagram, from left to right: their widths, and the space for wires to their left (`room`), in SVG units. */
 const DIAGRAM_COLUMNS = [
   { room: 0, width: 84 },
   { room: 24, width: 112 },
@@ -52,7 +52,10 @@ const DIAGRAM_COLUMNS = [
 /** The maximum length of a title in the first column, in characters. */
 const MAX_TITLE_LENGTH = 11;
 
-/** Pin numbers on the chip package: TEST of the 4004; port lines 0 to 3 of the 4001 and 4002; clock, data and bits 0 to 9 of the 4003. */
+/**
+ * Pin numbers on the chip package: the TEST pin of the 4004; port lines 0 to 3 of the 4001 and 4002; and the clock, data and bits 0 to 9 of
+ * the 4003.
+ */
 const TEST_NUMBER = 10;
 const PORT_NUMBERS = [16, 15, 14, 13];
 const CLOCK_NUMBER = 1;
@@ -89,7 +92,7 @@ class Column {
   }
 }
 
-/** The uses of each signal line of a board: which inputs the line drives. */
+/** The uses of each signal line of a board: the inputs that the line drives. */
 class LineUses {
   /**
    * @param {Board} board

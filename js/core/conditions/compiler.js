@@ -1,5 +1,5 @@
-// Compiles the syntax tree of a condition, for a board and a program, into functions that evaluate the condition on the bench's answers.
-// Collects the places that the condition depends on. This module does not simulate the machine.
+// Compiles the syntax tree of a condition, for a board and a program, into functions. These functions evaluate the condition on answers of
+// the bench. The compiler also collects the places that the condition depends on. It does not simulate the machine.
 
 import { compileChain, compileCounter, compileCycles, compileDisplay, compileLamps, compilePrinted } from "./keyword_conditions.js";
 import { fail } from "./scanner.js";
@@ -18,8 +18,8 @@ import * as say from "../../words/conditions.js";
  * @typedef {import("./values.js").Dependencies} Dependencies
  * @typedef {import("./values.js").Value} Value
  *
- * A compiled condition. `explain` returns a message with the actual and the required value; if `isNot` is true, with the forbidden value.
- * `address` is the address in a condition `pc = ADDRESS`, otherwise -1.
+ * A compiled condition. `matches` evaluates it. `explain` returns a message with the actual and the required value; if `isNot` is true, the
+ * required value is the forbidden value. `address` is the address in a condition `pc = ADDRESS`, otherwise -1.
  * @typedef {{ matches: (values: string[], extraValues: ExtraValues) => boolean,
  *   explain: (values: string[], extraValues: ExtraValues, isNot: boolean) => string, address: number }} Meaning
  */
@@ -55,7 +55,7 @@ function compareValues(value, sign, required) {
 }
 
 /**
- * Throws `Unreadable` if the constant in a comparison exceeds the maximum of the other value.
+ * Throws `ConditionError` if `required` is a constant that exceeds the maximum of `value`.
  * @param {Value} value
  * @param {ValueNode} node the syntax node of the constant
  * @param {Value} required the constant
@@ -86,8 +86,8 @@ function compileComparison({ sign, left, right }, names, dependencies) {
 }
 
 /**
- * Compiles a place followed by its required value, such as `r0 5`. Several values after a RAM character apply to that character and the
- * following characters.
+ * Compiles a place that is followed by its required value, such as `r0 5`. Several values after a RAM character apply to that character and
+ * the characters after it.
  * @param {PlaceValuesNode} node
  * @param {Names} names
  * @param {Dependencies} dependencies
@@ -147,7 +147,7 @@ function compilePanelState({ what, name, isOn }, names, dependencies) {
 /**
  * Negates a compiled condition.
  * @param {Meaning} meaning
- * @param {string} text the condition's text if it is joined by `and` or `or`, otherwise ""
+ * @param {string} text the text of the condition if it contains `and` or `or` at its top level, otherwise ""
  * @returns {Meaning}
  */
 function negateMeaning(meaning, text) {

@@ -1,5 +1,5 @@
-// Compiles conditions that start with a keyword: `lamps`, `display`, `printed`, `cycles`, and `chain0` for the bits of a chain. Also
-// compiles conditions on the program counter. The parser has already split the conditions into words.
+// Compiles conditions that start with a keyword: `lamps`, `display`, `printed`, `cycles`, or the name of a chain (`chain0`). Also compiles
+// conditions on the program counter. The parser has already split the conditions into words.
 
 import { hex, indices } from "../bench/numbers.js";
 import { DisplayText } from "../board/display_text.js";
@@ -17,9 +17,9 @@ import * as say from "../../words/conditions.js";
  * @typedef {import("./compiler.js").Meaning} Meaning
  * @typedef {import("./values.js").Dependencies} Dependencies
  *
- * The parts of a keyword condition. `subject` names the measured value; `isPlural` is true if that name is plural. `required` is the text
- * of the required value. `measure` returns the text of the actual value, `matches` compares it, and `remark` returns an addition to the
- * message.
+ * The parts of a keyword condition. `subject` is the name of the measured value in messages; `isPlural` is true if that name is plural.
+ * `required` is the text of the required value. `measure` returns the text of the actual value, `matches` compares it, and `remark` returns
+ * an addition to the message.
  * @typedef {{ subject: string, required: string, isPlural?: boolean, measure: (values: string[], extraValues: ExtraValues) => string,
  *   matches: (actual: string, extraValues: ExtraValues) => boolean, remark?: (actual: string) => string, address?: number }} FormParts
  */
@@ -41,7 +41,7 @@ function makeMeaning({ subject, required, isPlural = false, measure, matches, re
 }
 
 /**
- * Returns whether a text matches a pattern. `?` in the pattern stands for any character.
+ * Returns whether a text matches a pattern. `?` in the pattern matches any character.
  * @param {string} text
  * @param {string} pattern
  */
@@ -49,7 +49,7 @@ function matchesPattern(text, pattern) {
   return text.length === pattern.length && [...pattern].every((mark, at) => mark === "?" || mark === text[at]);
 }
 
-/** @type {(value: string) => string} returns one mark per lamp, from the value of the place `lamps` */
+/** @type {(value: string) => string} returns the marks in the value of the place `lamps`, one per lamp; "" if the board has no lamps */
 const lampMarks = (value) => (value === "-" ? "" : value);
 
 /**
@@ -63,8 +63,8 @@ function isDisplayLamp(lamp, { face }) {
 }
 
 /**
- * Compiles `lamps` with a pattern of `*` (on), `.` (off) and `?` (any), or with the names of all lamps that must be on. With names, unnamed
- * display lamps are ignored.
+ * Compiles `lamps` with a pattern of `*` (on), `.` (off) and `?` (on or off), or with the names of all lamps that must be on. If names are
+ * used, unnamed display lamps are ignored.
  * @param {string[]} words
  * @param {Names} names
  * @param {Dependencies} dependencies
@@ -91,8 +91,8 @@ export function compileLamps(words, names, dependencies) {
 }
 
 /**
- * Compiles `display 42` for the number on the display, or `display 0 overflow` for the number and lamp names as `mcs4 display` prints them.
- * For multiplexed digits, the perceived number counts.
+ * Compiles `display 42`, which compares the number on the display, or `display 0 overflow`, which compares the number and the lamp names as
+ * `mcs4 display` prints them. The number on a multiplexed display is the perceived number.
  * @param {string[]} words
  * @param {Names} names
  * @param {Dependencies} dependencies
@@ -117,7 +117,7 @@ export function compileDisplay(words, names, dependencies) {
 }
 
 /**
- * Compiles `printed 12+ 30= 42`, which compares the last printed words. The word `nothing` stands for an empty printout.
+ * Compiles `printed 12+ 30= 42`, which compares the last printed words. The word `nothing` means an empty printout.
  * @param {string[]} words
  * @param {Names} names
  * @param {Dependencies} dependencies

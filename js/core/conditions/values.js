@@ -1,5 +1,5 @@
-// Compiles the values in a condition: numbers, places, sums, program names, watch names and front-panel names. A compiled value is computed
-// from the bench's answers about its places.
+// Compiles the values in a condition: numbers, places, sums, program names, watch names and front-panel names. A compiled value is a
+// function of the bench's answers about its places.
 
 import { listKeyInputs, createTestInput } from "../explore/search_inputs.js";
 import { findSimilarWords } from "../text/similar_words.js";
@@ -27,15 +27,15 @@ import * as say from "../../words/conditions.js";
 export const STATE_PLACES = new Set(["test", "owed", "keys"]);
 /** The maximum nesting depth of watch names: the expression of a watch name can contain other watch names. */
 const MAX_NAME_DEPTH = 3;
-/** The number of the last nibble in a RAM bank. Nibbles are numbered by the byte that SRC sends to select them. */
+/** The number of the last nibble in a RAM bank. The number of a nibble is the SRC byte that selects it. */
 const LAST_CHARACTER = 255;
 /** The hints for words that other assemblers and emulators use instead of a place name, by word. */
 const HINTS = new Map([["a", say.ACCUMULATOR_HINT], ["accu", say.ACCUMULATOR_HINT], ["accumulator", say.ACCUMULATOR_HINT],
   ["c", say.CARRY_HINT], ["carry", say.CARRY_HINT], ["ip", say.COUNTER_HINT], ["bank", say.BANK_HINT]]);
-/** The factor that splits a number of up to 53 bits into two halves. JavaScript's bitwise operators support only 32 bits. */
+/** The factor that splits a number of up to 53 bits into two halves, because JavaScript's bitwise operators support only 32 bits. */
 const HALF_FACTOR = 2 ** 26;
 
-/** The dependencies of a condition: its places without duplicates, and the values that a test must supply. */
+/** The dependencies of a condition: its places, without duplicates, and the values that the test must supply. */
 export class Dependencies {
   /** @param {boolean} [isTest] true for a condition in a test */
   constructor(isTest = false) {
@@ -49,7 +49,7 @@ export class Dependencies {
   }
 
   /**
-   * Adds a place if it is missing; returns its index.
+   * Adds a place, unless it is in the list already. Returns its index in the list.
    * @param {string} place
    */
   addPlace(place) {
@@ -93,7 +93,7 @@ const OPERATIONS = { "+": (one, other) => one + other, "-": (one, other) => one 
 /**
  * Creates a value that is 0 or 1.
  * @param {string} name
- * @param {number} index the index of the answer in the list of answers
+ * @param {number} index the index of the value's answer in the list of answers
  * @param {(answer: string) => number} readBit
  * @returns {Value}
  */
@@ -146,8 +146,8 @@ export function keyValue(name, { face }, dependencies) {
 }
 
 /**
- * Looks up a program name. If no name is equal and exactly one name is equal apart from its case, returns that name. Returns undefined if
- * no name matches.
+ * Looks up a program name. Prefers an exact match. Otherwise returns the name that is equal apart from case, if there is exactly one such
+ * name; undefined if not.
  * @param {string} name
  * @param {Names["map"]} map
  */

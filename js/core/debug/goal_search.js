@@ -1,5 +1,5 @@
-// Searches for a goal in the future: finds the number of cycles until the goal, with queries or on a temporary copy of the session. The
-// session does not change during the search, even if the page is closed. Afterwards, the session runs for that number of cycles.
+// Searches for a goal in the future: finds the number of cycles until the machine reaches the goal. The search uses queries, or runs a
+// temporary copy of the session, so that the session itself does not change. Afterwards, the session runs for that number of cycles.
 
 import { CancelledError } from "../bench/bench_errors.js";
 import { MAX_RUN_CYCLES } from "../engine/key_queue.js";
@@ -16,7 +16,7 @@ import { LARGEST_PIECE, missingGoalEnd, createWatcher } from "./goals.js";
  */
 
 /**
- * Returns the bench lines that run a number of cycles, with the watcher's queries between the runs.
+ * Returns the bench lines that run a number of cycles, with the watcher's queries before and after each run.
  * @param {Watcher} watcher
  * @param {number} cycles
  */
@@ -46,7 +46,7 @@ function searchAnswers(answers, watcher) {
 }
 
 /**
- * Searches for a goal from the current state, without key changes.
+ * Searches for a goal from the current state. Assumes that no key changes.
  * @param {Engine} engine
  * @param {Uint8Array} file the session file; not changed
  * @param {Goal} goal
@@ -86,7 +86,7 @@ export function plannedCycles({ line, change }) {
  * @param {Engine} engine
  * @param {Uint8Array} file the session file; not changed
  * @param {PlannedLine[]} planned the next lines
- * @param {Watcher} watcher a watcher that has read the answers to all earlier runs
+ * @param {Watcher} watcher a watcher that has examined all earlier runs
  */
 export function cyclesToGoal(engine, file, planned, watcher) {
   const lines = planned.map((each) => (
@@ -108,7 +108,7 @@ export function cyclesToGoal(engine, file, planned, watcher) {
 }
 
 /**
- * Returns the first lines, as far as they run a number of cycles. Shortens the last run if necessary.
+ * Returns the first of the given lines, up to a number of cycles. Shortens the last run if necessary.
  * @param {PlannedLine[]} planned
  * @param {number} cycles
  * @returns {PlannedLine[]}

@@ -1,6 +1,6 @@
-// Searches the past for the last arrival at a breakpoint, the last change of a watched place, or the last call of an open subroutine. A
-// copy of the session, with the current breakpoints, replays the past in blocks. The search ignores breakpoints with a note, and hit
-// counts.
+// Searches the past for the last arrival at a breakpoint, the last change of a watched place, or the call of a subroutine that has not
+// returned. A copy of the session, with the current breakpoints, replays the past in blocks. The search ignores hit counts, and breakpoints
+// that log a note.
 
 import { readItems, watchedPlaces } from "../bench/answers.js";
 import { searchResult, makeChangeFinder, searchPast } from "../engine/past_search.js";
@@ -32,7 +32,7 @@ class LastArrivalFinder {
   constructor(session, breakpoints) {
     this.engine = session.engine;
     this.arrivals = new Arrivals(breakpoints);
-    /** The cycle count and the program counter at the present moment. An arrival at this moment does not count. */
+    /** The cycle count and the program counter at present. An arrival at the present moment does not count. */
     this.presentMoment = { total: session.count.total, counter: parseCounter(session.ask("regs\n")[0]).counter };
     this.copy = new Uint8Array(0);
     this.total = 0;
@@ -55,7 +55,7 @@ class LastArrivalFinder {
   }
 
   /**
-   * Replays units of the past. Returns the last arrival in these units; null if there is none.
+   * Replays a part of the past, given as units. Returns the last arrival in these units; null if there is none.
    * @param {Unit[]} units
    * @returns {BackSearchResult | null}
    */
@@ -66,7 +66,7 @@ class LastArrivalFinder {
     let [lines, count] = ["", 0];
     for (const { line, cycles, moment } of units) {
       if (cycles === 0) {
-        // The replay skips lines that changed breakpoints in the past, and runs without a cycle.
+        // The replay skips lines that changed breakpoints in the past, and runs of no cycle.
         if (MARK_LINE.test(line) || /^(run|step)\b/.test(line)) continue;
         [lines, count] = [`${lines}${line}\n`, count + 1];
         continue;
@@ -91,7 +91,7 @@ class LastArrivalFinder {
 }
 
 /**
- * Returns the later one of two aims; the first searchResult if their moments are equal.
+ * Returns the search result with the later moment: `one` if the moments are equal, and the other result if one of them is null.
  * @param {BackSearchResult | null} one
  * @param {BackSearchResult | null} other
  */
@@ -103,7 +103,7 @@ function laterAim(one, other) {
 }
 
 /**
- * Returns a finder that calls several finders and returns their latest searchResult.
+ * Returns a finder that calls several finders, and returns the latest of their results.
  * @param {Finder[]} finders
  * @returns {Finder}
  */
@@ -115,14 +115,14 @@ function combineFinders(finders) {
 }
 
 /**
- * The watched places that the bench does not watch: a place ("" for none), and the places of the data watches.
+ * The places to search that the bench does not watch: `place` ("" for none), and those of the data watches.
  * @typedef {{ place: string, watches?: import("./data_watches.js").DataWatches }} ExtraWatches
  */
 
 /**
- * Finds the last arrival or change before the present. Resolves to its moment, or else to the start of the recorded past.
+ * Finds the last arrival or change before the present. Resolves to its moment, or to the start of the recorded past if there is none.
  * @param {WorkerSession} session
- * @param {SoftBreakpoint[]} breakpoints the breakpoints that stop time
+ * @param {SoftBreakpoint[]} breakpoints the breakpoints that stop the machine
  * @param {ExtraWatches} extraWatches
  * @param {ShouldContinue} shouldContinue
  * @returns {Promise<BackSearchResult>}
@@ -142,7 +142,7 @@ export async function findLastArrival(session, breakpoints, { place, watches }, 
 }
 
 /**
- * Finds the start of an open subroutine: resolves to the moment after the JMS that called the subroutine.
+ * Finds the start of a subroutine that has not returned. Resolves to the moment after the JMS that called the subroutine.
  * @param {WorkerSession} session
  * @param {number} call the address of the JMS
  * @param {string[]} returns the return addresses before the JMS, newest first

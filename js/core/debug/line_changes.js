@@ -1,5 +1,5 @@
-// Collects the changes that the last source lines made. At each pause, adds the changes of the last step: one instruction, or a call that
-// the user stepped over.
+// Collects the changes of the machine state that each of the last source lines made. At each pause, adds the changes that the last step
+// made. A step is one instruction, or a call that the user stepped over.
 //
 //     const changes = new LineChanges();
 //     changes.addPause(machineState, cycles, map);   at a pause; `machineState` is the machine state, `cycles` is the cycle count
@@ -30,8 +30,8 @@ export function describeChanges(before, after) {
 }
 
 /**
- * Returns the number of the source line whose instruction was the only step between two pauses; 0 if there is none. The step of a call
- * includes the subroutine.
+ * Returns the number of the source line whose instruction was the only step between two pauses; 0 if there is no such line. A call and its
+ * subroutine are one step.
  * @param {MachineState} before
  * @param {MachineState} after
  * @param {number} cycles the cycles between the pauses
@@ -45,12 +45,12 @@ function steppedLine({ registers: before }, { registers: after }, cycles, map) {
   const name = head ? head.text.toUpperCase() : "";
   const size = map.sizes[line];
   if (cycles === (name === "FIN" ? 2 : size)) return line;
-  // Only the newest return address is compared because nested calls can have overwritten older stack entries.
+  // Only the newest return address is compared, because nested calls can have overwritten older entries of the call stack.
   const isBack = parseInt(after.counter, 16) === address + size && before.returns[0] === after.returns[0];
   return name === "JMS" && isBack ? line : 0;
 }
 
-/** The changes that the last source lines made. */
+/** The changes of the machine state that the last source lines made. */
 export class LineChanges {
   constructor() {
     /** @type {MachineState | null} the state at the last pause; `cycles` is the cycle count at that pause */

@@ -21,7 +21,7 @@ import * as say from "../../words/debug.js";
  * character, "" for any other expression. `pieces` returns the current value.
  * @typedef {{ name: string, text: string, place: string, value: string, pieces: Reader }} WatchExpression
  *
- * Returns the value of a watch expression in a machine state, as pieces of text.
+ * A function that returns the value of a watch expression in a machine state, as pieces of text.
  * @typedef {(machineState: MachineState, names: Names) => Piece[]} Reader
  */
 
@@ -32,7 +32,7 @@ const MAX_LENGTH = 200;
 const MAX_DECIMAL_ONLY = 9;
 
 /**
- * Returns the reader of a place that the user can edit.
+ * Returns the reader of a place whose value the user can edit.
  * @param {string} place
  * @param {(machineState: MachineState) => string} value
  * @returns {Reader}
@@ -44,7 +44,9 @@ function editableReader(place, value) {
   };
 }
 
-/** @type {Record<string, (machineState: MachineState) => string>} the values of named registers */
+/**
+ * @type {Record<string, (machineState: MachineState) => string>} functions that return the value of a register, by the name of the register
+ */
 const REGISTERS = {
   acc: ({ registers }) => registers.accumulator, cy: ({ registers }) => registers.carry, dcl: ({ registers }) => registers.bank,
 };
@@ -97,7 +99,7 @@ function portReader(place) {
 }
 
 /**
- * Returns the reader of a place that the user cannot edit.
+ * Returns the reader of a place whose value the user cannot edit.
  * @param {import("../conditions/places.js").Place} place
  * @returns {Reader}
  */
@@ -130,7 +132,7 @@ function expressionReader(text) {
  */
 function splitWatchExpression(text) {
   const [, name, value] = /^\s*([^\s=<>!&+()-]*)\s*=(?!=)\s*(.*?)\s*$/.exec(text) || [];
-  // `x = 5` is a comparison, because a name for a number would be useless.
+  // `x = 5` is a comparison: a watch that names a constant would be useless.
   const isComparison = name === undefined || KEYWORDS.has(name.toLowerCase()) || /^(test|owed)$/i.test(name) || parsePlace(name) !== null
     || !Number.isNaN(parseNumeral(value));
   if (isComparison) return { name: "", value: text.trim(), column: text.length - text.trimStart().length };
