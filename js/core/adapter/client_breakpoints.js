@@ -8,7 +8,7 @@ import { compileCondition } from "../conditions/condition_language.js";
 import { BreakpointList, MAX_BREAKPOINTS, MAX_ENABLED, instructionAtAddress, instructionForLine } from "../debug/breakpoints.js";
 import { parsePlace } from "../conditions/places.js";
 import { watchablePlace } from "../debug/data_watches.js";
-import { LARGEST_PIECE } from "../debug/debug_session.js";
+import { MAX_PIECE_CYCLES } from "../debug/debug_session.js";
 import { MAX_CYCLES_PER_CALL } from "../debug/common_mistakes.js";
 import { optionalList, needNumber, needText, optionalText, errorMessage } from "./dap_protocol.js";
 import * as say from "../../words/adapter.js";
@@ -94,9 +94,9 @@ export class ClientBreakpoints {
     /** @type {string[]} the RAM characters that the bench watches for the client, in the same form */
     this.clientWatches = [];
     /** @type {RequestedDataBreakpoint[]} the data breakpoints that the client requested */
-    this.data = [];
+    this.dataBreakpoints = [];
     /** @type {RequestedFilter[]} the exception filters that the client requested */
-    this.filters = [];
+    this.exceptionFilters = [];
     /** @type {Map<number, RequestedBreakpoint>} the requested breakpoints, by their ids in the debugger's list */
     this.byId = new Map();
   }
@@ -106,10 +106,10 @@ export class ClientBreakpoints {
    * that moved.
    * @param {ClientBreakpoints} other
    */
-  async takeOverBreakpoints({ requested, lastId, data, filters }) {
-    Object.assign(this, { requested, lastId, data, filters });
-    await this.applyData();
-    this.applyFilters();
+  async takeOverBreakpoints({ requested, lastId, dataBreakpoints, exceptionFilters }) {
+    Object.assign(this, { requested, lastId, dataBreakpoints, exceptionFilters });
+    await this.applyDataBreakpoints();
+    this.applyExceptionFilters();
     return this.moveWithProgram();
   }
 
@@ -126,7 +126,7 @@ export class ClientBreakpoints {
    * @param {any} args
    * @param {(line: number) => number} lineOf converts a client's line number to one that counts from 1
    */
-  setLines(args, lineOf) {
+  setLineBreakpoints(args, lineOf) {
     const { map } = this.session;
     return this.setRequested("lines", optionalList(args, "breakpoints").map((item) => {
       const { line, address, words } = instructionForLine(lineOf(needNumber(item, "line")), map);
@@ -138,7 +138,7 @@ export class ClientBreakpoints {
    * Serves the `setFunctionBreakpoints` request: sets breakpoints on labels.
    * @param {any} args
    */
-  setLabels(args) {
+  setLabelBreakpoints(args) {
     const { map } = this.session;
     return this.setRequested("labels", optionalList(args, "breakpoints").map((item) => {
       const name = needText(item, "name").trim();
@@ -155,7 +155,7 @@ export class ClientBreakpoints {
    * @param {any} args
    * @param {(reference: string) => number} addressOf returns the address of a memory reference
    */
-  setAddresses(args, addressOf) {
+  setAddressBreakpoints(args, addressOf) {
     const { map } = this.session;
     return this.setRequested("addresses", optionalList(args, "breakpoints").map((item) => {
       const { requested, words } = resolveAddress(needText(item, "instructionReference"), needNumber(item, "offset", 0), addressOf);
@@ -206,8 +206,8 @@ export class ClientBreakpoints {
     /** @type {Map<RequestedBreakpoint, string>} */
     const faults = new Map();
     const breakpoints = [...this.mergeBreakpoints().values()];
-    const isTooMany = (/** @type {number} */ at) => at >= MAX_ENABLED;
-    breakpoints.forEach((each, at) => isTooMany(at) && faults.set(each, say.tooManyEnabled(MAX_ENABLED)));
+    const isOverLimit = (/** @type {number} */ at) => at >= MAX_ENABLED;
+    breakpoints.forEach((each, at) => isOverLimit(at) && faults.set(each, say.tooManyEnabled(MAX_ENABLED)));
     const hits = new Map([...this.byId].map(([id, { address }]) => [address, (session.breakpoints.get(id) || { hits: 0 }).hits]));
     session.breakpoints = new BreakpointList();
     this.byId.clear();
@@ -227,7 +227,7 @@ export class ClientBreakpoints {
    * not set the breakpoint.
    * @param {number} id the breakpoint id in the debugger's list
    */
-  stoppedBreakpoint(id) {
+  hitBreakpoint(id) {
     const found = this.byId.get(id);
     if (!found || found.id === 0) return { id: 0, reason: "breakpoint" };
     const { labels, addresses } = this.requested;
@@ -256,9 +256,9 @@ export class ClientBreakpoints {
    * Serves the `setDataBreakpoints` request.
    * @param {any} args
    */
-  async setData(args) {
+  async setDataBreakpoints(args) {
     const { board } = this.session.debugger.session.statusQueries;
-    this.data = optionalList(args, "breakpoints").map((item) => {
+    this.dataBreakpoints = optionalList(args, "breakpoints").map((item) => {
       const name = needText(item, "dataId");
       const { from, words } = parseHitCondition(optionalText(item, "hitCondition"));
       const place = watchablePlace(name, board);
@@ -267,8 +267,8 @@ export class ClientBreakpoints {
       const error = !place ? say.notWatched(name) : access !== "write" ? say.ONLY_CHANGES : words;
       return { id: this.lastId, name: place ? place.name : name, condition: optionalText(item, "condition"), from, words: error };
     });
-    const faults = await this.applyData();
-    return this.data.map(({ id, words }) => {
+    const faults = await this.applyDataBreakpoints();
+    return this.dataBreakpoints.map(({ id, words }) => {
       const message = words || faults.get(id) || "";
       return { id, verified: message === "", ...(message ? { message } : {}) };
     });
@@ -278,9 +278,9 @@ export class ClientBreakpoints {
    * Sets the watches of the session. The bench watches up to MAX_WATCHES RAM characters without a condition. The debugger watches all other
    * places. Returns the error messages, by the id of the data breakpoint.
    */
-  async applyData() {
+  async applyDataBreakpoints() {
     const { session, otherWatches } = this;
-    const validRequests = this.data.filter(({ words }) => words === "");
+    const validRequests = this.dataBreakpoints.filter(({ words }) => words === "");
     const freeCount = MAX_WATCHES - otherWatches.length;
     const unconditional = validRequests.filter(({ name, condition, from }) => (
       watchOperand(name) !== "" && condition.trim() === "" && from === 1));
@@ -303,24 +303,24 @@ export class ClientBreakpoints {
    * Serves the `setExceptionBreakpoints` request.
    * @param {any} args
    */
-  setFilters(args) {
+  setExceptionFilters(args) {
     const unconditional = optionalList(args, "filters").map((kind) => ({ kind: String(kind), condition: "" }));
     const options = optionalList(args, "filterOptions").map((item) => (
       { kind: needText(item, "filterId"), condition: optionalText(item, "condition") }));
-    this.filters = [...unconditional, ...options];
-    return this.applyFilters();
+    this.exceptionFilters = [...unconditional, ...options];
+    return this.applyExceptionFilters();
   }
 
   /**
    * Sets the kinds of mistakes that stop the machine. A filter whose condition has an error stops the machine at each mistake of its kind.
    * Returns the response for each filter.
    */
-  applyFilters() {
-    const { session, filters } = this;
+  applyExceptionFilters() {
+    const { session, exceptionFilters } = this;
     const { commonMistakes } = session.debugger;
     commonMistakes.stops = new Set();
     commonMistakes.conditions = new Map();
-    const answers = filters.map(({ kind, condition: text }) => {
+    const answers = exceptionFilters.map(({ kind, condition: text }) => {
       if (!Object.prototype.hasOwnProperty.call(KINDS, kind)) return { verified: false, message: say.noFilter(kind) };
       const mistake = /** @type {MistakeKind} */ (kind);
       const isAlways = text.trim() === "";
@@ -330,14 +330,14 @@ export class ClientBreakpoints {
       return fault ? { verified: false, message: stopsEachTime(inColumn(fault, column)) } : { verified: true };
     });
     // The debugger checks every instruction only in pieces of at most MAX_CYCLES_PER_CALL cycles.
-    if (session.largestPiece >= MAX_CYCLES_PER_CALL) {
-      session.largestPiece = commonMistakes.stops.size > 0 ? MAX_CYCLES_PER_CALL : LARGEST_PIECE;
+    if (session.maxPieceCycles >= MAX_CYCLES_PER_CALL) {
+      session.maxPieceCycles = commonMistakes.stops.size > 0 ? MAX_CYCLES_PER_CALL : MAX_PIECE_CYCLES;
     }
     return answers;
   }
 
   /** Notes which breakpoints and watches the client did not set. Called after console lines have changed breakpoints or watches. */
-  noteOwnBreakpoints() {
+  noteOtherBreakpoints() {
     const { lines, labels, addresses } = this.requested;
     const ofClient = new Set([...lines, ...labels, ...addresses].map(({ address }) => address));
     this.otherAddresses = this.session.debugger.session.breaks.filter((address) => !ofClient.has(address));
@@ -345,11 +345,11 @@ export class ClientBreakpoints {
   }
 
   /** Removes the client's breakpoints and watches. Resolves to an error message, "" if there is no error. */
-  async leave() {
+  async removeClientBreakpoints() {
     this.requested = { lines: [], labels: [], addresses: [] };
     try {
       await this.applyBreakpoints();
-      await this.setData({});
+      await this.setDataBreakpoints({});
     } catch (thrown) {
       return errorMessage(thrown);
     }

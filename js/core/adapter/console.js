@@ -29,7 +29,7 @@ import { noKey } from "../../words/testing.js";
  */
 
 /** The words that can start a console line. */
-export const FIRST_WORDS = [
+export const CONSOLE_FIRST_WORDS = [
   "press", "release", "keys", "until", "change", "back", "forward", "set", "help", "display", ...ANSWER_FORMS.keys(),
 ];
 /** The maximum length of a console input in characters, and the maximum number of bench lines in it. */
@@ -112,7 +112,7 @@ export class Console {
   async moveKeys(word, names) {
     if (names.length === 0) fail(say.keySyntax(word));
     const keys = names.map((name) => this.findKey(name));
-    if (this.machine.isMoving && word === "press") return this.queue(keys);
+    if (this.machine.isMoving && word === "press") return this.queueKeys(keys);
     const lines = keys.map((key) => `${key[word]}\n`).join("");
     return this.runBenchLines(lines);
   }
@@ -120,11 +120,11 @@ export class Console {
   /** @param {string[]} words */
   typeKeys(words) {
     const keys = words.flatMap((word) => (this.keys.has(word) ? [word] : [...word])).map((name) => this.findKey(name));
-    return this.queue(keys);
+    return this.queueKeys(keys);
   }
 
   /** @param {import("../testing/test_text.js").Key[]} keys */
-  queue(keys) {
+  queueKeys(keys) {
     const { queue } = this.session.debugger.session;
     for (const { key } of keys) {
       queue.press(key);

@@ -24,7 +24,7 @@ import { stoppedAt } from "../../words/stops.js";
 
 /**
  * The callbacks of a machine.
- * @typedef {object} MachineCalls
+ * @typedef {object} MachineCallbacks
  * @property {(moveEnd: MoveEnd) => void} stopped Reports the end of a move, once for each move.
  * @property {(words: string, category: "console" | "stdout" | "stderr") => void} output Prints a text, which ends with a line feed, under
  *   an output category of the protocol.
@@ -43,18 +43,18 @@ const REASONS_BY_GOAL = { stop: "pause", arrival: "arrival", call: "call" };
 /** @type {Record<string, string>} the debugger's stop reasons after a search for the last stop, by the event that ended the search */
 const REASONS_BY_END = { break: "break", change: "watch", beginning: "beginning" };
 /** The time between two updates of lamps and displays, in milliseconds. */
-const REPORT_INTERVAL = 100;
+const REPORT_INTERVAL_MS = 100;
 
 export class Machine {
   /**
    * @param {DebugSession} session
    * @param {SessionWriter | null} writer the writer of the session's file
-   * @param {MachineCalls} calls
+   * @param {MachineCallbacks} calls
    * @param {boolean} [isRealTime] true if the machine runs no faster than on a real 4004
    */
   constructor(session, writer, calls, isRealTime = false) {
     this.isRealTime = isRealTime;
-    if (isRealTime) session.largestPiece = FRAME_CYCLES;
+    if (isRealTime) session.maxPieceCycles = FRAME_CYCLES;
     /** The start time of the move, in milliseconds. */
     this.startTime = 0;
     this.session = session;
@@ -194,7 +194,7 @@ export class Machine {
   async finishPiece(tally, done = 0) {
     if (tally) this.reportTally(tally, tally.noted);
     if (this.work) this.work.reportIfDue(() => formatCycles(done));
-    if (performance.now() - this.lastReportTime >= REPORT_INTERVAL && this.acceptsWork()) this.reportFrontPanelText();
+    if (performance.now() - this.lastReportTime >= REPORT_INTERVAL_MS && this.acceptsWork()) this.reportFrontPanelText();
     if (this.isRealTime && tally) await this.waitForRealTime(done);
     await this.calls.pause();
     if (this.acceptsWork()) await this.runWaitingWork();
@@ -208,7 +208,7 @@ export class Machine {
   async waitForRealTime(cycles) {
     this.calls.stateChanged();
     const remainingTime = cycles * CYCLE_MS - (performance.now() - this.startTime);
-    if (remainingTime > 0) await new Promise((settle) => { setTimeout(settle, remainingTime); });
+    if (remainingTime > 0) await new Promise((resolve) => { setTimeout(resolve, remainingTime); });
   }
 
   pause() {

@@ -18,9 +18,9 @@ import { NO_CALL_WAITS } from "../../words/stops.js";
  */
 
 /** The thread id of the processor, the only thread. */
-export const THREAD = 1;
+export const THREAD_ID = 1;
 
-export class Moves {
+export class MoveHandlers {
   /** @param {DebugAdapter} adapter */
   constructor(adapter) {
     this.adapter = adapter;
@@ -95,7 +95,7 @@ export class Moves {
 
   /** @param {any} args */
   checkThread(args) {
-    if (needNumber(args, "threadId", THREAD) !== THREAD) fail(say.ONE_THREAD);
+    if (needNumber(args, "threadId", THREAD_ID) !== THREAD_ID) fail(say.ONE_THREAD);
   }
 
   /** @param {any} args */

@@ -5,8 +5,8 @@ import { AdapterError } from "./dap_protocol.js";
 import * as say from "../../words/adapter.js";
 
 /** The delay before the first report and the interval between reports, in milliseconds. */
-const FIRST_REPORT_DELAY = 1000;
-const REPORT_INTERVAL = 500;
+const FIRST_REPORT_DELAY_MS = 1000;
+const REPORT_INTERVAL_MS = 500;
 
 /** A task that can run for long, with its progress report. */
 class Work {
@@ -30,7 +30,7 @@ class Work {
   reportIfDue(message) {
     const now = performance.now();
     if (!this.progress.isEnabled || now < this.dueTime) return;
-    this.dueTime = now + REPORT_INTERVAL;
+    this.dueTime = now + REPORT_INTERVAL_MS;
     if (this.id === "") this.id = this.progress.start(this, message());
     else this.progress.sendEvent("progressUpdate", { progressId: this.id, message: message() });
   }
@@ -47,7 +47,7 @@ export class Progress {
     this.sendEvent = sendEvent;
     /** True if the client supports progress reports. */
     this.isEnabled = false;
-    this.firstReportDelay = FIRST_REPORT_DELAY;
+    this.firstReportDelay = FIRST_REPORT_DELAY_MS;
     this.lastId = 0;
     /** @type {Map<string, Work>} the tasks whose progress is reported, by progress id */
     this.workById = new Map();

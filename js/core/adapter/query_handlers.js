@@ -3,10 +3,10 @@
 import { LAST_ADDRESS } from "../bench/numbers.js";
 import { KEYWORDS } from "../conditions/parser.js";
 import { PLACE_WORDS } from "../conditions/places.js";
-import { FIRST_WORDS } from "./console.js";
+import { CONSOLE_FIRST_WORDS } from "./console.js";
 import { listInstructionRows } from "./disassembly.js";
 import { readStackFrames } from "./frames.js";
-import { memoryNumberForPlace, readMemory, formatReference, writeMemory } from "./memory.js";
+import { referenceNumberForPlace, readMemory, formatReference, writeMemory } from "./memory.js";
 import { requestedBase, readFormatFlag, convertToBase, formatInBase } from "./number_format.js";
 import { isCall, neverContinues, jumpTarget, instructionWords } from "../engine/rom_codes.js";
 import { getField } from "../server/framing.js";
@@ -24,13 +24,13 @@ import { wordsOfLine } from "../../words/stops.js";
  */
 
 /** The source reference of the text disassembled from ROM. */
-const ROM_SOURCE = 1;
+const ROM_SOURCE_REFERENCE = 1;
 /** The maximum number of instructions in a response to `disassemble`. */
 const MAX_ROWS = 8192;
 /** The maximum number of completions in a response. */
 const MAX_COMPLETIONS = 500;
 /** Matches a console line that ends with an incomplete key name, and captures that name. */
-const UNFINISHED_KEY = /(?:^\s*(?:press|release|keys)\s(?:.*\s)?|\bkey\s+)(\S*)$/;
+const UNFINISHED_KEY_NAME = /(?:^\s*(?:press|release|keys)\s(?:.*\s)?|\bkey\s+)(\S*)$/;
 /** The maximum number of instructions that `stepInTargets` scans for calls. */
 const MAX_SCANNED_INSTRUCTIONS = 256;
 
@@ -58,14 +58,14 @@ export class QueryHandlers {
 
   get source() {
     const { program } = this.launchResult;
-    if (program === "") return { name: "ROM", sourceReference: ROM_SOURCE, origin: say.DISASSEMBLED_FROM_ROM };
+    if (program === "") return { name: "ROM", sourceReference: ROM_SOURCE_REFERENCE, origin: say.DISASSEMBLED_FROM_ROM };
     return { name: program.replace(/^.*[\\/]/, ""), path: program };
   }
 
   /** @param {any} source */
   isProgram(source) {
     const { program, nameOf } = this.launchResult;
-    if (program === "") return getField(source, "sourceReference") === ROM_SOURCE;
+    if (program === "") return getField(source, "sourceReference") === ROM_SOURCE_REFERENCE;
     const path = getField(source, "path");
     return typeof path === "string" && path !== "" && nameOf(path) === program;
   }
@@ -180,7 +180,7 @@ export class QueryHandlers {
     const { expressionContext } = this;
     const isHover = context === "hover";
     const result = isHover ? expressionHover(expression, expressionContext) : evaluateExpression(expression, expressionContext, base);
-    const memory = memoryNumberForPlace(expression);
+    const memory = referenceNumberForPlace(expression);
     return { result, variablesReference: 0, ...(memory >= 0 ? { memoryReference: formatReference(memory) } : {}) };
   }
 
@@ -207,14 +207,14 @@ export class QueryHandlers {
    */
   completionWords(before) {
     const { session: { map }, expressionContext: { face } } = this;
-    const unfinishedKey = UNFINISHED_KEY.exec(before);
+    const unfinishedKey = UNFINISHED_KEY_NAME.exec(before);
     if (unfinishedKey) return { words: [...listNamedKeys(face).keys()], word: unfinishedKey[1] };
     const word = (/[A-Za-z_@][\w.]*$/.exec(before) || [""])[0];
     const lineStart = before.slice(0, before.length - word.length).trim();
     if (/\blamp$/.test(lineStart)) return { words: [...face.lampNumbers.keys()], word };
     const names = [...map.names.keys()];
     const words = [...names, ...names.map((name) => `@${name}`), ...PLACE_WORDS, ...face.lampNumbers.keys(), ...KEYWORDS];
-    return { words: [...new Set(lineStart === "" ? [...FIRST_WORDS, ...words] : words)], word };
+    return { words: [...new Set(lineStart === "" ? [...CONSOLE_FIRST_WORDS, ...words] : words)], word };
   }
 
   // --- memory ---

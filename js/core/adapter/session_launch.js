@@ -279,7 +279,7 @@ export async function launch(engine, args, host, words) {
   const openedSession = requestedFiles.test ? await sessionFromTest(engine, requestedFiles.test, host)
     : requestedFiles.session === "" ? { session: sessionFromTexts(engine, requestedFiles, host, words), writer: null, note: "" }
       : await sessionFromFile(engine, requestedFiles, host, words);
-  return addOptions(openedSession, requestedFiles, args, host);
+  return createLaunchResult(openedSession, requestedFiles, args, host);
 }
 
 /**
@@ -297,7 +297,7 @@ export async function attach(engine, args, host, words) {
   if (!host.isThere(requestedFiles.session)) throw new AdapterError(say.noSession(requestedFiles.session), true);
   const loadSession = isWritten ? sessionFromFile : sessionFromCopy;
   const openedSession = await loadSession(engine, requestedFiles, host, words);
-  return { ...addOptions(openedSession, requestedFiles, args, host), isAttached: true };
+  return { ...createLaunchResult(openedSession, requestedFiles, args, host), isAttached: true };
 }
 
 /**
@@ -308,7 +308,7 @@ export async function attach(engine, args, host, words) {
  * @param {Host} host
  * @returns {LaunchResult}
  */
-function addOptions({ session, writer, note }, { program, board, test }, args, host) {
+function createLaunchResult({ session, writer, note }, { program, board, test }, args, host) {
   if (session.boardText === "") session.boardText = session.debugger.session.ask("board\n").slice(1).join("\n");
   session.debugger.commonMistakes.map = session.map;
   return {

@@ -127,7 +127,7 @@ function continuesListing(previous, answer) {
  * @param {string} first the first line of the answer
  * @param {string} count the COUNT column of the answer table
  */
-export function maxLines(input, first, count) {
+export function maxAnswerLines(input, first, count) {
   if (count === "all") return Infinity;
   if (count === "list") return parseNumber(input.words[2]);
   const words = first.split(" ");
@@ -143,7 +143,7 @@ export function maxLines(input, first, count) {
 export function answerLength(input, answers, from) {
   const form = ANSWER_FORMS.get(input.kind);
   if (!form || !form.further || !form.first.test(answers[from])) return 1;
-  const max = maxLines(input, answers[from], form.count);
+  const max = maxAnswerLines(input, answers[from], form.count);
   let at = from + 1;
   while (at < answers.length && at - from < max && form.further.test(answers[at])) {
     if (form.count === "list" && !continuesListing(answers[at - 1], answers[at])) break;

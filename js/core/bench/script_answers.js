@@ -2,7 +2,7 @@
 
 import { ANSWER_FORMS } from "./answer_table.js";
 import { parseRefusal } from "./answers.js";
-import { answerLength, maxLines, opensText, readNumberedInputs } from "./inputs.js";
+import { answerLength, maxAnswerLines, opensText, readNumberedInputs } from "./inputs.js";
 import * as say from "../../words/bench.js";
 
 /**
@@ -39,7 +39,8 @@ function canBeginAnswer({ kind, line }, answer) {
 function completeLength(input, answers, from) {
   const form = ANSWER_FORMS.get(input.kind);
   if (!form || !form.further || parseRefusal(answers[from])) return 1;
-  return form.count === "all" || form.count === "list" ? answerLength(input, answers, from) : maxLines(input, answers[from], form.count);
+  return form.count === "all" || form.count === "list" ? answerLength(input, answers, from)
+    : maxAnswerLines(input, answers[from], form.count);
 }
 
 /**

@@ -33,7 +33,7 @@ export function buildSnapshot(inputs, answers) {
 }
 
 /** @type {StateParts} the state before the first snapshot */
-const NO_PARTS = { registers: "", test: "", ports: "", keys: "", lamps: "", breaks: "", watches: "" };
+const INITIAL_PARTS = { registers: "", test: "", ports: "", keys: "", lamps: "", breaks: "", watches: "" };
 
 /**
  * Finds the changes between snapshots. `take` reads a snapshot and returns the changes of the front panel. `readOtherChanges` returns all
@@ -43,10 +43,10 @@ export class SnapshotReader {
   constructor() {
     /** @type {string[]} the last snapshot */
     this.snapshot = [];
-    this.parts = NO_PARTS;
+    this.parts = INITIAL_PARTS;
     /** @type {string[]} the last snapshot that `readOtherChanges` read */
     this.lastReadSnapshot = [];
-    this.lastReadParts = NO_PARTS;
+    this.lastReadParts = INITIAL_PARTS;
     /** @type {Registers | null} the registers of the last snapshot that `readOtherChanges` read */
     this.registers = null;
   }
@@ -54,7 +54,7 @@ export class SnapshotReader {
   /** Forgets the last snapshot, so that all parts of the next snapshot count as changed. */
   forget() {
     this.snapshot = this.lastReadSnapshot = [];
-    this.parts = this.lastReadParts = NO_PARTS;
+    this.parts = this.lastReadParts = INITIAL_PARTS;
   }
 
   /**

@@ -15,16 +15,16 @@ import { EYE_MS } from "../time/mcs4_time.js";
 /** The minimum duty cycle at which a flickering lamp counts as on. */
 export const MIN_ON_DUTY = 0.5;
 /** The minimum time without a change before a lamp or display can count as steady, in milliseconds. */
-const MIN_REST = 2;
+const MIN_REST_MS = 2;
 /** The exponent that converts a duty cycle to a perceived brightness. The eye distinguishes dark lamps better than bright ones. */
 const GAMMA = 2.2;
 /** The minimum duty cycles of the brightness levels: dim, half, full. */
-const LEVELS = [0.01, 0.15, 0.6];
-export const FULL_LEVEL = LEVELS.length;
+const LEVEL_THRESHOLDS = [0.01, 0.15, 0.6];
+export const FULL_LEVEL = LEVEL_THRESHOLDS.length;
 /** The smallest duty cycle or pattern share that is stored. Smaller values become 0. */
 const MIN_DUTY = 0.0001;
 /** The number of lamps in a digit: seven segments and the decimal point. */
-const SEGMENTS = 8;
+const SEGMENT_COUNT = 8;
 
 /**
  * Returns the perceived brightness of a lamp, from 0 to 1, rounded to hundredths.
@@ -39,7 +39,7 @@ export function perceivedBrightness(duty) {
  * @param {number} duty the duty cycle
  */
 export function brightnessLevel(duty) {
-  return LEVELS.filter((minDuty) => duty >= minDuty).length;
+  return LEVEL_THRESHOLDS.filter((minDuty) => duty >= minDuty).length;
 }
 
 /**
@@ -47,7 +47,7 @@ export function brightnessLevel(duty) {
  * EYE_MS, or more than twice the longest rest in the current series of changes. A single change is therefore perceived at once, and bits
  * that shift through a chain are perceived at the end of the shift. A flickering lamp is never steady.
  */
-class Stillness {
+class SteadinessDetector {
   constructor() {
     /** The time since the last change, and the longest rest in the current series of changes, in milliseconds. */
     this.currentRest = Infinity;
@@ -75,7 +75,7 @@ class Stillness {
   }
 
   get isStill() {
-    return this.currentRest >= EYE_MS || (this.currentRest >= MIN_REST && this.currentRest > 2 * this.longestRest);
+    return this.currentRest >= EYE_MS || (this.currentRest >= MIN_REST_MS && this.currentRest > 2 * this.longestRest);
   }
 }
 
@@ -140,9 +140,9 @@ export class PerceivedDigit {
 
   /** The duty cycles of the segments and the decimal point. */
   get segments() {
-    const duties = new Array(SEGMENTS).fill(0);
+    const duties = new Array(SEGMENT_COUNT).fill(0);
     for (const [pattern, share] of this.shares) {
-      for (let segment = 0; segment < SEGMENTS; segment++) if (pattern & (1 << segment)) duties[segment] += share;
+      for (let segment = 0; segment < SEGMENT_COUNT; segment++) if (pattern & (1 << segment)) duties[segment] += share;
     }
     return duties;
   }
@@ -166,9 +166,9 @@ export class Brightness {
       .map(({ rows, columns }) => new Array(rows * columns).fill(0));
     /** @type {PerceivedDigit[][]} */
     this.digits = [];
-    /** @type {Stillness[]} whether each lamp is steady */
+    /** @type {SteadinessDetector[]} whether each lamp is steady */
     this.stillness = [];
-    /** @type {Stillness[]} whether each display is steady */
+    /** @type {SteadinessDetector[]} whether each display is steady */
     this.displayStillness = [];
     this.begin("");
   }
@@ -182,8 +182,8 @@ export class Brightness {
     this.lamps = this.isOn.map(Number);
     this.digits = this.displays.map(({ rows }) => Array.from({ length: rows }, () => new PerceivedDigit()));
     this.scannedGroups = this.scannedGroups.map((lamps) => lamps.map(() => 0));
-    this.stillness = this.lamps.map(() => new Stillness());
-    this.displayStillness = this.displays.map(() => new Stillness());
+    this.stillness = this.lamps.map(() => new SteadinessDetector());
+    this.displayStillness = this.displays.map(() => new SteadinessDetector());
   }
 
   /**

@@ -31,7 +31,7 @@ class LampAnswerReader {
   constructor(face, board, name) {
     this.name = name;
     const displays = face.groups.filter(({ kind }) => kind === "display");
-    this.lampsNeeded = Math.max(...displays.map(groupEnd));
+    this.requiredLampCount = Math.max(...displays.map(groupEnd));
     this.isScanned = hasScannedDisplay(face);
     this.text = new DisplayText(displays, [...face.lamps].map(([at, { text }]) => ({ at, text })));
     this.perceivedText = new PerceivedText(face, board.lamps.length);
@@ -44,7 +44,7 @@ class LampAnswerReader {
    */
   lampCountError(marks, line) {
     const count = marks === "-" ? 0 : marks.length;
-    return count < this.lampsNeeded ? say.tooFewLamps(line, count, this.name, this.lampsNeeded) : "";
+    return count < this.requiredLampCount ? say.tooFewLamps(line, count, this.name, this.requiredLampCount) : "";
   }
 
   /**

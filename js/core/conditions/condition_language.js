@@ -14,7 +14,7 @@
 // - compileTestCondition: a condition in a test line, which can also use cycles, the printout and perceived lamps.
 
 import { MAX_PLACES } from "../bench/inputs.js";
-import { compileNode } from "./compiler.js";
+import { compileConditionNode } from "./compiler.js";
 import { isCondition, parseExpression, parseCondition } from "./parser.js";
 import { ConditionError, fail } from "./scanner.js";
 import { Dependencies, STATE_PLACES, compileValue } from "./values.js";
@@ -51,7 +51,7 @@ import * as say from "../../words/conditions.js";
 const DEFAULT_VALUES = { test: "", owed: "0", keys: "", cycles: 0, seen: [], printed: [] };
 
 /** @type {(names: Names) => (name: string) => boolean} returns a function that tests whether a name is a lamp name */
-const lampNameTest = ({ face }) => (/** @type {string} */ name) => face.lampNumbers.has(name);
+const createLampNameTest = ({ face }) => (/** @type {string} */ name) => face.lampNumbers.has(name);
 
 /** @type {(place: string) => place is "test" | "owed" | "keys"} */
 const isStatePlace = (place) => STATE_PLACES.has(place);
@@ -60,7 +60,7 @@ const isStatePlace = (place) => STATE_PLACES.has(place);
  * Throws `ConditionError` if there are more places than one `trace` line can contain.
  * @param {string[]} places
  */
-function checkCount({ length }) {
+function checkPlaceCount({ length }) {
   if (length > MAX_PLACES) fail(say.tooManyPlaces(length, MAX_PLACES), 0);
 }
 
@@ -108,12 +108,12 @@ function negateText(node, text) {
  * @param {string} conditionText
  * @param {Names} names
  * @param {Dependencies} dependencies collects the places that the condition depends on
- * @returns {Pick<Condition, "text" | "negation"> & import("./compiler.js").Meaning}
+ * @returns {Pick<Condition, "text" | "negation"> & import("./compiler.js").CompiledCondition}
  */
 function compileText(conditionText, names, dependencies) {
-  const node = parseCondition(conditionText, lampNameTest(names));
+  const node = parseCondition(conditionText, createLampNameTest(names));
   const text = collapseBlanks(conditionText);
-  return { ...compileNode(node, names, dependencies), text, negation: negateText(node, text) };
+  return { ...compileConditionNode(node, names, dependencies), text, negation: negateText(node, text) };
 }
 
 /**
@@ -126,7 +126,7 @@ export function compileCondition(conditionText, names) {
   return conditionOrError(() => {
     const dependencies = new Dependencies();
     const { text, negation, address, matches, explain } = compileText(conditionText, names, dependencies);
-    checkCount(dependencies.places);
+    checkPlaceCount(dependencies.places);
     return {
       text, negation, places: dependencies.places, needs: [], address,
       holds: (values, extraValues = DEFAULT_VALUES) => matches(values, extraValues),
@@ -148,7 +148,7 @@ export function compileTestCondition(conditionText, names) {
     const { places: allPlaces } = dependencies;
     const statePlaces = allPlaces.filter(isStatePlace);
     const places = allPlaces.filter((place) => !isStatePlace(place));
-    checkCount(places);
+    checkPlaceCount(places);
     /** @type {(values: string[], extraValues: ExtraValues) => string[]} returns the values of all places, in the order of `allPlaces` */
     const allValues = (values, extraValues) => {
       let at = 0;
@@ -187,15 +187,15 @@ export function compileTracedCondition(text, names) {
 export function compileExpression(text, names) {
   const { read: expression, ...error } = resultOrError(() => {
     const dependencies = new Dependencies();
-    const node = parseExpression(text, lampNameTest(names));
+    const node = parseExpression(text, createLampNameTest(names));
     if (isCondition(node)) {
-      const { matches } = compileNode(node, names, dependencies);
-      checkCount(dependencies.places);
+      const { matches } = compileConditionNode(node, names, dependencies);
+      checkPlaceCount(dependencies.places);
       const formatTruth = (/** @type {string[]} */ values) => String(matches(values, DEFAULT_VALUES));
       return { places: dependencies.places, number: null, textOf: formatTruth };
     }
     const { read, textOf } = compileValue(node, names, dependencies);
-    checkCount(dependencies.places);
+    checkPlaceCount(dependencies.places);
     return { places: dependencies.places, number: read, textOf: textOf || ((/** @type {string[]} */ values) => String(read(values))) };
   });
   return /** @type {ExpressionResult} */ ({ expression, ...error });

@@ -26,9 +26,9 @@ import * as say from "../../words/conditions.js";
  * @typedef {{ kind: "compare", sign: Sign, left: ValueNode, right: ValueNode, text: string, column: number }} CompareNode
  * @typedef {{ kind: "form", words: Token[], text: string, column: number }} FormNode
  * @typedef {{ kind: "values", place: NameNode, values: ValueNode[], text: string, column: number }} PlaceValuesNode
- * @typedef {{ kind: "panel", what: "lamp" | "key", name: string, isOn: boolean, text: string, column: number }} PanelIsNode
+ * @typedef {{ kind: "panel", what: "lamp" | "key", name: string, isOn: boolean, text: string, column: number }} PanelStateNode
  * @typedef {{ kind: "at", label: string, text: string, column: number }} AtNode
- * @typedef {JoinedNode | NotNode | CompareNode | FormNode | PlaceValuesNode | PanelIsNode | AtNode} ConditionNode
+ * @typedef {JoinedNode | NotNode | CompareNode | FormNode | PlaceValuesNode | PanelStateNode | AtNode} ConditionNode
  * @typedef {ConditionNode | ValueNode} Node
  */
 
@@ -52,7 +52,7 @@ const CONDITION_KINDS = new Set(["or", "and", "not", "compare", "form", "values"
 /** The number of numerals in a place that is written with blanks, such as `ram 0 0x12`, by the first word of the place. */
 const SPACED_NUMERALS = new Map([["ram", 2], ["st", 3]]);
 /** The node kinds whose text needs no parentheses: single names and numbers. */
-const BARE_KINDS = new Set(["number", "name", "lamp", "key"]);
+const SIMPLE_KINDS = new Set(["number", "name", "lamp", "key"]);
 /** The error messages for a lamp or key without a state. */
 const PANEL_MESSAGES = { lamp: say.LAMP_SYNTAX, key: say.KEY_SYNTAX };
 /** The words for the state of a lamp or key; true means on or pressed. */
@@ -86,7 +86,7 @@ class Parser {
    * Returns whether a token is `not` or `!`.
    * @param {Token} token
    */
-  isNot({ kind, text }) {
+  isNotOperator({ kind, text }) {
     return kind === "sign" ? text === "!" : kind === "word" && text.toLowerCase() === "not";
   }
 
@@ -152,7 +152,7 @@ class Parser {
   parseNegated() {
     const { column } = this.scanner.peek();
     let count = 0;
-    for (; this.isNot(this.scanner.peek()); count++) this.scanner.next();
+    for (; this.isNotOperator(this.scanner.peek()); count++) this.scanner.next();
     const node = this.parseComparison();
     if (count === 0) return node;
     const part = this.requireCondition(node);
@@ -208,7 +208,7 @@ class Parser {
    */
   parseRightSide(left, sign) {
     const { column } = left;
-    this.requireMore(sign);
+    this.requireOperand(sign);
     const right = this.requireValue(this.parseSum());
     if (this.isValueNext() && (sign === "=" || sign === "!=") && left.kind === "name") {
       const node = this.placeValuesNode(left, [right, ...this.parseValues()]);
@@ -230,7 +230,7 @@ class Parser {
   /** Returns whether the next token starts a value. */
   isValueNext() {
     const token = this.scanner.peek();
-    return token.kind === "number" || (token.kind === "word" && this.findOperator(token) === "" && !this.isNot(token));
+    return token.kind === "number" || (token.kind === "word" && this.findOperator(token) === "" && !this.isNotOperator(token));
   }
 
   /** Parses consecutive values. */
@@ -254,7 +254,7 @@ class Parser {
       if (kind !== "sign" || (text !== "+" && text !== "-" && text !== "&")) return left;
       const { column } = left;
       this.scanner.next();
-      this.requireMore(text);
+      this.requireOperand(text);
       const [one, other] = [this.requireValue(left), this.requireValue(this.parseOperand())];
       left = { kind: "sum", sign: text, left: one, right: other, text: this.textFrom(column), column };
     }
@@ -264,7 +264,7 @@ class Parser {
    * Throws `ConditionError` if the text ends after an operator.
    * @param {string} sign the operator
    */
-  requireMore(sign) {
+  requireOperand(sign) {
     if (this.scanner.peek().kind === "end") fail(say.missingAfter(sign), this.lastColumn);
   }
 
@@ -280,7 +280,7 @@ class Parser {
       this.scanner.next();
       return { kind: "number", value: parseNumeral(text), text, column };
     }
-    if (kind !== "word" || this.findOperator(token) !== "" || this.isNot(token)) {
+    if (kind !== "word" || this.findOperator(token) !== "" || this.isNotOperator(token)) {
       return fail(kind === "end" ? say.NO_CONDITION : say.missingBefore(this.tokenText(token)), Math.min(column, this.lastColumn));
     }
     return this.parseNamed(token);
@@ -306,7 +306,7 @@ class Parser {
     }
     this.depth -= 1;
     this.scanner.next();
-    return BARE_KINDS.has(node.kind) ? node : { ...node, text: this.textFrom(column), column };
+    return SIMPLE_KINDS.has(node.kind) ? node : { ...node, text: this.textFrom(column), column };
   }
 
   /**

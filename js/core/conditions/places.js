@@ -8,9 +8,9 @@ import { LAST_ADDRESS, hex, parseNumber, indices } from "../bench/numbers.js";
  * @typedef {import("../bench/answers.js").Board} Board
  *
  * A place. `name` is its displayed name. `probesOn` returns the `trace` places that report its value; an empty list if the board does not
- * have the place. `value` returns its value in the spelling of `trace`, and `number` its value as a number. `most` returns its maximum, -1
- * if the value is not a number.
- * @typedef {{ name: string, most: (board: Board) => number, probesOn: (board: Board) => string[], value: (answers: string[]) => string,
+ * have the place. `value` returns its value in the spelling of `trace`, and `number` its value as a number. `maxValue` returns its maximum,
+ * -1 if the value is not a number.
+ * @typedef {{ name: string, maxValue: (board: Board) => number, probesOn: (board: Board) => string[], value: (answers: string[]) => string,
  * number: (answers: string[]) => number }} Place
  */
 
@@ -25,7 +25,7 @@ const MAX_VALUES = new Map([["cy", 1], ["test", 1], ["owed", 1], ["pc", LAST_ADD
 const MAX_BYTE = 255;
 const MAX_DIGIT = 15;
 /** The maximum number of lamps that a JavaScript number can represent exactly with one bit per lamp. */
-const MAX_LAMPS = 52;
+const MAX_NUMERIC_LAMPS = 52;
 
 /** The place names that exist on every board, for completion. */
 export const PLACE_WORDS = [
@@ -51,7 +51,7 @@ const parseHexDigits = (answers) => parseInt(answers.join(""), 16);
  */
 function singlePlace(name, isOn = () => true) {
   return {
-    name, most: () => maxPlaceValue(name), probesOn: (board) => (isOn(board) ? [name] : []), value: firstAnswer, number: parseHexDigits,
+    name, maxValue: () => maxPlaceValue(name), probesOn: (board) => (isOn(board) ? [name] : []), value: firstAnswer, number: parseHexDigits,
   };
 }
 
@@ -62,7 +62,7 @@ function singlePlace(name, isOn = () => true) {
  * @returns {Place}
  */
 function linePlace(name, isOn) {
-  return { ...singlePlace(name, isOn), most: () => 1 };
+  return { ...singlePlace(name, isOn), maxValue: () => 1 };
 }
 
 /**
@@ -134,7 +134,7 @@ function marksToNumber([marks]) {
 function lampPlace(name) {
   if (name === "lamps") {
     return {
-      name, most: ({ lamps }) => (lamps.length <= MAX_LAMPS ? 2 ** lamps.length - 1 : -1),
+      name, maxValue: ({ lamps }) => (lamps.length <= MAX_NUMERIC_LAMPS ? 2 ** lamps.length - 1 : -1),
       probesOn: ({ lamps }) => (lamps.length > 0 ? ["lamps"] : []), value: firstAnswer, number: marksToNumber,
     };
   }
@@ -150,7 +150,7 @@ function lampPlace(name) {
   const chain = /^chain([0-3])(?:\.(\d+))?$/.exec(name);
   if (!chain) return null;
   const [, number, bit] = chain;
-  if (bit === undefined) return { ...singlePlace(name, ({ chains }) => Number(number) < chains.length), most: () => -1 };
+  if (bit === undefined) return { ...singlePlace(name, ({ chains }) => Number(number) < chains.length), maxValue: () => -1 };
   return linePlace(name, ({ chains }) => Number(number) < chains.length && Number(bit) < chains[Number(number)].chips * BITS_PER_CHIP);
 }
 

@@ -51,7 +51,7 @@ export class Arrivals {
     /** The queries that follow each run. */
     this.probes = new Probes(this.places);
     /** The number of arrivals per cycle in the previous run. */
-    this.density = 0;
+    this.arrivalsPerCycle = 0;
     this.copy = new Uint8Array(0);
   }
 
@@ -69,7 +69,7 @@ export class Arrivals {
   searchLines(engine, file, planned) {
     const events = createEmptyEvents();
     if (this.isEmpty) return events;
-    if (this.density === 0 && this.hasNoArrival(engine, file, planned)) return events;
+    if (this.arrivalsPerCycle === 0 && this.hasNoArrival(engine, file, planned)) return events;
     if (this.copy.length !== file.length) this.copy = new Uint8Array(file.length);
     this.copy.set(file);
     let [lines, count, done] = [this.first, this.breakpoints.length, 0];
@@ -81,7 +81,7 @@ export class Arrivals {
       }
       const cyclesBefore = done;
       const cyclesRun = this.run(engine, this.copy, { lines, count, cycles: plannedCycles(each) },
-        (end, row, partCycles) => end !== "break" || this.isStop(row, cyclesBefore + partCycles, events));
+        (end, row, partCycles) => end !== "break" || this.recordArrival(row, cyclesBefore + partCycles, events));
       if (cyclesRun < 0) return events;
       done += cyclesRun;
       [lines, count] = ["", 0];
@@ -113,7 +113,7 @@ export class Arrivals {
     let [before, skippedCount, cyclesRun, arrivals] = [lines, count, 0, 0];
     while (cyclesRun < cycles) {
       const cyclesLeft = cycles - cyclesRun;
-      const runs = Math.min(cyclesLeft, MAX_RUNS, Math.max(1, Math.round(2 * this.density * cyclesLeft)));
+      const runs = Math.min(cyclesLeft, MAX_RUNS, Math.max(1, Math.round(2 * this.arrivalsPerCycle * cyclesLeft)));
       const pair = `run ${Math.floor(cyclesLeft / runs)}\n${this.probes.lines}`;
       const answers = new ForecastAnswers(engine.serve(file, before + pair.repeat(runs), file).answers);
       answers.skip(skippedCount);
@@ -127,7 +127,7 @@ export class Arrivals {
         if (visit(end, row, cyclesRun)) return -1;
       }
     }
-    this.density = arrivals / cycles;
+    this.arrivalsPerCycle = arrivals / cycles;
     return cyclesRun;
   }
 
@@ -155,7 +155,7 @@ export class Arrivals {
    * @param {number} cycles the cycles before the arrival
    * @param {BreakpointEvents} events receives the hit, and the note or the stop
    */
-  isStop(row, cycles, events) {
+  recordArrival(row, cycles, events) {
     const found = this.byAddress.get(parseInt(row[0], 16));
     // A breakpoint that is not in this list always stops the machine. The session itself has such breakpoints.
     if (!found) return true;

@@ -17,7 +17,7 @@ import * as say from "../../words/debug.js";
 
 /**
  * The callbacks of the breakpoint manager.
- * @typedef {object} KeeperCalls
+ * @typedef {object} ManagerCallbacks
  * @property {(placed: LocatedBreakpoint[]) => Promise<[number, string][]>} set Replaces all breakpoints of the bench. Resolves to the ids
  *   and error messages of breakpoints that cannot be compiled.
  * @property {() => void} changed Handles a change of the list or of its error messages.
@@ -33,7 +33,7 @@ const MAX_LISTS = 30;
 
 /** Keeps the list of breakpoints and the breakpoints of the bench equal. */
 export class BreakpointManager {
-  /** @param {KeeperCalls} calls */
+  /** @param {ManagerCallbacks} calls */
   constructor(calls) {
     this.calls = calls;
     this.list = new BreakpointList();
@@ -48,9 +48,9 @@ export class BreakpointManager {
     /** @type {Map<number, string>} the error messages of breakpoints that cannot be compiled, by id */
     this.faults = new Map();
     /** @type {Set<number> | null} the addresses of the bench's breakpoints; null before the bench first reports them for a session */
-    this.onBench = null;
+    this.benchAddresses = null;
     /** @type {string[] | null} the bench's breakpoint addresses that were reported during a request; they are applied after the request */
-    this.postponedBreaks = null;
+    this.postponedAddresses = null;
     /** True if the saved session contains a list of breakpoints. */
     this.hasSavedList = false;
     /** The number of unanswered requests to the bench, and the last request as JSON. */
@@ -84,8 +84,8 @@ export class BreakpointManager {
     this.hasSavedList = savedBreakpoints !== undefined;
     this.map = null;
     this.mapError = "";
-    this.onBench = null;
-    this.postponedBreaks = null;
+    this.benchAddresses = null;
+    this.postponedAddresses = null;
     this.lastRequest = "";
     this.typedEdit = null;
     this.faults.clear();
@@ -98,7 +98,7 @@ export class BreakpointManager {
    */
   setWatchExpressions(texts) {
     this.watchTexts = texts;
-    if (this.onBench) this.apply();
+    if (this.benchAddresses) this.apply();
   }
 
   /** Sends the list again after the bench has restarted, and thus has lost its breakpoints. */
@@ -114,7 +114,7 @@ export class BreakpointManager {
   applyTextEdits(edits) {
     const effectiveEdits = edits.filter((edit) => this.list.edit(edit));
     if (effectiveEdits.length === 0) return;
-    if (this.onBench) this.apply();
+    if (this.benchAddresses) this.apply();
     else this.calls.changed();
   }
 
@@ -126,7 +126,7 @@ export class BreakpointManager {
   setSourceMap(map, words) {
     this.map = map;
     this.mapError = words;
-    if (!this.onBench) return;
+    if (!this.benchAddresses) return;
     const messages = map ? this.list.locate(map) : [];
     if (messages.length > 0) this.calls.showMessage(messages.join(" "));
     this.apply();
@@ -138,12 +138,12 @@ export class BreakpointManager {
    */
   take(breaks) {
     const addresses = breaks.map((address) => parseInt(address, 16));
-    const previousAddresses = this.onBench;
+    const previousAddresses = this.benchAddresses;
     if (previousAddresses && this.isApplying) {
-      this.postponedBreaks = breaks;
+      this.postponedAddresses = breaks;
       return;
     }
-    this.onBench = new Set(addresses);
+    this.benchAddresses = new Set(addresses);
     if (!previousAddresses) {
       // This is the first report after opening. If the session was saved without a list, its breakpoints come from the file.
       if (!this.hasSavedList) for (const address of addresses) this.addFromBench(address);
@@ -354,7 +354,7 @@ export class BreakpointManager {
     // A name in a condition can have another meaning in another source text, so the comparison includes the texts.
     const names = placed.some(isSoft) ? [this.map ? this.map.text : "", this.watchTexts] : [];
     const request = JSON.stringify([names, placed.map((each) => ({ ...each, line: 0, hits: 0 }))]);
-    const isNothingSet = placed.length === 0 && this.onBench !== null && this.onBench.size === 0;
+    const isNothingSet = placed.length === 0 && this.benchAddresses !== null && this.benchAddresses.size === 0;
     if (request === this.lastRequest || (this.lastRequest === "" && isNothingSet)) return;
     this.lastRequest = request;
     this.send(placed);
@@ -384,16 +384,16 @@ export class BreakpointManager {
   handleAnswer(list, hardAddresses, faults) {
     if (list !== this.list) return;
     this.faults = new Map(faults);
-    this.onBench = new Set(hardAddresses);
+    this.benchAddresses = new Set(hardAddresses);
     this.calls.changed();
-    this.takePostponed();
+    this.applyPostponedAddresses();
   }
 
   /** Applies the addresses that the bench reported during a request. The user can have changed them by a typed line in the meantime. */
-  takePostponed() {
-    const { postponedBreaks } = this;
-    if (this.isApplying || !postponedBreaks) return;
-    this.postponedBreaks = null;
-    this.take(postponedBreaks);
+  applyPostponedAddresses() {
+    const { postponedAddresses } = this;
+    if (this.isApplying || !postponedAddresses) return;
+    this.postponedAddresses = null;
+    this.take(postponedAddresses);
   }
 }

@@ -24,12 +24,12 @@ export const MAX_ENABLED = 32;
 /** The maximum number of breakpoints in a list. */
 export const MAX_BREAKPOINTS = 256;
 /** The maximum number of deleted breakpoints that the list stores for undo, which restores them with their lines. */
-const MAX_DELETED = 256;
+const MAX_DELETED_BREAKPOINTS = 256;
 /** The maximum number of earlier texts whose breakpoints the list stores. */
 const MAX_TEXTS = 30;
 
 /** @type {Omit<Breakpoint, "id" | "line" | "address">} the default fields of a breakpoint */
-const DEFAULTS = { isOn: true, condition: "", from: 1, note: "", hits: 0 };
+const DEFAULT_FIELDS = { isOn: true, condition: "", from: 1, note: "", hits: 0 };
 
 /** The breakpoints of a source text and of ROM. */
 export class BreakpointList {
@@ -55,7 +55,7 @@ export class BreakpointList {
    */
   createBreakpoint(fields) {
     this.lastId += 1;
-    return { ...DEFAULTS, line: 0, address: -1, ...fields, hits: 0, id: this.lastId };
+    return { ...DEFAULT_FIELDS, line: 0, address: -1, ...fields, hits: 0, id: this.lastId };
   }
 
   sort() {
@@ -206,7 +206,7 @@ export class BreakpointList {
    */
   storeDeleted(breakpoint, { from, removed = [] }) {
     this.deletedBreakpoints.push({ text: removed[breakpoint.line - from.line - 1] || "", breakpoint });
-    if (this.deletedBreakpoints.length > MAX_DELETED) this.deletedBreakpoints.shift();
+    if (this.deletedBreakpoints.length > MAX_DELETED_BREAKPOINTS) this.deletedBreakpoints.shift();
   }
 
   /**

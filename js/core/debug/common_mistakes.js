@@ -45,9 +45,9 @@ const KIND_COUNT = Object.keys(say.KINDS).length;
  * The number of cycles in which every instruction is checked, after the machine starts and after each key change: half a second of a real
  * 4004. After these cycles, only samples are checked.
  */
-const CHECKED_CYCLES = 50000;
-/** Every SAMPLE_INTERVAL-th call of `searchLines` checks a sample of SAMPLE_CYCLES cycles. */
-const SAMPLE_INTERVAL = 16;
+const FULLY_CHECKED_CYCLES = 50000;
+/** One in CALLS_PER_SAMPLE calls of `searchLines` checks a sample of SAMPLE_CYCLES cycles. */
+const CALLS_PER_SAMPLE = 16;
 const SAMPLE_CYCLES = 2000;
 /**
  * The maximum number of cycles that a call of `searchLines` checks. At full speed, the lines of one call have more cycles, and a check of
@@ -82,14 +82,14 @@ export class CommonMistakes {
      */
     this.skippedAddress = -1;
     /** The number of cycles in which every instruction will still be checked. */
-    this.remainingCycles = CHECKED_CYCLES;
+    this.remainingCycles = FULLY_CHECKED_CYCLES;
     this.callCount = 0;
   }
 
   /** Prepares for a run: each kind of mistake can be reported again. */
   begin() {
     this.reportedKinds.clear();
-    this.remainingCycles = CHECKED_CYCLES;
+    this.remainingCycles = FULLY_CHECKED_CYCLES;
     this.skippedAddress = this.stopAddress;
     this.stopAddress = -1;
   }
@@ -110,7 +110,7 @@ export class CommonMistakes {
     const maxCycles = this.cyclesToCheck(planned);
     if (maxCycles === 0 || (this.reportedKinds.size === KIND_COUNT && this.conditions.size === 0)) return NO_MISTAKES;
     const found = this.findMistakes(truncateLines(planned, maxCycles), file);
-    const stoppingMistake = found.find((fault) => this.isStop(fault, planned, file));
+    const stoppingMistake = found.find((fault) => this.stopsMachine(fault, planned, file));
     const faults = found.filter(({ isRepeat }) => !isRepeat);
     if (!stoppingMistake) return { faults, stop: -1 };
     this.stopAddress = stoppingMistake.address;
@@ -123,7 +123,7 @@ export class CommonMistakes {
    * @param {PlannedLine[]} planned the lines with the mistake
    * @param {Uint8Array} file the session before these lines
    */
-  isStop({ kind, cycles }, planned, file) {
+  stopsMachine({ kind, cycles }, planned, file) {
     if (!this.stops.has(kind)) return false;
     const condition = this.conditions.get(kind);
     if (!condition) return true;
@@ -142,10 +142,10 @@ export class CommonMistakes {
    */
   cyclesToCheck(planned) {
     const cycles = planned.reduce((sum, each) => sum + plannedCycles(each), 0);
-    if (planned.some(({ change }) => change !== null)) this.remainingCycles = CHECKED_CYCLES;
+    if (planned.some(({ change }) => change !== null)) this.remainingCycles = FULLY_CHECKED_CYCLES;
     this.callCount += 1;
     const isAll = this.stops.size > 0 && cycles <= MAX_CYCLES_PER_CALL;
-    const sample = this.callCount % SAMPLE_INTERVAL === 0 ? SAMPLE_CYCLES : 0;
+    const sample = this.callCount % CALLS_PER_SAMPLE === 0 ? SAMPLE_CYCLES : 0;
     const maxCycles = isAll ? cycles : Math.min(cycles, MAX_CYCLES_PER_CALL, Math.max(this.remainingCycles, sample));
     this.remainingCycles = Math.max(0, this.remainingCycles - maxCycles);
     return maxCycles;
@@ -208,7 +208,7 @@ export class CommonMistakes {
       const hasChanged = changeIndex < changes.lines.length && changes.lines[changeIndex].startsWith(line);
       if (hasChanged || usesSelection(code) || isCall(code) || isReturn(code) || this.isOutsideProgram(address)) {
         const cycles = done + Number(line.slice(0, blank));
-        this.report(faults, address, cycles, this.findMistake(codes, address, values) || selection.findMistake(code, address, values));
+        this.addMistake(faults, address, cycles, this.findMistake(codes, address, values) || selection.findMistake(code, address, values));
         if (hasChanged) {
           values = rowValues(changes.lines[changeIndex].slice(line.length));
           changeIndex += 1;
@@ -225,7 +225,7 @@ export class CommonMistakes {
    * @param {number} cycles the cycles before the instruction
    * @param {{ kind: Kind, words: string } | null} fault null if the instruction has no mistake
    */
-  report(faults, address, cycles, fault) {
+  addMistake(faults, address, cycles, fault) {
     const isSkipped = cycles === 0 && address === this.skippedAddress;
     if (cycles === 0) this.skippedAddress = -1;
     if (!fault || isSkipped) return;

@@ -35,10 +35,10 @@ import { changedFrom, CHANGES_ALWAYS } from "../../words/debug.js";
 /** The place that cannot be watched: the program counter, because every instruction changes it. */
 const UNWATCHABLE_PLACE = "pc";
 /** The maximum number of cycles in one query. */
-const QUERY_CYCLES = 50000;
+const MAX_QUERY_CYCLES = 50000;
 
 /** @returns {WatchEvents} a result without a change */
-const emptyChange = () => ({ cycles: -1, id: 0, change: "", hits: new Map() });
+const createEmptyResult = () => ({ cycles: -1, id: 0, change: "", hits: new Map() });
 
 /**
  * Compiles requested watches. `faults` contains the error messages of watches that cannot be compiled, by watch id.
@@ -91,7 +91,7 @@ export class DataWatches {
    * @returns {WatchEvents}
    */
   searchLines(engine, file, planned, codes) {
-    const events = emptyChange();
+    const events = createEmptyResult();
     if (this.isEmpty) return events;
     const copy = file.slice();
     let done = 0;
@@ -183,7 +183,7 @@ export class DataWatches {
    * Returns a finder for each watch. A finder searches the past for the last change of its watched place; it ignores hit counts.
    * @param {Engine} engine
    */
-  finders(engine) {
+  createFinders(engine) {
     return this.watches.map((watch) => new LastWatchedChange(engine, watch));
   }
 }
@@ -215,15 +215,15 @@ class LastWatchedChange extends LastChangeFinder {
 }
 
 /**
- * Splits a `run` line into shorter `run` lines of at most QUERY_CYCLES cycles. Returns a key change unchanged, with 0 cycles.
+ * Splits a `run` line into shorter `run` lines of at most MAX_QUERY_CYCLES cycles. Returns a key change unchanged, with 0 cycles.
  * @param {PlannedLine} planned
  */
 function splitLine(planned) {
   const total = plannedCycles(planned);
   /** @type {(PlannedLine & { cycles: number })[]} */
   const shortLines = planned.change ? [{ ...planned, cycles: 0 }] : [];
-  for (let done = 0; done < total; done += QUERY_CYCLES) {
-    const cycles = Math.min(QUERY_CYCLES, total - done);
+  for (let done = 0; done < total; done += MAX_QUERY_CYCLES) {
+    const cycles = Math.min(MAX_QUERY_CYCLES, total - done);
     shortLines.push({ line: `run ${cycles}`, change: null, cycles });
   }
   return shortLines;
@@ -233,7 +233,7 @@ function splitLine(planned) {
  * Finds, in advance, the stops at soft breakpoints (arrivals.js) and at data watches. The earliest stop ends the run. This class has the
  * same interface as `Arrivals`.
  */
-export class SoftStops {
+export class SoftStopFinder {
   /**
    * @param {import("./arrivals.js").Arrivals} arrivals
    * @param {DataWatches} dataWatches

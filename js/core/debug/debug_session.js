@@ -40,9 +40,9 @@ import * as say from "../../words/debug.js";
  */
 
 /** The maximum length of the first piece of a run, in cycles. */
-const FIRST_PIECE = 50000;
+const MAX_FIRST_PIECE_CYCLES = 50000;
 /** The maximum length of a piece in cycles: a step back replays at most one piece (engine/timeline.js). */
-export const LARGEST_PIECE = 500000;
+export const MAX_PIECE_CYCLES = 500000;
 
 /** @type {ShouldContinue} a callback that lets the work continue to its end */
 const continueAlways = async () => true;
@@ -60,7 +60,7 @@ export class DebugSession {
     this.boardText = board;
     this.program = program;
     /** The maximum length of a piece of a run, in cycles. */
-    this.largestPiece = LARGEST_PIECE;
+    this.maxPieceCycles = MAX_PIECE_CYCLES;
     if (!file) {
       this.sendText(engine, bytes, "wire", sentText(board, "#"));
       this.sendText(engine, bytes, "asm", sentText(program, ";"));
@@ -173,7 +173,7 @@ export class DebugSession {
    */
   async runInPieces(goal, shouldContinue, maxCycles = Infinity) {
     const debug = this.debugger;
-    const piece = new PieceSize(Math.min(FIRST_PIECE, this.largestPiece), 1, this.largestPiece);
+    const piece = new PieceSize(Math.min(MAX_FIRST_PIECE_CYCLES, this.maxPieceCycles), 1, this.maxPieceCycles);
     /** @type {Tally} */
     let tally = NO_TALLY;
     for (let done = 0; ;) {

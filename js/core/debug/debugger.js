@@ -25,7 +25,7 @@ import { CYCLES_PER_SECOND } from "../time/mcs4_time.js";
 import { cyclesToGoal, searchGoal, truncateLines } from "./goal_search.js";
 import { Arrivals, MAX_NOTES, createEmptyEvents } from "./arrivals.js";
 import { compileSearchCondition } from "./condition_search.js";
-import { DataWatches, SoftStops, compileWatches } from "./data_watches.js";
+import { DataWatches, SoftStopFinder, compileWatches } from "./data_watches.js";
 import { parseCounter, createWatcher } from "./goals.js";
 import { findLastArrival, findLastCall } from "./last_arrival.js";
 import { isSoft, compileBreakpoint } from "./soft_breakpoints.js";
@@ -78,8 +78,8 @@ import { CommonMistakes } from "./common_mistakes.js";
 /** The maximum distance of a near goal in cycles: one second of a real 4004. */
 export const NEAR_CYCLES = CYCLES_PER_SECOND;
 /** The maximum distances of a near goal, in cycles: for a change or a condition, and for a number of instructions. */
-const NEAR_CHANGE = 10000000;
-const NEAR_COUNT = 100000000;
+const NEAR_CHANGE_CYCLES = 10000000;
+const NEAR_COUNT_CYCLES = 100000000;
 
 /** @type {Tally} a tally without any event */
 export const NO_TALLY = { hits: [], notes: [], noted: 0, usual: [] };
@@ -104,8 +104,8 @@ export function joinTallies(one, other) {
  * @param {Goal} goal
  */
 export function nearDistance({ kind }) {
-  if (kind === "change" || kind === "when") return NEAR_CHANGE;
-  return kind === "count" ? NEAR_COUNT : NEAR_CYCLES;
+  if (kind === "change" || kind === "when") return NEAR_CHANGE_CYCLES;
+  return kind === "count" ? NEAR_COUNT_CYCLES : NEAR_CYCLES;
 }
 
 /** The debugger of a session. */
@@ -114,7 +114,7 @@ export class Debugger {
   constructor(session) {
     this.session = session;
     this.watches = new DataWatches([]);
-    this.arrivals = this.softStops([]);
+    this.arrivals = this.createStopFinder([]);
     this.commonMistakes = new CommonMistakes(session);
     /** @type {import("../engine/key_queue.js").PlannedLine[] | null} lines that have run but are not yet checked for mistakes */
     this.uncheckedLines = null;
@@ -153,7 +153,7 @@ export class Debugger {
       return soft;
     });
     this.names = names;
-    this.arrivals = this.softStops(softBreakpoints);
+    this.arrivals = this.createStopFinder(softBreakpoints);
     this.hardBreakpoints = new Map(placed.filter((each) => !isSoft(each)).map(({ id, address }) => [address, id]));
     return { lines: this.breakLines(), faults };
   }
@@ -162,8 +162,8 @@ export class Debugger {
    * Returns an object that finds the stops at soft breakpoints and data watches.
    * @param {SoftBreakpoint[]} breakpoints
    */
-  softStops(breakpoints) {
-    return new SoftStops(new Arrivals(breakpoints), this.watches, () => this.session.codes);
+  createStopFinder(breakpoints) {
+    return new SoftStopFinder(new Arrivals(breakpoints), this.watches, () => this.session.codes);
   }
 
   /**
@@ -176,7 +176,7 @@ export class Debugger {
     const hits = new Map(this.watches.watches.map((watch) => [watch.id, watch.hits]));
     const { watches, faults } = compileWatches(requestedWatches, names);
     this.watches = new DataWatches(watches.map((watch) => ({ ...watch, hits: hits.get(watch.id) || 0 })));
-    this.arrivals = new SoftStops(this.arrivals.arrivals, this.watches, () => this.session.codes);
+    this.arrivals = new SoftStopFinder(this.arrivals.arrivals, this.watches, () => this.session.codes);
     return faults;
   }
 
@@ -213,20 +213,20 @@ export class Debugger {
     const { session } = this;
     const { engine, file } = session;
     let planned = session.queue.plan(cycles);
-    const toGoal = this.watcher ? cyclesToGoal(engine, file, planned, this.watcher) : -1;
-    if (toGoal >= 0) planned = truncateLines(planned, toGoal);
+    const cyclesBeforeGoal = this.watcher ? cyclesToGoal(engine, file, planned, this.watcher) : -1;
+    if (cyclesBeforeGoal >= 0) planned = truncateLines(planned, cyclesBeforeGoal);
     const events = this.arrivals.searchLines(engine, file, planned);
     if (events.cycles >= 0) planned = truncateLines(planned, events.cycles);
     const isLate = isHurried && this.commonMistakes.stops.size === 0 && session.recording === null;
-    const usual = isLate ? { faults: [], stop: -1 } : this.commonMistakes.searchLines(planned);
-    if (usual.stop >= 0) planned = truncateLines(planned, usual.stop);
+    const mistakes = isLate ? { faults: [], stop: -1 } : this.commonMistakes.searchLines(planned);
+    if (mistakes.stop >= 0) planned = truncateLines(planned, mistakes.stop);
     const countBefore = session.count.total;
     const frame = session.advanceBy(planned);
     this.arrivals.count(events);
     this.uncheckedLines = isLate ? planned : null;
-    const stop = this.findOtherStop(frame, usual.stop) || this.findStop(frame, events, toGoal);
+    const stop = this.findOtherStop(frame, mistakes.stop) || this.findStop(frame, events, cyclesBeforeGoal);
     if (stop) this.endMove();
-    const tally = { ...this.createTally(events, stop, countBefore), usual: [...this.takeLateMistakes(), ...usual.faults] };
+    const tally = { ...this.createTally(events, stop, countBefore), usual: [...this.takeLateMistakes(), ...mistakes.faults] };
     return { ...frame, stop, tally };
   }
 
@@ -248,10 +248,10 @@ export class Debugger {
   /**
    * Returns the stop for a mistake or for the end of a recording; null if there is none.
    * @param {Frame} frame
-   * @param {number} usual the cycles before the mistake, -1 for none
+   * @param {number} cyclesToMistake the cycles before the mistake, -1 for none
    */
-  findOtherStop(frame, usual) {
-    if (usual >= 0 && frame.cycles === usual) return this.createStop("usual");
+  findOtherStop(frame, cyclesToMistake) {
+    if (cyclesToMistake >= 0 && frame.cycles === cyclesToMistake) return this.createStop("usual");
     const { recorder } = this.session;
     if (!recorder || !recorder.stops || frame.end) return null;
     recorder.stops = false;
@@ -271,13 +271,13 @@ export class Debugger {
    * Returns the stop at the goal, at a breakpoint, or for another reason that the bench reports; null if there is none.
    * @param {Frame} frame
    * @param {BreakpointEvents} events the breakpoint events that were found in advance
-   * @param {number} toGoal the cycles before the goal, -1 if it was not found
+   * @param {number} cyclesBeforeGoal the cycles before the goal, -1 if it was not found
    * @returns {Stop | null}
    */
-  findStop(frame, events, toGoal) {
+  findStop(frame, events, cyclesBeforeGoal) {
     const cycles = this.session.count.total - this.startTotal;
     const returns = this.watcher !== null && this.watcher.returns;
-    if (toGoal >= 0 && frame.cycles === toGoal) return { why: "goal", id: 0, cycles, returns };
+    if (cyclesBeforeGoal >= 0 && frame.cycles === cyclesBeforeGoal) return { why: "goal", id: 0, cycles, returns };
     if (events.cycles >= 0 && frame.cycles === events.cycles) {
       return { why: events.why, id: events.id, cycles, returns: false, change: events.change };
     }

@@ -5,7 +5,7 @@ import { CancelledError } from "../bench/bench_errors.js";
 import { MAX_RUN_CYCLES } from "../engine/key_queue.js";
 import { FIRST_PIECE_CYCLES, PieceSize } from "../engine/piece_size.js";
 import { ForecastAnswers } from "../engine/forecast_answers.js";
-import { LARGEST_PIECE, missingGoalEnd, createWatcher } from "./goals.js";
+import { MAX_PIECE_CYCLES, missingGoalEnd, createWatcher } from "./goals.js";
 
 /**
  * @typedef {import("../engine/engine_host.js").EngineHost} Engine
@@ -61,9 +61,9 @@ export async function searchGoal(engine, file, goal, shouldContinue, maxCycles, 
   const watcher = createWatcher(engine, file, goal, codes);
   if (!watcher) return { cycles: 0, isReached: false, end: missingGoalEnd(goal) };
   if (watcher.first) engine.serve(copy, watcher.first, copy);
-  const piece = new PieceSize(FIRST_PIECE_CYCLES, 1, LARGEST_PIECE);
+  const piece = new PieceSize(FIRST_PIECE_CYCLES, 1, MAX_PIECE_CYCLES);
   for (let done = 0; done < maxCycles;) {
-    const cycles = Math.min(piece.size, watcher.most(), maxCycles - done);
+    const cycles = Math.min(piece.size, watcher.maxRun(), maxCycles - done);
     const found = piece.measure(() => (
       searchAnswers(new ForecastAnswers(engine.serve(copy, pieceLines(watcher, cycles), copy).answers), watcher)));
     if (found) return { ...found, cycles: done + found.cycles };

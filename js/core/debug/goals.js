@@ -26,15 +26,15 @@ import { becomesTrue } from "./condition_search.js";
  * subroutine.
  * @typedef {{ cycles: number, isReached: boolean, end: string }} SearchResult
  *
- * The watcher of a goal. `first`: a bench line to send once before all runs, "" for none. `most`: returns the maximum length of the next
+ * The watcher of a goal. `first`: a bench line to send once before all runs, "" for none. `maxRun`: returns the maximum length of the next
  * run in cycles. `before`: returns the queries before a run. `after`: the queries after a run. `take`: reads the answers to the queries and
  * to the run, and returns the result. `returns`: true if a return from a subroutine reaches the goal.
- * @typedef {{ first: string, most: () => number, before: (cycles: number) => string, after: string,
+ * @typedef {{ first: string, maxRun: () => number, before: (cycles: number) => string, after: string,
  *   take: (answers: ForecastAnswers) => SearchResult, returns: boolean }} Watcher
  */
 
 /** The maximum length of a piece of a search, in cycles. */
-export const LARGEST_PIECE = 4 * MAX_RUN_CYCLES;
+export const MAX_PIECE_CYCLES = 4 * MAX_RUN_CYCLES;
 
 /**
  * Reads an answer to `regs`. Returns the program counter, and whether the second cycle of an instruction is pending (`isOwed`).
@@ -54,7 +54,7 @@ export function parseCounter(regs) {
 function traceWatcher(places, goal) {
   return {
     first: "",
-    most: () => LARGEST_PIECE,
+    maxRun: () => MAX_PIECE_CYCLES,
     before: (cycles) => `trace ${cycles}${places}\n`,
     after: "",
     take: (answers) => {
@@ -124,7 +124,7 @@ function countWatcher(count, isOwed) {
   let wasOwed = isOwed;
   return {
     first: "",
-    most: () => instructionsLeft,
+    maxRun: () => instructionsLeft,
     before: (cycles) => `count ${cycles}\n`,
     after: "regs\n",
     take: (answers) => {
@@ -153,7 +153,7 @@ function addressWatcher(engine, file, address) {
   if (!answer.startsWith("ok ")) return instructionWatcher(address);
   return {
     first,
-    most: () => LARGEST_PIECE,
+    maxRun: () => MAX_PIECE_CYCLES,
     before: () => "",
     after: "regs\n",
     take: (answers) => {

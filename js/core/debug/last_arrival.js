@@ -19,7 +19,7 @@ import { parseCounter } from "./goals.js";
  */
 
 /** Matches bench lines that set or delete breakpoints or watches. */
-const MARK_LINE = /^(un)?(break|watch) /;
+const BREAKPOINT_OR_WATCH_LINE = /^(un)?(break|watch) /;
 /** The length of a JMS in cycles. */
 const JMS_CYCLES = 2;
 
@@ -37,7 +37,7 @@ class LastArrivalFinder {
     this.copy = new Uint8Array(0);
     this.total = 0;
     /** The cycle count at the last arrival that was found. */
-    this.foundAt = 0;
+    this.lastArrivalTotal = 0;
   }
 
   /**
@@ -67,7 +67,7 @@ class LastArrivalFinder {
     for (const { line, cycles, moment } of units) {
       if (cycles === 0) {
         // The replay skips lines that changed breakpoints in the past, and runs of no cycle.
-        if (MARK_LINE.test(line) || /^(run|step)\b/.test(line)) continue;
+        if (BREAKPOINT_OR_WATCH_LINE.test(line) || /^(run|step)\b/.test(line)) continue;
         [lines, count] = [`${lines}${line}\n`, count + 1];
         continue;
       }
@@ -78,7 +78,7 @@ class LastArrivalFinder {
           && breakpoint !== null && breakpoint.address === presentMoment.counter;
         if (breakpoint && !isNow) {
           found = searchResult({ moment: { ...moment, cycles: moment.cycles + cyclesRun }, end: "break", id: breakpoint.id });
-          this.foundAt = countBefore + cyclesRun;
+          this.lastArrivalTotal = countBefore + cyclesRun;
         }
         return false;
       });
@@ -95,7 +95,7 @@ class LastArrivalFinder {
  * @param {BackSearchResult | null} one
  * @param {BackSearchResult | null} other
  */
-function laterAim(one, other) {
+function laterResult(one, other) {
   if (!one || !other) return one || other;
   const [a, b] = [one, other].map(({ moment }) => moment || { segment: -1, entry: -1, cycles: -1 });
   const isLater = [b.segment - a.segment, b.entry - a.entry, b.cycles - a.cycles].find((each) => each !== 0) || 0;
@@ -110,7 +110,7 @@ function laterAim(one, other) {
 function combineFinders(finders) {
   return {
     begin: ({ file, count }) => finders.forEach((finder) => finder.begin({ file: file.slice(), count })),
-    among: (units) => finders.map((finder) => finder.among(units)).reduce(laterAim, null),
+    among: (units) => finders.map((finder) => finder.among(units)).reduce(laterResult, null),
   };
 }
 
@@ -132,7 +132,7 @@ export async function findLastArrival(session, breakpoints, { place, watches }, 
   const places = [...watchedPlaces(session.ask("watches\n")[0]), ...(place === "" ? [] : [place])];
   const changes = places.map((each) => makeChangeFinder(engine, file, each));
   if (changes.some((each) => each === null)) return searchResult({ why: "lacks", place });
-  const finders = [...changes.flatMap((each) => (each ? [each] : [])), ...(watches ? watches.finders(engine) : [])];
+  const finders = [...changes.flatMap((each) => (each ? [each] : [])), ...(watches ? watches.createFinders(engine) : [])];
   const all = combineFinders([...(breakpoints.length > 0 ? [new LastArrivalFinder(session, breakpoints)] : []), ...finders]);
   const { found, beginning } = await searchPast(engine, timeline, all, shouldContinue);
   if (found) return found;
@@ -153,7 +153,7 @@ export async function findLastCall(session, call, returns, shouldContinue) {
   const holds = (/** @type {string[]} */ [answer]) => returns.every((each, at) => answer.split(",")[at] === each);
   const finder = new LastArrivalFinder(session, [{ id: 0, address: call, from: 1, hits: 0, places: ["ret"], holds, words: null }]);
   const { found } = await searchPast(session.engine, session.timeline, finder, shouldContinue);
-  const cyclesBack = session.count.total - finder.foundAt - JMS_CYCLES;
+  const cyclesBack = session.count.total - finder.lastArrivalTotal - JMS_CYCLES;
   if (!found || cyclesBack < 0) return searchResult({ why: "short" });
   const moment = cyclesBack === 0 ? session.timeline.end : session.timeline.before(cyclesBack);
   return moment ? searchResult({ moment }) : searchResult({ why: "short" });

@@ -37,7 +37,7 @@ export function describeChanges(before, after) {
  * @param {number} cycles the cycles between the pauses
  * @param {SourceMap} map
  */
-function steppedLine({ registers: before }, { registers: after }, cycles, map) {
+function findSteppedLine({ registers: before }, { registers: after }, cycles, map) {
   const address = parseInt(before.counter, 16);
   if (!map.beginsInstruction(address) || before.owed !== "0" || after.owed !== "0") return 0;
   const line = map.lineOf(address);
@@ -74,11 +74,11 @@ export class LineChanges {
    */
   addPause(machineState, cycles, map) {
     const { before } = this;
-    const elapsed = cycles - this.cycles;
+    const elapsedCycles = cycles - this.cycles;
     this.before = machineState;
     this.cycles = cycles;
-    if (before && map && elapsed === 0) return;
-    const line = before && map && elapsed > 0 ? steppedLine(before, machineState, elapsed, map) : 0;
+    if (before && map && elapsedCycles === 0) return;
+    const line = before && map && elapsedCycles > 0 ? findSteppedLine(before, machineState, elapsedCycles, map) : 0;
     if (!before || line === 0) {
       this.lines = new Map();
       return;

@@ -31,7 +31,7 @@ export function isSoft({ condition, from, note }) {
  * @param {Names} names
  * @returns {{ note: Note, fault: "", column: -1 } | { note: null, fault: string, column: number }}
  */
-function compileBraces(text, names) {
+function compileBracedText(text, names) {
   const lamp = names.face.lampNumbers.get(text.trim());
   const place = parsePlace(lamp === undefined ? text : `lamp ${lamp}`);
   const probes = place ? place.probesOn(names.board) : [];
@@ -59,7 +59,7 @@ export function compileNote(text, names) {
     start += piece.length;
     const found = /^\{(.*)\}$/.exec(piece);
     if (!found) return () => piece;
-    const { note, fault: bracesError, column } = compileBraces(found[1], names);
+    const { note, fault: bracesError, column } = compileBracedText(found[1], names);
     if (!note) {
       fault = fault || inColumn(say.noteAsks(piece, bracesError), pieceStart + 1 + column);
       return () => piece;

@@ -10,7 +10,7 @@ import { MAX_RUN_CYCLES } from "../engine/key_queue.js";
 /**
  * @typedef {import("../bench/inputs.js").Input} Input
  * @typedef {import("../engine/engine_host.js").EngineHost} Engine
- * @typedef {import("./data_watches.js").SoftStops} SoftStops
+ * @typedef {import("./data_watches.js").SoftStopFinder} SoftStopFinder
  * @typedef {import("./arrivals.js").BreakpointEvents} BreakpointEvents
  *
  * The plan. `lines`: the lines to serve. `runs`: the breakpoint events of each run, and the number of cycles before the run. If a
@@ -33,7 +33,7 @@ function runCycles(input) {
  * Plans typed lines. Throws CancelledError if `shouldContinue` resolves to false.
  * @param {Engine} engine
  * @param {Uint8Array} file the session file; not changed
- * @param {SoftStops} arrivals finds the stops of the machine, and counts the hits
+ * @param {SoftStopFinder} arrivals finds the stops of the machine, and counts the hits
  * @param {string} lines
  * @param {(done: number) => Promise<boolean>} shouldContinue called with the number of planned characters; resolves to true to continue
  * @returns {Promise<TypedPlan>}

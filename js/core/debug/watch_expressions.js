@@ -29,7 +29,7 @@ import * as say from "../../words/debug.js";
 export const MAX_WATCH_EXPRESSIONS = 40;
 const MAX_LENGTH = 200;
 /** The largest number that is shown only in decimal, without its hexadecimal form. */
-const MAX_DECIMAL_ONLY = 9;
+const MAX_DECIMAL_ONLY_VALUE = 9;
 
 /**
  * Returns the reader of a place whose value the user can edit.
@@ -56,7 +56,7 @@ const REGISTERS = {
  * @param {string} place
  * @returns {Reader | null}
  */
-function machineReader(place) {
+function registerReader(place) {
   if (Object.prototype.hasOwnProperty.call(REGISTERS, place)) return editableReader(place, REGISTERS[place]);
   const register = /^r(\d+)$/.exec(place);
   if (register) return editableReader(place, (machineState) => machineState.register(Number(register[1])));
@@ -122,7 +122,7 @@ function expressionReader(text) {
     const answers = expression.places.map((place) => readPlaceValue(place, machineState, names.board));
     const number = expression.number ? expression.number(answers) : 0;
     const value = expression.textOf(answers);
-    return [number > MAX_DECIMAL_ONLY && /^\d+$/.test(value) ? say.withHex(value, number.toString(16).toUpperCase()) : value];
+    return [number > MAX_DECIMAL_ONLY_VALUE && /^\d+$/.test(value) ? say.withHex(value, number.toString(16).toUpperCase()) : value];
   };
 }
 
@@ -174,7 +174,7 @@ export function parseWatch(text, names = null) {
   const fault = place ? "" : expressionError(value, column, names);
   if (fault) return { watched: null, fault };
   const placeName = place ? place.name : "";
-  const pieces = machineReader(placeName) || portReader(placeName) || memoryReader(placeName)
+  const pieces = registerReader(placeName) || portReader(placeName) || memoryReader(placeName)
     || (place ? placeReader(place) : expressionReader(value));
   const character = /^(ram|st)\./.test(placeName) ? placeName : "";
   return { watched: { name: name || value, text: name ? `${name} = ${value}` : value, place: character, value, pieces }, fault: "" };

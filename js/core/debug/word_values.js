@@ -54,7 +54,7 @@ function registerValue(number, machineState) {
  * @param {MachineState} machineState
  * @returns {Value}
  */
-function machineValue(place, name, { registers }) {
+function accumulatorOrCarryValue(place, name, { registers }) {
   return { place, name, value: place === "acc" ? registers.accumulator : registers.carry };
 }
 
@@ -112,7 +112,7 @@ function registerPieces(word, { head }, machineState) {
  * @param {MachineState} machineState
  * @returns {Piece[]}
  */
-function portPieces(name, machineState) {
+function selectedPieces(name, machineState) {
   const { bank } = machineState;
   if (name === "WRR" || name === "RDR") {
     const chip = machineState.source >> 4;
@@ -146,10 +146,11 @@ function portPieces(name, machineState) {
 function instructionPieces(name, description, parts, machineState) {
   const [operand] = parts.operands;
   if (name === "SRC" && operand && PAIR.test(operand.text)) return registerPieces(operand.text, parts, machineState);
-  const pieces = portPieces(name, machineState);
+  const pieces = selectedPieces(name, machineState);
   if (!ACCUMULATOR_WORD.test(description)) return pieces;
   /** @type {Piece[]} */
-  const accumulator = ["acc ", machineValue("acc", "acc", machineState), ", cy ", machineValue("cy", "cy", machineState)];
+  const accumulator = [
+    "acc ", accumulatorOrCarryValue("acc", "acc", machineState), ", cy ", accumulatorOrCarryValue("cy", "cy", machineState)];
   return pieces.length > 0 ? [...pieces, "; ", ...accumulator] : accumulator;
 }
 
