@@ -65,7 +65,7 @@ export class Bench {
     this.size = 0;
     /** @type {ArrayBuffer[]} buffers of received files; the next request returns them to the worker */
     this.spare = [];
-    setInterval(() => this.pingWorker(), PING_INTERVAL_MS);
+    setInterval(() => this.watch(), PING_INTERVAL_MS);
   }
 
   /** Starts a worker. The promise resolves after the worker has loaded the module. */
@@ -160,7 +160,7 @@ export class Bench {
   }
 
   /** Pings the worker if it has unanswered requests. The limit is a number of pings, not a time, because the computer can sleep. */
-  pingWorker() {
+  watch() {
     if (this.allowsSilence || (this.pendingRequests.size === 0 && !this.isRunning)) {
       this.unansweredPings = 0;
       return;
