@@ -1,5 +1,5 @@
-// A connection in the debug adapter protocol (DAP): receives requests, and sends responses and events. The connection serves requests in
-// their order, `initialize` first. Only `cancel` is served at once.
+// A connection that speaks the debug adapter protocol (DAP). It receives requests, and sends responses and events. The first request must
+// be `initialize`. Requests are served one after the other, in the order of their arrival; only `cancel` is served at once.
 
 import { CancelledError } from "../bench/bench_errors.js";
 import { getField } from "../server/framing.js";
@@ -9,7 +9,8 @@ import * as say from "../../words/adapter.js";
 import { INITIALIZE_FIRST, INITIALIZE_ONCE, NOT_JSON } from "../../words/server.js";
 
 /**
- * A request that has no response yet. Long work checks `isCancelled`, and throws CancelledError if the flag is true.
+ * A request that has no response yet. `seq` is its number. `hasBegun` is true once its handler runs. A handler that runs for long checks
+ * `isCancelled`, and throws CancelledError if it is true.
  * @typedef {{ seq: number, command: string, hasBegun: boolean, isCancelled: boolean }} PendingRequest
  *
  * A request handler. It returns the response body, or a promise of the body.
@@ -36,11 +37,11 @@ export class AdapterConnection extends MessageStream {
     this.requests = {};
     this.lastSeq = 0;
     this.isOpen = false;
-    /** A promise that resolves at the end of the last queued request. Each request waits for the previous request. */
+    /** Resolves when the last request in the queue has been served. A new request waits for this promise. */
     this.queueEnd = Promise.resolve();
-    /** @type {Set<PendingRequest>} the requests without a response, both queued and running */
+    /** @type {Set<PendingRequest>} the requests that have no response yet, both queued and running */
     this.pendingRequests = new Set();
-    /** @type {(id: string) => void} stops the work with this progress id */
+    /** @type {(id: string) => void} stops the task that has this progress id */
     this.stopWork = (id) => fail(say.noProgress(id));
   }
 
@@ -112,7 +113,8 @@ export class AdapterConnection extends MessageStream {
   }
 
   /**
-   * Runs the action after a response. Prints an error of the action to the debug console, because the request already has its response.
+   * Runs the action that follows a response. If the action throws, prints the error to the debug console, because the response is already
+   * sent.
    * @param {ResponseWithFollowUp} response
    */
   runFollowUp({ followUp }) {
@@ -124,8 +126,8 @@ export class AdapterConnection extends MessageStream {
   }
 
   /**
-   * Serves the `cancel` request. Rejects a queued request at once. Sets the flag `isCancelled` of a running request. Does nothing if the
-   * request already has its response.
+   * Serves the `cancel` request. Rejects the request to cancel at once if it is queued. Sets its flag `isCancelled` if it runs. Does
+   * nothing if the request already has its response.
    * @param {any} args
    */
   cancel(args) {

@@ -1,5 +1,6 @@
-// Manages the client's breakpoints on lines, labels and addresses, and merges these with earlier breakpoints of the session into one list
-// for the debugger. Also manages data breakpoints (watched places) and exception filters (common mistakes).
+// Manages the breakpoints that the client sets on lines, labels and addresses. Merges them with the breakpoints that the session already
+// had into one list for the debugger. Also manages data breakpoints, which watch a place, and exception filters, which stop the machine at
+// common mistakes.
 
 import { watchedPlaces } from "../bench/answers.js";
 import { LAST_ADDRESS } from "../bench/numbers.js";
@@ -7,7 +8,7 @@ import { compileCondition } from "../conditions/condition_language.js";
 import { BreakpointList, MAX_BREAKPOINTS, MAX_ENABLED, instructionAtAddress, instructionForLine } from "../debug/breakpoints.js";
 import { parsePlace } from "../conditions/places.js";
 import { watchablePlace } from "../debug/data_watches.js";
-import { LARGEST_PIECE } from "../debug/debug_session.js";
+import { MAX_PIECE_CYCLES } from "../debug/debug_session.js";
 import { MAX_CYCLES_PER_CALL } from "../debug/common_mistakes.js";
 import { optionalList, needNumber, needText, optionalText, errorMessage } from "./dap_protocol.js";
 import * as say from "../../words/adapter.js";
@@ -19,8 +20,8 @@ import { stopsEachTime } from "../../words/machine.js";
  * @typedef {import("../debug/debug_session.js").DebugSession} DebugSession
  * @typedef {import("../debug/common_mistakes.js").Kind} MistakeKind
  *
- * A breakpoint that the client requested. `address` is -1 if no instruction was found. `from` is the number of the first hit that stops
- * time. `note` is the text to log. `words` is the error message, "" if the breakpoint can be set.
+ * A breakpoint that the client requested. `address` is -1 if no instruction was found. `from` is the number of the first hit that stops the
+ * machine. `note` is the text to log. `words` is the error message, "" if the breakpoint can be set.
  * @typedef {{ id: number, line: number, address: number, condition: string, from: number, note: string,
  *   words: string }} RequestedBreakpoint
  *
@@ -31,16 +32,20 @@ import { stopsEachTime } from "../../words/machine.js";
  * A data breakpoint that the client requested. `name` is the name of the place. `words` is the error message, "" if the place can be
  * watched.
  * @typedef {{ id: number, name: string, condition: string, from: number, words: string }} RequestedDataBreakpoint
- * @typedef {{ kind: string, condition: string }} RequestedFilter a requested exception filter
+ * @typedef {{ kind: string, condition: string }} RequestedFilter a requested exception filter: the kind of mistake, and the text of its
+ *   condition ("" for none)
  */
 
 /** @type {Omit<RequestedBreakpoint, "id">} */
 const DEFAULT_BREAKPOINT = { line: 0, address: -1, condition: "", from: 1, note: "", words: "" };
+/** Matches a hit condition such as `5`, `= 5` or `> 4`, and captures its number. */
 const HIT_CONDITION = /^(?:>=|=|==|>)?\s*(\d{1,9})$/;
+/** The maximum number of RAM characters that the bench can watch. */
 const MAX_WATCHES = 8;
 
 /**
- * Parses a hit condition such as `5` or `> 4`. Returns the first hit that stops, and an error message, "" if there is no error.
+ * Parses a hit condition such as `5` or `> 4`. Returns the number of the first hit that stops the machine (`from`), and an error message
+ * ("" for none).
  * @param {string} text
  */
 function parseHitCondition(text) {
@@ -52,7 +57,7 @@ function parseHitCondition(text) {
 }
 
 /**
- * Reads the fields that are common to all kinds of breakpoints.
+ * Reads the fields that a line, label or address breakpoint can have in a request.
  * @param {any} item
  */
 function readCommonFields(item) {
@@ -84,27 +89,27 @@ export class ClientBreakpoints {
     this.requested = { lines: [], labels: [], addresses: [] };
     /** The addresses of breakpoints that the client did not set. */
     this.otherAddresses = session.debugger.session.breaks;
-    /** The RAM characters, as `B 0xSS`, that the bench watches but not for the client. */
+    /** The RAM characters that the bench already watched, not for the client. Each has the form `B 0xSS`: its bank and its SRC byte. */
     this.otherWatches = readBenchWatches(session);
-    /** @type {string[]} the RAM characters, as `B 0xSS`, that the bench watches for the client */
+    /** @type {string[]} the RAM characters that the bench watches for the client, in the same form */
     this.clientWatches = [];
     /** @type {RequestedDataBreakpoint[]} the data breakpoints that the client requested */
-    this.data = [];
+    this.dataBreakpoints = [];
     /** @type {RequestedFilter[]} the exception filters that the client requested */
-    this.filters = [];
+    this.exceptionFilters = [];
     /** @type {Map<number, RequestedBreakpoint>} the requested breakpoints, by their ids in the debugger's list */
     this.byId = new Map();
   }
 
   /**
-   * Takes over the breakpoints from before a restart, and moves each one to its instruction in the new program. Returns the breakpoints
+   * Takes over the breakpoints from before a restart. Moves each breakpoint to its instruction in the new program. Returns the breakpoints
    * that moved.
    * @param {ClientBreakpoints} other
    */
-  async takeOverBreakpoints({ requested, lastId, data, filters }) {
-    Object.assign(this, { requested, lastId, data, filters });
-    await this.applyData();
-    this.applyFilters();
+  async takeOverBreakpoints({ requested, lastId, dataBreakpoints, exceptionFilters }) {
+    Object.assign(this, { requested, lastId, dataBreakpoints, exceptionFilters });
+    await this.applyDataBreakpoints();
+    this.applyExceptionFilters();
     return this.moveWithProgram();
   }
 
@@ -117,10 +122,11 @@ export class ClientBreakpoints {
   // --- requests of the client ---
 
   /**
+   * Serves the `setBreakpoints` request.
    * @param {any} args
    * @param {(line: number) => number} lineOf converts a client's line number to one that counts from 1
    */
-  setLines(args, lineOf) {
+  setLineBreakpoints(args, lineOf) {
     const { map } = this.session;
     return this.setRequested("lines", optionalList(args, "breakpoints").map((item) => {
       const { line, address, words } = instructionForLine(lineOf(needNumber(item, "line")), map);
@@ -128,8 +134,11 @@ export class ClientBreakpoints {
     }));
   }
 
-  /** @param {any} args */
-  setLabels(args) {
+  /**
+   * Serves the `setFunctionBreakpoints` request: sets breakpoints on labels.
+   * @param {any} args
+   */
+  setLabelBreakpoints(args) {
     const { map } = this.session;
     return this.setRequested("labels", optionalList(args, "breakpoints").map((item) => {
       const name = needText(item, "name").trim();
@@ -142,10 +151,11 @@ export class ClientBreakpoints {
   }
 
   /**
+   * Serves the `setInstructionBreakpoints` request.
    * @param {any} args
-   * @param {(reference: string) => number} addressOf
+   * @param {(reference: string) => number} addressOf returns the address of a memory reference
    */
-  setAddresses(args, addressOf) {
+  setAddressBreakpoints(args, addressOf) {
     const { map } = this.session;
     return this.setRequested("addresses", optionalList(args, "breakpoints").map((item) => {
       const { requested, words } = resolveAddress(needText(item, "instructionReference"), needNumber(item, "offset", 0), addressOf);
@@ -196,8 +206,8 @@ export class ClientBreakpoints {
     /** @type {Map<RequestedBreakpoint, string>} */
     const faults = new Map();
     const breakpoints = [...this.mergeBreakpoints().values()];
-    const isTooMany = (/** @type {number} */ at) => at >= MAX_ENABLED;
-    breakpoints.forEach((each, at) => isTooMany(at) && faults.set(each, say.tooManyEnabled(MAX_ENABLED)));
+    const isOverLimit = (/** @type {number} */ at) => at >= MAX_ENABLED;
+    breakpoints.forEach((each, at) => isOverLimit(at) && faults.set(each, say.tooManyEnabled(MAX_ENABLED)));
     const hits = new Map([...this.byId].map(([id, { address }]) => [address, (session.breakpoints.get(id) || { hits: 0 }).hits]));
     session.breakpoints = new BreakpointList();
     this.byId.clear();
@@ -217,7 +227,7 @@ export class ClientBreakpoints {
    * not set the breakpoint.
    * @param {number} id the breakpoint id in the debugger's list
    */
-  stoppedBreakpoint(id) {
+  hitBreakpoint(id) {
     const found = this.byId.get(id);
     if (!found || found.id === 0) return { id: 0, reason: "breakpoint" };
     const { labels, addresses } = this.requested;
@@ -231,7 +241,7 @@ export class ClientBreakpoints {
     const movedBreakpoints = this.requested.lines.filter((each) => {
       const { line, address, words } = instructionForLine(Math.max(1, each.line), map);
       const hasMoved = line !== each.line || address !== each.address;
-      // An earlier message that no instruction follows the line is now obsolete.
+      // If the breakpoint had no instruction before, its old error message no longer applies.
       const remainingError = each.address < 0 ? "" : each.words;
       Object.assign(each, { line, address, words: address < 0 ? words : remainingError });
       return hasMoved;
@@ -242,10 +252,13 @@ export class ClientBreakpoints {
 
   // --- data breakpoints ---
 
-  /** @param {any} args */
-  async setData(args) {
+  /**
+   * Serves the `setDataBreakpoints` request.
+   * @param {any} args
+   */
+  async setDataBreakpoints(args) {
     const { board } = this.session.debugger.session.statusQueries;
-    this.data = optionalList(args, "breakpoints").map((item) => {
+    this.dataBreakpoints = optionalList(args, "breakpoints").map((item) => {
       const name = needText(item, "dataId");
       const { from, words } = parseHitCondition(optionalText(item, "hitCondition"));
       const place = watchablePlace(name, board);
@@ -254,8 +267,8 @@ export class ClientBreakpoints {
       const error = !place ? say.notWatched(name) : access !== "write" ? say.ONLY_CHANGES : words;
       return { id: this.lastId, name: place ? place.name : name, condition: optionalText(item, "condition"), from, words: error };
     });
-    const faults = await this.applyData();
-    return this.data.map(({ id, words }) => {
+    const faults = await this.applyDataBreakpoints();
+    return this.dataBreakpoints.map(({ id, words }) => {
       const message = words || faults.get(id) || "";
       return { id, verified: message === "", ...(message ? { message } : {}) };
     });
@@ -263,11 +276,11 @@ export class ClientBreakpoints {
 
   /**
    * Sets the watches of the session. The bench watches up to MAX_WATCHES RAM characters without a condition. The debugger watches all other
-   * places. Returns error messages by data breakpoint id.
+   * places. Returns the error messages, by the id of the data breakpoint.
    */
-  async applyData() {
+  async applyDataBreakpoints() {
     const { session, otherWatches } = this;
-    const validRequests = this.data.filter(({ words }) => words === "");
+    const validRequests = this.dataBreakpoints.filter(({ words }) => words === "");
     const freeCount = MAX_WATCHES - otherWatches.length;
     const unconditional = validRequests.filter(({ name, condition, from }) => (
       watchOperand(name) !== "" && condition.trim() === "" && from === 1));
@@ -286,25 +299,28 @@ export class ClientBreakpoints {
 
   // --- common mistakes ---
 
-  /** @param {any} args */
-  setFilters(args) {
+  /**
+   * Serves the `setExceptionBreakpoints` request.
+   * @param {any} args
+   */
+  setExceptionFilters(args) {
     const unconditional = optionalList(args, "filters").map((kind) => ({ kind: String(kind), condition: "" }));
     const options = optionalList(args, "filterOptions").map((item) => (
       { kind: needText(item, "filterId"), condition: optionalText(item, "condition") }));
-    this.filters = [...unconditional, ...options];
-    return this.applyFilters();
+    this.exceptionFilters = [...unconditional, ...options];
+    return this.applyExceptionFilters();
   }
 
   /**
-   * Sets the kinds of mistakes that stop time. A filter whose condition has an error stops time at each mistake of its kind. Returns the
-   * response for each filter.
+   * Sets the kinds of mistakes that stop the machine. A filter whose condition has an error stops the machine at each mistake of its kind.
+   * Returns the response for each filter.
    */
-  applyFilters() {
-    const { session, filters } = this;
+  applyExceptionFilters() {
+    const { session, exceptionFilters } = this;
     const { commonMistakes } = session.debugger;
     commonMistakes.stops = new Set();
     commonMistakes.conditions = new Map();
-    const answers = filters.map(({ kind, condition: text }) => {
+    const answers = exceptionFilters.map(({ kind, condition: text }) => {
       if (!Object.prototype.hasOwnProperty.call(KINDS, kind)) return { verified: false, message: say.noFilter(kind) };
       const mistake = /** @type {MistakeKind} */ (kind);
       const isAlways = text.trim() === "";
@@ -314,14 +330,14 @@ export class ClientBreakpoints {
       return fault ? { verified: false, message: stopsEachTime(inColumn(fault, column)) } : { verified: true };
     });
     // The debugger checks every instruction only in pieces of at most MAX_CYCLES_PER_CALL cycles.
-    if (session.largestPiece >= MAX_CYCLES_PER_CALL) {
-      session.largestPiece = commonMistakes.stops.size > 0 ? MAX_CYCLES_PER_CALL : LARGEST_PIECE;
+    if (session.maxPieceCycles >= MAX_CYCLES_PER_CALL) {
+      session.maxPieceCycles = commonMistakes.stops.size > 0 ? MAX_CYCLES_PER_CALL : MAX_PIECE_CYCLES;
     }
     return answers;
   }
 
-  /** Reads the breakpoints and watches that the client did not set. Called after console lines have changed them. */
-  noteOwnBreakpoints() {
+  /** Notes which breakpoints and watches the client did not set. Called after console lines have changed breakpoints or watches. */
+  noteOtherBreakpoints() {
     const { lines, labels, addresses } = this.requested;
     const ofClient = new Set([...lines, ...labels, ...addresses].map(({ address }) => address));
     this.otherAddresses = this.session.debugger.session.breaks.filter((address) => !ofClient.has(address));
@@ -329,11 +345,11 @@ export class ClientBreakpoints {
   }
 
   /** Removes the client's breakpoints and watches. Resolves to an error message, "" if there is no error. */
-  async leave() {
+  async removeClientBreakpoints() {
     this.requested = { lines: [], labels: [], addresses: [] };
     try {
       await this.applyBreakpoints();
-      await this.setData({});
+      await this.setDataBreakpoints({});
     } catch (thrown) {
       return errorMessage(thrown);
     }
@@ -342,7 +358,7 @@ export class ClientBreakpoints {
 }
 
 /**
- * Returns the RAM characters that the bench watches, in the form `B 0xSS`.
+ * Returns the RAM characters that the bench watches, each in the form `B 0xSS` (its bank and its SRC byte).
  * @param {DebugSession} session
  */
 function readBenchWatches(session) {
@@ -350,7 +366,7 @@ function readBenchWatches(session) {
 }
 
 /**
- * Returns a RAM character in the form of the `watch` line, `B 0xSS`; "" for any other place.
+ * Returns the operands of a `watch` line for a RAM character: `B 0xSS`, its bank and its SRC byte. Returns "" for any other place.
  * @param {string} name
  */
 export function watchOperand(name) {

@@ -1,5 +1,5 @@
-// Serves the lines that users type in the debug console: bench lines (with labels as addresses), key names, moves that have no button, and
-// expressions.
+// Serves the lines that a user types in the debug console: bench lines (in which labels can replace addresses), key presses, moves that
+// have no button, and expressions.
 
 import { ANSWER_FORMS, isQuery } from "../bench/answer_table.js";
 import { readRun, parseRefusal } from "../bench/answers.js";
@@ -19,19 +19,20 @@ import { noKey } from "../../words/testing.js";
  * @typedef {import("./expression_values.js").ExpressionContext} ExpressionContext
  * @typedef {import("../bench/error_messages.js").ErrorMessages} ErrorMessages
  *
- * The result of a line: the text to show, whether the machine changed, and a move that begins after the text is shown (null for none).
+ * The result of a line. `words` is the text to show. `changes` is true if the line changed the machine. `move` starts a move after the text
+ * is shown; null for none.
  * @typedef {{ words: string, changes: boolean, move: (() => void) | null }} LineResult
  *
- * A callback between two steps of long work. It receives the number of processed characters. If it resolves to false, the work is cancelled
- * and no line has an effect.
+ * A callback that is called between two pieces of long work, with the number of processed characters. If it resolves to false, the work is
+ * cancelled and no line has an effect.
  * @typedef {(done: number) => Promise<boolean>} MayContinue
  */
 
 /** The words that can start a console line. */
-export const FIRST_WORDS = [
+export const CONSOLE_FIRST_WORDS = [
   "press", "release", "keys", "until", "change", "back", "forward", "set", "help", "display", ...ANSWER_FORMS.keys(),
 ];
-/** The maximum length of a console input in characters, and its maximum number of bench lines. */
+/** The maximum length of a console input in characters, and the maximum number of bench lines in it. */
 const MAX_LENGTH = 65536;
 const MAX_INPUTS = 1000;
 const COMPARISON_LINE = /^[^\n]*[=<>]/;
@@ -45,7 +46,7 @@ export class Console {
   /**
    * @param {Machine} machine
    * @param {ExpressionContext} context
-   * @param {ErrorMessages} words the messages for refusal numbers
+   * @param {ErrorMessages} words the messages for the error numbers of the bench
    * @param {{ breaksChanged: () => void, romChanged: () => void }} calls
    */
   constructor(machine, context, words, calls) {
@@ -103,14 +104,15 @@ export class Console {
   }
 
   /**
-   * Presses or releases keys. While time is paused, a key stays in its new position. While the machine runs, `press` also releases the key.
+   * Presses or releases keys. While the machine is paused, a key stays in its new position. While the machine runs, `press` also releases
+   * the key.
    * @param {"press" | "release"} word
    * @param {string[]} names
    */
   async moveKeys(word, names) {
     if (names.length === 0) fail(say.keySyntax(word));
     const keys = names.map((name) => this.findKey(name));
-    if (this.machine.isMoving && word === "press") return this.queue(keys);
+    if (this.machine.isMoving && word === "press") return this.queueKeys(keys);
     const lines = keys.map((key) => `${key[word]}\n`).join("");
     return this.runBenchLines(lines);
   }
@@ -118,11 +120,11 @@ export class Console {
   /** @param {string[]} words */
   typeKeys(words) {
     const keys = words.flatMap((word) => (this.keys.has(word) ? [word] : [...word])).map((name) => this.findKey(name));
-    return this.queue(keys);
+    return this.queueKeys(keys);
   }
 
   /** @param {import("../testing/test_text.js").Key[]} keys */
-  queue(keys) {
+  queueKeys(keys) {
     const { queue } = this.session.debugger.session;
     for (const { key } of keys) {
       queue.press(key);
@@ -160,7 +162,7 @@ export class Console {
   }
 
   /**
-   * Parses the goal of a move through time: a place or a condition.
+   * Parses the goal of a move: a place or a condition.
    * @param {string} text
    */
   readGoal(text) {
@@ -209,7 +211,7 @@ export class Console {
 }
 
 /**
- * Returns the address for a label or number; fails if the text is neither.
+ * Returns the address that a label or number denotes; throws AdapterError if the text is neither.
  * @param {string} text a label with or without `@`, or a number
  * @param {ExpressionContext} context
  * @returns {number}

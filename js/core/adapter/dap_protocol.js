@@ -1,10 +1,10 @@
-// Defines errors of the debug adapter protocol, and reads the arguments of requests.
+// Defines the errors of the debug adapter protocol, and functions that read the arguments of requests.
 
 import { getField } from "../server/framing.js";
 import * as say from "../../words/adapter.js";
 import { isText } from "../../words/server.js";
 
-/** An error that rejects a request. */
+/** The error that a request handler throws to reject its request. */
 export class AdapterError extends Error {
   /**
    * @param {string} words
@@ -16,7 +16,7 @@ export class AdapterError extends Error {
   }
 }
 
-/** The protocol's error message for a request that the adapter rejects while the machine runs. */
+/** The protocol's error message for a request that needs a paused machine while the machine runs. */
 export const NOT_STOPPED = "notStopped";
 /** The protocol's error message for a cancelled request. */
 export const REQUEST_CANCELLED = "cancelled";

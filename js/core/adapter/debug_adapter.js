@@ -1,9 +1,9 @@
 // The debug adapter: an editor launches a program on a board, or opens a session file. The editor then sets breakpoints, runs forward and
 // back, and shows the machine state. The page uses the same debugger (debug/debug_session.js).
 //
-//     const adapter = new DebugAdapter(new AdapterConnection(write), engine, data, host);     session_launch.js describes the host
-//     connection.take(bytes);                                                                for all bytes of the client
-//     await adapter.leave();                                                                 after the end of the connection
+//     const adapter = new DebugAdapter(new AdapterConnection(write), engine, data, host);     // session_launch.js describes the host
+//     connection.take(bytes);                                            // whenever bytes from the client arrive
+//     await adapter.leave();                                             // after the connection has ended
 
 import { Face } from "../board/face.js";
 import { instructionForLine } from "../debug/breakpoints.js";
@@ -19,7 +19,7 @@ import { Console, findAddress } from "./console.js";
 import { attach, describeDifference, launch } from "./session_launch.js";
 import { Machine } from "./debugged_machine.js";
 import { formatReference } from "./memory.js";
-import { Moves, THREAD } from "./move_requests.js";
+import { MoveHandlers, THREAD_ID } from "./move_requests.js";
 import { requestedBase } from "./number_format.js";
 import { Progress } from "./progress.js";
 import { NOT_STOPPED, fail, optionalList, needNumber, needText, optionalText } from "./dap_protocol.js";
@@ -34,7 +34,7 @@ import * as say from "../../words/adapter.js";
  * @typedef {import("./session_launch.js").LaunchResult} LaunchResult
  * @typedef {import("./debugged_machine.js").MoveEnd} MoveEnd
  *
- * The parts of a debug session, which exists from launch or attach until the end of debugging.
+ * The parts of a debug session. A debug session exists from `launch` or `attach` until the end of debugging.
  * @typedef {{ launchResult: LaunchResult, machine: Machine, breakpoints: ClientBreakpoints, console: Console,
  *   queryHandlers: QueryHandlers }} OpenSession
  */
@@ -88,13 +88,13 @@ export class DebugAdapter {
     this.host = host;
     this.words = new ErrorMessages(refusals);
     this.instructions = readInstructions(manual);
-    /** The client's first line number and first column number, and the optional events that the client accepts. */
+    /** The client's numbers of the first line and the first column (0 or 1), and which optional events the client accepts. */
     this.firstLine = 1;
     this.firstColumn = 1;
     this.acceptsInvalidated = false;
     this.acceptsMemory = false;
     this.progress = new Progress((event, body) => connection.sendEvent(event, body));
-    this.moves = new Moves(this);
+    this.moves = new MoveHandlers(this);
     /** @type {OpenSession | null} */
     this.open = null;
     this.isConfigured = false;
@@ -103,7 +103,7 @@ export class DebugAdapter {
     /** @type {MoveEnd | null} the end of the last move */
     this.lastStop = null;
     /** @type {RemoteFrontPanel | null} null until the client asks for the board */
-    this.shownBoard = null;
+    this.remoteFrontPanel = null;
     connection.requests = { ...this.lifecycleRequests(), ...this.breakpointRequests(), ...this.moves.handlers(), ...this.queryRequests() };
     connection.stopWork = (id) => this.progress.stop(id);
   }
@@ -180,17 +180,17 @@ export class DebugAdapter {
     const frontPanelText = () => machine.frontPanelText.currentText();
     const expressionContext = { session, face, instructions: this.instructions, frontPanelText };
     const debugConsole = new Console(machine, expressionContext, this.words, {
-      breaksChanged: () => breakpoints.noteOwnBreakpoints(), romChanged: () => this.reportRom(launchResult),
+      breaksChanged: () => breakpoints.noteOtherBreakpoints(), romChanged: () => this.reportRom(launchResult),
     });
     const queryHandlers = new QueryHandlers(launchResult, new Scopes(session, face), expressionContext, this);
     this.open = { launchResult, machine, breakpoints, console: debugConsole, queryHandlers };
-    if (this.shownBoard) this.shownBoard = new RemoteFrontPanel(machine);
+    if (this.remoteFrontPanel) this.remoteFrontPanel = new RemoteFrontPanel(machine);
     this.sendBoard();
     if (launchResult.note) this.output(`${launchResult.note}\n`, "console");
   }
 
   /**
-   * Warns the user if the bytes in ROM differ from the source.
+   * Warns the user if the bytes in ROM differ from the assembled source.
    * @param {LaunchResult} launchResult
    */
   reportRom({ session }) {
@@ -239,7 +239,7 @@ export class DebugAdapter {
     this.open = null;
     const { writer, session } = open.launchResult;
     if (!writer) return "";
-    const message = await open.breakpoints.leave();
+    const message = await open.breakpoints.removeClientBreakpoints();
     try {
       await writer.write(session.debugger.session);
       return message;
@@ -256,17 +256,17 @@ export class DebugAdapter {
   breakpointRequests() {
     return {
       setBreakpoints: (args) => this.setBreakpoints(args),
-      setFunctionBreakpoints: (args) => this.changeBreakpoints((breakpoints) => breakpoints.setLabels(args)),
+      setFunctionBreakpoints: (args) => this.changeBreakpoints((breakpoints) => breakpoints.setLabelBreakpoints(args)),
       setInstructionBreakpoints: (args) => (
-        this.changeBreakpoints((breakpoints) => breakpoints.setAddresses(args, (reference) => this.resolveReference(reference)))),
+        this.changeBreakpoints((breakpoints) => breakpoints.setAddressBreakpoints(args, (reference) => this.resolveReference(reference)))),
       dataBreakpointInfo: (args) => this.dataBreakpointInfo(args),
       setDataBreakpoints: (args) => {
         const { machine, breakpoints } = this.current;
-        return machine.runWhenFree(async () => ({ breakpoints: await breakpoints.setData(args) }));
+        return machine.runWhenFree(async () => ({ breakpoints: await breakpoints.setDataBreakpoints(args) }));
       },
       setExceptionBreakpoints: (args) => {
         const { machine, breakpoints } = this.current;
-        return machine.runWhenFree(() => ({ breakpoints: breakpoints.setFilters(args) }));
+        return machine.runWhenFree(() => ({ breakpoints: breakpoints.setExceptionFilters(args) }));
       },
       breakpointLocations: (args) => this.breakpointLocations(args),
     };
@@ -277,7 +277,7 @@ export class DebugAdapter {
     const source = getField(args, "source");
     const { queryHandlers, launchResult } = this.current;
     if (queryHandlers.isProgram(source) && launchResult.isDebugged) {
-      return this.changeBreakpoints((breakpoints) => breakpoints.setLines(args, (line) => line + 1 - this.firstLine));
+      return this.changeBreakpoints((breakpoints) => breakpoints.setLineBreakpoints(args, (line) => line + 1 - this.firstLine));
     }
     const message = launchResult.isDebugged ? say.notInProgram(queryHandlers.programName)
       : say.NO_DEBUG;
@@ -339,7 +339,7 @@ export class DebugAdapter {
       return act(queryHandlers, args);
     };
     return {
-      threads: () => ({ threads: [{ id: THREAD, name: "4004" }] }),
+      threads: () => ({ threads: [{ id: THREAD_ID, name: "4004" }] }),
       stackTrace: requirePaused((queryHandlers, args) => queryHandlers.stackTrace(args)),
       scopes: requirePaused((queryHandlers, args) => queryHandlers.listScopes(args)),
       variables: requirePaused((queryHandlers, args) => queryHandlers.variables(args)),
@@ -359,11 +359,11 @@ export class DebugAdapter {
       pressKey: (args) => this.moveKey("press", args),
       releaseKey: (args) => this.moveKey("release", args),
       watchBoard: () => {
-        this.shownBoard = new RemoteFrontPanel(this.current.machine);
-        return this.shownBoard.take();
+        this.remoteFrontPanel = new RemoteFrontPanel(this.current.machine);
+        return this.remoteFrontPanel.take();
       },
       changeKey: (args) => this.changeKey(args),
-      clearPrintout: () => (this.shownBoard ? this.shownBoard.clear() : undefined),
+      clearPrintout: () => (this.remoteFrontPanel ? this.remoteFrontPanel.clear() : undefined),
     };
   }
 
@@ -421,7 +421,7 @@ export class DebugAdapter {
     });
   }
 
-  /** Makes the client read the state again after a console line has changed the machine. */
+  /** Makes the client read the machine state again, after a console line has changed the machine. */
   sendInvalidated() {
     this.lastStop = this.pauseEnd("step");
     if (this.acceptsInvalidated) this.connection.sendEvent("invalidated", { areas: ["all"] });
@@ -452,15 +452,15 @@ export class DebugAdapter {
 
   // --- events ---
 
-  /** Sends the changes of the front panel if the client draws the board. */
+  /** Sends the changes of the front panel, if the client draws the front panel. */
   sendBoard() {
-    const { shownBoard } = this;
-    const news = shownBoard ? shownBoard.take() : {};
+    const { remoteFrontPanel } = this;
+    const news = remoteFrontPanel ? remoteFrontPanel.take() : {};
     if (Object.keys(news).length > 0) this.connection.sendEvent("boardShown", news);
   }
 
   /**
-   * Returns the end of a move that no stop of the debugger has ended.
+   * Returns a `MoveEnd` for a pause that is not a stop of the debugger, for example after a launch or a `goto`.
    * @param {string} reason a stop reason of the protocol
    * @returns {MoveEnd}
    */
@@ -475,10 +475,10 @@ export class DebugAdapter {
     this.lastStop = moveEnd;
     this.sendBoard();
     const isDataBreakpoint = moveEnd.reason === "data breakpoint";
-    const found = moveEnd.reason === "breakpoint" ? open.breakpoints.stoppedBreakpoint(moveEnd.id)
+    const found = moveEnd.reason === "breakpoint" ? open.breakpoints.hitBreakpoint(moveEnd.id)
       : { id: isDataBreakpoint ? moveEnd.id : 0, reason: moveEnd.reason };
     this.connection.sendEvent("stopped", {
-      reason: found.reason, description: moveEnd.words, threadId: THREAD, allThreadsStopped: true,
+      reason: found.reason, description: moveEnd.words, threadId: THREAD_ID, allThreadsStopped: true,
       ...(found.id > 0 ? { hitBreakpointIds: [found.id] } : {}),
     });
   }

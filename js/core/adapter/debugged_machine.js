@@ -1,5 +1,5 @@
-// Runs the debugged session. The machine makes one move at a time, such as a step or a run, and divides the move into pieces. Other work
-// waits for the end of a piece. The machine reports each stop and saves the session there.
+// Runs the debugged session. The machine makes one move at a time, such as a step or a run. A move is divided into pieces, and other work
+// waits for the end of a piece. At each stop, the machine reports the stop and saves the session.
 
 import { CancelledError } from "../bench/bench_errors.js";
 import { formatCycles } from "../time/cycles.js";
@@ -24,37 +24,37 @@ import { stoppedAt } from "../../words/stops.js";
 
 /**
  * The callbacks of a machine.
- * @typedef {object} MachineCalls
+ * @typedef {object} MachineCallbacks
  * @property {(moveEnd: MoveEnd) => void} stopped Reports the end of a move, once for each move.
- * @property {(words: string, category: "console" | "stdout" | "stderr") => void} output Prints a text that ends with a line feed, in a
- *   category of the protocol.
- * @property {() => Promise<void>} pause Yields to other tasks. Called between two pieces of a move.
- * @property {() => void} stateChanged Reports that the state has changed, so views can update.
- * @property {(title: string) => Work} [work] Begins to report the progress of a move to the client.
+ * @property {(words: string, category: "console" | "stdout" | "stderr") => void} output Prints a text, which ends with a line feed, under
+ *   an output category of the protocol.
+ * @property {() => Promise<void>} pause Yields to other tasks, between two pieces of a move.
+ * @property {() => void} stateChanged Reports that the machine state has changed, so that views can update.
+ * @property {(title: string) => Work} [work] Starts the progress report of a move.
  */
 
-/** @type {Record<string, string>} the protocol's stop reasons, by the debugger's reasons */
+/** @type {Record<string, string>} the stop reasons of the protocol, by the debugger's stop reason */
 const PROTOCOL_REASONS = {
   goal: "step", break: "breakpoint", watch: "data breakpoint", pause: "pause", lacks: "step", arrival: "pause", beginning: "entry",
   call: "restart",
 };
 /** @type {Record<string, string>} the debugger's stop reasons after a move back in time, by kind of goal */
 const REASONS_BY_GOAL = { stop: "pause", arrival: "arrival", call: "call" };
-/** @type {Record<string, string>} the stop reasons after a move back to a breakpoint, by the event that ended the search */
+/** @type {Record<string, string>} the debugger's stop reasons after a search for the last stop, by the event that ended the search */
 const REASONS_BY_END = { break: "break", change: "watch", beginning: "beginning" };
 /** The time between two updates of lamps and displays, in milliseconds. */
-const REPORT_INTERVAL = 100;
+const REPORT_INTERVAL_MS = 100;
 
 export class Machine {
   /**
    * @param {DebugSession} session
    * @param {SessionWriter | null} writer the writer of the session's file
-   * @param {MachineCalls} calls
+   * @param {MachineCallbacks} calls
    * @param {boolean} [isRealTime] true if the machine runs no faster than on a real 4004
    */
   constructor(session, writer, calls, isRealTime = false) {
     this.isRealTime = isRealTime;
-    if (isRealTime) session.largestPiece = FRAME_CYCLES;
+    if (isRealTime) session.maxPieceCycles = FRAME_CYCLES;
     /** The start time of the move, in milliseconds. */
     this.startTime = 0;
     this.session = session;
@@ -63,7 +63,7 @@ export class Machine {
     this.frontPanelText = new FrontPanelText(session);
     this.isMoving = false;
     this.mustPause = false;
-    /** Returns whether other work can use the session between two pieces of the current move. */
+    /** Returns whether the current move lets other work use the session between two pieces. */
     this.acceptsWork = () => false;
     /** @type {(() => Promise<void>)[]} the tasks that wait for the end of a piece */
     this.waitingWork = [];
@@ -79,7 +79,7 @@ export class Machine {
 
   // --- moves ---
 
-  /** @param {Goal | null} goal null: run to a stop */
+  /** @param {Goal | null} goal null to run to the next stop */
   go(goal) {
     const acceptsWork = () => goal === null || this.session.debugger.isMoving;
     const act = () => this.session.go(goal, (done, tally) => this.finishPiece(tally, done));
@@ -118,9 +118,9 @@ export class Machine {
   }
 
   /**
-   * Converts the result of a move through the past to the result of a run.
+   * Converts the result of a move back or forward into the form of a run result.
    * @param {{ isDone: boolean, words: string, end: string, id: number }} pastMove
-   * @param {string} why the stop reason; an entry of REASONS_BY_END takes precedence
+   * @param {string} why the stop reason; "arrival" is replaced by the entry of REASONS_BY_END for `end`
    */
   toRunResult({ isDone, words, end, id }, why) {
     if (!isDone) this.calls.output(`${words}\n`, "console");
@@ -158,7 +158,7 @@ export class Machine {
       moveEnd = { reason: isPause ? "pause" : "exception", words: message, id: 0 };
     }
     this.acceptsWork = () => false;
-    // Work can arrive during the save. It must be done now because nothing else runs it later.
+    // Work can arrive while the session is saved. It must run now, because nothing runs it later.
     do {
       await this.runWaitingWork();
       await this.saveAndReport();
@@ -187,14 +187,14 @@ export class Machine {
   }
 
   /**
-   * Reports the last piece of a move, yields to other tasks and runs the waiting work. Resolves to true if the move continues.
+   * Finishes a piece of a move: reports it, yields to other tasks and runs the waiting work. Resolves to true if the move continues.
    * @param {Tally} [tally] the tally of the last piece
    * @param {number} [done] the number of cycles of the move so far
    */
   async finishPiece(tally, done = 0) {
     if (tally) this.reportTally(tally, tally.noted);
     if (this.work) this.work.reportIfDue(() => formatCycles(done));
-    if (performance.now() - this.lastReportTime >= REPORT_INTERVAL && this.acceptsWork()) this.reportFrontPanelText();
+    if (performance.now() - this.lastReportTime >= REPORT_INTERVAL_MS && this.acceptsWork()) this.reportFrontPanelText();
     if (this.isRealTime && tally) await this.waitForRealTime(done);
     await this.calls.pause();
     if (this.acceptsWork()) await this.runWaitingWork();
@@ -202,13 +202,13 @@ export class Machine {
   }
 
   /**
-   * Waits until a real 4004 would reach this number of cycles.
+   * Waits until a real 4004 would have run this number of cycles.
    * @param {number} cycles the number of cycles since the start of the move
    */
   async waitForRealTime(cycles) {
     this.calls.stateChanged();
     const remainingTime = cycles * CYCLE_MS - (performance.now() - this.startTime);
-    if (remainingTime > 0) await new Promise((settle) => { setTimeout(settle, remainingTime); });
+    if (remainingTime > 0) await new Promise((resolve) => { setTimeout(resolve, remainingTime); });
   }
 
   pause() {
@@ -222,7 +222,7 @@ export class Machine {
   }
 
   /**
-   * Runs work on the session: at once while time is paused, or else between two pieces of the move.
+   * Runs work on the session: at once while the machine is paused, otherwise between two pieces of the move.
    * @template Result
    * @param {() => Result | Promise<Result>} act
    * @returns {Promise<Result>}

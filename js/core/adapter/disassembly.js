@@ -8,8 +8,8 @@ import { MAX_LISTING_LINES } from "../bench/rom_bytes.js";
  * @typedef {import("../debug/debug_session.js").DebugSession} DebugSession
  * @typedef {import("../bench/answers.js").ListingLine} ListingLine
  *
- * An instruction row. The address can be outside ROM. `bytes` is hexadecimal. `line` is the source line (0 for none), `name` the label (""
- * for none).
+ * A row of the disassembly. `address` can be outside ROM. `bytes` are the bytes in hexadecimal, and `words` is the instruction as text.
+ * `line` is the source line (0 for none), and `name` the label ("" for none).
  * @typedef {{ address: number, bytes: string, words: string, line: number, name: string }} InstructionRow
  */
 
@@ -43,7 +43,8 @@ function listInstructions(session, from, to) {
  * @returns {InstructionRow[]}
  */
 export function listInstructionRows(session, address, offset, count) {
-  // An instruction has at most two bytes. The listing starts at a known instruction start, so it never starts at a second byte.
+  // An instruction has at most two bytes. If the source map has an instruction nearby, the listing starts there, and thus not at a second
+  // byte.
   const begin = Math.max(0, address + 2 * Math.min(0, offset) - 1);
   const candidates = indices(4).map((more) => begin + more);
   const alignedStart = candidates.find((each) => each <= address && session.map.beginsInstruction(each)) ?? begin;

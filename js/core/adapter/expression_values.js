@@ -16,13 +16,14 @@ import { inColumn } from "../../words/conditions.js";
  * @typedef {import("../help/manual.js").Instruction} Instruction
  * @typedef {import("./number_format.js").Base} Base
  *
- * The evaluation context. `frontPanelText` returns the text of the lamps and displays.
+ * The context in which an expression is evaluated. `instructions` are the manual's entries by mnemonic. `frontPanelText` returns the lamps
+ * and displays as text.
  * @typedef {{ session: DebugSession, face: Face, instructions: Map<string, Instruction>, frontPanelText: () => string }} ExpressionContext
  */
 
 /** Matches the places whose values are hexadecimal digits. */
 const HEX_PLACES = /^(acc|dcl|src|r\d+|p\d|ram\.\d\..*|st\..*|rom\d+|ram\d\.\d)$/;
-/** Matches the places whose values have a character for each bit or lamp. The value of any other place is one bit. */
+/** Matches the places whose value is a text with one character per bit or lamp. A place that matches neither pattern is one bit. */
 const MARK_PLACES = /^(chain\d|lamps)$/;
 
 /**
@@ -57,7 +58,7 @@ function registerValue(text, session, base) {
 }
 
 /**
- * Returns the current source line as a suffix for an address; "" if the line is unknown.
+ * Returns the current source line as the suffix of an address, such as `, line 9`; "" if the line is unknown.
  * @param {DebugSession} session
  */
 function lineSuffix(session) {
@@ -65,7 +66,7 @@ function lineSuffix(session) {
 }
 
 /**
- * Returns the value of a program name; "" for any other text.
+ * Returns the value of a name that the program defines; "" for any other text.
  * @param {string} text
  * @param {DebugSession} session
  */

@@ -7,7 +7,7 @@ import { findLiveReturns, callAddress } from "../machine/return_addresses.js";
  * @typedef {import("../debug/debug_session.js").DebugSession} DebugSession
  *
  * A stack frame. `line` is 0 if the address has no source line. `call` is the address of the JMS that created the frame, -1 for the
- * outermost frame. `returns` are the return addresses below the frame, newest first.
+ * outermost frame. `returns` are the return addresses below this frame on the call stack, newest first.
  * @typedef {{ address: number, line: number, name: string, call: number, returns: string[] }} Frame
  */
 

@@ -20,7 +20,7 @@ export class FrontPanelText {
     this.lastText = this.currentText();
   }
 
-  /** Returns one mark per lamp, `*` if the lamp is on. */
+  /** The lamps as one mark per lamp: `*` if the lamp is on, `.` if it is off. */
   get marks() {
     return readItems(this.session.debugger.session.ask("lamps\n")[0]).join("");
   }
@@ -38,14 +38,14 @@ export class FrontPanelText {
   }
 
   /**
-   * Returns the perceived text of a multiplexed display.
+   * Returns the text that a person perceives on a multiplexed display.
    * @param {number} count the number of lamps
    */
   perceivedText(count) {
     return new PerceivedText(this.face, count).read(this.session.debugger.session.ask(LAMPS_FORECAST_QUERY));
   }
 
-  /** Returns the current text if it differs from the last report; otherwise "". */
+  /** Returns the current text if it differs from the last text that this method returned; otherwise "". */
   take() {
     const currentText = this.currentText();
     if (currentText === this.lastText) return "";

@@ -14,15 +14,16 @@ import * as say from "../../words/adapter.js";
 /**
  * @typedef {import("../debug/debug_session.js").DebugSession} DebugSession
  *
- * A memory range: the memory reference of its first byte, its contents, and a function that returns the `poke` place of an index.
+ * A memory range. `begin` is the memory reference of its first byte. `bytes` are its contents. `place` returns the place, as a `poke` line
+ * names it, of the byte at an index.
  * @typedef {{ begin: number, bytes: Uint8Array, place: (at: number) => string }} MemoryRange
  *
- * The location that a request names: a range, and an index that can be outside the range.
- * @typedef {{ range: MemoryRange, from: number }} RangePlace
+ * The location that a request names: a range, and an index in this range (`from`), which can be out of bounds.
+ * @typedef {{ range: MemoryRange, from: number }} RequestedLocation
  */
 
 const [CHARACTERS_BASE, STATUS_BASE, BANK_SIZE] = [0x10000, 0x20000, 0x100];
-const BANKS = 8;
+const BANK_COUNT = 8;
 
 /**
  * Formats a number as a memory reference.
@@ -40,7 +41,7 @@ export const bankReference = (bank) => formatReference(CHARACTERS_BASE + BANK_SI
  * Returns the memory reference, as a number, of a RAM character or a status character; -1 for any other place.
  * @param {string} name
  */
-export function memoryNumberForPlace(name) {
+export function referenceNumberForPlace(name) {
   const place = parsePlace(name);
   const [, bank, byte] = /^ram\.(\d)\.(0x..)$/.exec(place ? place.name : "") || [];
   if (bank) return CHARACTERS_BASE + BANK_SIZE * Number(bank) + Number(byte);
@@ -50,13 +51,13 @@ export function memoryNumberForPlace(name) {
 
 /**
  * Parses a memory reference. Returns it as a number.
- * @param {string} reference a number, a bank such as `ram.0`, a RAM or status character, or an address expression
+ * @param {string} reference a number, a bank such as `ram.0`, a RAM or status character, or a label
  * @param {(reference: string) => number} addressOf
  */
 function parseReference(reference, addressOf) {
   const [, bank] = /^ram\.([0-7])$/.exec(reference) || [];
   if (bank) return CHARACTERS_BASE + BANK_SIZE * Number(bank);
-  const [address, number] = [parseNumber(reference), memoryNumberForPlace(reference)];
+  const [address, number] = [parseNumber(reference), referenceNumberForPlace(reference)];
   if (number >= 0) return number;
   return address >= CHARACTERS_BASE ? address : addressOf(reference);
 }
@@ -71,7 +72,7 @@ function findRange(session, number) {
   if (number <= LAST_ADDRESS) return { begin: 0, bytes: readRomBytes(session), place: (at) => `rom.${at}` };
   const isStatus = number >= STATUS_BASE;
   const bank = Math.floor((number - (isStatus ? STATUS_BASE : CHARACTERS_BASE)) / BANK_SIZE);
-  if (bank < 0 || bank >= BANKS) return null;
+  if (bank < 0 || bank >= BANK_COUNT) return null;
   const { registers } = readRam(session.debugger.session.ask(`ram ${bank}\n`));
   if (registers.size === 0) return null;
   const digits = [...registers.values()].map(({ characters, status }) => (isStatus ? status : characters)).join("");
@@ -87,9 +88,9 @@ function findRange(session, number) {
  * @param {any} args
  * @param {DebugSession} session
  * @param {(reference: string) => number} addressOf
- * @returns {RangePlace}
+ * @returns {RequestedLocation}
  */
-function readRequestedPlace(args, session, addressOf) {
+function readRequestedLocation(args, session, addressOf) {
   const reference = needText(args, "memoryReference").trim();
   const number = parseReference(reference, addressOf);
   const range = findRange(session, number) || fail(say.boardHasNo(reference));
@@ -103,7 +104,7 @@ function readRequestedPlace(args, session, addressOf) {
  * @param {(reference: string) => number} addressOf
  */
 export function readMemory(args, session, addressOf) {
-  const { range: { begin, bytes }, from } = readRequestedPlace(args, session, addressOf);
+  const { range: { begin, bytes }, from } = readRequestedLocation(args, session, addressOf);
   const count = needNumber(args, "count");
   if (count < 0) fail(say.COUNT_RANGE);
   const address = formatReference(begin + from);
@@ -122,7 +123,7 @@ export function readMemory(args, session, addressOf) {
  * @returns {Promise<{ offset: number, bytesWritten: number }>}
  */
 export async function writeMemory(args, session, addressOf) {
-  const { range: { bytes, place }, from } = readRequestedPlace(args, session, addressOf);
+  const { range: { bytes, place }, from } = readRequestedLocation(args, session, addressOf);
   const newBytes = decodeBase64(needText(args, "data"));
   const [first, end] = [Math.max(0, from), Math.min(bytes.length, from + newBytes.length)];
   const isWhole = first === from && end === from + newBytes.length;
@@ -130,7 +131,7 @@ export async function writeMemory(args, session, addressOf) {
   const dataInRange = end > first ? newBytes.subarray(first - from, end - from) : new Uint8Array(0);
   const lines = [...dataInRange].map((byte, at) => `poke ${place(first + at)} ${byte}\n`).join("");
   const bench = session.debugger.session;
-  // A copy of the session serves the lines first. If a line is rejected, nothing is written.
+  // A copy of the session serves the lines first. If it rejects a line, nothing is written.
   const answers = lines === "" ? [] : bench.ask(lines);
   const rejectedIndex = answers.findIndex((answer) => parseRefusal(answer));
   if (rejectedIndex >= 0) fail(say.benchAnswered(lines.split("\n")[rejectedIndex], answers[rejectedIndex]));

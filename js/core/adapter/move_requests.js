@@ -1,4 +1,4 @@
-// Handlers for requests that move time: continue, step, go back, restart a frame, go to a line.
+// Handlers for requests that move the machine: continue, step, go back, restart a frame, go to a line.
 
 import { LAST_ADDRESS, hex } from "../bench/numbers.js";
 import { instructionForLine } from "../debug/breakpoints.js";
@@ -17,9 +17,10 @@ import { NO_CALL_WAITS } from "../../words/stops.js";
  * @typedef {import("./debugged_machine.js").Machine} Machine
  */
 
-export const THREAD = 1;
+/** The thread id of the processor, the only thread. */
+export const THREAD_ID = 1;
 
-export class Moves {
+export class MoveHandlers {
   /** @param {DebugAdapter} adapter */
   constructor(adapter) {
     this.adapter = adapter;
@@ -94,7 +95,7 @@ export class Moves {
 
   /** @param {any} args */
   checkThread(args) {
-    if (needNumber(args, "threadId", THREAD) !== THREAD) fail(say.ONE_THREAD);
+    if (needNumber(args, "threadId", THREAD_ID) !== THREAD_ID) fail(say.ONE_THREAD);
   }
 
   /** @param {any} args */

@@ -8,7 +8,7 @@ import * as say from "../../words/adapter.js";
 /** @typedef {"usual" | "hex" | "decimal"} Base a number base; "usual" means the base that each value has by default */
 
 /**
- * Returns a boolean from the `format` argument of a request.
+ * Returns a boolean field of the `format` argument of a request.
  * @param {any} args
  * @param {"hex" | "line"} name
  * @returns {boolean | null} null if the request does not specify it
@@ -33,7 +33,7 @@ export function requestedBase(args) {
 
 /**
  * Converts the numbers in a value to a base.
- * @param {string} text a text with numbers that begin with 0x; a program name has its value in both bases: `0x1F, 31`
+ * @param {string} text a text whose numbers begin with 0x; after the first number, the same number can follow in decimal, as in `0x1F, 31`
  * @param {Base} base
  */
 export function convertToBase(text, base) {

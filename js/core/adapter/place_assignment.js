@@ -30,13 +30,13 @@ export function evaluateNumber(text, session, begin = 0) {
 }
 
 /**
- * Returns the bench lines that set a place, even if the place already has the value.
+ * Returns the bench lines that set a place. The place can already have the value.
  * @param {string} place a place from `settablePlace`, or a key in the form `key 0 2`
  * @param {string} text the value as an expression
  * @param {DebugSession} session
  * @param {number} [begin] the column in the typed line at which the text starts
  */
-function placeLines(place, text, session, begin = 0) {
+function assignmentLines(place, text, session, begin = 0) {
   const key = place.startsWith("key ") ? parseKey(place.slice("key ".length)) : null;
   if (key) {
     const word = text.trim().toLowerCase();
@@ -56,14 +56,14 @@ function placeLines(place, text, session, begin = 0) {
 export function compileSetLine(text, session) {
   try {
     const { place, value } = parseSetting(text);
-    return placeLines(place, value.text, session, value.column);
+    return assignmentLines(place, value.text, session, value.column);
   } catch (fault) {
     throw fault instanceof ConditionError ? new AdapterError(inColumn(fault.message, Math.max(0, fault.column))) : fault;
   }
 }
 
 /**
- * Returns the name of the place to set, for a key `key 0 2`; throws AdapterError if the text names nothing that can be set.
+ * Returns the name of the place to set, for a key in the form `key 0 2`. Throws AdapterError if the text names nothing that can be set.
  * @param {string} text a place of the machine, or `key NAME`
  * @param {import("../board/face.js").Face} face
  * @returns {string}
@@ -84,6 +84,6 @@ export function findSettablePlace(text, face) {
  * @param {string} text the value as an expression
  */
 export async function setPlace(session, place, text) {
-  const { first } = await session.debugger.session.serve(placeLines(place, text, session), async () => true);
+  const { first } = await session.debugger.session.serve(assignmentLines(place, text, session), async () => true);
   if (parseRefusal(first)) throw new AdapterError(say.cannotBeSet(place, first));
 }

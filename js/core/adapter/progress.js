@@ -1,14 +1,14 @@
-// Reports the progress of long work to clients that support it (`progressStart`, `progressUpdate`, `progressEnd`). The user can stop the
-// work.
+// Reports the progress of long tasks to clients that support such reports (`progressStart`, `progressUpdate`, `progressEnd`). The user can
+// stop a task.
 
 import { AdapterError } from "./dap_protocol.js";
 import * as say from "../../words/adapter.js";
 
 /** The delay before the first report and the interval between reports, in milliseconds. */
-const FIRST_REPORT_DELAY = 1000;
-const REPORT_INTERVAL = 500;
+const FIRST_REPORT_DELAY_MS = 1000;
+const REPORT_INTERVAL_MS = 500;
 
-/** Work that can take long. */
+/** A task that can run for long, with its progress report. */
 class Work {
   /**
    * @param {Progress} progress
@@ -24,13 +24,13 @@ class Work {
   }
 
   /**
-   * Reports the progress if the interval since the last report has passed.
+   * Reports the progress if the next report is due.
    * @param {() => string} message returns the progress as text
    */
   reportIfDue(message) {
     const now = performance.now();
     if (!this.progress.isEnabled || now < this.dueTime) return;
-    this.dueTime = now + REPORT_INTERVAL;
+    this.dueTime = now + REPORT_INTERVAL_MS;
     if (this.id === "") this.id = this.progress.start(this, message());
     else this.progress.sendEvent("progressUpdate", { progressId: this.id, message: message() });
   }
@@ -45,16 +45,16 @@ export class Progress {
   /** @param {(event: string, body: object) => void} sendEvent */
   constructor(sendEvent) {
     this.sendEvent = sendEvent;
-    /** True if the client shows progress. */
+    /** True if the client supports progress reports. */
     this.isEnabled = false;
-    this.firstReportDelay = FIRST_REPORT_DELAY;
+    this.firstReportDelay = FIRST_REPORT_DELAY_MS;
     this.lastId = 0;
-    /** @type {Map<string, Work>} the reported work, by progress id */
+    /** @type {Map<string, Work>} the tasks whose progress is reported, by progress id */
     this.workById = new Map();
   }
 
   /**
-   * Creates the progress report for work that starts now.
+   * Creates the progress report of a task that starts now.
    * @param {string} title
    * @param {() => void} stop ends the work early
    */
@@ -82,7 +82,7 @@ export class Progress {
   }
 
   /**
-   * Stops the work with a progress id; throws AdapterError if there is no such work.
+   * Stops the task that has a progress id; throws AdapterError if there is no such task.
    * @param {string} progressId
    */
   stop(progressId) {

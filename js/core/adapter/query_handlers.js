@@ -3,10 +3,10 @@
 import { LAST_ADDRESS } from "../bench/numbers.js";
 import { KEYWORDS } from "../conditions/parser.js";
 import { PLACE_WORDS } from "../conditions/places.js";
-import { FIRST_WORDS } from "./console.js";
+import { CONSOLE_FIRST_WORDS } from "./console.js";
 import { listInstructionRows } from "./disassembly.js";
 import { readStackFrames } from "./frames.js";
-import { memoryNumberForPlace, readMemory, formatReference, writeMemory } from "./memory.js";
+import { referenceNumberForPlace, readMemory, formatReference, writeMemory } from "./memory.js";
 import { requestedBase, readFormatFlag, convertToBase, formatInBase } from "./number_format.js";
 import { isCall, neverContinues, jumpTarget, instructionWords } from "../engine/rom_codes.js";
 import { getField } from "../server/framing.js";
@@ -24,12 +24,13 @@ import { wordsOfLine } from "../../words/stops.js";
  */
 
 /** The source reference of the text disassembled from ROM. */
-const ROM_SOURCE = 1;
+const ROM_SOURCE_REFERENCE = 1;
 /** The maximum number of instructions in a response to `disassemble`. */
 const MAX_ROWS = 8192;
+/** The maximum number of completions in a response. */
 const MAX_COMPLETIONS = 500;
 /** Matches a console line that ends with an incomplete key name, and captures that name. */
-const UNFINISHED_KEY = /(?:^\s*(?:press|release|keys)\s(?:.*\s)?|\bkey\s+)(\S*)$/;
+const UNFINISHED_KEY_NAME = /(?:^\s*(?:press|release|keys)\s(?:.*\s)?|\bkey\s+)(\S*)$/;
 /** The maximum number of instructions that `stepInTargets` scans for calls. */
 const MAX_SCANNED_INSTRUCTIONS = 256;
 
@@ -57,14 +58,14 @@ export class QueryHandlers {
 
   get source() {
     const { program } = this.launchResult;
-    if (program === "") return { name: "ROM", sourceReference: ROM_SOURCE, origin: say.DISASSEMBLED_FROM_ROM };
+    if (program === "") return { name: "ROM", sourceReference: ROM_SOURCE_REFERENCE, origin: say.DISASSEMBLED_FROM_ROM };
     return { name: program.replace(/^.*[\\/]/, ""), path: program };
   }
 
   /** @param {any} source */
   isProgram(source) {
     const { program, nameOf } = this.launchResult;
-    if (program === "") return getField(source, "sourceReference") === ROM_SOURCE;
+    if (program === "") return getField(source, "sourceReference") === ROM_SOURCE_REFERENCE;
     const path = getField(source, "path");
     return typeof path === "string" && path !== "" && nameOf(path) === program;
   }
@@ -95,15 +96,15 @@ export class QueryHandlers {
   /** @param {any} args */
   listScopes(args) {
     this.requestedFrame(args, 1);
-    // Scopes show no numbers, so `requestedBase` only rejects a malformed `format` here.
+    // A scope contains no numbers. `requestedBase` is called only to reject a malformed `format`.
     requestedBase(args);
     return { scopes: this.scopes.all() };
   }
 
   /**
-   * Returns the stack frame for the `frameId` of a request; fails if the stack has no such frame.
+   * Returns the stack frame that the `frameId` of a request names; throws AdapterError if there is no such frame.
    * @param {any} args
-   * @param {number} [defaultId] the default id
+   * @param {number} [defaultId] the id if the request has no `frameId`
    */
   requestedFrame(args, defaultId) {
     return readStackFrames(this.session)[needNumber(args, "frameId", defaultId) - 1] || fail(say.NO_FRAME);
@@ -116,7 +117,7 @@ export class QueryHandlers {
   stepInTargets(args) {
     const frame = this.requestedFrame(args);
     const { map } = this.session;
-    // In the frame of a caller, the call is already in progress, so a step cannot enter it.
+    // The call in a caller's frame is already in progress, so a step cannot enter it.
     if (needNumber(args, "frameId") > 1) return { targets: [] };
     return {
       targets: findCalls(this.session, frame.address).map(({ address, target }) => {
@@ -179,7 +180,7 @@ export class QueryHandlers {
     const { expressionContext } = this;
     const isHover = context === "hover";
     const result = isHover ? expressionHover(expression, expressionContext) : evaluateExpression(expression, expressionContext, base);
-    const memory = memoryNumberForPlace(expression);
+    const memory = referenceNumberForPlace(expression);
     return { result, variablesReference: 0, ...(memory >= 0 ? { memoryReference: formatReference(memory) } : {}) };
   }
 
@@ -199,21 +200,21 @@ export class QueryHandlers {
 
   /**
    * Returns the completions for the word at the end of a line, and the typed start of this word. The completions are key names after
-   * `press`, `release` and `keys`, and lamp names after `lamp`. At any other place, the completions are program names and condition words,
-   * and also commands at the start of a line.
+   * `press`, `release` and `keys`, and lamp names after `lamp`. Anywhere else, the completions are program names and condition words. At
+   * the start of a line, commands are added.
    * @param {string} before the text before the caret
    * @returns {{ words: string[], word: string }}
    */
   completionWords(before) {
     const { session: { map }, expressionContext: { face } } = this;
-    const unfinishedKey = UNFINISHED_KEY.exec(before);
+    const unfinishedKey = UNFINISHED_KEY_NAME.exec(before);
     if (unfinishedKey) return { words: [...listNamedKeys(face).keys()], word: unfinishedKey[1] };
     const word = (/[A-Za-z_@][\w.]*$/.exec(before) || [""])[0];
     const lineStart = before.slice(0, before.length - word.length).trim();
     if (/\blamp$/.test(lineStart)) return { words: [...face.lampNumbers.keys()], word };
     const names = [...map.names.keys()];
     const words = [...names, ...names.map((name) => `@${name}`), ...PLACE_WORDS, ...face.lampNumbers.keys(), ...KEYWORDS];
-    return { words: [...new Set(lineStart === "" ? [...FIRST_WORDS, ...words] : words)], word };
+    return { words: [...new Set(lineStart === "" ? [...CONSOLE_FIRST_WORDS, ...words] : words)], word };
   }
 
   // --- memory ---
@@ -259,7 +260,7 @@ export class QueryHandlers {
 /**
  * Returns a frame name, such as `show + 3` or `02C`, with its number in the requested base.
  * @param {string} name
- * @param {boolean | null} isHex null to keep the name unchanged
+ * @param {boolean | null} isHex null to return the name unchanged
  */
 function formatFrameName(name, isHex) {
   if (isHex === null) return name;
@@ -269,8 +270,8 @@ function formatFrameName(name, isHex) {
 }
 
 /**
- * Returns the subroutine calls at and after an address. The scan ends at an unconditional jump or return, at an instruction without a
- * source line, or after MAX_SCANNED instructions.
+ * Returns the subroutine calls at and after an address. The scan ends at an unconditional jump or return, before an instruction without a
+ * source line, or after MAX_SCANNED_INSTRUCTIONS instructions.
  * @param {import("../debug/debug_session.js").DebugSession} session
  * @param {number} from
  */

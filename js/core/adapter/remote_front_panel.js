@@ -1,5 +1,5 @@
-// Sends the front panel of a board to an editor that draws it (editor_view.js): the board and its text once, and lamps, keys and TEST when
-// they change. Also moves the keys that the user presses in the drawing.
+// Reports the front panel of a board to an editor that draws it (editor_view.js): the board and its text once, and lamps, keys and TEST
+// when they change. Also presses and releases the keys that the user clicks in the drawing.
 
 import { readBoard } from "../bench/answers.js";
 import { SnapshotReader } from "../bench/snapshot.js";
@@ -21,7 +21,7 @@ import * as say from "../../words/adapter.js";
  * - `lamps`: a mark for each lamp, `*` if it is on;
  * - `keys`: the pressed keys as `row.column`; `test`: the TEST level;
  * - `isRunning`: true if the machine runs;
- * - `litShares`: the perceived brightness of each lamp in the next 30 ms, while the machine runs;
+ * - `litShares`: the share of the next 30 ms in which each lamp is on, while the machine runs;
  * - `printed`: the new output of the printer.
  * @typedef {{ board?: string[], boardText?: string, lamps?: string, keys?: string[], test?: string, isRunning?: boolean,
  *   litShares?: import("../engine/brightness_meter.js").LitShares, printed?: import("../engine/printer_codes.js").PrintoutData }} BoardNews
@@ -37,12 +37,12 @@ export class RemoteFrontPanel {
     this.isRunning = null;
     this.face = new Face("");
     this.lampCount = 0;
-    /** The last reported `litShares` as JSON, "" while time is paused. */
+    /** The last reported `litShares` as JSON, "" while the machine is paused. */
     this.litShares = "";
   }
 
   /**
-   * Returns the changes since the last report; all values in the first report.
+   * Returns the changes since the last report. The first report contains all values.
    * @returns {BoardNews}
    */
   take() {
@@ -76,7 +76,7 @@ export class RemoteFrontPanel {
     if (printing) printing.clear();
   }
 
-  /** Returns the perceived lamp brightness if the machine runs and the brightness has changed. */
+  /** Returns `litShares` if the machine runs and the shares have changed; otherwise an empty object. */
   takeLitShares() {
     const { machine, face, lampCount, litShares: before } = this;
     this.litShares = "";
@@ -88,10 +88,10 @@ export class RemoteFrontPanel {
 }
 
 /**
- * Presses or releases a key: at once while time is paused, otherwise through the key queue.
+ * Presses or releases a key: at once while the machine is paused, otherwise through the key queue.
  * @param {Machine} machine
  * @param {Console} debugConsole
- * @param {string} text the key position: `0 2` or `test 0`
+ * @param {string} text the key: `0 2` (row and column) or `test 0`
  * @param {boolean} isDown
  */
 export async function changeKey(machine, debugConsole, text, isDown) {

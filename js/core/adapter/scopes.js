@@ -5,7 +5,7 @@ import { hex, indices } from "../bench/numbers.js";
 import { boardKeys } from "../board/board_keys.js";
 import { PressedKeys, formatKey } from "../board/key_place.js";
 import { MachineState, describeCharacter } from "../debug/machine_state.js";
-import { memoryNumberForPlace, formatReference, bankReference } from "./memory.js";
+import { referenceNumberForPlace, formatReference, bankReference } from "./memory.js";
 import { convertToBase, formatInBase } from "./number_format.js";
 import { setPlace } from "./place_assignment.js";
 import * as say from "../../words/adapter.js";
@@ -17,16 +17,16 @@ import { sourceOfBank } from "../../words/debug.js";
  *
  * A variable:
  * - `evaluateName`: an expression with the same value;
- * - `place`: the place that place_assignment.js sets, "" if it cannot be set;
+ * - `place`: the place that an assignment to the variable sets, "" for a read-only variable;
  * - `variablesReference`: the reference of its child variables, 0 for none; `count`: the number of children;
  * - `memory`: its memory reference;
  * - `isDecimal`: true if its value is a decimal number;
- * - `watchPlace`: the place to watch for changes, if this place differs from `place`.
+ * - `watchPlace`: the place that a data breakpoint on the variable watches, if it differs from `place`.
  * @typedef {{ name: string, value: string, evaluateName?: string, place: string, variablesReference: number, count?: number,
  *   memory?: string, isDecimal?: boolean, watchPlace?: string }} Variable
  * @typedef {import("./number_format.js").Base} Base
  *
- * The state that the scopes show.
+ * The state from which the variables are read.
  * @typedef {{ machineState: MachineState, face: Face, session: DebugSession, board: import("../bench/answers.js").Board }} ShownState
  */
 
@@ -35,7 +35,7 @@ const [REGISTERS, PAIRS, RAM, PORTS, LAMPS, KEYS, NAMES] = [1, 2, 3, 4, 5, 6, 7]
 /** Bank B has the variables reference BANK_BASE + B; RAM register R of bank B has the reference REGISTER_BASE + 16 * B + R. */
 const [BANK_BASE, REGISTER_BASE] = [100, 200];
 
-/** @type {(digit: string) => string} returns hexadecimal digits with the prefix 0x */
+/** @type {(digit: string) => string} adds the prefix 0x to hexadecimal digits */
 const toHex = (digit) => `0x${digit}`;
 
 /**
@@ -68,7 +68,7 @@ const decimalVariable = (name, value, place) => ({ ...variable(name, value, plac
 const readOnlyVariable = (name, value, place) => ({ ...variable(name, value), evaluateName: place, watchPlace: place });
 
 /** @param {ShownState} state */
-function registers({ machineState: { registers: cpu } }) {
+function registerVariables({ machineState: { registers: cpu } }) {
   const { accumulator, carry, counter, bank, test, owed } = cpu;
   return [
     variable("acc", toHex(accumulator), "acc"), decimalVariable("cy", carry, "cy"),
@@ -79,12 +79,12 @@ function registers({ machineState: { registers: cpu } }) {
 }
 
 /** @param {ShownState} state */
-function pairs({ machineState }) {
+function pairVariables({ machineState }) {
   return indices(8).map((at) => variable(`P${at}`, toHex(machineState.pair(at)), `p${at}`));
 }
 
 /** @param {ShownState} state */
-function banks({ machineState }) {
+function bankVariables({ machineState }) {
   return [...machineState.ram].map(([bank, { registers: bankRegisters }]) => (
     { ...variable(`bank ${bank}`, say.chipsOf(bankRegisters.size / 4, bank === machineState.bank)),
       variablesReference: BANK_BASE + bank, count: bankRegisters.size, memory: bankReference(bank) }));
@@ -94,7 +94,7 @@ function banks({ machineState }) {
  * @param {ShownState} state
  * @param {number} bank
  */
-function listBankRegisters({ machineState }, bank) {
+function ramRegisterVariables({ machineState }, bank) {
   const ram = machineState.ram.get(bank);
   return [...(ram ? ram.registers : [])].map(([name, { characters: digits, status }]) => {
     const [, chip, register] = name.split(".").map(Number);
@@ -107,15 +107,15 @@ function listBankRegisters({ machineState }, bank) {
 }
 
 /** @type {(place: string) => string} the memory reference of a RAM character or a status character */
-const placeReference = (place) => formatReference(memoryNumberForPlace(place));
+const placeReference = (place) => formatReference(referenceNumberForPlace(place));
 
 /**
- * Returns the nibbles and status characters of a RAM register. The name of a nibble includes the program constants with its number.
+ * Returns the nibbles and status characters of a RAM register. The name of a nibble includes the program constants that equal its SRC byte.
  * @param {ShownState} state
  * @param {number} bank
  * @param {number} register
  */
-function characters({ machineState, session }, bank, register) {
+function characterVariables({ machineState, session }, bank, register) {
   const found = machineState.ramRegister(bank, register);
   if (!found) return [];
   const constants = [...session.map.names.values()].filter(({ isLabel }) => !isLabel);
@@ -135,7 +135,7 @@ function characters({ machineState, session }, bank, register) {
 }
 
 /** @param {ShownState} state */
-function ports({ machineState, face }) {
+function portVariables({ machineState, face }) {
   /** @type {(port: string) => string} */
   const portName = (port) => (face.ports.has(port) ? `${port} ${(face.ports.get(port) || { text: "" }).text}` : port);
   const { roms, chains, sources } = machineState.ports;
@@ -145,19 +145,19 @@ function ports({ machineState, face }) {
       readOnlyVariable(portName(`rom${chip}`), `out ${toHex(out)}, in ${toHex(read)}`, `rom${chip}`))),
     ...rams.map(({ name, out }) => readOnlyVariable(portName(`ram${name}`), `out ${toHex(out)}`, `ram${name}`)),
     ...chains.map((bits, at) => readOnlyVariable(portName(`chain${at}`), bits, `chain${at}`)),
-    ...sources.map((source) => sourceVariable(source)),
+    ...sources.map((source) => srcVariable(source)),
   ];
 }
 
-/** @param {string} source the SRC byte stored in the ROMs (`21`), or in a RAM bank (`0.21`) */
-function sourceVariable(source) {
+/** @param {string} source the SRC byte latched in the ROMs (`21`), or in a RAM bank (`0.21` for bank 0) */
+function srcVariable(source) {
   const [bank, byte] = source.split(".");
   if (byte === undefined) return variable("SRC", say.selectsRom(toHex(bank), parseInt(bank[0], 16)));
   return variable(sourceOfBank(bank), `${toHex(byte)}: ${describeCharacter(parseInt(byte, 16))}`);
 }
 
 /** @param {ShownState} state */
-function lamps({ session, face, board }) {
+function lampVariables({ session, face, board }) {
   const marks = readItems(session.debugger.session.ask("lamps\n")[0]).join("");
   return board.lamps.map((line, at) => {
     const name = (face.lamps.get(at) || { text: "" }).text.replace(/_/g, " ");
@@ -166,7 +166,7 @@ function lamps({ session, face, board }) {
 }
 
 /** @param {ShownState} state */
-function keys({ machineState, face, board }) {
+function keyVariables({ machineState, face, board }) {
   const keysDown = new PressedKeys(machineState.ports.keys);
   return boardKeys(board, face).filter(({ legend }) => legend !== "").map(({ key, legend }) => {
     const isDown = keysDown.has(key, machineState.registers.test);
@@ -175,7 +175,7 @@ function keys({ machineState, face, board }) {
 }
 
 /** @param {ShownState} state */
-function names({ session: { map } }) {
+function nameVariables({ session: { map } }) {
   return [...map.names.values()].map(({ name, value, isLabel }) => (
     { ...variable(name, isLabel ? `0x${hex(value, 3)}, line ${map.lineOf(value)}` : `0x${hex(value, 2)}, ${value}`), evaluateName: name,
       ...(isLabel ? { memory: `0x${hex(value, 3)}` } : {}) }));
@@ -183,13 +183,13 @@ function names({ session: { map } }) {
 
 /** @type {Record<number, { title: string, listVariables: (state: ShownState) => Variable[], hint?: string }>} the scopes, by reference */
 const SCOPES = {
-  [REGISTERS]: { title: say.REGISTERS, listVariables: registers, hint: "registers" },
-  [PAIRS]: { title: say.PAIRS, listVariables: pairs, hint: "registers" },
-  [RAM]: { title: "RAM", listVariables: banks },
-  [PORTS]: { title: say.PORTS, listVariables: ports },
-  [LAMPS]: { title: say.LAMPS, listVariables: lamps },
-  [KEYS]: { title: say.KEYS, listVariables: keys },
-  [NAMES]: { title: say.NAMES, listVariables: names },
+  [REGISTERS]: { title: say.REGISTERS, listVariables: registerVariables, hint: "registers" },
+  [PAIRS]: { title: say.PAIRS, listVariables: pairVariables, hint: "registers" },
+  [RAM]: { title: "RAM", listVariables: bankVariables },
+  [PORTS]: { title: say.PORTS, listVariables: portVariables },
+  [LAMPS]: { title: say.LAMPS, listVariables: lampVariables },
+  [KEYS]: { title: say.KEYS, listVariables: keyVariables },
+  [NAMES]: { title: say.NAMES, listVariables: nameVariables },
 };
 
 export class Scopes {
@@ -236,9 +236,9 @@ export class Scopes {
   rawVariables(reference) {
     const { state } = this;
     if (Object.prototype.hasOwnProperty.call(SCOPES, reference)) return SCOPES[reference].listVariables(state);
-    if (reference >= BANK_BASE && reference < BANK_BASE + 8) return listBankRegisters(state, reference - BANK_BASE);
+    if (reference >= BANK_BASE && reference < BANK_BASE + 8) return ramRegisterVariables(state, reference - BANK_BASE);
     const registerIndex = reference - REGISTER_BASE;
-    return registerIndex >= 0 && registerIndex < 128 ? characters(state, registerIndex >> 4, registerIndex & 15) : null;
+    return registerIndex >= 0 && registerIndex < 128 ? characterVariables(state, registerIndex >> 4, registerIndex & 15) : null;
   }
 
   /**

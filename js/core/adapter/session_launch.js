@@ -24,8 +24,9 @@ import { leadsOut } from "../../words/server.js";
  * @typedef {import("./session_writer.js").OpenFile} OpenFile
  *
  * The functions of the host:
- * - `nameOf` returns the absolute name of a file whose name is relative to `folder`; `beside`, relative to the folder of the file `other`;
- * - `read` returns the text of a file, null if the file cannot be read; `whyUnread` returns the error message;
+ * - `nameOf` returns the absolute name of a file that is named relative to `folder`; `beside` does so relative to the folder of the file
+ *   `other`;
+ * - `read` returns the text of a file, null if the file cannot be read; `whyUnread` returns the error message for such a file;
  * - `isThere` returns whether a file exists; `isInside` returns whether a file is in a folder after symbolic links are resolved;
  * - `open` and `make` start a program that opens or creates a session file, and resolve to the open file;
  * - `readSession` resolves to the bytes of a session file that no other program has open;
@@ -36,8 +37,9 @@ import { leadsOut } from "../../words/server.js";
  *   open: (name: string) => Promise<OpenFile>, make: (name: string) => Promise<OpenFile>,
  *   readSession: (name: string) => Promise<Uint8Array>, pause: () => Promise<void> }} Host
  *
- * The result of a launch or attach. `program` is a file name, "" if the text was disassembled from ROM. `nameOf` returns the absolute name
- * of a file. `test` is the debugged test, null for none; `note` is the test result.
+ * The result of a launch or attach. `writer` is null if the session is not saved. `program` is a file name, "" if the text was disassembled
+ * from ROM. `isDebugged` is false if the client asked for a run without debugging. `nameOf` returns the absolute name of a file. `test` is
+ * the debugged test, null for none; `note` is the test result.
  * @typedef {{ session: DebugSession, writer: SessionWriter | null, program: string, board: string, stopsOnEntry: boolean,
  *   isDebugged: boolean, isRealTime: boolean, isAttached: boolean, args: any, nameOf: (name: string) => string, test: TestFiles | null,
  *   note: string }} LaunchResult
@@ -112,7 +114,7 @@ function findBoardFile(program, host) {
 }
 
 /**
- * Returns the text of a file with line feeds as line ends; throws AdapterError if the bench does not accept a line.
+ * Returns the text of a file, with a line feed at each line end. Throws AdapterError if the bench would reject a line.
  * @param {string} name
  * @param {";" | "#"} mark the character that starts a comment
  * @param {Host} host
@@ -127,7 +129,7 @@ function readBenchText(name, mark, host) {
 }
 
 /**
- * Returns the error for a text that the bench has rejected.
+ * Returns the AdapterError for a text that the bench has rejected.
  * @param {string} name the file name
  * @param {Refusal} refusal
  * @param {ErrorMessages} words
@@ -139,7 +141,7 @@ function refusalError(name, { number, line }, words) {
 }
 
 /**
- * Makes a session in memory from the texts of a board and a program.
+ * Creates a session in memory from the texts of a board and a program.
  * @param {Engine} engine
  * @param {RequestedFiles} requestedFiles
  * @param {Host} host
@@ -158,7 +160,7 @@ function sessionFromTexts(engine, requestedFiles, host, words) {
 }
 
 /**
- * Resolves to the session of a test, at the failure or at the end of the test.
+ * Runs a test. Resolves to its session, which is at the failure or at the end of the test.
  * @param {Engine} engine
  * @param {TestFiles} test
  * @param {Host} host
@@ -184,7 +186,7 @@ async function sessionFromFile(engine, requestedFiles, host, words) {
   if (isNew && (board === "" || program === "")) {
     throw new AdapterError(say.sessionMissing(requestedFiles.session), true);
   }
-  // Errors in the texts are reported before the file is created.
+  // A session in memory reports the errors in the texts before the file is created.
   if (isNew) sessionFromTexts(engine, requestedFiles, host, words);
   const file = await (isNew ? host.make(requestedFiles.session) : host.open(requestedFiles.session));
   try {
@@ -265,7 +267,7 @@ function checkRom(session, engine, { program, session: file }, words) {
 }
 
 /**
- * Creates the session for a `launch`: from a test, from texts, or with a session file.
+ * Creates the session for a `launch`: from a test, from texts, or from a session file.
  * @param {Engine} engine
  * @param {any} args
  * @param {Host} host
@@ -277,7 +279,7 @@ export async function launch(engine, args, host, words) {
   const openedSession = requestedFiles.test ? await sessionFromTest(engine, requestedFiles.test, host)
     : requestedFiles.session === "" ? { session: sessionFromTexts(engine, requestedFiles, host, words), writer: null, note: "" }
       : await sessionFromFile(engine, requestedFiles, host, words);
-  return addOptions(openedSession, requestedFiles, args, host);
+  return createLaunchResult(openedSession, requestedFiles, args, host);
 }
 
 /**
@@ -295,18 +297,18 @@ export async function attach(engine, args, host, words) {
   if (!host.isThere(requestedFiles.session)) throw new AdapterError(say.noSession(requestedFiles.session), true);
   const loadSession = isWritten ? sessionFromFile : sessionFromCopy;
   const openedSession = await loadSession(engine, requestedFiles, host, words);
-  return { ...addOptions(openedSession, requestedFiles, args, host), isAttached: true };
+  return { ...createLaunchResult(openedSession, requestedFiles, args, host), isAttached: true };
 }
 
 /**
- * Returns a session with the options of the launch or attach request.
+ * Combines a session with the options of the launch or attach request.
  * @param {{ session: DebugSession, writer: SessionWriter | null, note: string }} openedSession
  * @param {RequestedFiles} requestedFiles
  * @param {any} args
  * @param {Host} host
  * @returns {LaunchResult}
  */
-function addOptions({ session, writer, note }, { program, board, test }, args, host) {
+function createLaunchResult({ session, writer, note }, { program, board, test }, args, host) {
   if (session.boardText === "") session.boardText = session.debugger.session.ask("board\n").slice(1).join("\n");
   session.debugger.commonMistakes.map = session.map;
   return {

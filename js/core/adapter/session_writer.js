@@ -1,5 +1,5 @@
-// Saves a session in memory to its file. The program that has the file open (`mcs4 open FILE`) receives the new lines of the session. After
-// a move back in time, the new lines do not continue the history in the file. The writer then replaces the file.
+// Saves a session in memory to its file. The process that has the file open (`mcs4 open FILE`) receives the new lines of the session. After
+// a move back in time, the new lines do not continue the history in the file, so the writer replaces the file.
 
 import { parseRefusal } from "../bench/answers.js";
 import { joinLines } from "../bench/inputs.js";
@@ -10,9 +10,9 @@ import * as say from "../../words/adapter.js";
  * @typedef {import("../engine/worker_session.js").WorkerSession} WorkerSession
  * @typedef {import("../engine/timeline.js").Segment} Segment
  *
- * A session file that a program has open. `ask` sends lines and resolves to their `count` answers. `replace` replaces the file with a
- * session that has the bytes `bytes` and has served `lines`. If `check` throws, or the file cannot be replaced, `replace` throws and the
- * file does not change.
+ * A session file that another process has open. `ask` sends lines and resolves to their `count` answers. `replace` replaces the file with a
+ * session that starts from `bytes` and serves `lines`. If `check` throws for the answers, or the file cannot be replaced, `replace` throws
+ * and the file does not change. `end` closes the file.
  * @typedef {{ bytes: Uint8Array, ask: (lines: string, count: number) => Promise<string[]>,
  *   replace: (bytes: Uint8Array, lines: string, count: number, check: (answers: string[]) => void) => Promise<void>,
  *   end: () => Promise<void> }} OpenFile
@@ -21,18 +21,18 @@ import * as say from "../../words/adapter.js";
 export class SessionWriter {
   /**
    * @param {OpenFile} file
-   * @param {WorkerSession} session started from the bytes of the file
+   * @param {WorkerSession} session a session that was started from the bytes of the file
    */
   constructor(file, session) {
     this.file = file;
-    /** @type {Segment | null} the segment whose commands are in the file; null if the file contents are unknown */
+    /** @type {Segment | null} the segment of the timeline whose commands are in the file; null if the file contents are unknown */
     this.segment = session.timeline.last;
     /** The number of commands in the file, counted from the start of the segment. */
     this.count = 0;
   }
 
   /**
-   * Returns the lines of the session that are missing in the file; null if the session does not continue the history in the file.
+   * Returns the lines of the session that the file lacks; null if the session does not continue the history in the file.
    * @param {WorkerSession} session
    */
   missingLines({ timeline, unrecordedCommands }) {
@@ -43,7 +43,8 @@ export class SessionWriter {
   }
 
   /**
-   * Writes the missing lines to the file; throws AdapterError if the program rejects a line or reaches another state than the session.
+   * Writes the missing lines to the file. Throws AdapterError if the process rejects a line, or if its state then differs from the
+   * session's.
    * @param {WorkerSession} session
    */
   async write(session) {

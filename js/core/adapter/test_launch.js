@@ -14,11 +14,12 @@ import * as say from "../../words/adapter.js";
  * @typedef {import("../testing/test_session.js").TestSession} TestSession
  * @typedef {import("../testing/test_suite.js").TestedTexts} TestedTexts
  *
- * A test and the absolute names of its files. `file` contains the test. `tests` are the test files, in order, up to `file`.
+ * The name of a test, and the absolute names of its files. `file` is the test file that contains it. `tests` are the project's test files,
+ * in order, up to `file`.
  * @typedef {{ name: string, file: string, tests: string[], board: string, program: string }} TestFiles
  */
 
-/** @type {(name: string) => string} returns the URI of a file, for modules that work with URIs */
+/** @type {(name: string) => string} returns the URI of a file name */
 export const fileUri = (name) => `file://${name.split("/").map(encodeURIComponent).join("/")}`;
 /** @type {(uri: string) => string} returns the file name of a URI; the inverse of `fileUri` */
 export const uriFileName = (uri) => decodeURIComponent(uri.slice("file://".length));

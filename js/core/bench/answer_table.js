@@ -1,15 +1,16 @@
-// The answer format of each input line, and whether a text follows the line. Both come from the table tools/lib/answers.txt; its header
-// explains the columns.
+// Defines the answer format of each input line, and whether a text follows the line. Both come from the table tools/lib/answers.txt; its
+// header explains the columns.
 
 import table from "#answer-table";
 
 /**
  * The format of the answer to an input line. `opensText`: true if a text follows the input line. `isQuery`: true if the line does not
  * change the session. `first`: the pattern of the first answer line. `further`: the pattern of the other answer lines, null if there are
- * none. `count`: the number of further lines, in the notation of the table.
- * @typedef {{ opensText: boolean, isQuery: boolean, first: RegExp, further: RegExp | null, count: string }} Form
+ * none. `count`: the number of these other lines, in the notation of the table.
+ * @typedef {{ opensText: boolean, isQuery: boolean, first: RegExp, further: RegExp | null, count: string }} AnswerFormat
  */
 
+/** The number of columns in a row of the table. */
 const COLUMN_COUNT = 5;
 /** The start of the pattern for the answer to a command. */
 const COMMAND_ANSWER = "^ok ";
@@ -17,7 +18,7 @@ const COMMAND_ANSWER = "^ok ";
 /**
  * Parses the answer table; returns the answer formats by the first word of the input line.
  * @param {string} text the table
- * @returns {Map<string, Form>}
+ * @returns {Map<string, AnswerFormat>}
  */
 export function parseAnswerTable(text) {
   const rows = text.split("\n").filter((line) => !line.startsWith("#")).map((line) => line.split("\t"));
@@ -40,7 +41,7 @@ export function isQuery(word) {
 }
 
 /** The pattern of a listing line. */
-const LISTING_LINE = /** @type {RegExp} */ (/** @type {Form} */ (ANSWER_FORMS.get("list")).further);
+const LISTING_LINE = /** @type {RegExp} */ (/** @type {AnswerFormat} */ (ANSWER_FORMS.get("list")).further);
 
 /**
  * Returns whether an answer is a listing line.

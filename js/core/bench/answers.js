@@ -3,27 +3,39 @@
 import { isListingLine } from "./answer_table.js";
 
 /**
- * @typedef {{ cycles: number, end: string }} Run
- * @typedef {{ number: number, line: number }} Refusal
+ * @typedef {{ cycles: number, end: string }} Run the number of cycles that ran, and the word for the reason why the run ended
+ * @typedef {{ number: number, line: number }} Refusal an error number of the bench, and the text line with the error (0 for none)
+ *
+ * The registers, as texts in the spelling of the bench. `owed` is "1" while the second cycle of an instruction is pending. `bank` is the
+ * RAM bank that DCL selected. `returns` are the return addresses, newest first.
  * @typedef {{ accumulator: string, carry: string, counter: string, owed: string, bank: string, test: string, registers: string[],
  *   returns: string[] }} Registers
+ *
+ * The nibbles and the status characters of a RAM register, one hexadecimal digit each.
  * @typedef {{ characters: string, status: string }} RamRegister
- * @typedef {{ registers: Map<string, RamRegister>, ports: Map<string, string> }} Ram
- * @typedef {{ chip: string, out: string, in: string }} RomPort
+ * @typedef {{ registers: Map<string, RamRegister>, ports: Map<string, string> }} Ram the registers and output ports of a RAM bank, by name
+ * @typedef {{ chip: string, out: string, in: string }} RomPort the latched output and the input levels of a ROM port
+ *
+ * The ports. `sources` are the SRC bytes latched in the ROMs (`21`) and in each bank (`0.21`). `chains` are the bits of each chain, and
+ * `keys` the pressed keys.
  * @typedef {{ sources: string[], roms: RomPort[], chains: string[], keys: string[] }} Ports
- * @typedef {{ address: number, line: string }} ListingLine
+ * @typedef {{ address: number, line: string }} ListingLine a line of a listing, and its address
  * @typedef {{ line: number, address: number, size: number }} MappedLine a program line: its number from 1, its address, and its size in
  *   bytes
- * @typedef {{ lines: MappedLine[], names: { name: string, value: number }[] }} ProgramMap
- * @typedef {{ clock: string, data: string, chips: number }} Chain
- * @typedef {{ chain: number, first: number, rows: number, columns: string[] }} Matrix row r is driven by bit `first + r` of the chain
+ * @typedef {{ lines: MappedLine[], names: { name: string, value: number }[] }} ProgramMap the lines and names of an assembled program
+ * @typedef {{ clock: string, data: string, chips: number }} Chain the clock and data lines of a shift-register chain, and its number of
+ *   chips
+ * @typedef {{ chain: number, first: number, rows: number, columns: string[] }} Matrix the key matrix: bit `first + r` of the chain drives
+ *   row r, and `columns` are the input lines
+ *
+ * The parts of a board. `lamps` are the lines that drive the lamps. `rows` and `columns` are the size of the key matrix, 0 for none.
  * @typedef {{ banks: { bank: number, chips: number }[], chains: Chain[], roms: { chip: number, port: string }[], lamps: string[],
  *   rows: number, columns: number, matrix: Matrix | null }} Board
  */
 
 /**
- * Parses a refusal. Returns the refusal number and the line number (0 if there is none); null for any other answer. Ignores the board part
- * that the refusal of a board text also names.
+ * Parses a refusal, such as `no 42` or `no 31 line 5`. Returns its error number and line number (0 for none); null for any other answer.
+ * Ignores the board part that the refusal of a board text also names.
  * @param {string} answer
  * @returns {Refusal | null}
  */
@@ -66,7 +78,7 @@ export function readRegisters(answer) {
 }
 
 /**
- * Reads the program counter and the pending second cycle from the answer to `regs`.
+ * Reads two values from the answer to `regs`: the program counter, and whether the second cycle of an instruction is pending (`owed`).
  * @param {string} answer
  */
 export function readCounter(answer) {
@@ -75,7 +87,8 @@ export function readCounter(answer) {
 }
 
 /**
- * Reads the answer to `ram B`. The keys of the registers have the form `bank.chip.register`, those of the ports the form `bank.chip`.
+ * Reads the answer to `ram B`. In the result, registers have names of the form `bank.chip.register`, and ports have names of the form
+ * `bank.chip`.
  * @param {string[]} answers
  * @returns {Ram}
  */
@@ -92,7 +105,7 @@ export function readRam(answers) {
 
 /**
  * Returns the words after the first word of an answer, such as `breaks 000 003`, `watches 0.00` or `lamps **.`. Returns an empty list if
- * the answer has `-` instead.
+ * `-` follows the first word.
  * @param {string} answer
  */
 export function readItems(answer) {
@@ -109,7 +122,7 @@ export function watchedPlaces(answer) {
 }
 
 /**
- * Reads the answer to `map`. Returns a map without lines and names for a refusal.
+ * Reads the answer to `map`. For a refusal, returns a map without lines and names.
  * @param {string[]} answers
  * @returns {ProgramMap}
  */

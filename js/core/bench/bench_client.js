@@ -10,6 +10,8 @@ import { WorkerDiedError, unpackError } from "./bench_errors.js";
  * @typedef {import("./protocol.js").ToPage} ToPage
  * @typedef {import("./protocol.js").ToWorker} ToWorker
  * @typedef {keyof Requests} CallName
+ *
+ * The callbacks of a request that has no reply yet: for its result, its error, and its progress.
  * @typedef {{ done: (result: any) => void, fail: (fault: Error) => void, progress: (done: number, total: number) => void }} PendingRequest
  *
  * Options of a request: a signal that cancels it, and a callback for its progress.
@@ -19,21 +21,22 @@ import { WorkerDiedError, unpackError } from "./bench_errors.js";
  * @typedef {{ postMessage: (message: ToWorker, transfer: Transferable[]) => void, terminate: () => void,
  *   addEventListener: (kind: string, listen: (event: any) => void) => void }} WorkerLike
  *
- * Callbacks for messages without a request: a frame at full speed, an error that stopped full speed, and the death of the worker.
+ * Callbacks for messages without a request: a frame of a run at full speed, an error that stopped the run, and the end of a worker that
+ * stopped answering.
  * @typedef {{ frame: (frame: Frame) => void, failed: (fault: Error) => void, died: () => void }} Listener
  */
 
 /**
- * Calls the requests in `Part`, the type of the requests that a module uses.
+ * A client that can call the requests in `Part`. `Part` contains those requests that a module uses.
  * @template Part
- * @typedef {{ call<Name extends CallName & keyof Part>(call: Name, words: Parameters<Requests[Name]>, ways?: CallOptions):
+ * @typedef {{ call<Name extends CallName & keyof Part>(name: Name, parameters: Parameters<Requests[Name]>, options?: CallOptions):
  *   Promise<Awaited<ReturnType<Requests[Name]>>> }} Caller
  */
 
 /** The interval between pings of a worker with unanswered requests, in milliseconds. */
-const PING_INTERVAL = 1000;
-/** The maximum number of unanswered pings; after more of them, the worker counts as dead. */
-const MAX_SILENT_PINGS = 10;
+const PING_INTERVAL_MS = 1000;
+/** The maximum number of unanswered pings. After one more, the page terminates the worker. */
+const MAX_UNANSWERED_PINGS = 10;
 
 /** The page's end of the connection to the worker. */
 export class Bench {
@@ -52,17 +55,17 @@ export class Bench {
     this.pendingRequests = new Map();
     /** @type {WorkerLike | null} */
     this.worker = null;
-    this.number = 0;
-    this.silentPings = 0;
+    this.lastRequestNumber = 0;
+    this.unansweredPings = 0;
     /** True while the worker runs at full speed and sends frames without a request. */
     this.isRunning = false;
-    /** True if a silent worker never counts as dead: the prover is silent during its work. */
-    this.isPatient = false;
+    /** True if a worker that does not answer pings is never terminated. The prover does not answer during its work. */
+    this.allowsSilence = false;
     /** The size of a session file in bytes. */
     this.size = 0;
     /** @type {ArrayBuffer[]} buffers of received files; the next request returns them to the worker */
     this.spare = [];
-    setInterval(() => this.watch(), PING_INTERVAL);
+    setInterval(() => this.watch(), PING_INTERVAL_MS);
   }
 
   /** Starts a worker. The promise resolves after the worker has loaded the module. */
@@ -88,8 +91,8 @@ export class Bench {
    */
   call(name, parameters, options = {}) {
     const { signal, progress = () => {} } = options;
-    this.number += 1;
-    const { number } = this;
+    this.lastRequestNumber += 1;
+    const { lastRequestNumber: number } = this;
     if (signal) signal.addEventListener("abort", () => this.cancel(number));
     return new Promise((done, fail) => {
       if (!this.worker) {
@@ -117,7 +120,7 @@ export class Bench {
 
   /** @param {ToPage} message */
   take(message) {
-    this.silentPings = 0;
+    this.unansweredPings = 0;
     if (message.kind === "frame") this.listener.frame(message.frame);
     if (message.kind === "failed") this.listener.failed(unpackError(message.fault));
     if (message.kind !== "reply" && message.kind !== "early" && message.kind !== "progress") return;
@@ -127,7 +130,7 @@ export class Bench {
       waiting.progress(message.done, message.total);
       return;
     }
-    // An early result is ignored while older requests still wait for their replies. Its request then waits for the regular reply.
+    // While older requests wait for their replies, an early result is ignored. The request then waits for its regular reply.
     if (message.kind === "early" && message.number !== this.oldestRequest) return;
     this.pendingRequests.delete(message.number);
     if (message.kind === "reply" && message.fault) waiting.fail(unpackError(message.fault));
@@ -145,7 +148,7 @@ export class Bench {
   }
 
   /**
-   * Asks the worker to cancel a request. Terminates the worker if it does not react in time.
+   * Asks the worker to cancel a request. Terminates the worker if the request is still pending after two ping intervals.
    * @param {number} number
    */
   cancel(number) {
@@ -153,21 +156,21 @@ export class Bench {
     this.send({ kind: "cancel", number });
     setTimeout(() => {
       if (this.pendingRequests.has(number)) this.die();
-    }, 2 * PING_INTERVAL);
+    }, 2 * PING_INTERVAL_MS);
   }
 
   /** Pings the worker if it has unanswered requests. The limit is a number of pings, not a time, because the computer can sleep. */
   watch() {
-    if (this.isPatient || (this.pendingRequests.size === 0 && !this.isRunning)) {
-      this.silentPings = 0;
+    if (this.allowsSilence || (this.pendingRequests.size === 0 && !this.isRunning)) {
+      this.unansweredPings = 0;
       return;
     }
-    this.silentPings += 1;
-    if (this.silentPings > MAX_SILENT_PINGS) this.die();
+    this.unansweredPings += 1;
+    if (this.unansweredPings > MAX_UNANSWERED_PINGS) this.die();
     else this.send({ kind: "ping" });
   }
 
-  /** Ends a dead worker, rejects its requests, and reports the death to the listener. */
+  /** Terminates a worker that does not answer, rejects its requests, and calls `died` of the listener. */
   die() {
     if (!this.worker) return;
     this.end();
@@ -180,7 +183,7 @@ export class Bench {
     this.worker.terminate();
     this.worker = null;
     this.isRunning = false;
-    this.silentPings = 0;
+    this.unansweredPings = 0;
     const pending = [...this.pendingRequests.values()];
     this.pendingRequests.clear();
     for (const { fail } of pending) fail(new WorkerDiedError());

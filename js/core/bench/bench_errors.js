@@ -2,7 +2,7 @@
 
 import * as say from "../../words/bench.js";
 
-/** The error if the bench answers a call with a refusal (`no NN`). */
+/** The error of a call that the bench answers with an error number (`no NN`). */
 export class BenchRefusal extends Error {
   /** @param {number} number */
   constructor(number) {
@@ -11,24 +11,24 @@ export class BenchRefusal extends Error {
   }
 }
 
-/** The error if the WebAssembly module traps during a call. The module is restarted before this error is thrown. */
+/** The error of a call in which the WebAssembly module trapped. The module is restarted before this error is thrown. */
 export class BenchTrap extends Error {}
 
-/** The error if the user cancels a call. The call has no effect. */
+/** The error of a call that the user cancelled. The call has no effect. */
 export class CancelledError extends Error {
   constructor() {
     super(say.IT_WAS_CANCELLED);
   }
 }
 
-/** The error if the worker stops answering or is terminated. */
+/** The error of a call whose worker stopped answering or was terminated. */
 export class WorkerDiedError extends Error {
   constructor() {
     super(say.WORKER_STOPPED);
   }
 }
 
-/** The refusal number for a failed allocation. */
+/** The error number of the bench for a failed allocation. */
 export const OUT_OF_MEMORY = 90;
 
 /**
@@ -49,7 +49,7 @@ export function packError(fault) {
 }
 
 /**
- * Converts an error from a message back to an exception.
+ * Converts the message representation of an error back to an error.
  * @param {PackedFault} fault
  * @returns {Error}
  */

@@ -1,6 +1,5 @@
-// The format of a board text, defined once for the page: the TOML keys of each part, the ranges of their values, the maximum number of
-// parts, and the signal lines of each part. Only the bench decides whether a board is valid. A unit test compares each limit with the
-// bench.
+// Defines the format of a board text for the page: the TOML keys of each part, the ranges of their values, the maximum number of parts, and
+// the signal lines of each part. Only the bench decides whether a board is valid. A unit test compares each limit with the bench.
 
 import { indices } from "./numbers.js";
 
@@ -33,6 +32,7 @@ export const VALUE_RANGES = {
  * @type {Record<string, number>}
  */
 export const MAX_PARTS = { rom: 16, ram: 8, chain: 4, lamp: 64 };
+/** The maximum number of columns in a key matrix. */
 export const MAX_COLUMNS = 8;
 /** The number of bits in each chip of a chain (a 4003). */
 export const BITS_PER_CHIP = 10;

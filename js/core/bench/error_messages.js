@@ -1,18 +1,18 @@
-// Texts for users: messages for refusals and errors, and durations.
+// Formats messages for users about errors, and durations.
 
 import { BenchRefusal, BenchTrap, CancelledError, WorkerDiedError } from "./bench_errors.js";
 import { formatQuantity } from "./numbers.js";
 import * as say from "../../words/bench.js";
 
-/** Messages for refusals and errors. */
+/** Returns the messages for errors. */
 export class ErrorMessages {
-  /** @param {Record<string, string>} refusals the refusal meanings, by refusal number */
+  /** @param {Record<string, string>} refusals the meanings of the bench's error numbers, by number */
   constructor(refusals) {
     this.refusals = refusals;
   }
 
   /**
-   * Returns the meaning of a refusal number.
+   * Returns the meaning of an error number of the bench.
    * @param {number} number
    */
   refusalMeaning(number) {
@@ -20,7 +20,7 @@ export class ErrorMessages {
   }
 
   /**
-   * Returns the error message. The message for a refusal includes its number.
+   * Returns the message for an error. If the bench reported the error, the message includes its number.
    * @param {unknown} error
    */
   errorMessage(error) {

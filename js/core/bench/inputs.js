@@ -1,17 +1,19 @@
-// Splits lines into inputs, finds the offsets at which inputs end, and assigns answers to inputs.
+// Splits lines into inputs, finds the offsets at which inputs end, and assigns answers to inputs. An input is a command or query, with the
+// text that follows it.
 
 import { ANSWER_FORMS } from "./answer_table.js";
 import { LAST_ADDRESS, parseNumber } from "./numbers.js";
 
 /** The maximum line length in characters; the bench rejects longer lines. */
 export const MAX_LINE_LENGTH = 255;
-/** The refusal numbers for a line that is too long, and for a line with a non-ASCII character. */
+/** The error numbers of the bench for a line that is too long, and for a line with a non-ASCII character. */
 export const LINE_TOO_LONG = 12;
 export const NOT_ASCII = 14;
-/** A character that the bench never accepts. */
+/** Matches a character that the bench never accepts. */
 export const INVALID_CHARACTER = /[^\t -~]/u;
 /** The maximum number of places in a `trace` line. */
 export const MAX_PLACES = 16;
+/** Matches a line that consists of one word, and captures the word. */
 const ONE_WORD = /^[ \t]*([a-z]+)[ \t]*$/;
 
 /**
@@ -28,7 +30,7 @@ export function stripReturn(rawLine) {
 }
 
 /**
- * Returns whether a text follows a line. The text ends at a line that consists of a dot.
+ * Returns whether a text follows a line, such as a program after `asm`. The text ends at a line that consists of a dot.
  * @param {string} line
  */
 export function opensText(line) {
@@ -49,7 +51,7 @@ export function isSeq(line) {
 export const SEQ_ANSWER = /^seq \d+$/;
 
 /**
- * Splits lines into inputs; returns each with its line number from 1.
+ * Splits lines into inputs. Returns each input with the number of its line, from 1.
  * @param {string} lines
  */
 export function readNumberedInputs(lines) {
@@ -84,7 +86,7 @@ export function readInputs(lines) {
 }
 
 /**
- * Returns the offset of the first input end that is at least `minLength` characters after `from`.
+ * Returns the offset of the end of an input: of the first one that ends at least `minLength` characters after `from`.
  * @param {string} lines
  * @param {number} from the offset of the first input
  * @param {number} minLength the minimum length of the piece in characters
@@ -125,7 +127,7 @@ function continuesListing(previous, answer) {
  * @param {string} first the first line of the answer
  * @param {string} count the COUNT column of the answer table
  */
-export function maxLines(input, first, count) {
+export function maxAnswerLines(input, first, count) {
   if (count === "all") return Infinity;
   if (count === "list") return parseNumber(input.words[2]);
   const words = first.split(" ");
@@ -141,7 +143,7 @@ export function maxLines(input, first, count) {
 export function answerLength(input, answers, from) {
   const form = ANSWER_FORMS.get(input.kind);
   if (!form || !form.further || !form.first.test(answers[from])) return 1;
-  const max = maxLines(input, answers[from], form.count);
+  const max = maxAnswerLines(input, answers[from], form.count);
   let at = from + 1;
   while (at < answers.length && at - from < max && form.further.test(answers[at])) {
     if (form.count === "list" && !continuesListing(answers[at - 1], answers[at])) break;

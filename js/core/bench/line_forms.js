@@ -1,4 +1,4 @@
-// The grammar of bench lines: their words and number ranges. If the bench rejects a line, `findLineError` names the wrong word.
+// Defines the grammar of bench lines: their words and number ranges. If the bench rejects a line, `findLineError` names the wrong word.
 
 import { ANSWER_FORMS } from "./answer_table.js";
 import { INVALID_CHARACTER, LINE_TOO_LONG, MAX_LINE_LENGTH, MAX_PLACES, NOT_ASCII } from "./inputs.js";
@@ -7,15 +7,16 @@ import { findSimilarWords } from "../text/similar_words.js";
 import * as say from "../../words/lines.js";
 
 /**
- * The error in a line: the refusal number, and a message that names the wrong word.
+ * The error in a line: the bench's error number, and a message that names the wrong word.
  * @typedef {{ number: number, words: string }} LineFault
  *
- * The syntax of a kind of place: the pattern of its name, the maximum of each number in the name (`most`), and the maximum value of the
- * place (`value`).
- * @typedef {{ pattern: RegExp, most: number[], value: number }} PlaceSyntax
+ * The syntax of a kind of place: the pattern of its name, the maximum of each number in the name (`maxima`), and the maximum value of the
+ * place (`maxValue`).
+ * @typedef {{ pattern: RegExp, maxima: number[], maxValue: number }} PlaceSyntax
  * @typedef {[number, number]} Range the first and the last number
  */
 
+/** The error numbers of the bench for a line that is no command, and for a number that is out of range. */
 const NOT_A_COMMAND = 10;
 const BAD_NUMBER = 11;
 const MAX_BIT = 1;
@@ -23,13 +24,15 @@ const MAX_BANK = 7;
 const MAX_NIBBLE = 15;
 const MAX_BYTE = 255;
 const MAX_ADDRESS = 4095;
+/** The maximum number of cycles in a `trace` or `count` line. */
 const MAX_CYCLES = 100000;
 const MAX_NUMBER = 4294967295;
-const MAX_LISTED = 256;
+/** The maximum number of lines that a `list` query can ask for. */
+const MAX_LISTED_LINES = 256;
 
-/** @type {(most: number) => Range} */
+/** @type {(max: number) => Range} */
 const rangeTo = (max) => [0, max];
-/** @type {Record<string, Range[]>} the number ranges after the first word */
+/** @type {Record<string, Range[]>} the ranges of the numbers in a line, by the first word of the line */
 const NUMBER_RANGES = {
   press: [rangeTo(MAX_BYTE), rangeTo(MAX_BYTE)],
   release: [rangeTo(MAX_BYTE), rangeTo(MAX_BYTE)],
@@ -40,14 +43,17 @@ const NUMBER_RANGES = {
   watch: [rangeTo(MAX_BANK), rangeTo(MAX_BYTE)],
   unwatch: [rangeTo(MAX_BANK), rangeTo(MAX_BYTE)],
   ram: [rangeTo(MAX_BANK)],
-  list: [rangeTo(MAX_ADDRESS), [1, MAX_LISTED]],
+  list: [rangeTo(MAX_ADDRESS), [1, MAX_LISTED_LINES]],
   count: [[1, MAX_CYCLES]],
 };
 const NUMERAL = "(0x[0-9a-fA-F]+|[0-9]+)";
 
-/** @type {(form: string, most: number[], value?: number) => PlaceSyntax} creates a syntax; each `N` in `form` stands for a number */
-const syntaxOf = (form, most, value = 0) => ({
-  pattern: new RegExp(`^${form.replace(/\./g, "\\.").replace(/N/g, NUMERAL)}$`), most, value,
+/**
+ * @type {(form: string, maxima: number[], maxValue?: number) => PlaceSyntax} creates the syntax of a place; each `N` in `form` matches a
+ *   number
+ */
+const syntaxOf = (form, maxima, maxValue = 0) => ({
+  pattern: new RegExp(`^${form.replace(/\./g, "\\.").replace(/N/g, NUMERAL)}$`), maxima, maxValue,
 });
 /** The places that `poke` and `trace` accept. */
 const PLACE_SYNTAXES = [
@@ -74,13 +80,13 @@ const parseNumeral = (word) => (new RegExp(`^${NUMERAL}$`).test(word) ? Number(w
  * @param {Range} range
  * @returns {LineFault | null}
  */
-function findNumberError(word, [first, last]) {
+function findRangeError(word, [first, last]) {
   const number = parseNumeral(word);
   return number >= first && number <= last ? null : { number: BAD_NUMBER, words: say.notInRange(word, first, last) };
 }
 
 /**
- * Returns the kind of a place; null if the word is not a place.
+ * Returns the syntax that a place matches; null if the word is not a place.
  * @param {string} word
  * @param {PlaceSyntax[]} places
  */
@@ -93,9 +99,9 @@ function findPlaceSyntax(word, places) {
  * @param {string} word
  * @param {PlaceSyntax} found
  */
-function isInRange(word, { pattern, most }) {
+function isInRange(word, { pattern, maxima }) {
   const placeNumbers = /** @type {RegExpExecArray} */ (pattern.exec(word)).slice(1).map(Number);
-  return placeNumbers.every((number, at) => number <= most[at]);
+  return placeNumbers.every((number, at) => number <= maxima[at]);
 }
 
 /** @type {(word: string, names: string[]) => LineFault} */
@@ -111,7 +117,7 @@ const noSuchPlaceError = (word) => ({ number: BAD_NUMBER, words: say.noSuchPlace
 function findPokeError(word, value) {
   const found = findPlaceSyntax(word, PLACE_SYNTAXES);
   if (!found) return unknownPlaceError(word, POKE_NAMES);
-  return isInRange(word, found) ? findNumberError(value, rangeTo(found.value)) : noSuchPlaceError(word);
+  return isInRange(word, found) ? findRangeError(value, rangeTo(found.maxValue)) : noSuchPlaceError(word);
 }
 
 /**
@@ -125,7 +131,7 @@ function findTraceError(count, places) {
   if (unknownWord !== undefined) return unknownPlaceError(unknownWord, TRACE_NAMES);
   if (places.length > MAX_PLACES) return { number: NOT_A_COMMAND, words: say.tooManyPlaces(MAX_PLACES) };
   const wrongWord = places.find((word) => !isInRange(word, /** @type {PlaceSyntax} */ (findPlaceSyntax(word, forms))));
-  return wrongWord === undefined ? findNumberError(count, [1, MAX_CYCLES]) : noSuchPlaceError(wrongWord);
+  return wrongWord === undefined ? findRangeError(count, [1, MAX_CYCLES]) : noSuchPlaceError(wrongWord);
 }
 
 /**
@@ -141,12 +147,12 @@ function findWordError([first, ...words]) {
   if (first === "poke") return words.length === 2 ? findPokeError(words[0], words[1]) : syntaxError;
   const ranges = NUMBER_RANGES[first] || [];
   if (words.length !== ranges.length) return syntaxError;
-  const errors = words.map((word, at) => findNumberError(word, ranges[at]));
+  const errors = words.map((word, at) => findRangeError(word, ranges[at]));
   return errors.find((fault) => fault !== null) || null;
 }
 
 /**
- * Returns the first character in a line that the bench accepts nowhere; "" if there is none.
+ * Returns the first character in a line that the bench never accepts; "" if there is none.
  * @param {string} line
  */
 export function invalidCharacterIn(line) {

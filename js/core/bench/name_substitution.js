@@ -1,5 +1,5 @@
-// Replaces names in lines: `@NAME` becomes the value of that program name, and `set PLACE = VALUE` becomes the lines that set the place.
-// Texts between the lines, such as a program after `asm`, do not change.
+// Replaces names in bench lines: `@NAME` becomes the value of that program name, and `set PLACE = VALUE` becomes the lines that set the
+// place. Texts that follow a line, such as a program after `asm`, do not change.
 
 import { readSetting } from "../conditions/set_command.js";
 import { opensText, stripReturn } from "./inputs.js";

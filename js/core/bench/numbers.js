@@ -1,5 +1,6 @@
 // Converts numbers to and from text.
 
+/** The last address in ROM. */
 export const LAST_ADDRESS = 4095;
 
 /**

@@ -8,16 +8,18 @@ import { readBoardText } from "../text/board_reader.js";
  */
 
 /**
- * The TOML key of the part number, by part kind. Parts of other kinds have no such key and are numbered in order.
+ * The TOML key that contains the number of a part, by the kind of the part. Parts of other kinds are numbered in order.
  * @type {Record<string, string>}
  */
 const NUMBER_KEYS = { rom: "chip", ram: "bank" };
+/** The kinds of parts that are numbered in order. */
 const COUNTED_KINDS = ["chain", "lamp"];
 
 /**
- * Returns the name of a part, such as `rom 1`; "" for a table that is not a named part.
+ * Returns the name of the part that a TOML table defines, such as `rom 1`; "" if the table defines no named part.
  * @param {Entry} entry
- * @param {Record<string, number>} counts the number of parts found so far, for each kind that is numbered in order; updated
+ * @param {Record<string, number>} counts the number of parts found so far, for each kind that is numbered in order; this function updates
+ *   it
  */
 function partName({ table, keys }, counts) {
   const kind = table.replace(/[[\]]/g, "");
@@ -32,7 +34,7 @@ function partName({ table, keys }, counts) {
 }
 
 /**
- * Returns the line range of each part in a board text. An unfinished part can be missing.
+ * Returns the line range of each part in a board text, by the name of the part. The result can lack an unfinished part.
  * @param {string} text
  * @returns {Map<string, Lines>}
  */

@@ -6,17 +6,18 @@
  * @typedef {import("./bench_errors.js").PackedFault} PackedFault
  * @typedef {import("./run_log.js").RunEntry} RunEntry
  *
- * A session state for the page. `snapshot`: the answers of the snapshot queries. `file`: the bytes of the session file (transferred).
- * `board`: the answer to `board`, null if unchanged. `total`: all cycles. `reset`: the cycles up to the last reset. `future`: the number of
- * possible steps forward. `past`: the additions to the past since the last report. `waves`: the recording since the last report, null if
- * recording is off. `printed`: the printer data, null if unchanged. `waiting`: key changes that are queued for later.
+ * A session state for the page. `snapshot`: the answers to the snapshot queries. `file`: the bytes of the session file (transferred).
+ * `board`: the answer to `board`, null if unchanged. `total`: the number of all cycles. `reset`: the number of cycles up to the last reset.
+ * `future`: the number of possible moves forward in time. `past`: the additions to the timeline since the last report. `waves`: the
+ * recording since the last report, null if recording is off. `printed`: the printer data, null if unchanged. `waiting`: key changes that
+ * are queued for later.
  * @typedef {{ snapshot: string[], file: ArrayBuffer, board: string[] | null, total: number, reset: number, future: number,
  *   past: import("../engine/timeline.js").News, waves: import("../engine/live_recorder.js").LivePart | null,
  *   printed: import("../engine/printer_codes.js").PrintoutData | null, waiting: import("../engine/key_queue.js").Change[] }} PageState
  *
- * The result of a period of running time. `ran`: the lines that ran. `end`: the answer that ended the run early, or "". `stop`: the reason
- * why time stopped, or null. `tally`: breakpoint hits and log messages. `litShares`, `heard`, `warmed`: lamp brightness, sound and RAM
- * changes; each is null if the page does not show it.
+ * The result of a period in which the machine ran. `ran`: the lines that ran. `end`: the answer that ended the run early, or "". `stop`:
+ * the reason why the machine stopped, or null. `tally`: breakpoint hits and log messages. `litShares`, `heard`, `warmed`: lamp brightness,
+ * sound, and the changes in the displayed RAM chip; each is null if the page does not show it.
  * @typedef {{ ran: RunEntry[], cycles: number, end: string, changesKeys: boolean, stop: Stop | null, tally: Tally,
  *   litShares: import("../engine/brightness_meter.js").LitShares | null, heard: import("../engine/buzzer_meter.js").BuzzerLevels | null,
  *   warmed: import("../engine/heat_meter.js").ChipHeat | null } & PageState} Frame
@@ -26,12 +27,12 @@
  * @typedef {LinesResult & PageState} LinesReply
  * @typedef {Omit<import("../engine/past_search.js").BackSearchResult, "moment" | "present">} SearchReport
  * @typedef {LinesReply & { typed: import("../debug/debugger.js").TypedResult }} TypedReply the result of lines that the user typed
- * @typedef {LinesReply & SearchReport & { isDone: boolean, cycles: number }} TravelResult the point in time that a move back or forward
- *   reached, and the cycles to it
+ * @typedef {LinesReply & SearchReport & { isDone: boolean, cycles: number }} TravelResult the result of a move back or forward in time, and
+ *   the number of cycles that it moved
  * @typedef {LinesReply & { found: import("../debug/debugger.js").RunResult["found"], tally: Tally }} GoalReply the result of lines that
  *   run to a goal
- * @typedef {LinesReply & { faults: [number, string][] }} BreakpointReply the result of lines with breakpoints; `faults` are ids of
- *   breakpoints that cannot be read, each with a message
+ * @typedef {LinesReply & { faults: [number, string][] }} BreakpointReply the result of lines with breakpoints; `faults` are the ids of
+ *   breakpoints that cannot be compiled, each with an error message
  *
  * The messages to the worker.
  * @typedef {{ kind: "request", number: number, call: string, words: any[], spare: ArrayBuffer[] }} Request `words` are the
@@ -44,10 +45,10 @@
  * The messages to the page.
  * @typedef {{ kind: "reply", number: number, result?: any, fault?: PackedFault }} Reply
  * @typedef {{ kind: "early", number: number, result: any }} EarlyReply a copy of the result, sent before the reply
- * @typedef {{ kind: "progress", number: number, done: number, total: number }} Progress the completed amount of a request's work, and
- *   the total amount
- * @typedef {{ kind: "frame", frame: Frame }} FrameMessage the result of a period of running time at full speed
- * @typedef {{ kind: "failed", fault: PackedFault }} FailureMessage the error that stopped time at full speed
+ * @typedef {{ kind: "progress", number: number, done: number, total: number }} Progress how much of a request's work is done, and the total
+ *   amount of work
+ * @typedef {{ kind: "frame", frame: Frame }} FrameMessage the result of a period in which the machine ran at full speed
+ * @typedef {{ kind: "failed", fault: PackedFault }} FailureMessage the error that stopped the machine at full speed
  * @typedef {{ kind: "pong" }} Pong
  * @typedef {Reply | EarlyReply | Progress | FrameMessage | FailureMessage | Pong} ToPage
  */

@@ -3,13 +3,15 @@
 import { readListing } from "./answers.js";
 import { LAST_ADDRESS, hex, indices } from "./numbers.js";
 
+/** The number of addresses in ROM. */
 export const ADDRESS_COUNT = LAST_ADDRESS + 1;
+/** The number of bytes in a ROM page. */
 export const PAGE_BYTES = 256;
-/** The numbers of all pages. A page has PAGE_BYTES bytes, as many as a ROM chip. */
+/** The numbers of all ROM pages. A page has the size of a ROM chip. */
 export const PAGE_NUMBERS = indices(ADDRESS_COUNT / PAGE_BYTES);
 /** The maximum number of lines in the answer to `list`. */
 export const MAX_LISTING_LINES = 256;
-/** The value for an address that is not in the listing. */
+/** The value of a byte whose address is not in the listing. */
 export const NO_BYTE = -1;
 
 /**

@@ -11,6 +11,7 @@ import * as say from "../../words/bench.js";
 
 /** The number of address bytes, by data record type. */
 const ADDRESS_SIZES = new Map([["1", 2], ["2", 3], ["3", 4]]);
+/** The types of the record that ends the file. */
 const END_TYPES = ["7", "8", "9"];
 
 /**
@@ -53,12 +54,13 @@ export function readSRecords(text, offset = 0) {
 
 // --- BNPF ---
 
+/** The number of letters in a BNPF word, without the final `F`. */
 const WORD_LENGTH = 9;
-/** Matches the text after the `B` of a BNPF word: three letters of the word, or fewer at the end of the line. */
+/** Matches the text after the `B` of a BNPF word: the next three letters of the word, or fewer if the line ends. */
 const TEXT_AFTER_B = /[ \t]*(?:[NP][ \t]*[NP][ \t]*[NP]|(?:[NP][ \t]*)?(?:[NP][ \t]*)?$)/iy;
 
 /**
- * Returns whether the `B` at an index begins a BNPF word. A `B` in a comment, as in the word `BNPF`, does not.
+ * Returns whether the `B` at an index begins a BNPF word. A `B` in a comment, such as the first letter of `BNPF`, does not.
  * @param {string} line
  * @param {number} index
  */

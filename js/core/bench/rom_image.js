@@ -7,7 +7,7 @@ import * as say from "../../words/bench.js";
 /** The error for a file that is not a valid ROM image. */
 export class NotAnImage extends Error {}
 
-/** The error for a line that is not a record. The file can have another format. */
+/** The error for a line that is not a record, perhaps because the file has another format. */
 export class NotARecord extends NotAnImage {}
 
 /** The maximum number of data bytes per written record. */
@@ -15,7 +15,7 @@ const BYTES_PER_RECORD = 16;
 /** The record types for data, and for the end of the file. */
 const DATA_TYPE = 0;
 const END_TYPE = 1;
-/** The record types for segment and linear base addresses; their values must be 0 for a 4004. */
+/** The record types for segment and linear base addresses. In an image for a 4004, these base addresses must be 0. */
 const BASE_TYPES = [2, 4];
 /** The record types for a program's start address, which linkers write. Such records are ignored: the 4004 starts at 000. */
 const START_TYPES = [3, 5];

@@ -1,4 +1,5 @@
-// A console log of the lines that are served while time runs: one entry per key change, and one entry for consecutive runs.
+// Logs the lines that are served while the machine runs, for the console. The log has one entry per key change, and one entry for
+// consecutive runs.
 
 import * as say from "../../words/bench.js";
 

@@ -1,8 +1,8 @@
-// Assigns the answers of a session to the inputs of a script. Rejects answers that the inputs cannot have.
+// Assigns the answers of a session to the inputs of a script. Reports an error if an answer cannot belong to its input.
 
 import { ANSWER_FORMS } from "./answer_table.js";
 import { parseRefusal } from "./answers.js";
-import { answerLength, maxLines, opensText, readNumberedInputs } from "./inputs.js";
+import { answerLength, maxAnswerLines, opensText, readNumberedInputs } from "./inputs.js";
 import * as say from "../../words/bench.js";
 
 /**
@@ -39,7 +39,8 @@ function canBeginAnswer({ kind, line }, answer) {
 function completeLength(input, answers, from) {
   const form = ANSWER_FORMS.get(input.kind);
   if (!form || !form.further || parseRefusal(answers[from])) return 1;
-  return form.count === "all" || form.count === "list" ? answerLength(input, answers, from) : maxLines(input, answers[from], form.count);
+  return form.count === "all" || form.count === "list" ? answerLength(input, answers, from)
+    : maxAnswerLines(input, answers[from], form.count);
 }
 
 /**
@@ -74,7 +75,7 @@ class AnswerMatcher {
   }
 
   /**
-   * Consumes the answer to the next input. Returns its first line; "" if the input has no answer.
+   * Takes the answer to the next input from the list. Returns the first line of the answer; "" if the input has no answer.
    * @param {Input} input
    * @param {number} line the input's line number
    */

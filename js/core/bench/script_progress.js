@@ -16,18 +16,18 @@ import * as say from "../../words/bench.js";
  */
 
 const BANK_COUNT = 8;
-/** The minimum number of characters that are served at once. Between two such pieces the user can interrupt the work. */
-const PIECE_LENGTH = 4096;
+/** The minimum length of a piece of a script, in characters. Between two pieces, the user can interrupt the work. */
+const MIN_PIECE_LENGTH = 4096;
 /** The maximum number of differing lines that are shown. */
 const MAX_DIFFERING_LINES = 4;
-/** The queries whose answers are compared between the two sessions. */
-const QUERIES = `seq\nboard\nstate\n${indices(BANK_COUNT).map((bank) => `ram ${bank}\n`).join("")}${listQueries(PAGE_NUMBERS)}`;
+/** The queries whose answers are compared between the session and a new session that has served the script. */
+const COMPARED_QUERIES = `seq\nboard\nstate\n${indices(BANK_COUNT).map((bank) => `ram ${bank}\n`).join("")}${listQueries(PAGE_NUMBERS)}`;
 
 /**
- * Splits each answer to `state` into one line per key and value. Returns these lines and the other answers, in order.
+ * Splits each answer to `state` into lines, one for each value with its name. Returns these lines and the other answers, in order.
  * @param {string[]} answers
  */
-function splitState(answers) {
+function splitStateAnswers(answers) {
   return answers.flatMap((answer) => {
     const [word, ...items] = answer.split(" ");
     return word === "state" ? indices(Math.floor(items.length / 2)).map((at) => `${items[2 * at]} ${items[2 * at + 1]}`) : [answer];
@@ -55,7 +55,7 @@ export function differingLines(actual, expected) {
 }
 
 /**
- * Returns the number of script lines up to the last of the first `commands` accepted inputs; -1 if the script has fewer accepted inputs.
+ * Returns the number of script lines up to the end of the accepted input number `commands`; -1 if the script has fewer accepted inputs.
  * @param {import("./script_answers.js").AnsweredInput[]} inputs
  * @param {number} commands
  */
@@ -81,7 +81,7 @@ async function serveScript(engine, lines, yieldToMessages) {
   /** @type {string[]} */
   const answers = [];
   for (let at = 0; at < lines.length;) {
-    const end = findInputEnd(lines, at, PIECE_LENGTH);
+    const end = findInputEnd(lines, at, MIN_PIECE_LENGTH);
     for (const answer of engine.serve(state, lines.slice(at, end), state).answers) answers.push(answer);
     at = end;
     await yieldToMessages();
@@ -98,7 +98,7 @@ async function serveScript(engine, lines, yieldToMessages) {
  * @returns {Promise<ScriptComparison>}
  */
 export async function compareWithScript(engine, state, script, yieldToMessages) {
-  const { opened, answers: actual } = engine.ask(state, QUERIES);
+  const { opened, answers: actual } = engine.ask(state, COMPARED_QUERIES);
   const commands = Number(opened.slice("session ".length));
   const fullRun = await serveScript(engine, script, yieldToMessages);
   const { inputs, words } = matchScriptAnswers(script, ["session 0", ...fullRun.answers]);
@@ -109,7 +109,7 @@ export async function compareWithScript(engine, state, script, yieldToMessages) 
     return { lines: 0, words: say.acceptedMore(commands, accepted), differing: [] };
   }
   const partialRun = await serveScript(engine, script.split("\n").slice(0, lines).map((line) => `${line}\n`).join(""), yieldToMessages);
-  const expected = engine.ask(partialRun.state, QUERIES).answers;
-  const differing = differingLines(splitState(actual), splitState(expected));
+  const expected = engine.ask(partialRun.state, COMPARED_QUERIES).answers;
+  const differing = differingLines(splitStateAnswers(actual), splitStateAnswers(expected));
   return { lines, words: differing.length > 0 ? say.answersDiffer(commands) : "", differing };
 }

@@ -1,4 +1,4 @@
-// Queries snapshots of a session, and finds the changes between two snapshots.
+// Builds snapshots of a session from the bench's answers, and finds the changes between two snapshots.
 
 import { readRam } from "./answers.js";
 import { matchAnswers } from "./inputs.js";
@@ -33,28 +33,28 @@ export function buildSnapshot(inputs, answers) {
 }
 
 /** @type {StateParts} the state before the first snapshot */
-const NO_PARTS = { registers: "", test: "", ports: "", keys: "", lamps: "", breaks: "", watches: "" };
+const INITIAL_PARTS = { registers: "", test: "", ports: "", keys: "", lamps: "", breaks: "", watches: "" };
 
 /**
- * Finds the changes between snapshots. `take` returns the front-panel changes of each snapshot. `readOtherChanges` returns the others;
- * callers can call it less often.
+ * Finds the changes between snapshots. `take` reads a snapshot and returns the changes of the front panel. `readOtherChanges` returns all
+ * other changes since its previous call, so callers can call it less often.
  */
 export class SnapshotReader {
   constructor() {
     /** @type {string[]} the last snapshot */
     this.snapshot = [];
-    this.parts = NO_PARTS;
+    this.parts = INITIAL_PARTS;
     /** @type {string[]} the last snapshot that `readOtherChanges` read */
     this.lastReadSnapshot = [];
-    this.lastReadParts = NO_PARTS;
+    this.lastReadParts = INITIAL_PARTS;
     /** @type {Registers | null} the registers of the last snapshot that `readOtherChanges` read */
     this.registers = null;
   }
 
-  /** Forgets the last snapshot, so that the next snapshot counts as changed in all parts. */
+  /** Forgets the last snapshot, so that all parts of the next snapshot count as changed. */
   forget() {
     this.snapshot = this.lastReadSnapshot = [];
-    this.parts = this.lastReadParts = NO_PARTS;
+    this.parts = this.lastReadParts = INITIAL_PARTS;
   }
 
   /**

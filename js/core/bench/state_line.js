@@ -7,8 +7,8 @@ import { readRegisters } from "./answers.js";
  * @typedef {import("./answers.js").Ports} Ports
  * @typedef {import("./answers.js").Registers} Registers
  *
- * The parts of the line as unparsed text. An unchanged part is not parsed again. `registers` also contains the TEST level, and `ports` also
- * contains the pressed keys.
+ * The parts of the line, as unparsed text, so that callers parse only the parts that changed. `registers` also contains the TEST level, and
+ * `ports` also contains the pressed keys.
  * @typedef {{ registers: string, test: string, ports: string, keys: string, lamps: string, breaks: string, watches: string }} StateParts
  */
 
@@ -27,7 +27,7 @@ export function parseState(answer) {
 }
 
 /**
- * Returns the value of a key in the line, as unparsed text.
+ * Returns the value that follows a key in the line, as unparsed text.
  * @param {string} answer
  * @param {string} key
  */

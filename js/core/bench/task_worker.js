@@ -15,11 +15,11 @@ import { WorkerDiedError } from "./bench_errors.js";
 export class TaskWorker {
   /**
    * @param {() => Bench} makeBench
-   * @param {boolean} isPatient true if a silent worker never counts as dead
+   * @param {boolean} allowsSilence true if a worker that does not answer pings is never terminated
    */
-  constructor(makeBench, isPatient) {
+  constructor(makeBench, allowsSilence) {
     this.makeBench = makeBench;
-    this.isPatient = isPatient;
+    this.allowsSilence = allowsSilence;
     /** @type {Bench | null} */
     this.currentBench = null;
   }
@@ -28,14 +28,14 @@ export class TaskWorker {
   get bench() {
     if (!this.currentBench) {
       this.currentBench = this.makeBench();
-      this.currentBench.isPatient = this.isPatient;
+      this.currentBench.allowsSilence = this.allowsSilence;
     }
     return this.currentBench;
   }
 
   /**
    * Starts the worker, runs the work in it, and ends the worker.
-   * @param {AbortSignal} signal terminates the worker at once
+   * @param {AbortSignal} signal terminates the worker at once when it is aborted
    * @param {(bench: Bench) => Promise<TextFault[]>} work
    * @returns {Promise<TaskResult>}
    */

@@ -3,13 +3,13 @@
 /**
  * The error in a board text.
  * @typedef {object} BoardError
- * @property {number} number the refusal number, as in the answer to `wire`
+ * @property {number} number the error number, as in the answer to `wire`
  * @property {number} line the line number from 1; 0 if the answer has none
  * @property {string} section the name of the wrong table, such as `lamp`; "" for a key outside tables and for invalid TOML
  * @property {number} index the number of the table among tables with the same name, from 1; 0 if the answer has none
  * @property {string} key the wrong key; "" if the error is in the table itself
  *
- * The error in a program line: the line number from 1, and the refusal number.
+ * The error in a program line: the line number from 1, and the bench's error number.
  * @typedef {{ line: number, number: number }} LineError
  */
 

@@ -9,12 +9,12 @@ import * as say from "../../words/board.js";
  *
  * @typedef {import("./key_place.js").Key} Key
  *
- * A key of the board, or the button or switch at the TEST pin. `words` is its description. `isNamed` is true if the front panel defines its
- * legend. `letter` is the keyboard character that presses it, "" for none.
+ * A key of the board, or the button or switch at the TEST pin. `legend` is the text on the key. `words` is its description. `isNamed` is
+ * true if the front panel defines its legend. `letter` is the keyboard character that presses it, "" for none.
  * @typedef {{ key: Key, legend: string, words: string, isNamed: boolean, isSwitch: boolean, letter: string }} BoardKey
  */
 
-/** The characters for keys whose names contain no free character. The first free one is used. */
+/** The keyboard characters to choose from if no character of a key's name is free. */
 const FALLBACK_LETTERS = "1234567890qwertyuiopasdfghjklzxcvbnm";
 
 /**
@@ -66,13 +66,14 @@ function testKey({ kind, name, level }, takeLetter) {
 }
 
 /**
- * The legend of the board key that a special keyboard key presses, by keyboard key.
+ * Maps a special keyboard key to the legend of the board key that it presses.
  * @type {Record<string, string>}
  */
 const SPECIAL_KEYS = { Enter: "=", Escape: "C", Backspace: "CE", Delete: "CE", ",": "." };
 
 /**
- * Returns the board key that a keyboard key presses; undefined if there is none. A letter also matches in the other case.
+ * Returns the board key that a keyboard key presses; undefined if there is none. If no key has exactly this letter, the case of the letter
+ * is ignored.
  * @template {BoardKey} ShownKey
  * @param {ShownKey[]} keys
  * @param {string} keyboardKey the `key` of the keyboard event

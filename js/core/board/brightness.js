@@ -1,5 +1,5 @@
-// Computes the perceived brightness of the lamps. A steady lamp is on or off at once. The brightness of a flickering lamp follows its duty
-// cycle. Earlier light fades with the persistence of vision (`EYE_MS`).
+// Computes the brightness of the lamps as an eye perceives it. A steady lamp is perceived as on or off at once. The brightness of a
+// flickering lamp follows its duty cycle. Earlier light fades with the persistence of vision (`EYE_MS`).
 
 import { fittingGroups, isScanned } from "./face_board.js";
 import { UNLIT_PATTERN, isLit } from "./digit_patterns.js";
@@ -14,16 +14,17 @@ import { EYE_MS } from "../time/mcs4_time.js";
 
 /** The minimum duty cycle at which a flickering lamp counts as on. */
 export const MIN_ON_DUTY = 0.5;
-/** The minimum time without a change after which a lamp or display can count as steady, in milliseconds. */
-const MIN_REST = 2;
-/** The exponent that relates duty cycle to perceived brightness: the eye distinguishes dark lamps better than bright ones. */
+/** The minimum time without a change before a lamp or display can count as steady, in milliseconds. */
+const MIN_REST_MS = 2;
+/** The exponent that converts a duty cycle to a perceived brightness. The eye distinguishes dark lamps better than bright ones. */
 const GAMMA = 2.2;
 /** The minimum duty cycles of the brightness levels: dim, half, full. */
-const LEVELS = [0.01, 0.15, 0.6];
-export const FULL_LEVEL = LEVELS.length;
-/** The smallest stored duty cycle or share. Smaller values become 0. */
+const LEVEL_THRESHOLDS = [0.01, 0.15, 0.6];
+export const FULL_LEVEL = LEVEL_THRESHOLDS.length;
+/** The smallest duty cycle or pattern share that is stored. Smaller values become 0. */
 const MIN_DUTY = 0.0001;
-const SEGMENTS = 8;
+/** The number of lamps in a digit: seven segments and the decimal point. */
+const SEGMENT_COUNT = 8;
 
 /**
  * Returns the perceived brightness of a lamp, from 0 to 1, rounded to hundredths.
@@ -38,15 +39,15 @@ export function perceivedBrightness(duty) {
  * @param {number} duty the duty cycle
  */
 export function brightnessLevel(duty) {
-  return LEVELS.filter((minDuty) => duty >= minDuty).length;
+  return LEVEL_THRESHOLDS.filter((minDuty) => duty >= minDuty).length;
 }
 
 /**
- * Decides whether a lamp or display is steady. A rest is a time during which nothing changes. A lamp is steady if the current rest is at
- * least EYE_MS, or more than twice the longest rest in the current series of changes. A single change is therefore perceived at once. Bits
- * that shift in are perceived at the end of the shift. A flickering lamp is never steady.
+ * Decides whether a lamp or display is steady. A "rest" is an interval without a change. A lamp is steady if the current rest is at least
+ * EYE_MS, or more than twice the longest rest in the current series of changes. A single change is therefore perceived at once, and bits
+ * that shift through a chain are perceived at the end of the shift. A flickering lamp is never steady.
  */
-class Stillness {
+class SteadinessDetector {
   constructor() {
     /** The time since the last change, and the longest rest in the current series of changes, in milliseconds. */
     this.currentRest = Infinity;
@@ -54,7 +55,7 @@ class Stillness {
   }
 
   /**
-   * Updates both rests with the changes in a period.
+   * Updates the current and the longest rest with the changes in a period.
    * @param {ChangeSummary} changes the changes in the period
    * @param {number} cycles the length of the period in cycles
    * @param {number} time the length of the period in milliseconds; Infinity after a gap
@@ -74,21 +75,21 @@ class Stillness {
   }
 
   get isStill() {
-    return this.currentRest >= EYE_MS || (this.currentRest >= MIN_REST && this.currentRest > 2 * this.longestRest);
+    return this.currentRest >= EYE_MS || (this.currentRest >= MIN_REST_MS && this.currentRest > 2 * this.longestRest);
   }
 }
 
-/** A perceived digit. */
+/** A digit as an eye perceives it: a mixture of the patterns that the digit has shown. */
 export class PerceivedDigit {
   constructor() {
-    /** @type {Map<number, number>} the share of each pattern in the perceived picture, by pattern */
+    /** @type {Map<number, number>} the share of each pattern in the mixture, by pattern */
     this.shares = new Map();
     /** The pattern of a steady digit; UNLIT_PATTERN for a changing digit. */
     this.steady = UNLIT_PATTERN;
   }
 
   /**
-   * Shows one steady pattern.
+   * Replaces the mixture with one steady pattern.
    * @param {number} pattern
    */
   showSteady(pattern) {
@@ -99,7 +100,7 @@ export class PerceivedDigit {
   }
 
   /**
-   * Reduces the shares of all patterns in the picture.
+   * Reduces the shares of all patterns in the mixture.
    * @param {number} remainingShare the factor by which each share is multiplied, from 0 to 1
    */
   fade(remainingShare) {
@@ -111,7 +112,7 @@ export class PerceivedDigit {
   }
 
   /**
-   * Adds a share of a pattern to the picture.
+   * Adds a share of a pattern to the mixture.
    * @param {number} pattern
    * @param {number} share the share of the pattern, from 0 to 1
    */
@@ -119,12 +120,12 @@ export class PerceivedDigit {
     this.shares.set(pattern, (this.shares.get(pattern) || 0) + share);
   }
 
-  /** The pattern with the largest share; 0 (dark) if the picture is empty. */
+  /** The pattern with the largest share; 0 (dark) if the mixture is empty. */
   get pattern() {
     return this.largestShare.pattern;
   }
 
-  /** True if no pattern has a share of at least half of the picture. */
+  /** True if no pattern makes up at least half of the mixture. */
   get isSmeared() {
     const total = [...this.shares.values()].reduce((sum, share) => sum + share, 0);
     return this.largestShare.share < MIN_ON_DUTY * total;
@@ -139,9 +140,9 @@ export class PerceivedDigit {
 
   /** The duty cycles of the segments and the decimal point. */
   get segments() {
-    const duties = new Array(SEGMENTS).fill(0);
+    const duties = new Array(SEGMENT_COUNT).fill(0);
     for (const [pattern, share] of this.shares) {
-      for (let segment = 0; segment < SEGMENTS; segment++) if (pattern & (1 << segment)) duties[segment] += share;
+      for (let segment = 0; segment < SEGMENT_COUNT; segment++) if (pattern & (1 << segment)) duties[segment] += share;
     }
     return duties;
   }
@@ -156,7 +157,7 @@ export class Brightness {
   constructor(face, count) {
     /** @type {number[]} the duty cycle of each lamp */
     this.lamps = new Array(count).fill(0);
-    /** @type {boolean[]} true for each lamp that counts as on */
+    /** @type {boolean[]} for each lamp, whether it is perceived as on */
     this.isOn = [];
     const groups = fittingGroups(face, count);
     this.displays = groups.filter(({ kind }) => kind === "display");
@@ -165,9 +166,9 @@ export class Brightness {
       .map(({ rows, columns }) => new Array(rows * columns).fill(0));
     /** @type {PerceivedDigit[][]} */
     this.digits = [];
-    /** @type {Stillness[]} the stillness of the lamps */
+    /** @type {SteadinessDetector[]} whether each lamp is steady */
     this.stillness = [];
-    /** @type {Stillness[]} the stillness of the displays */
+    /** @type {SteadinessDetector[]} whether each display is steady */
     this.displayStillness = [];
     this.begin("");
   }
@@ -181,8 +182,8 @@ export class Brightness {
     this.lamps = this.isOn.map(Number);
     this.digits = this.displays.map(({ rows }) => Array.from({ length: rows }, () => new PerceivedDigit()));
     this.scannedGroups = this.scannedGroups.map((lamps) => lamps.map(() => 0));
-    this.stillness = this.lamps.map(() => new Stillness());
-    this.displayStillness = this.displays.map(() => new Stillness());
+    this.stillness = this.lamps.map(() => new SteadinessDetector());
+    this.displayStillness = this.displays.map(() => new SteadinessDetector());
   }
 
   /**
@@ -244,7 +245,7 @@ export class Brightness {
     });
   }
 
-  /** The pattern with the largest share of each digit, by display. */
+  /** For each display, the pattern with the largest share in each digit. */
   get patterns() {
     return this.digits.map((display) => display.map(({ pattern }) => pattern));
   }

@@ -5,25 +5,26 @@ import { SEGMENT_CHARACTERS } from "./face_words.js";
 
 /** @typedef {import("./face.js").Group} Group */
 
+/** The pattern of a minus sign: segment g. */
 export const MINUS_PATTERN = 64;
 export const POINT_BIT = 128;
-/** The value for a multiplexed digit whose digit line is currently 0, so that it shows no pattern. */
+/** The pattern of a multiplexed digit that is not selected, because its digit line is 0. */
 export const UNLIT_PATTERN = -1;
-const LIT_CODE = "*".charCodeAt(0);
+const LIT_MARK_CODE = "*".charCodeAt(0);
 
 /** @type {Map<number, string>} the displayed characters, by seven-segment pattern */
 const DISPLAY_CHARACTERS = new Map([...SEGMENT_CHARACTERS].map(([marks, sign]) => [segmentsAt(marks, 0), sign]));
 /** The pattern for a BCD value above 9: segments a, b, e and g. */
-const INVALID_DIGIT = 1 + 2 + 16 + 64;
+const INVALID_DIGIT_PATTERN = 1 + 2 + 16 + 64;
 /** The patterns of the digits 0 to 9, in the shapes of a 7447 decoder. */
 const DIGIT_PATTERNS = [..."0123456789"].map(digitPattern);
 
 /**
- * Returns the pattern of a digit, a minus or a blank; `INVALID_DIGIT` for any other character.
+ * Returns the pattern of a digit, a minus or a blank; `INVALID_DIGIT_PATTERN` for any other character.
  * @param {string} character
  */
 export function digitPattern(character) {
-  const [[pattern] = [INVALID_DIGIT]] = [...DISPLAY_CHARACTERS].filter(([, shown]) => shown === character);
+  const [[pattern] = [INVALID_DIGIT_PATTERN]] = [...DISPLAY_CHARACTERS].filter(([, shown]) => shown === character);
   return pattern;
 }
 
@@ -33,7 +34,7 @@ export function digitPattern(character) {
  * @param {number} lamp the lamp number
  */
 export function isLit(marks, lamp) {
-  return marks.charCodeAt(lamp) === LIT_CODE;
+  return marks.charCodeAt(lamp) === LIT_MARK_CODE;
 }
 
 /**
@@ -48,7 +49,7 @@ function segmentsAt(marks, firstLamp) {
 }
 
 /**
- * Returns whether digits with this number of lamps have a decimal point.
+ * Returns whether a digit with this number of lamps has a decimal point.
  * @param {number} columns
  */
 export function hasPoints(columns) {
@@ -83,7 +84,7 @@ export function digitPatterns(display, marks) {
  */
 function multiplexedPatterns({ first, rows, columns, by }, marks) {
   const value = valueAt(marks, first);
-  const segments = columns >= 7 ? segmentsAt(marks, first) : value < 10 ? DIGIT_PATTERNS[value] : INVALID_DIGIT;
+  const segments = columns >= 7 ? segmentsAt(marks, first) : value < 10 ? DIGIT_PATTERNS[value] : INVALID_DIGIT_PATTERN;
   const point = hasPoints(columns) && isLit(marks, first + columns - 1) ? POINT_BIT : 0;
   return Array.from({ length: rows }, (_, digit) => (isLit(marks, by + digit) ? segments + point : UNLIT_PATTERN));
 }
@@ -106,7 +107,7 @@ function directPatterns({ first, rows, columns }, marks) {
     const isLast = digit === rows - 1;
     const value = valueAt(marks, firstMark);
     isLeading = isLeading && value === 0 && point === 0 && !isLast;
-    patterns.push(isLeading ? 0 : (value < 10 ? DIGIT_PATTERNS[value] : INVALID_DIGIT) + (isLast ? 0 : point));
+    patterns.push(isLeading ? 0 : (value < 10 ? DIGIT_PATTERNS[value] : INVALID_DIGIT_PATTERN) + (isLast ? 0 : point));
   }
   return patterns;
 }

@@ -25,7 +25,7 @@ export class DisplayText {
   }
 
   /**
-   * Returns the number and the names like `read`, but for a perceived picture.
+   * Returns the number and the names, as `read` does, from perceived digit patterns and lamps.
    * @param {number[][]} patterns the digit patterns, by display
    * @param {(lamp: number) => boolean} isSeen returns whether a lamp is perceived as on
    */

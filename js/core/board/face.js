@@ -6,11 +6,12 @@ import { matrixKey, formatKey } from "./key_place.js";
 import * as say from "../../words/board.js";
 
 /**
- * An error in a line. `isRefused` is true if names or displays depend on the line. Tools that need names or displays reject such a text.
+ * An error in a line. `isRefused` is true if names or displays depend on the line; a tool that needs names or displays then rejects the
+ * text.
  * @typedef {{ line: number, words: string, isRefused: boolean }} Fault
  * @typedef {import("./face_words.js").Kind} Kind
  * @typedef {import("./key_place.js").MatrixKey} MatrixKey
- * @typedef {{ text: string, line: number }} FaceText a name or a colour, and its line number
+ * @typedef {{ text: string, line: number }} FaceText a name or a colour, and the number of its line
  * @typedef {{ row: number, column: number, lamp: number, line: number }} GridLamp
  *
  * A group of lamps that starts at lamp `first`: a display, a die, a bar or a matrix. In a display, each row is a digit, with four or seven
@@ -61,7 +62,9 @@ export class Face {
     this.faults = [];
     /** All front-panel lines as one text. Callers compare it to find changes of the front panel. */
     this.comments = "";
-    /** @type {Map<string, number>} the line numbers of definitions that can occur only once, by definition */
+    /**
+     * @type {Map<string, number>} the line numbers of definitions that a text can contain only once, by the identifier of the definition
+     */
     this.lines = new Map();
     /** @type {{ row: number, column: number, word: string, line: number }[]} the words of grid lines, before lamp names are resolved */
     this.gridWords = [];
@@ -83,7 +86,8 @@ export class Face {
   }
 
   /**
-   * Records a definition that can occur only once. Returns true for the first definition; otherwise reports an error and returns false.
+   * Records a definition that a text can contain only once. Returns true for the first definition; reports an error and returns false for
+   * any other.
    * @param {string} name the identifier of the definition
    * @param {number} line
    * @param {string} messageName the name of the error message
@@ -222,7 +226,7 @@ export class Face {
   }
 
   /**
-   * Places the lamp with this name or number on the grid. All lamp names must be known before this call.
+   * Puts the lamp that a word names or numbers on the grid. All lamp names must be known before this call.
    * @param {{ row: number, column: number, word: string, line: number }} word
    */
   putOnGrid({ row, column, word, line }) {

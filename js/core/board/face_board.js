@@ -1,5 +1,5 @@
-// Compares a front panel with its board: finds front-panel parts that are missing on the board, and looks up the groups, names and colours
-// of existing lamps.
+// Compares a front panel with its board. Finds front-panel parts that the board lacks. Returns the groups, names and colours of the lamps
+// that the board has.
 
 import { sortByLine } from "./face.js";
 import { LINE_KINDS, formatMessage } from "./face_words.js";
@@ -18,7 +18,7 @@ import { indices } from "../bench/numbers.js";
  * @param {Board} board
  * @param {string} place
  */
-function hasPlace(board, place) {
+function hasPart(board, place) {
   const [first, second] = place.replace(/[a-z]/g, "").split(".").map(Number);
   if (place.startsWith("rom")) return board.roms.some(({ chip }) => Number(chip) === first);
   if (place.startsWith("chain")) return first < board.chains.length;
@@ -32,7 +32,7 @@ function hasPlace(board, place) {
  */
 export function hasOutput(board, line) {
   const [place, bit] = [line.slice(0, line.lastIndexOf(".")), Number(line.slice(line.lastIndexOf(".") + 1))];
-  if (!hasPlace(board, place)) return false;
+  if (!hasPart(board, place)) return false;
   const number = Number(place.slice(-1));
   if (place.startsWith("chain")) return bit < BITS_PER_CHIP * board.chains[number].chips;
   return place.startsWith("ram") || board.roms.some(({ chip, port }) => `rom${Number(chip)}` === place && port[3 - bit] !== "i");
@@ -114,7 +114,7 @@ export function printerLines({ strobe, port }) {
 }
 
 /**
- * Returns an error for each front-panel part that is missing on the board, sorted by line.
+ * Returns an error for each front-panel part that the board lacks, sorted by line.
  * @param {Face} face
  * @param {Board} board
  * @returns {Fault[]}
@@ -142,7 +142,7 @@ export function missingParts(face, board) {
   const { printer } = face;
   const missingLine = printer && printerLines(printer).find((line) => !hasOutput(board, line));
   if (printer && missingLine) add("printer", printer.line, "no output line", missingLine);
-  for (const [place, { line }] of face.ports) if (!hasPlace(board, place)) add("port", line, "port not there", place);
+  for (const [place, { line }] of face.ports) if (!hasPart(board, place)) add("port", line, "port not there", place);
   return sortByLine(faults);
 }
 
@@ -174,7 +174,7 @@ export function lampColours(face, count) {
 }
 
 /**
- * Returns the number of the last lamp that each colour line colours, by line number.
+ * Returns the number of the last lamp that each colour line applies to, by line number.
  * @param {Face} face
  */
 function lastColouredLamps(face) {

@@ -6,11 +6,12 @@ import table from "#face-table";
 /**
  * A kind of front-panel line. `head`: the form of the text between the first word and the colon (`N`, `N to N`, `place`, `line`, or `-` for
  * none). `counts`: true if the words count towards the limit. `isRefused`: true if names or displays depend on the line. `size`: the
- * meaning of the numbers. `words`: the pattern of the text after the colon, null for any text. `form` and `other`: the messages for a wrong
- * head and for wrong words.
+ * meaning of the numbers after the colon (`lamps`, `digits` or `rows`), `-` if they are no size. `words`: the pattern of the text after the
+ * colon, null for any text. `form` and `other`: the messages for a wrong head and for wrong words.
  * @typedef {{ head: string, counts: boolean, isRefused: boolean, size: string, words: RegExp | null, form: string, other: string }} Kind
  */
 
+/** The rows of the table, split into columns. */
 const rows = table.split("\n").filter((line) => line !== "" && !line.startsWith("#")).map((line) => line.split("\t"));
 
 /**
@@ -33,13 +34,17 @@ function parseKind([word, head, counts, weight, size, words, form, other]) {
 
 /** @type {Map<string, Kind>} the kinds of lines, by first word */
 export const LINE_KINDS = new Map(tableRows("kind").map(parseKind));
+/** The colour names that a front panel can use. */
 export const COLOURS = new Set(tableRows("colour").map(([word]) => word));
 /** @type {Map<string, string>} the characters of a seven-segment digit, by the marks of segments a to g */
 export const SEGMENT_CHARACTERS = new Map(tableRows("digit").map(([marks, sign]) => [marks, sign === "_" ? " " : sign]));
+/** The limits in the table, by name. */
 const LIMITS = new Map(tableRows("limit").map(([name, number]) => [name, Number(number)]));
+/** The patterns of the text between the first word and the colon, by name. */
 const HEADS = new Map(tableRows("head").map(([name, expression]) => [name, new RegExp(expression)]));
-/** The synonyms of first words, mapped to the words that they replace. */
+/** Maps each synonym to the first word that it replaces. */
 const SYNONYMS = new Map(tableRows("other").map(([word, meant]) => [word, meant]));
+/** The error messages, by name. */
 const MESSAGES = new Map(tableRows("say").map(([name, words]) => [name, words]));
 /** Matches a front-panel line: the first word, the number or place, the number after `to`, and the text after the colon. */
 const FACE_LINE = /^[ \t]*#[ \t]*([A-Za-z]+)(?:[ \t]+([^ \t:]+)(?:[ \t]+to[ \t]+([^ \t:]+))?)?[ \t]*:(.*)$/i;

@@ -10,7 +10,7 @@
  * @typedef {MatrixKey | PinKey} Key
  */
 
-/** The factor that combines row and column into one number; larger than the maximum number of columns. */
+/** The factor that combines a row and a column into one number. It exceeds the maximum number of columns. */
 const COLUMN_FACTOR = 256;
 
 /**

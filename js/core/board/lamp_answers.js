@@ -14,11 +14,14 @@ import * as say from "../../words/board.js";
  * @typedef {{ lines: string[], words: string }} DisplayTexts
  */
 
-/** The first line of an answer to `trace` with `lamps` as its only place. */
+/**
+ * Matches the first line of an answer to `trace` with `lamps` as its only place. Captures the number of further lines, and the lamp marks.
+ */
 const TRACE_ANSWER = /^trace ran \d+ \w+ lines (\d+) ([.*]+|-)$/;
+/** Matches an answer that reports an error. */
 const REFUSAL_ANSWER = /^no \d/;
 
-/** Converts answers about the lamps of a board that has a display. */
+/** Converts answers about the lamps of a board that has a display to display text. */
 class LampAnswerReader {
   /**
    * @param {Face} face
@@ -28,7 +31,7 @@ class LampAnswerReader {
   constructor(face, board, name) {
     this.name = name;
     const displays = face.groups.filter(({ kind }) => kind === "display");
-    this.lampsNeeded = Math.max(...displays.map(groupEnd));
+    this.requiredLampCount = Math.max(...displays.map(groupEnd));
     this.isScanned = hasScannedDisplay(face);
     this.text = new DisplayText(displays, [...face.lamps].map(([at, { text }]) => ({ at, text })));
     this.perceivedText = new PerceivedText(face, board.lamps.length);
@@ -41,7 +44,7 @@ class LampAnswerReader {
    */
   lampCountError(marks, line) {
     const count = marks === "-" ? 0 : marks.length;
-    return count < this.lampsNeeded ? say.tooFewLamps(line, count, this.name, this.lampsNeeded) : "";
+    return count < this.requiredLampCount ? say.tooFewLamps(line, count, this.name, this.requiredLampCount) : "";
   }
 
   /**

@@ -25,7 +25,7 @@ export function lampAt(lamp) {
  * Returns the functions that read a lamp of a multiplexed group. Each row is on for at most 1 / `rows` of the time, so the duty cycle is
  * multiplied by `rows`.
  * @param {import("./face.js").Group} group
- * @param {number} number the group's index among the multiplexed groups that are not displays
+ * @param {number} number the index of the group in the list of multiplexed groups that are not displays
  * @param {number} index the lamp's index in the group, row by row
  * @returns {LampReader & { column: number, row: number }} `column` and `row` are the board lamps that select it
  */

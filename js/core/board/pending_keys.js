@@ -1,5 +1,5 @@
-// Predicts which keys will be pressed after all pending changes: changes in transit to the worker, and changes in the worker's queue.
-// Without the prediction, a key that is pressed twice in quick succession could stay down.
+// Predicts which keys will be pressed after all pending changes. These are the changes in transit to the worker, and the changes in the
+// worker's queue. Without this prediction, a key that the user clicks twice in quick succession could stay pressed.
 
 import { isSameKey } from "./key_place.js";
 
@@ -20,7 +20,7 @@ export class PendingKeys {
   }
 
   /**
-   * Adds a change in transit to the worker. Returns a function that the caller calls when the worker has received the change.
+   * Adds a change that is in transit to the worker. Returns a function that the caller must call when the worker has received the change.
    * @param {RequestedChange} change
    */
   send(change) {

@@ -14,7 +14,7 @@ function printedText(word) {
 }
 
 /**
- * Returns the printout lines. Later codes can extend the last line.
+ * Returns the lines of the printout. Further codes can extend the last line.
  * @param {number[]} codes
  * @param {string[]} words the words for the codes, by code
  */

@@ -26,7 +26,7 @@ export class SoundPieces {
     this.count = 0;
   }
 
-  /** Drops all samples. */
+  /** Discards all samples. */
   forget() {
     this.pieces = [];
     this.count = 0;

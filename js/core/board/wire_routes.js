@@ -1,5 +1,5 @@
-// Computes the routes of wires in the wiring diagram, in SVG units. A wire runs straight to its pin. If a part is in the way, the wire runs
-// through the gap above or below that part. After the user moves parts, a wire can run from right to left. This module does not draw.
+// Computes the routes of wires in the wiring diagram, in SVG units. A wire runs directly to its pin. If a part is in the way, the wire runs
+// above or below that part. If the user has moved parts, a wire can run from right to left. This module does not draw.
 
 /**
  * @typedef {import("./wiring.js").Point} Point
@@ -13,14 +13,14 @@
 const CONTROL_OFFSET = 12;
 /** The distance from pins and parts to the turning points of a wire. */
 const TURN_DISTANCE = 8;
-/** The minimum distance from a curve end to its control point, for other wires. */
-const MIN_BEND = 30;
-/** The distance between a wire and the part that it runs along. */
+/** The minimum distance from a pin to a control point, for all other wires. */
+const MIN_CONTROL_OFFSET = 30;
+/** The distance between a wire and the part that it passes. */
 const LANE_DISTANCE = 5;
-/** The offsets from a lane that separate several wires along the same part. */
+/** The offsets that separate several wires which pass the same part. A lane is the horizontal line along which a wire passes a part. */
 const LANE_OFFSETS = [0, -2, 2, -4, 4];
 /** The number of intervals into which a curve is divided to test whether a part covers it. */
-const SAMPLES = 24;
+const SAMPLE_INTERVALS = 24;
 
 /**
  * Returns the direct curve between the ends of a wire. If both ends are in one column, the curve is an arc to the right.
@@ -29,7 +29,7 @@ const SAMPLES = 24;
  */
 function directCurve({ from, to }) {
   if (from.x === to.x) return [from, { x: from.x + CONTROL_OFFSET, y: from.y }, { x: to.x + CONTROL_OFFSET, y: to.y }, to];
-  const bend = Math.max(MIN_BEND, Math.abs(to.x - from.x) / 2);
+  const bend = Math.max(MIN_CONTROL_OFFSET, Math.abs(to.x - from.x) / 2);
   return [from, { x: from.x + bend, y: from.y }, { x: to.x - bend, y: to.y }, to];
 }
 
@@ -73,7 +73,8 @@ function isInside({ x, y }, box) {
  * @param {Box} box
  */
 export function isCurveCovered(curve, box) {
-  return Array.from({ length: SAMPLES - 1 }, (_, at) => pointAt(curve, (at + 1) / SAMPLES)).some((point) => isInside(point, box));
+  return Array.from({ length: SAMPLE_INTERVALS - 1 }, (_, at) => pointAt(curve, (at + 1) / SAMPLE_INTERVALS))
+    .some((point) => isInside(point, box));
 }
 
 /**

@@ -1,5 +1,5 @@
-// Finds the board text from which the bench wired its board. The comments of that text define the front panel, even if the text in the
-// editor has changed since. The page stores the text with the session because the bench does not store it.
+// Finds the board text that the bench's current board was made from. The comments in that text define the front panel, even if the text in
+// the editor has changed since. The page stores the text with the session, because the bench does not store it.
 
 import { BoardDraft } from "../drawing/board_draft.js";
 import { sentText } from "../text/sendable_text.js";
@@ -22,7 +22,7 @@ export function describesBoard(text, wiredText) {
  * Returns the text of the board in the bench; "" if it is unknown.
  * @param {string[]} answers the answer to `board`
  * @param {string} text the text in the editor
- * @param {WiredText[] | undefined} storedTexts the texts stored in the session; if undefined, the editor's text is returned
+ * @param {WiredText[] | undefined} storedTexts the texts that the session stores; if undefined, the function returns the editor's text
  * @returns {WiredText}
  */
 export function currentWiredText(answers, text, storedTexts) {

@@ -40,8 +40,8 @@ export const TITLE_HEIGHT = 26;
 const PART_GAP = 14;
 const MARGIN = 10;
 /** The maximum number of unused bits that the diagram shows for each chain, so that the user can wire them. */
-const MAX_FREE_BITS = 6;
-/** The columns of the diagram: their widths, and the space for wires (`room`) on their left, in SVG units. */
+const MAX_UNUSED_BITS = 6;
+/** The columns of the diagram, from left to right: their widths, and the space for wires to their left (`room`), in SVG units. */
 const DIAGRAM_COLUMNS = [
   { room: 0, width: 84 },
   { room: 24, width: 112 },
@@ -52,12 +52,15 @@ const DIAGRAM_COLUMNS = [
 /** The maximum length of a title in the first column, in characters. */
 const MAX_TITLE_LENGTH = 11;
 
-/** Pin numbers on the chip package: TEST of the 4004; port lines 0 to 3 of the 4001 and 4002; clock, data and bits 0 to 9 of the 4003. */
-const TEST_NUMBER = 10;
-const PORT_NUMBERS = [16, 15, 14, 13];
-const CLOCK_NUMBER = 1;
-const DATA_NUMBER = 2;
-const BIT_NUMBERS = [3, 4, 6, 7, 8, 9, 10, 11, 12, 14];
+/**
+ * Pin numbers on the chip package: the TEST pin of the 4004; port lines 0 to 3 of the 4001 and 4002; and the clock, data and bits 0 to 9 of
+ * the 4003.
+ */
+const TEST_PIN_NUMBER = 10;
+const PORT_PIN_NUMBERS = [16, 15, 14, 13];
+const CLOCK_PIN_NUMBER = 1;
+const DATA_PIN_NUMBER = 2;
+const BIT_PIN_NUMBERS = [3, 4, 6, 7, 8, 9, 10, 11, 12, 14];
 
 /** A column of parts, one below the other. */
 class Column {
@@ -89,7 +92,7 @@ class Column {
   }
 }
 
-/** The uses of each signal line of a board: which inputs the line drives. */
+/** The uses of each signal line of a board: the inputs that the line drives. */
 class LineUses {
   /**
    * @param {Board} board
@@ -160,7 +163,7 @@ class LineUses {
  * @param {string} chip `rom1` or `ram0.2`
  */
 function portPins(chip) {
-  return PORT_NUMBERS.map((number, at) => ({ id: `${chip}.${at}`, line: `${chip}.${at}`, number }));
+  return PORT_PIN_NUMBERS.map((number, at) => ({ id: `${chip}.${at}`, line: `${chip}.${at}`, number }));
 }
 
 /**
@@ -168,10 +171,10 @@ function portPins(chip) {
  * @param {Column} column
  * @param {TestPin | null} test
  */
-function drawProcessor(column, test) {
+function addProcessor(column, test) {
   const descriptions = [say.PROCESSOR_ROLE,
     test ? say.testIsAt(test.kind, displayedName(test)) : say.TEST_IS_ONLY_INPUT];
-  const pin = { id: "TEST", line: "", label: "TEST", number: TEST_NUMBER };
+  const pin = { id: "TEST", line: "", label: "TEST", number: TEST_PIN_NUMBER };
   return column.add({ id: "processor", kind: "processor", title: "4004", descriptions }, [], [pin]);
 }
 
@@ -188,7 +191,7 @@ function displayedName({ name }) {
  * @param {Column} column
  * @param {TestPin} test
  */
-function drawTest(column, test) {
+function addTestPart(column, test) {
   const name = displayedName(test);
   const title = name.length > MAX_TITLE_LENGTH ? `${name.slice(0, MAX_TITLE_LENGTH - 1)}…` : name;
   const descriptions = [say.drivesTest(test.kind, name, test.level)];
@@ -201,7 +204,7 @@ function drawTest(column, test) {
  * @param {Board["roms"][number]} rom
  * @param {LineUses} uses
  */
-function drawRom(column, { chip, port }, uses) {
+function addRom(column, { chip, port }, uses) {
   const isInput = (/** @type {number} */ at) => port[3 - at] === "i";
   const pins = portPins(`rom${chip}`).map((pin, at) => ({ ...pin, label: say.portPin(isInput(at), at) }));
   const descriptions = pins.map(({ line }, at) => uses.describe(say.lineOfPort(line, isInput(at)), line));
@@ -215,7 +218,7 @@ function drawRom(column, { chip, port }, uses) {
  * @param {number} chip
  * @param {LineUses} uses
  */
-function drawRam(column, bank, chip, uses) {
+function addRam(column, bank, chip, uses) {
   const pins = portPins(`ram${bank}.${chip}`).map((pin, at) => ({ ...pin, label: say.portPin(false, at) }));
   const descriptions = pins.map(({ line }) => uses.describe(say.lineOfPort(line, false), line));
   return column.add({ id: `ram ${bank}.${chip}`, kind: "ram", title: say.ramTitle(bank, chip), descriptions }, [], pins);
@@ -228,15 +231,15 @@ function drawRam(column, bank, chip, uses) {
  * @param {number} number the chain number
  * @param {LineUses} uses
  */
-function drawChain(column, { clock, data, chips }, number, uses) {
+function addChain(column, { clock, data, chips }, number, uses) {
   const bits = Array.from({ length: BITS_PER_CHIP * chips }, (_, bit) => (
-    { id: `chain${number}.${bit}`, line: `chain${number}.${bit}`, label: say.bitPin(bit), number: BIT_NUMBERS[bit % BITS_PER_CHIP] }));
+    { id: `chain${number}.${bit}`, line: `chain${number}.${bit}`, label: say.bitPin(bit), number: BIT_PIN_NUMBERS[bit % BITS_PER_CHIP] }));
   const usedBits = bits.filter(({ line }) => uses.descriptionsFor(line).length > 0)
     .sort((one, other) => uses.usageRank(one.line) - uses.usageRank(other.line));
-  const unusedBits = bits.filter(({ line }) => uses.descriptionsFor(line).length === 0).slice(0, MAX_FREE_BITS);
+  const unusedBits = bits.filter(({ line }) => uses.descriptionsFor(line).length === 0).slice(0, MAX_UNUSED_BITS);
   const descriptions = [say.clockIs(clock), say.dataIs(data), ...usedBits.map(({ line, label }) => uses.describe(label, line))];
-  const inputs = [{ id: `clock ${number}`, line: clock, label: say.CLOCK_PIN, number: CLOCK_NUMBER },
-    { id: `data ${number}`, line: data, label: say.DATA_PIN, number: DATA_NUMBER }];
+  const inputs = [{ id: `clock ${number}`, line: clock, label: say.CLOCK_PIN, number: CLOCK_PIN_NUMBER },
+    { id: `data ${number}`, line: data, label: say.DATA_PIN, number: DATA_PIN_NUMBER }];
   const part = { id: `chain ${number}`, kind: "chain", title: say.chainTitle(number, chips), descriptions };
   return column.add(part, inputs, [...usedBits, ...unusedBits]);
 }
@@ -246,7 +249,7 @@ function drawChain(column, { clock, data, chips }, number, uses) {
  * @param {Column} column
  * @param {NonNullable<Board["matrix"]>} matrix
  */
-function drawKeys(column, { chain, first, rows, columns }) {
+function addKeys(column, { chain, first, rows, columns }) {
   const rowPins = Array.from({ length: rows }, (_, row) => (
     { id: `row ${row}`, line: `chain${chain}.${first + row}`, label: say.rowPin(row) }));
   const columnPins = columns.map((line, at) => ({ id: `column ${at}`, line, label: say.columnPin(at) }));
@@ -262,7 +265,7 @@ function drawKeys(column, { chain, first, rows, columns }) {
  * @param {string[]} lamps
  * @param {Appearance} appearance
  */
-function drawLamps(column, lamps, { names, colours }) {
+function addLamps(column, lamps, { names, colours }) {
   const pins = lamps.map((line, at) => ({ id: `lamp ${at}`, line, label: names[at] || say.lampPin(at), colour: colours[at] || "red" }));
   const descriptions = pins.map(({ line, label }) => say.isAt(label, line));
   return column.add({ id: "lamps", kind: "lamps", title: say.lampsTitle(lamps.length), descriptions }, pins, []);
@@ -273,7 +276,7 @@ function drawLamps(column, lamps, { names, colours }) {
  * @param {Column} column
  * @param {Buzzer} buzzer
  */
-function drawBuzzer(column, { place, name }) {
+function addBuzzer(column, { place, name }) {
   const descriptions = [say.soundsEdges(name, place)];
   return column.add({ id: "buzzer", kind: "buzzer", title: say.BUZZER, descriptions }, [{ id: "buzzer 0", line: place, label: name }], []);
 }
@@ -339,19 +342,19 @@ function moveParts(parts, positions) {
 export function drawBoard(board, appearance = { names: [], colours: [], test: null, buzzer: null }, positions = new Map()) {
   const uses = new LineUses(board, appearance.buzzer);
   const hasChips = board.roms.length + board.banks.length > 0;
-  const hasFront = board.matrix !== null || board.lamps.length > 0 || Boolean(appearance.buzzer);
-  const columns = layOutColumns([true, hasChips, board.chains.length > 0, hasFront]);
+  const hasFrontPanel = board.matrix !== null || board.lamps.length > 0 || Boolean(appearance.buzzer);
+  const columns = layOutColumns([true, hasChips, board.chains.length > 0, hasFrontPanel]);
   const [first, second, third, fourth] = columns;
-  const parts = [drawProcessor(first, appearance.test)];
-  if (appearance.test) parts.push(drawTest(first, appearance.test));
-  for (const rom of [...board.roms].sort((one, other) => one.chip - other.chip)) parts.push(drawRom(second, rom, uses));
+  const parts = [addProcessor(first, appearance.test)];
+  if (appearance.test) parts.push(addTestPart(first, appearance.test));
+  for (const rom of [...board.roms].sort((one, other) => one.chip - other.chip)) parts.push(addRom(second, rom, uses));
   for (const { bank, chips } of board.banks) {
-    for (let chip = 0; chip < chips; chip++) parts.push(drawRam(second, bank, chip, uses));
+    for (let chip = 0; chip < chips; chip++) parts.push(addRam(second, bank, chip, uses));
   }
-  board.chains.forEach((chain, at) => parts.push(drawChain(third, chain, at, uses)));
-  if (board.matrix) parts.push(drawKeys(fourth, board.matrix));
-  if (board.lamps.length > 0) parts.push(drawLamps(fourth, board.lamps, appearance));
-  if (appearance.buzzer) parts.push(drawBuzzer(fourth, appearance.buzzer));
+  board.chains.forEach((chain, at) => parts.push(addChain(third, chain, at, uses)));
+  if (board.matrix) parts.push(addKeys(fourth, board.matrix));
+  if (board.lamps.length > 0) parts.push(addLamps(fourth, board.lamps, appearance));
+  if (appearance.buzzer) parts.push(addBuzzer(fourth, appearance.buzzer));
   moveParts(parts, positions);
   const width = Math.max(...parts.map((part) => part.x + part.width)) + MARGIN;
   const height = Math.max(...parts.map((part) => part.y + part.height)) + PART_GAP;

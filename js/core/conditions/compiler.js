@@ -1,5 +1,5 @@
-// Compiles the syntax tree of a condition, for a board and a program, into functions that evaluate the condition on the bench's answers.
-// Collects the places that the condition depends on. This module does not simulate the machine.
+// Compiles the syntax tree of a condition, for a board and a program, into functions. These functions evaluate the condition on answers of
+// the bench. The compiler also collects the places that the condition depends on. It does not simulate the machine.
 
 import { compileChain, compileCounter, compileCycles, compileDisplay, compileLamps, compilePrinted } from "./keyword_conditions.js";
 import { fail } from "./scanner.js";
@@ -13,15 +13,15 @@ import * as say from "../../words/conditions.js";
  * @typedef {import("./parser.js").CompareNode} CompareNode
  * @typedef {import("./parser.js").FormNode} FormNode
  * @typedef {import("./parser.js").PlaceValuesNode} PlaceValuesNode
- * @typedef {import("./parser.js").PanelIsNode} PanelIsNode
+ * @typedef {import("./parser.js").PanelStateNode} PanelStateNode
  * @typedef {import("./parser.js").ValueNode} ValueNode
  * @typedef {import("./values.js").Dependencies} Dependencies
  * @typedef {import("./values.js").Value} Value
  *
- * A compiled condition. `explain` returns a message with the actual and the required value; if `isNot` is true, with the forbidden value.
- * `address` is the address in a condition `pc = ADDRESS`, otherwise -1.
+ * A compiled condition. `matches` evaluates it. `explain` returns a message with the actual and the required value; if `isNot` is true, the
+ * required value is the forbidden value. `address` is the address in a condition `pc = ADDRESS`, otherwise -1.
  * @typedef {{ matches: (values: string[], extraValues: ExtraValues) => boolean,
- *   explain: (values: string[], extraValues: ExtraValues, isNot: boolean) => string, address: number }} Meaning
+ *   explain: (values: string[], extraValues: ExtraValues, isNot: boolean) => string, address: number }} CompiledCondition
  */
 
 /** @type {Record<CompareNode["sign"], (actual: number, expected: number) => boolean>} */
@@ -31,7 +31,10 @@ const COMPARISONS = {
   ">": (actual, expected) => actual > expected, ">=": (actual, expected) => actual >= expected,
 };
 
-/** @type {Record<string, (words: string[], names: Names, dependencies: Dependencies) => Meaning>} the condition compilers, by keyword */
+/**
+ * @type {Record<string, (words: string[], names: Names, dependencies: Dependencies) => CompiledCondition>} the condition compilers, by
+ *   keyword
+ */
 const COMPILERS = { lamps: compileLamps, display: compileDisplay, printed: compilePrinted, cycles: compileCycles };
 
 /**
@@ -39,7 +42,7 @@ const COMPILERS = { lamps: compileLamps, display: compileDisplay, printed: compi
  * @param {Value} value
  * @param {CompareNode["sign"]} sign
  * @param {Value} required
- * @returns {Meaning}
+ * @returns {CompiledCondition}
  */
 function compareValues(value, sign, required) {
   const compare = COMPARISONS[sign];
@@ -55,7 +58,7 @@ function compareValues(value, sign, required) {
 }
 
 /**
- * Throws `Unreadable` if the constant in a comparison exceeds the maximum of the other value.
+ * Throws `ConditionError` if `required` is a constant that exceeds the maximum of `value`.
  * @param {Value} value
  * @param {ValueNode} node the syntax node of the constant
  * @param {Value} required the constant
@@ -63,8 +66,8 @@ function compareValues(value, sign, required) {
 function checkRange(value, node, required) {
   if (value.isConstant || !required.isConstant) return;
   const number = required.read([]);
-  if (number <= value.most) return;
-  fail(say.holds(value.name, value.most, node.kind === "number" ? node.text : say.valueIs(node.text, number)), node.column);
+  if (number <= value.maxValue) return;
+  fail(say.holds(value.name, value.maxValue, node.kind === "number" ? node.text : say.valueIs(node.text, number)), node.column);
 }
 
 /**
@@ -72,7 +75,7 @@ function checkRange(value, node, required) {
  * @param {CompareNode} node
  * @param {Names} names
  * @param {Dependencies} dependencies
- * @returns {Meaning}
+ * @returns {CompiledCondition}
  */
 function compileComparison({ sign, left, right }, names, dependencies) {
   const value = compileValue(left, names, dependencies);
@@ -81,17 +84,17 @@ function compileComparison({ sign, left, right }, names, dependencies) {
   checkRange(required, left, value);
   if (value.name !== "pc" || !required.isConstant || (sign !== "=" && sign !== "!=")) return compareValues(value, sign, required);
   const address = required.read([]);
-  const meaning = compileCounter(address, String(address), names, dependencies);
-  return sign === "=" ? meaning : negateMeaning(meaning, "");
+  const condition = compileCounter(address, String(address), names, dependencies);
+  return sign === "=" ? condition : negateCondition(condition, "");
 }
 
 /**
- * Compiles a place followed by its required value, such as `r0 5`. Several values after a RAM character apply to that character and the
- * following characters.
+ * Compiles a place that is followed by its required value, such as `r0 5`. Several values after a RAM character apply to that character and
+ * the characters after it.
  * @param {PlaceValuesNode} node
  * @param {Names} names
  * @param {Dependencies} dependencies
- * @returns {Meaning}
+ * @returns {CompiledCondition}
  */
 function compilePlaceValues({ place, values, text, column }, names, dependencies) {
   const [first] = values;
@@ -129,10 +132,10 @@ function compileKeyword({ words: [head, ...following] }, names, dependencies) {
 
 /**
  * Compiles `lamp NAME on` or `key NAME down`.
- * @param {PanelIsNode} node
+ * @param {PanelStateNode} node
  * @param {Names} names
  * @param {Dependencies} dependencies
- * @returns {Meaning}
+ * @returns {CompiledCondition}
  */
 function compilePanelState({ what, name, isOn }, names, dependencies) {
   const value = what === "lamp" ? lampValue(name, names, dependencies) : keyValue(name, names, dependencies);
@@ -146,16 +149,16 @@ function compilePanelState({ what, name, isOn }, names, dependencies) {
 
 /**
  * Negates a compiled condition.
- * @param {Meaning} meaning
- * @param {string} text the condition's text if it is joined by `and` or `or`, otherwise ""
- * @returns {Meaning}
+ * @param {CompiledCondition} condition
+ * @param {string} text the text of the condition if it contains `and` or `or` at its top level, otherwise ""
+ * @returns {CompiledCondition}
  */
-function negateMeaning(meaning, text) {
+function negateCondition(condition, text) {
   return {
     address: -1,
-    matches: (values, extraValues) => !meaning.matches(values, extraValues),
-    explain: (values, extraValues, isNot) => (text === "" ? meaning.explain(values, extraValues, !isNot)
-      : isNot ? meaning.explain(values, extraValues, false)
+    matches: (values, extraValues) => !condition.matches(values, extraValues),
+    explain: (values, extraValues, isNot) => (text === "" ? condition.explain(values, extraValues, !isNot)
+      : isNot ? condition.explain(values, extraValues, false)
       : say.holdsButMustNot(text)),
   };
 }
@@ -163,11 +166,11 @@ function negateMeaning(meaning, text) {
 /**
  * Joins compiled conditions with `and` or `or`.
  * @param {"or" | "and"} operator
- * @param {Meaning[]} parts
+ * @param {CompiledCondition[]} parts
  * @param {string} text
- * @returns {Meaning}
+ * @returns {CompiledCondition}
  */
-function joinMeanings(operator, parts, text) {
+function joinConditions(operator, parts, text) {
   const isAnd = operator === "and";
   return {
     address: -1,
@@ -188,19 +191,19 @@ function joinMeanings(operator, parts, text) {
  * @param {ConditionNode} node
  * @param {Names} names
  * @param {Dependencies} dependencies collects the places that the condition depends on
- * @returns {Meaning}
+ * @returns {CompiledCondition}
  */
-export function compileNode(node, names, dependencies) {
+export function compileConditionNode(node, names, dependencies) {
   return withErrorColumn(node.column, () => {
     if (node.kind === "not") {
       const isJoined = node.part.kind === "or" || node.part.kind === "and";
-      return negateMeaning(compileNode(node.part, names, dependencies), isJoined ? node.part.text : "");
+      return negateCondition(compileConditionNode(node.part, names, dependencies), isJoined ? node.part.text : "");
     }
     if (node.kind === "compare") return compileComparison(node, names, dependencies);
     if (node.kind === "values") return compilePlaceValues(node, names, dependencies);
     if (node.kind === "panel") return compilePanelState(node, names, dependencies);
     if (node.kind === "at") return compileCounter(findLabelAddress(node.label, names), `@${node.label}`, names, dependencies);
     if (node.kind === "form") return compileKeyword(node, names, dependencies);
-    return joinMeanings(node.kind, node.parts.map((part) => compileNode(part, names, dependencies)), node.text);
+    return joinConditions(node.kind, node.parts.map((part) => compileConditionNode(part, names, dependencies)), node.text);
   });
 }

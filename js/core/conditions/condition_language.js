@@ -5,15 +5,16 @@
 //     if (condition) .. `trace 1000 ${condition.places.join(" ")}` ..; condition.holds(valuesOf(row))
 //
 // `places` has at most 16 different entries: places that `trace` reports, and STATE_PLACES, which `state` reports (probes.js queries both).
-// `values` are the reported values in the same order. `fault` is an error message, and `column` is the error's column, from 0.
+// The argument of `holds` contains the values of these places, in the same order. `fault` is an error message, and `column` is the error's
+// column, from 0.
 //
-// There are three kinds of conditions:
+// There are three functions that compile conditions:
 // - compileCondition: the condition of a breakpoint;
-// - compileTracedCondition: like compileCondition, but without STATE_PLACES, for callers that only use `trace`;
+// - compileTracedCondition: like compileCondition, but without STATE_PLACES, for callers that use only `trace`;
 // - compileTestCondition: a condition in a test line, which can also use cycles, the printout and perceived lamps.
 
 import { MAX_PLACES } from "../bench/inputs.js";
-import { compileNode } from "./compiler.js";
+import { compileConditionNode } from "./compiler.js";
 import { isCondition, parseExpression, parseCondition } from "./parser.js";
 import { ConditionError, fail } from "./scanner.js";
 import { Dependencies, STATE_PLACES, compileValue } from "./values.js";
@@ -25,12 +26,12 @@ import * as say from "../../words/conditions.js";
  * @typedef {import("../machine/source_map.js").SourceMap} SourceMap
  * @typedef {import("./parser.js").ConditionNode} ConditionNode
  *
- * The names that a condition can use: the names of the front panel, the board (from the answer to `board`), the program names, and the
- * watch names with their expressions.
+ * The names that a condition can use: those of the front panel, of the board (from the answer to `board`) and of the program, and the watch
+ * names with their expressions.
  * @typedef {{ face: Face, board: Board, map: Pick<SourceMap, "names" | "nameOf"> | null, watched?: Map<string, string> }} Names
  *
- * Values that `trace` does not report. `test`, `owed` and `keys` are spelled as in the answer to `state`. `cycles` counts the cycles since
- * the last mark in a test. `seen` is the answer to LAMPS_FORECAST_QUERY. `printed` are the printed words.
+ * Values that `trace` does not report. `test`, `owed` and `keys` are texts from the answer to `state`. `cycles` is the number of cycles
+ * since the last mark in a test. `seen` is the answer to LAMPS_FORECAST_QUERY, for the perceived lamps. `printed` are the printed words.
  * @typedef {{ test: string, owed: string, keys: string, cycles: number, seen: string[], printed: string[] }} ExtraValues
  *
  * A compiled condition. `explain` returns "" if the condition is true, otherwise a message with the actual and the required values.
@@ -40,17 +41,17 @@ import * as say from "../../words/conditions.js";
  *   explain: (values: string[], extraValues?: ExtraValues) => string, needs: string[], address: number }} Condition
  * @typedef {{ condition: Condition, fault: "", column: -1 } | { condition: null, fault: string, column: number }} ConditionResult
  *
- * A compiled value or condition. `textOf` returns its value as text: a place as `trace` spells it, any other value in decimal, a condition
- * as `true` or `false`. `number` returns the numeric value; it is null for a condition.
+ * A compiled value or condition. `textOf` returns its value as text: a place as `trace` spells it, any other value in decimal, and a
+ * condition as `true` or `false`. `number` returns the value as a number; it is null for a condition.
  * @typedef {{ places: string[], textOf: (values: string[]) => string, number: ((values: string[]) => number) | null }} Expression
  * @typedef {{ expression: Expression, fault: "", column: -1 } | { expression: null, fault: string, column: number }} ExpressionResult
  */
 
-/** @type {ExtraValues} the values if a caller gives none: those at the end of an instruction */
+/** @type {ExtraValues} the values that are used if a caller passes none; no second cycle of an instruction is pending */
 const DEFAULT_VALUES = { test: "", owed: "0", keys: "", cycles: 0, seen: [], printed: [] };
 
-/** @type {(names: Names) => (name: string) => boolean} returns a function that returns whether a name is a lamp name */
-const lampNameTest = ({ face }) => (/** @type {string} */ name) => face.lampNumbers.has(name);
+/** @type {(names: Names) => (name: string) => boolean} returns a function that tests whether a name is a lamp name */
+const createLampNameTest = ({ face }) => (/** @type {string} */ name) => face.lampNumbers.has(name);
 
 /** @type {(place: string) => place is "test" | "owed" | "keys"} */
 const isStatePlace = (place) => STATE_PLACES.has(place);
@@ -59,12 +60,13 @@ const isStatePlace = (place) => STATE_PLACES.has(place);
  * Throws `ConditionError` if there are more places than one `trace` line can contain.
  * @param {string[]} places
  */
-function checkCount({ length }) {
+function checkPlaceCount({ length }) {
   if (length > MAX_PLACES) fail(say.tooManyPlaces(length, MAX_PLACES), 0);
 }
 
 /**
- * Calls a function that parses and compiles a text. Returns its result, or the error that it throws.
+ * Calls a function that parses and compiles a text. Returns its result in `read`, or the message and column of the `ConditionError` that it
+ * throws.
  * @template Read
  * @param {() => Read} compile
  * @returns {{ read: Read, fault: "", column: -1 } | { read: null, fault: string, column: number }}
@@ -79,7 +81,7 @@ function resultOrError(compile) {
 }
 
 /**
- * Calls a function that compiles a condition. Returns the condition, or the error that the function throws.
+ * Calls a function that compiles a condition. Returns the condition, or the message and column of the `ConditionError` that it throws.
  * @param {() => Condition} compile
  * @returns {ConditionResult}
  */
@@ -106,12 +108,12 @@ function negateText(node, text) {
  * @param {string} conditionText
  * @param {Names} names
  * @param {Dependencies} dependencies collects the places that the condition depends on
- * @returns {Pick<Condition, "text" | "negation"> & import("./compiler.js").Meaning}
+ * @returns {Pick<Condition, "text" | "negation"> & import("./compiler.js").CompiledCondition}
  */
 function compileText(conditionText, names, dependencies) {
-  const node = parseCondition(conditionText, lampNameTest(names));
+  const node = parseCondition(conditionText, createLampNameTest(names));
   const text = collapseBlanks(conditionText);
-  return { ...compileNode(node, names, dependencies), text, negation: negateText(node, text) };
+  return { ...compileConditionNode(node, names, dependencies), text, negation: negateText(node, text) };
 }
 
 /**
@@ -124,7 +126,7 @@ export function compileCondition(conditionText, names) {
   return conditionOrError(() => {
     const dependencies = new Dependencies();
     const { text, negation, address, matches, explain } = compileText(conditionText, names, dependencies);
-    checkCount(dependencies.places);
+    checkPlaceCount(dependencies.places);
     return {
       text, negation, places: dependencies.places, needs: [], address,
       holds: (values, extraValues = DEFAULT_VALUES) => matches(values, extraValues),
@@ -146,8 +148,8 @@ export function compileTestCondition(conditionText, names) {
     const { places: allPlaces } = dependencies;
     const statePlaces = allPlaces.filter(isStatePlace);
     const places = allPlaces.filter((place) => !isStatePlace(place));
-    checkCount(places);
-    /** @type {(values: string[], extraValues: ExtraValues) => string[]} returns the values of all places, in order */
+    checkPlaceCount(places);
+    /** @type {(values: string[], extraValues: ExtraValues) => string[]} returns the values of all places, in the order of `allPlaces` */
     const allValues = (values, extraValues) => {
       let at = 0;
       return allPlaces.map((place) => (isStatePlace(place) ? extraValues[place] : values[at++]));
@@ -185,15 +187,15 @@ export function compileTracedCondition(text, names) {
 export function compileExpression(text, names) {
   const { read: expression, ...error } = resultOrError(() => {
     const dependencies = new Dependencies();
-    const node = parseExpression(text, lampNameTest(names));
+    const node = parseExpression(text, createLampNameTest(names));
     if (isCondition(node)) {
-      const { matches } = compileNode(node, names, dependencies);
-      checkCount(dependencies.places);
+      const { matches } = compileConditionNode(node, names, dependencies);
+      checkPlaceCount(dependencies.places);
       const formatTruth = (/** @type {string[]} */ values) => String(matches(values, DEFAULT_VALUES));
       return { places: dependencies.places, number: null, textOf: formatTruth };
     }
     const { read, textOf } = compileValue(node, names, dependencies);
-    checkCount(dependencies.places);
+    checkPlaceCount(dependencies.places);
     return { places: dependencies.places, number: read, textOf: textOf || ((/** @type {string[]} */ values) => String(read(values))) };
   });
   return /** @type {ExpressionResult} */ ({ expression, ...error });

@@ -1,11 +1,10 @@
-// Parses durations in tests: `538`, `538 cycles`, `54 us`, `20 ms` or `1.5 s`. The blank before the unit is optional for `us`, `ms` and
-// `s`.
+// Parses the durations in tests: `538`, `538 cycles`, `54 us`, `20 ms` or `1.5 s`. The blank before `us`, `ms` and `s` is optional.
 
 import { cyclesFromMilliseconds } from "../time/mcs4_time.js";
 
 /** The maximum duration in a test line, in cycles: about three hours of a real 4004. */
 const MAX_CYCLES = 1000000000;
-/** The lengths of the units in milliseconds. */
+/** The length of each unit in milliseconds. */
 const UNIT_MILLISECONDS = new Map([["us", 0.001], ["ms", 1], ["s", 1000]]);
 
 /**

@@ -1,5 +1,5 @@
-// Compiles conditions that start with a keyword: `lamps`, `display`, `printed`, `cycles`, and `chain0` for the bits of a chain. Also
-// compiles conditions on the program counter. The parser has already split the conditions into words.
+// Compiles conditions that start with a keyword: `lamps`, `display`, `printed`, `cycles`, or the name of a chain (`chain0`). Also compiles
+// conditions on the program counter. The parser has already split the conditions into words.
 
 import { hex, indices } from "../bench/numbers.js";
 import { DisplayText } from "../board/display_text.js";
@@ -14,22 +14,23 @@ import * as say from "../../words/conditions.js";
 /**
  * @typedef {import("./condition_language.js").Names} Names
  * @typedef {import("./condition_language.js").ExtraValues} ExtraValues
- * @typedef {import("./compiler.js").Meaning} Meaning
+ * @typedef {import("./compiler.js").CompiledCondition} CompiledCondition
  * @typedef {import("./values.js").Dependencies} Dependencies
  *
- * The parts of a keyword condition. `subject` names the measured value; `isPlural` is true if that name is plural. `required` is the text
- * of the required value. `measure` returns the text of the actual value, `matches` compares it, and `remark` returns an addition to the
- * message.
+ * The parts of a keyword condition. `subject` is the name of the measured value in messages; `isPlural` is true if that name is plural.
+ * `required` is the text of the required value. `measure` returns the text of the actual value, `matches` compares it, and `remark` returns
+ * an addition to the message.
  * @typedef {{ subject: string, required: string, isPlural?: boolean, measure: (values: string[], extraValues: ExtraValues) => string,
- *   matches: (actual: string, extraValues: ExtraValues) => boolean, remark?: (actual: string) => string, address?: number }} FormParts
+ *   matches: (actual: string, extraValues: ExtraValues) => boolean, remark?: (actual: string) => string, address?: number }}
+ *   KeywordConditionParts
  */
 
 /**
  * Compiles a keyword condition from its parts.
- * @param {FormParts} parts
- * @returns {Meaning}
+ * @param {KeywordConditionParts} parts
+ * @returns {CompiledCondition}
  */
-function makeMeaning({ subject, required, isPlural = false, measure, matches, remark, address = -1 }) {
+function createCondition({ subject, required, isPlural = false, measure, matches, remark, address = -1 }) {
   return {
     address,
     matches: (values, extraValues) => matches(measure(values, extraValues), extraValues),
@@ -41,7 +42,7 @@ function makeMeaning({ subject, required, isPlural = false, measure, matches, re
 }
 
 /**
- * Returns whether a text matches a pattern. `?` in the pattern stands for any character.
+ * Returns whether a text matches a pattern. `?` in the pattern matches any character.
  * @param {string} text
  * @param {string} pattern
  */
@@ -49,7 +50,7 @@ function matchesPattern(text, pattern) {
   return text.length === pattern.length && [...pattern].every((mark, at) => mark === "?" || mark === text[at]);
 }
 
-/** @type {(value: string) => string} returns one mark per lamp, from the value of the place `lamps` */
+/** @type {(value: string) => string} returns the marks in the value of the place `lamps`, one per lamp; "" if the board has no lamps */
 const lampMarks = (value) => (value === "-" ? "" : value);
 
 /**
@@ -63,8 +64,8 @@ function isDisplayLamp(lamp, { face }) {
 }
 
 /**
- * Compiles `lamps` with a pattern of `*` (on), `.` (off) and `?` (any), or with the names of all lamps that must be on. With names, unnamed
- * display lamps are ignored.
+ * Compiles `lamps` with a pattern of `*` (on), `.` (off) and `?` (on or off), or with the names of all lamps that must be on. If names are
+ * used, unnamed display lamps are ignored.
  * @param {string[]} words
  * @param {Names} names
  * @param {Dependencies} dependencies
@@ -84,15 +85,15 @@ export function compileLamps(words, names, dependencies) {
     const litLamps = [...names.face.lamps].filter(([at]) => actual[at] === "*").sort(([one], [other]) => one - other);
     return litLamps.length === 0 ? "" : say.litLamps(litLamps.map(([, { text }]) => text).join(" "));
   };
-  return makeMeaning({
+  return createCondition({
     subject: "lamps", isPlural: true, required, remark: describeLitLamps, measure: (values) => lampMarks(values[place]),
     matches: (actual) => matchesPattern(actual, required),
   });
 }
 
 /**
- * Compiles `display 42` for the number on the display, or `display 0 overflow` for the number and lamp names as `mcs4 display` prints them.
- * For multiplexed digits, the perceived number counts.
+ * Compiles `display 42`, which compares the number on the display, or `display 0 overflow`, which compares the number and the lamp names as
+ * `mcs4 display` prints them. The number on a multiplexed display is the perceived number.
  * @param {string[]} words
  * @param {Names} names
  * @param {Dependencies} dependencies
@@ -109,15 +110,19 @@ export function compileDisplay(words, names, dependencies) {
   if (hasScannedDisplay(face)) {
     dependencies.addNeed("seen", say.DIGITS_ARE_MULTIPLEXED);
     const seen = new PerceivedText(face, board.lamps.length);
-    return makeMeaning({ subject: "display", required, matches, measure: (_, extraValues) => displayedWords(seen.read(extraValues.seen)) });
+    return createCondition({
+      subject: "display", required, matches, measure: (_, extraValues) => displayedWords(seen.read(extraValues.seen)),
+    });
   }
   const reader = new DisplayText(displays, [...face.lamps].map(([at, { text }]) => ({ at, text })));
   const place = dependencies.addPlace("lamps");
-  return makeMeaning({ subject: "display", required, matches, measure: (values) => displayedWords(reader.read(lampMarks(values[place]))) });
+  return createCondition({
+    subject: "display", required, matches, measure: (values) => displayedWords(reader.read(lampMarks(values[place]))),
+  });
 }
 
 /**
- * Compiles `printed 12+ 30= 42`, which compares the last printed words. The word `nothing` stands for an empty printout.
+ * Compiles `printed 12+ 30= 42`, which compares the last printed words. The word `nothing` means an empty printout.
  * @param {string[]} words
  * @param {Names} names
  * @param {Dependencies} dependencies
@@ -127,7 +132,7 @@ export function compilePrinted(words, { face, board }, dependencies) {
   if (words.length === 0) fail(say.PRINTED_SYNTAX);
   dependencies.addNeed("printed", say.LINE_BY_LINE);
   const required = words.join(" ");
-  return makeMeaning({
+  return createCondition({
     subject: "printed", required, matches: (actual) => actual === required,
     measure: (_, { printed }) => printed.slice(-words.length).join(" ") || "nothing",
   });
@@ -146,7 +151,7 @@ export function compileCycles(words, names, dependencies) {
   dependencies.addNeed("cycles", say.onlyInTests("cycles"));
   /** @type {(actual: number) => boolean} */
   const matches = (actual) => (comparison === "" ? actual === cycles : comparison === "at most" ? actual <= cycles : actual >= cycles);
-  return makeMeaning({
+  return createCondition({
     subject: "cycles", isPlural: true, required: `${comparison && `${comparison} `}${cycles}`, matches: (actual) => matches(Number(actual)),
     measure: (_, extraValues) => String(extraValues.cycles),
   });
@@ -166,7 +171,7 @@ export function compileChain(name, words, { board }, dependencies) {
   const required = words.join("");
   if (!/^[01?]+$/.test(required) || required.length !== bits) fail(say.chainBits(name.slice("chain".length), bits));
   const valueIndex = dependencies.addPlace(name);
-  return makeMeaning({
+  return createCondition({
     subject: name, required, measure: (values) => values[valueIndex], matches: (actual) => matchesPattern(actual, required),
   });
 }
@@ -191,7 +196,7 @@ function formatAddress(address, { map }) {
 export function compileCounter(address, required, names, dependencies) {
   const digits = hex(address, 3);
   const valueIndex = dependencies.addPlace("pc");
-  return makeMeaning({
+  return createCondition({
     subject: "pc", required, address,
     measure: (values, { owed }) => `${formatAddress(parseInt(values[valueIndex], 16), names)}${owed === "1" ? say.WITHIN_INSTRUCTION : ""}`,
     matches: (actual, { owed }) => actual.slice(0, 3) === digits && owed !== "1",

@@ -1,5 +1,5 @@
-// Parses conditions (docs/MANUAL.md, "Conditions") into a syntax tree. Each node contains its text and column. Most names are resolved when
-// the condition is compiled. The names of lamps and keys can contain any character, so the parser itself must recognise these names.
+// Parses conditions (docs/MANUAL.md, "Conditions") into a syntax tree. Each node contains its text and column. The compiler resolves most
+// names. The names of lamps and keys can contain any character, so the parser itself must recognise these names.
 //
 //     condition  = and { or and }      and = not { and not }      not = { "not" } ( lamps | .. | value [ sign value ] )
 //     value      = operand { ("+" | "-" | "&") operand }          operand = number | name | place | "(" value ")"
@@ -11,24 +11,24 @@ import * as say from "../../words/conditions.js";
  * @typedef {import("./scanner.js").Token} Token
  * @typedef {"=" | "!=" | "<" | "<=" | ">" | ">="} Sign
  *
- * A value. `name`: a named value or a place; `direction` is the direction after a port. `lamp`, `key`: a lamp or key with its name. `sum`:
- * the sum, difference or bitwise AND of two values.
+ * A value, by its `kind`. `name`: a named value or a place; `direction` is the direction that follows the name of a port. `lamp`, `key`: a
+ * lamp or key with its name. `sum`: the sum, difference or bitwise AND of two values.
  * @typedef {{ kind: "number", value: number, text: string, column: number }} NumberNode
  * @typedef {{ kind: "name", text: string, direction: "" | "in" | "out", column: number }} NameNode
  * @typedef {{ kind: "lamp" | "key", text: string, column: number }} PanelNode
  * @typedef {{ kind: "sum", sign: "+" | "-" | "&", left: ValueNode, right: ValueNode, text: string, column: number }} SumNode
  * @typedef {NumberNode | NameNode | PanelNode | SumNode} ValueNode
  *
- * A condition. `form`: a keyword (`lamps`, `display`, `printed`, `cycles` or a chain) with the words after it. `values`: a place with its
- * required values. `panel`: `lamp NAME on` or `key NAME down`. `at`: `at LABEL`.
+ * A condition, by its `kind`. `form`: a keyword (`lamps`, `display`, `printed`, `cycles` or a chain) with the words after it. `values`: a
+ * place with its required values. `panel`: `lamp NAME on` or `key NAME down`. `at`: `at LABEL`.
  * @typedef {{ kind: "or" | "and", parts: ConditionNode[], text: string, column: number }} JoinedNode
  * @typedef {{ kind: "not", part: ConditionNode, text: string, column: number }} NotNode
  * @typedef {{ kind: "compare", sign: Sign, left: ValueNode, right: ValueNode, text: string, column: number }} CompareNode
  * @typedef {{ kind: "form", words: Token[], text: string, column: number }} FormNode
  * @typedef {{ kind: "values", place: NameNode, values: ValueNode[], text: string, column: number }} PlaceValuesNode
- * @typedef {{ kind: "panel", what: "lamp" | "key", name: string, isOn: boolean, text: string, column: number }} PanelIsNode
+ * @typedef {{ kind: "panel", what: "lamp" | "key", name: string, isOn: boolean, text: string, column: number }} PanelStateNode
  * @typedef {{ kind: "at", label: string, text: string, column: number }} AtNode
- * @typedef {JoinedNode | NotNode | CompareNode | FormNode | PlaceValuesNode | PanelIsNode | AtNode} ConditionNode
+ * @typedef {JoinedNode | NotNode | CompareNode | FormNode | PlaceValuesNode | PanelStateNode | AtNode} ConditionNode
  * @typedef {ConditionNode | ValueNode} Node
  */
 
@@ -43,15 +43,19 @@ export const MAX_DEPTH = 30;
 
 /** @type {Record<string, Sign>} the comparison operators, by spelling */
 const OPERATORS = { "=": "=", "==": "=", "!=": "!=", "<": "<", "<=": "<=", ">": ">", ">=": ">=" };
+/** The operators that join conditions, by spelling. */
 const JOIN_OPERATORS = new Map([["or", "or"], ["||", "or"], ["and", "and"], ["&&", "and"]]);
+/** Matches the name of a port. */
 const PORT_NAME = /^(rom\d+|ram\d+\.\d+)$/i;
 /** The node kinds that are conditions. */
 const CONDITION_KINDS = new Set(["or", "and", "not", "compare", "form", "values", "panel", "at"]);
-/** The number of numerals in a place that is spelled with blanks, such as `ram 0 0x12`, by the first word. */
+/** The number of numerals in a place that is written with blanks, such as `ram 0 0x12`, by the first word of the place. */
 const SPACED_NUMERALS = new Map([["ram", 2], ["st", 3]]);
 /** The node kinds whose text needs no parentheses: single names and numbers. */
-const BARE_KINDS = new Set(["number", "name", "lamp", "key"]);
+const SIMPLE_KINDS = new Set(["number", "name", "lamp", "key"]);
+/** The error messages for a lamp or key without a state. */
 const PANEL_MESSAGES = { lamp: say.LAMP_SYNTAX, key: say.KEY_SYNTAX };
+/** The words for the state of a lamp or key; true means on or pressed. */
 const PANEL_STATES = new Map([["on", true], ["off", false], ["down", true], ["up", false]]);
 
 /**
@@ -82,7 +86,7 @@ class Parser {
    * Returns whether a token is `not` or `!`.
    * @param {Token} token
    */
-  isNot({ kind, text }) {
+  isNotOperator({ kind, text }) {
     return kind === "sign" ? text === "!" : kind === "word" && text.toLowerCase() === "not";
   }
 
@@ -106,7 +110,7 @@ class Parser {
   // --- conditions ---
 
   /**
-   * Parses the whole text.
+   * Parses the whole text as a value or a condition.
    * @returns {Node}
    */
   parseWhole() {
@@ -148,7 +152,7 @@ class Parser {
   parseNegated() {
     const { column } = this.scanner.peek();
     let count = 0;
-    for (; this.isNot(this.scanner.peek()); count++) this.scanner.next();
+    for (; this.isNotOperator(this.scanner.peek()); count++) this.scanner.next();
     const node = this.parseComparison();
     if (count === 0) return node;
     const part = this.requireCondition(node);
@@ -156,7 +160,7 @@ class Parser {
   }
 
   /**
-   * Checks that a node is a condition; throws `Unreadable` for a value. Converts `@NAME` to `at NAME`.
+   * Returns a node if it is a condition, and converts `@NAME` to `at NAME`. Throws `ConditionError` for any other value.
    * @param {Node} node
    * @returns {ConditionNode}
    */
@@ -170,7 +174,7 @@ class Parser {
   }
 
   /**
-   * Checks that a node is a value; throws `Unreadable` for a condition.
+   * Returns a node if it is a value; throws `ConditionError` for a condition.
    * @param {Node} node
    * @returns {ValueNode}
    */
@@ -204,7 +208,7 @@ class Parser {
    */
   parseRightSide(left, sign) {
     const { column } = left;
-    this.requireMore(sign);
+    this.requireOperand(sign);
     const right = this.requireValue(this.parseSum());
     if (this.isValueNext() && (sign === "=" || sign === "!=") && left.kind === "name") {
       const node = this.placeValuesNode(left, [right, ...this.parseValues()]);
@@ -226,7 +230,7 @@ class Parser {
   /** Returns whether the next token starts a value. */
   isValueNext() {
     const token = this.scanner.peek();
-    return token.kind === "number" || (token.kind === "word" && this.findOperator(token) === "" && !this.isNot(token));
+    return token.kind === "number" || (token.kind === "word" && this.findOperator(token) === "" && !this.isNotOperator(token));
   }
 
   /** Parses consecutive values. */
@@ -250,17 +254,17 @@ class Parser {
       if (kind !== "sign" || (text !== "+" && text !== "-" && text !== "&")) return left;
       const { column } = left;
       this.scanner.next();
-      this.requireMore(text);
+      this.requireOperand(text);
       const [one, other] = [this.requireValue(left), this.requireValue(this.parseOperand())];
       left = { kind: "sum", sign: text, left: one, right: other, text: this.textFrom(column), column };
     }
   }
 
   /**
-   * Throws `Unreadable` if the text ends after an operator.
+   * Throws `ConditionError` if the text ends after an operator.
    * @param {string} sign the operator
    */
-  requireMore(sign) {
+  requireOperand(sign) {
     if (this.scanner.peek().kind === "end") fail(say.missingAfter(sign), this.lastColumn);
   }
 
@@ -276,7 +280,7 @@ class Parser {
       this.scanner.next();
       return { kind: "number", value: parseNumeral(text), text, column };
     }
-    if (kind !== "word" || this.findOperator(token) !== "" || this.isNot(token)) {
+    if (kind !== "word" || this.findOperator(token) !== "" || this.isNotOperator(token)) {
       return fail(kind === "end" ? say.NO_CONDITION : say.missingBefore(this.tokenText(token)), Math.min(column, this.lastColumn));
     }
     return this.parseNamed(token);
@@ -302,7 +306,7 @@ class Parser {
     }
     this.depth -= 1;
     this.scanner.next();
-    return BARE_KINDS.has(node.kind) ? node : { ...node, text: this.textFrom(column), column };
+    return SIMPLE_KINDS.has(node.kind) ? node : { ...node, text: this.textFrom(column), column };
   }
 
   /**
@@ -360,8 +364,8 @@ class Parser {
   // --- Keywords followed by names ---
 
   /**
-   * Parses `lamp NAME on` or `key NAME down`. Without `on` or `down`, the result is a value. Returns null if the word `lamp` or `key` is
-   * itself a program name before an operator.
+   * Parses `lamp NAME on` or `key NAME down`. Without `on` or `down`, the result is a value. Returns null if an operator follows the word
+   * `lamp` or `key`, which is then a program name.
    * @param {Token} token
    * @param {"lamp" | "key"} kind
    * @returns {Node | null}
@@ -419,7 +423,7 @@ class Parser {
     return text === "!=";
   }
 
-  /** Returns the next token without consuming it. Any text that does not start with an operator counts as one word. */
+  /** Returns the next token without consuming it. Text up to the next blank counts as one word, unless it starts with an operator. */
   peekName() {
     const { scanner } = this;
     const { position } = scanner;
@@ -458,7 +462,7 @@ class Parser {
   }
 
   /**
-   * Returns whether all words from a column to the end are lamp names.
+   * Returns whether all words from a column to the end of the text are lamp names.
    * @param {number} column
    */
   isLampsFrom(column) {
@@ -507,7 +511,7 @@ class Parser {
 }
 
 /**
- * Parses a value or a condition; throws `Unreadable` for an error.
+ * Parses a value or a condition; throws `ConditionError` for an error.
  * @param {string} text
  * @param {(name: string) => boolean} [isLampName] returns whether the name is a lamp name
  * @returns {Node}
@@ -518,7 +522,7 @@ export function parseExpression(text, isLampName = () => false) {
 }
 
 /**
- * Parses a condition; throws `Unreadable` for an error.
+ * Parses a condition; throws `ConditionError` for an error.
  * @param {string} text
  * @param {(name: string) => boolean} [isLampName] returns whether the name is a lamp name
  * @returns {ConditionNode}

@@ -1,5 +1,5 @@
-// Parses place names: a register, a register pair, a RAM character, a line, a port, a chain or the lamps. A place is displayed as `trace`
-// spells it. Each place lists the `trace` places that report its value on a board.
+// Parses place names. A place is a register, a register pair, a RAM character, a signal line, a port, a chain or the lamps. The displayed
+// name of a place is its name in a `trace` line. A place can list the `trace` places that report its value on a board.
 
 import { BITS_PER_CHIP } from "../bench/board_form.js";
 import { LAST_ADDRESS, hex, parseNumber, indices } from "../bench/numbers.js";
@@ -8,13 +8,13 @@ import { LAST_ADDRESS, hex, parseNumber, indices } from "../bench/numbers.js";
  * @typedef {import("../bench/answers.js").Board} Board
  *
  * A place. `name` is its displayed name. `probesOn` returns the `trace` places that report its value; an empty list if the board does not
- * have the place. `value` returns its value in the spelling of `trace`, and `number` its value as a number. `most` returns its maximum, -1
- * if the value is not a number.
- * @typedef {{ name: string, most: (board: Board) => number, probesOn: (board: Board) => string[], value: (answers: string[]) => string,
+ * have the place. `value` returns its value in the spelling of `trace`, and `number` its value as a number. `maxValue` returns its maximum,
+ * -1 if the value is not a number.
+ * @typedef {{ name: string, maxValue: (board: Board) => number, probesOn: (board: Board) => string[], value: (answers: string[]) => string,
  * number: (answers: string[]) => number }} Place
  */
 
-/** The name of the accumulator in the manuals of other processors. */
+/** The usual name of the accumulator on other processors. */
 const ACCUMULATOR = "a";
 /** The number of nibbles in a RAM register, without the status characters. */
 export const CHARACTERS = 16;
@@ -24,8 +24,8 @@ export const STATUS_COUNT = 4;
 const MAX_VALUES = new Map([["cy", 1], ["test", 1], ["owed", 1], ["pc", LAST_ADDRESS], ["dcl", 7], ["src", 255], ["ret", -1]]);
 const MAX_BYTE = 255;
 const MAX_DIGIT = 15;
-/** The maximum number of lamps whose bits a JavaScript number can represent exactly. */
-const MAX_LAMPS = 52;
+/** The maximum number of lamps that a JavaScript number can represent exactly with one bit per lamp. */
+const MAX_NUMERIC_LAMPS = 52;
 
 /** The place names that exist on every board, for completion. */
 export const PLACE_WORDS = [
@@ -44,14 +44,14 @@ const firstAnswer = ([answer]) => answer;
 const parseHexDigits = (answers) => parseInt(answers.join(""), 16);
 
 /**
- * Returns a place that `trace` reports under the same name.
+ * Returns the place that `trace` reports under this name.
  * @param {string} name
  * @param {(board: Board) => boolean} [isOn] returns whether a board has the place
  * @returns {Place}
  */
 function singlePlace(name, isOn = () => true) {
   return {
-    name, most: () => maxPlaceValue(name), probesOn: (board) => (isOn(board) ? [name] : []), value: firstAnswer, number: parseHexDigits,
+    name, maxValue: () => maxPlaceValue(name), probesOn: (board) => (isOn(board) ? [name] : []), value: firstAnswer, number: parseHexDigits,
   };
 }
 
@@ -62,7 +62,7 @@ function singlePlace(name, isOn = () => true) {
  * @returns {Place}
  */
 function linePlace(name, isOn) {
-  return { ...singlePlace(name, isOn), most: () => 1 };
+  return { ...singlePlace(name, isOn), maxValue: () => 1 };
 }
 
 /**
@@ -76,7 +76,7 @@ function hasRam({ banks }, bank, chip) {
 }
 
 /**
- * Parses the name of a register or register pair.
+ * Returns the place for the name of a register or register pair; null for any other text.
  * @param {string} name
  * @returns {Place | null}
  */
@@ -89,7 +89,7 @@ function registerPlace(name) {
 }
 
 /**
- * Parses the name of a RAM or status character: `ram.0.0x12`, `ram 0 0x12` or `st.0.1.2`.
+ * Returns the place for the name of a RAM or status character, such as `ram.0.0x12`, `ram 0 0x12` or `st.0.1.2`; null for any other text.
  * @param {string} text
  * @returns {Place | null}
  */
@@ -104,7 +104,7 @@ function memoryPlace(text) {
 }
 
 /**
- * Parses the name of a port or a port line: `rom1`, `rom1.2`, `ram0.0` or `ram0.0.3`.
+ * Returns the place for the name of a port or a port line, such as `rom1`, `rom1.2`, `ram0.0` or `ram0.0.3`; null for any other text.
  * @param {string} name
  * @returns {Place | null}
  */
@@ -127,14 +127,14 @@ function marksToNumber([marks]) {
 }
 
 /**
- * Parses `lamps`, or the name of a lamp, a chain, or a chain bit.
+ * Returns the place for `lamps`, or for the name of a lamp, a chain or a chain bit; null for any other text.
  * @param {string} name
  * @returns {Place | null}
  */
 function lampPlace(name) {
   if (name === "lamps") {
     return {
-      name, most: ({ lamps }) => (lamps.length <= MAX_LAMPS ? 2 ** lamps.length - 1 : -1),
+      name, maxValue: ({ lamps }) => (lamps.length <= MAX_NUMERIC_LAMPS ? 2 ** lamps.length - 1 : -1),
       probesOn: ({ lamps }) => (lamps.length > 0 ? ["lamps"] : []), value: firstAnswer, number: marksToNumber,
     };
   }
@@ -150,7 +150,7 @@ function lampPlace(name) {
   const chain = /^chain([0-3])(?:\.(\d+))?$/.exec(name);
   if (!chain) return null;
   const [, number, bit] = chain;
-  if (bit === undefined) return { ...singlePlace(name, ({ chains }) => Number(number) < chains.length), most: () => -1 };
+  if (bit === undefined) return { ...singlePlace(name, ({ chains }) => Number(number) < chains.length), maxValue: () => -1 };
   return linePlace(name, ({ chains }) => Number(number) < chains.length && Number(bit) < chains[Number(number)].chips * BITS_PER_CHIP);
 }
 
@@ -165,8 +165,8 @@ export function parsePlace(text) {
 }
 
 /**
- * Returns the accumulator for `A`, which the bench does not accept as its name; null for any other word. Callers first try all other
- * meanings of the word, such as a watch name.
+ * Returns the place of the accumulator for the word `A`; null for any other word. The bench does not know this name. Callers first try all
+ * other meanings of the word, such as a watch name.
  * @param {string} text
  */
 export function placeByAlias(text) {

@@ -1,5 +1,5 @@
-// Queries the bench for the values of places. The query `trace` reports most places. The query `state` reports the places that only
-// commands change.
+// Builds the queries that report the values of places, and reads the answers. `trace` reports most places. `state` reports the places that
+// only commands change.
 
 import { MAX_PLACES } from "../bench/inputs.js";
 import { stateValue } from "../bench/state_line.js";
@@ -8,7 +8,7 @@ import { STATE_PLACES } from "./values.js";
 
 /** @typedef {import("../engine/forecast_answers.js").ForecastAnswers} ForecastAnswers */
 
-/** The queries for a list of places. */
+/** The queries that report the values of a list of places. */
 export class Probes {
   /** @param {string[]} places */
   constructor(places) {

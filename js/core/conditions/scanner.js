@@ -8,7 +8,7 @@ import * as say from "../../words/conditions.js";
  *   `end` is the column after the last one
  */
 
-/** The error for a wrong condition or property line. `column` counts from 0; it is -1 until the column is known. */
+/** An error in a condition or a property line. `column` counts from 0; it is -1 until the column is known. */
 export class ConditionError extends Error {
   /**
    * @param {string} message
@@ -35,7 +35,7 @@ const SIGN = /\|\||&&|==|!=|<=|>=|[=<>!()+\-&]/y;
 const QUOTED_TEXT = /"([^"]*)"/y;
 const WORD = /[A-Za-z_@][\w.@]*/y;
 const NUMBER = /\d\w*/y;
-/** A word of any characters except blanks. */
+/** Matches a word of any characters except blanks. */
 const RAW_WORD = /\S+/y;
 
 /**
@@ -46,7 +46,7 @@ export function parseNumeral(text) {
   return /^(\d{1,15}|0x[0-9a-f]{1,12}|0b[01]{1,48})$/i.test(text) ? Number(text) : NaN;
 }
 
-/** The tokens of a text. */
+/** Splits a text into tokens, one after the other. */
 export class Scanner {
   /** @param {string} text */
   constructor(text) {
@@ -108,7 +108,7 @@ export class Scanner {
 
   /**
    * Consumes and returns the next word, up to a blank; returns null at the end. Front-panel names can contain any characters.
-   * @param {boolean} isInside true inside parentheses: closing parentheses at the end do not belong to the word
+   * @param {boolean} isInside true inside parentheses; closing parentheses at the end of the word are then excluded
    * @returns {Token | null}
    */
   nextRawWord(isInside) {
@@ -122,7 +122,7 @@ export class Scanner {
     return { kind: "word", text, column, end: this.index };
   }
 
-  /** Returns to the start of the token that `peek` has scanned. */
+  /** Moves back to the start of the token that `peek` has scanned. */
   unpeek() {
     if (this.peekedToken) this.index = this.peekedToken.column;
     this.peekedToken = null;

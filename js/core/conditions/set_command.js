@@ -16,7 +16,7 @@ import * as say from "../../words/conditions.js";
  * @typedef {{ place: string, lines: string, fault: string, column: number }} SettingResult
  */
 
-/** The places that can be set, except `test` and ROM bytes. */
+/** Matches the places that can be set, except `test` and ROM bytes. */
 const SETTABLE_PLACE = /^(acc|cy|pc|dcl|r\d+|p\d|(ram|st)\..*)$/;
 
 /**
@@ -58,7 +58,7 @@ export function parseSetting(text) {
 }
 
 /**
- * Returns the setting for a place; throws `ConditionError` if the place cannot be set.
+ * Returns the setting for a place and a value; throws `ConditionError` if the place cannot be set.
  * @param {import("./parser.js").NameNode} left the node of the place
  * @param {ValueNode} value
  * @returns {Setting}

@@ -1,5 +1,5 @@
-// Compiles the values in a condition: numbers, places, sums, program names, watch names and front-panel names. A compiled value is computed
-// from the bench's answers about its places.
+// Compiles the values in a condition: numbers, places, sums, program names, watch names and front-panel names. A compiled value is a
+// function of the bench's answers about its places.
 
 import { listKeyInputs, createTestInput } from "../explore/search_inputs.js";
 import { findSimilarWords } from "../text/similar_words.js";
@@ -14,10 +14,10 @@ import * as say from "../../words/conditions.js";
  * @typedef {import("./parser.js").NameNode} NameNode
  * @typedef {import("./parser.js").SumNode} SumNode
  *
- * A compiled value. `name` is its displayed name. `most` is its maximum, Infinity if unknown. `isConstant` is true if the value depends on
- * no place. `read` returns the value as a number, and `textOf` as displayed text.
- * @typedef {{ name: string, most: number, isConstant: boolean, read: (values: string[]) => number, textOf?: (values: string[]) => string }}
- *   Value
+ * A compiled value. `name` is its displayed name. `maxValue` is its maximum, Infinity if unknown. `isConstant` is true if the value depends
+ * on no place. `read` returns the value as a number, and `textOf` as displayed text.
+ * @typedef {{ name: string, maxValue: number, isConstant: boolean, read: (values: string[]) => number, textOf?: (values: string[]) =>
+ *   string }} Value
  *
  * A value that only a test can supply because the bench does not report it.
  * @typedef {"cycles" | "seen" | "printed"} Need
@@ -27,15 +27,15 @@ import * as say from "../../words/conditions.js";
 export const STATE_PLACES = new Set(["test", "owed", "keys"]);
 /** The maximum nesting depth of watch names: the expression of a watch name can contain other watch names. */
 const MAX_NAME_DEPTH = 3;
-/** The number of the last nibble in a RAM bank. Nibbles are numbered by the byte that SRC sends to select them. */
+/** The number of the last nibble in a RAM bank. The number of a nibble is the SRC byte that selects it. */
 const LAST_CHARACTER = 255;
 /** The hints for words that other assemblers and emulators use instead of a place name, by word. */
-const HINTS = new Map([["a", say.ACCUMULATOR_HINT], ["accu", say.ACCUMULATOR_HINT], ["accumulator", say.ACCUMULATOR_HINT],
+const NAME_HINTS = new Map([["a", say.ACCUMULATOR_HINT], ["accu", say.ACCUMULATOR_HINT], ["accumulator", say.ACCUMULATOR_HINT],
   ["c", say.CARRY_HINT], ["carry", say.CARRY_HINT], ["ip", say.COUNTER_HINT], ["bank", say.BANK_HINT]]);
-/** The factor that splits a number of up to 53 bits into two halves. JavaScript's bitwise operators support only 32 bits. */
+/** The factor that splits a number of up to 53 bits into two halves, because JavaScript's bitwise operators support only 32 bits. */
 const HALF_FACTOR = 2 ** 26;
 
-/** The dependencies of a condition: its places without duplicates, and the values that a test must supply. */
+/** The dependencies of a condition: its places, without duplicates, and the values that the test must supply. */
 export class Dependencies {
   /** @param {boolean} [isTest] true for a condition in a test */
   constructor(isTest = false) {
@@ -49,7 +49,7 @@ export class Dependencies {
   }
 
   /**
-   * Adds a place if it is missing; returns its index.
+   * Adds a place, unless it is in the list already. Returns its index in the list.
    * @param {string} place
    */
   addPlace(place) {
@@ -74,7 +74,7 @@ export class Dependencies {
  * @returns {Value}
  */
 function constantValue(number) {
-  return { name: String(number), most: Infinity, isConstant: true, read: () => number };
+  return { name: String(number), maxValue: Infinity, isConstant: true, read: () => number };
 }
 
 /**
@@ -93,12 +93,12 @@ const OPERATIONS = { "+": (one, other) => one + other, "-": (one, other) => one 
 /**
  * Creates a value that is 0 or 1.
  * @param {string} name
- * @param {number} index the index of the answer in the list of answers
+ * @param {number} index the index of the value's answer in the list of answers
  * @param {(answer: string) => number} readBit
  * @returns {Value}
  */
 function bitValue(name, index, readBit) {
-  return { name, most: 1, isConstant: false, read: (values) => readBit(values[index]) };
+  return { name, maxValue: 1, isConstant: false, read: (values) => readBit(values[index]) };
 }
 
 /**
@@ -146,12 +146,12 @@ export function keyValue(name, { face }, dependencies) {
 }
 
 /**
- * Looks up a program name. If no name is equal and exactly one name is equal apart from its case, returns that name. Returns undefined if
- * no name matches.
+ * Looks up a program name. Prefers an exact match. Otherwise returns the name that is equal apart from case, if there is exactly one such
+ * name; undefined if not.
  * @param {string} name
  * @param {Names["map"]} map
  */
-function sourceName(name, map) {
+function findProgramName(name, map) {
   if (!map) return undefined;
   const matches = [...map.names].filter(([each]) => each.toLowerCase() === name.toLowerCase());
   return map.names.get(name) || (matches.length === 1 ? matches[0][1] : undefined);
@@ -163,7 +163,7 @@ function sourceName(name, map) {
  * @param {Names} names
  */
 export function findLabelAddress(name, names) {
-  const found = sourceName(name, names.map);
+  const found = findProgramName(name, names.map);
   return found && found.isLabel ? found.value : fail(say.noLabel(name));
 }
 
@@ -179,11 +179,11 @@ function placeValue(place, { board }, dependencies) {
   const { name } = place;
   const probes = place.probesOn(board);
   if (probes.length === 0) fail(say.boardLacks(name));
-  const maxValue = place.most(board);
+  const maxValue = place.maxValue(board);
   if (maxValue < 0) fail(say.isNoNumber(name));
   const answerIndexes = probes.map((probe) => dependencies.addPlace(probe));
   const selectAnswers = (/** @type {string[]} */ values) => answerIndexes.map((at) => values[at]);
-  return { name, most: maxValue, isConstant: false, read: (values) => place.number(selectAnswers(values)),
+  return { name, maxValue, isConstant: false, read: (values) => place.number(selectAnswers(values)),
     textOf: (values) => place.value(selectAnswers(values)) };
 }
 
@@ -209,7 +209,7 @@ function portValue({ text, direction }, { board }, dependencies) {
     const levels = parseInt(values[valueIndex], 16);
     return direction === "in" ? (levels & inputs) | ones : levels & ~inputs;
   };
-  return { name: `${place.name} ${direction}`, most: 15, isConstant: false, read };
+  return { name: `${place.name} ${direction}`, maxValue: 15, isConstant: false, read };
 }
 
 /**
@@ -219,7 +219,7 @@ function portValue({ text, direction }, { board }, dependencies) {
 export function hintFor(text) {
   if (/^r\d+$/i.test(text)) return say.REGISTERS_ARE;
   if (/^(ram|st)\b/i.test(text)) return say.CHARACTERS_ARE;
-  return /^(ram|rom)\d/i.test(text) ? say.PORTS_ARE : HINTS.get(text.toLowerCase()) || "";
+  return /^(ram|rom)\d/i.test(text) ? say.PORTS_ARE : NAME_HINTS.get(text.toLowerCase()) || "";
 }
 
 /**
@@ -241,7 +241,7 @@ function suggestionFor(text, { map, watched, face }) {
  * @param {Names} names
  * @returns {never}
  */
-function failForUnknown(text, names) {
+function failForUnknownName(text, names) {
   return fail(say.noSuchPlace(text, suggestionFor(text, names)));
 }
 
@@ -253,7 +253,7 @@ function failForUnknown(text, names) {
  * @param {Dependencies} dependencies
  * @returns {Value}
  */
-function watchedValue(name, text, names, dependencies) {
+function watchNameValue(name, text, names, dependencies) {
   if (dependencies.depth >= MAX_NAME_DEPTH) return fail(say.namesTooDeep(name, MAX_NAME_DEPTH));
   const node = parseExpression(text, (lamp) => names.face.lampNumbers.has(lamp));
   if (isCondition(node)) return fail(say.isNoValue(name, text));
@@ -280,18 +280,18 @@ function nameValue(node, names, dependencies) {
   const word = text.toLowerCase();
   if (direction !== "") return portValue(node, names, dependencies);
   if (text.startsWith("@")) {
-    const found = sourceName(text.slice(1), names.map);
+    const found = findProgramName(text.slice(1), names.map);
     return constantValue(found ? found.value : fail(say.noLabel(text.slice(1))));
   }
   if (word === "test" || word === "owed") return bitValue(word, dependencies.addPlace(word), Number);
   const place = placeValue(parsePlace(text), names, dependencies);
   if (place) return place;
   const watched = names.watched && names.watched.get(text);
-  if (watched !== undefined) return watchedValue(text, watched, names, dependencies);
-  const found = sourceName(text, names.map);
+  if (watched !== undefined) return watchNameValue(text, watched, names, dependencies);
+  const found = findProgramName(text, names.map);
   if (found) return constantValue(found.value);
   if (names.face.lampNumbers.has(text)) return lampValue(text, names, dependencies);
-  return placeValue(placeByAlias(text), names, dependencies) || failForUnknown(text, names);
+  return placeValue(placeByAlias(text), names, dependencies) || failForUnknownName(text, names);
 }
 
 /**
@@ -310,7 +310,7 @@ export function characterValues({ text, column }, count, names, dependencies) {
       const characterAddress = parseInt(byte, 16) + index;
       const characterPlace = characterAddress <= LAST_CHARACTER ? parsePlace(`ram.${bank}.${characterAddress}`) : null;
       if (index > 0 && (!characterPlace || characterPlace.probesOn(names.board).length === 0)) fail(say.NO_RAM_FOR_LAST);
-      return placeValue(characterPlace || place, names, dependencies) || failForUnknown(text, names);
+      return placeValue(characterPlace || place, names, dependencies) || failForUnknownName(text, names);
     });
   });
 }
@@ -325,7 +325,7 @@ export function characterValues({ text, column }, count, names, dependencies) {
 function sumValue({ sign, left, right, text }, names, dependencies) {
   const [first, second] = [compileValue(left, names, dependencies), compileValue(right, names, dependencies)];
   const isConstant = first.isConstant && second.isConstant;
-  return { name: text, most: Infinity, isConstant, read: (values) => OPERATIONS[sign](first.read(values), second.read(values)) };
+  return { name: text, maxValue: Infinity, isConstant, read: (values) => OPERATIONS[sign](first.read(values), second.read(values)) };
 }
 
 /**
@@ -337,7 +337,7 @@ function sumValue({ sign, left, right, text }, names, dependencies) {
 export function evaluateConstant(node, map) {
   if (node.kind === "number") return node.value;
   if (node.kind === "sum") return OPERATIONS[node.sign](evaluateConstant(node.left, map), evaluateConstant(node.right, map));
-  const found = node.kind === "name" && node.direction === "" ? sourceName(node.text.replace(/^@/, ""), map) : undefined;
+  const found = node.kind === "name" && node.direction === "" ? findProgramName(node.text.replace(/^@/, ""), map) : undefined;
   return found ? found.value : fail(map ? say.noConstant(node.text) : say.noNames(node.text), node.column);
 }
 

@@ -1,6 +1,6 @@
-// Finds arrivals at soft breakpoints. A soft breakpoint does not stop time at every arrival: it has a condition, a hit count, or a note
-// that is logged instead of a stop. A copy of the session runs in advance. The copy stops at each arrival, where queries read the places
-// that the conditions use.
+// Finds arrivals at soft breakpoints. A soft breakpoint does not stop the machine at every arrival: it has a condition or a hit count, or
+// it logs a note instead of stopping. A copy of the session runs in advance and stops at each arrival. There, queries read the places that
+// the conditions use.
 
 import { Probes } from "../conditions/probes.js";
 import { ForecastAnswers } from "../engine/forecast_answers.js";
@@ -10,29 +10,29 @@ import { plannedCycles } from "./goal_search.js";
  * @typedef {import("../engine/engine_host.js").EngineHost} Engine
  * @typedef {import("../engine/key_queue.js").PlannedLine} PlannedLine
  *
- * A compiled soft breakpoint. `from` is the number of the first hit that stops time. `holds` evaluates the condition for the values of
- * `places`. `words` returns the text of the note for these values; `words` is null for a breakpoint that stops time.
+ * A compiled soft breakpoint. `from` is the number of the first hit that stops the machine. `holds` evaluates the condition for the values
+ * of `places`. `words` returns the text of the note for these values; `words` is null for a breakpoint that stops the machine.
  * @typedef {{ id: number, address: number, from: number, hits: number, places: string[], holds: (values: string[]) => boolean,
  *   words: ((values: string[]) => string) | null }} SoftBreakpoint
  *
- * @typedef {{ id: number, cycles: number, words: string }} LoggedNote a logged note: the id of its breakpoint, the cycles before the
- *   note, and its text
+ * @typedef {{ id: number, cycles: number, words: string }} LoggedNote a logged note: the id of its breakpoint, the number of cycles before
+ *   the note, and its text
  *
- * The breakpoint events that the next lines will cause. `cycles`: the cycles before the first stop, -1 for no stop. `id`: the breakpoint or
- * watch that stops time. `hits`: the hit counts by breakpoint id. `notes`: the last logged notes; `noted`: the number of all logged notes.
- * `why`: "watch" if a change of a watched place stops time, and `change` describes this change. `changes`: the numbers of counted changes
- * by watch id (data_watches.js).
+ * The breakpoint events that the next lines will cause. `cycles`: the cycles before the first stop, -1 for no stop. `id`: the id of the
+ * breakpoint or watch that stops the machine, 0 for none. `hits`: the hit counts by breakpoint id. `notes`: the last logged notes; `noted`:
+ * the number of all logged notes. `why`: "watch" if a change of a watched place stops the machine, and `change` describes this change.
+ * `changes`: for each watch id, the number of changes that count (data_watches.js).
  * @typedef {{ cycles: number, id: number, hits: Map<number, number>, notes: LoggedNote[], noted: number, why: "break" | "watch",
  *   change: string, changes: Map<number, number> }} BreakpointEvents
  */
 
-/** The maximum number of runs in one request to the bench. */
+/** The maximum number of `run` lines in one request to the bench. */
 const MAX_RUNS = 400;
 /** The maximum number of notes in one report. */
 export const MAX_NOTES = 200;
 
 /**
- * Returns an empty result, without events.
+ * Returns a result without any event.
  * @returns {BreakpointEvents}
  */
 export function createEmptyEvents() {
@@ -50,8 +50,8 @@ export class Arrivals {
     this.first = breakpoints.map(({ address }) => `break ${address}\n`).join("");
     /** The queries that follow each run. */
     this.probes = new Probes(this.places);
-    /** The arrivals per cycle in the previous run. */
-    this.density = 0;
+    /** The number of arrivals per cycle in the previous run. */
+    this.arrivalsPerCycle = 0;
     this.copy = new Uint8Array(0);
   }
 
@@ -60,7 +60,7 @@ export class Arrivals {
   }
 
   /**
-   * Searches the next lines for arrivals. The search ends at the first stop.
+   * Searches the next lines for arrivals, up to the first arrival that stops the machine.
    * @param {Engine} engine
    * @param {Uint8Array} file the session file; not changed
    * @param {PlannedLine[]} planned
@@ -69,7 +69,7 @@ export class Arrivals {
   searchLines(engine, file, planned) {
     const events = createEmptyEvents();
     if (this.isEmpty) return events;
-    if (this.density === 0 && this.hasNoArrival(engine, file, planned)) return events;
+    if (this.arrivalsPerCycle === 0 && this.hasNoArrival(engine, file, planned)) return events;
     if (this.copy.length !== file.length) this.copy = new Uint8Array(file.length);
     this.copy.set(file);
     let [lines, count, done] = [this.first, this.breakpoints.length, 0];
@@ -81,7 +81,7 @@ export class Arrivals {
       }
       const cyclesBefore = done;
       const cyclesRun = this.run(engine, this.copy, { lines, count, cycles: plannedCycles(each) },
-        (end, row, partCycles) => end !== "break" || this.isStop(row, cyclesBefore + partCycles, events));
+        (end, row, partCycles) => end !== "break" || this.recordArrival(row, cyclesBefore + partCycles, events));
       if (cyclesRun < 0) return events;
       done += cyclesRun;
       [lines, count] = ["", 0];
@@ -90,7 +90,7 @@ export class Arrivals {
   }
 
   /**
-   * Returns true if the next lines reach no breakpoint. Needs only one query.
+   * Returns whether the next lines reach no breakpoint. This check takes only one request to the bench.
    * @param {Engine} engine
    * @param {Uint8Array} file
    * @param {PlannedLine[]} planned
@@ -101,7 +101,7 @@ export class Arrivals {
   }
 
   /**
-   * Runs a copy of the session that has the breakpoints. Returns the number of cycles that have run, or -1 if `visit` ends the run.
+   * Runs a copy of the session in which the breakpoints are set. Returns the number of cycles that have run, or -1 if `visit` ends the run.
    * @param {Engine} engine
    * @param {Uint8Array} file the copy of the session; changed
    * @param {{ lines: string, count: number, cycles: number }} run the lines before the run, the number of their answers, and the number of
@@ -113,7 +113,7 @@ export class Arrivals {
     let [before, skippedCount, cyclesRun, arrivals] = [lines, count, 0, 0];
     while (cyclesRun < cycles) {
       const cyclesLeft = cycles - cyclesRun;
-      const runs = Math.min(cyclesLeft, MAX_RUNS, Math.max(1, Math.round(2 * this.density * cyclesLeft)));
+      const runs = Math.min(cyclesLeft, MAX_RUNS, Math.max(1, Math.round(2 * this.arrivalsPerCycle * cyclesLeft)));
       const pair = `run ${Math.floor(cyclesLeft / runs)}\n${this.probes.lines}`;
       const answers = new ForecastAnswers(engine.serve(file, before + pair.repeat(runs), file).answers);
       answers.skip(skippedCount);
@@ -127,7 +127,7 @@ export class Arrivals {
         if (visit(end, row, cyclesRun)) return -1;
       }
     }
-    this.density = arrivals / cycles;
+    this.arrivalsPerCycle = arrivals / cycles;
     return cyclesRun;
   }
 
@@ -150,14 +150,14 @@ export class Arrivals {
   }
 
   /**
-   * Counts an arrival at a breakpoint and logs the note of the breakpoint. Returns whether the arrival stops time.
+   * Counts an arrival at a breakpoint and logs the note of the breakpoint. Returns whether the arrival stops the machine.
    * @param {string[]} row the values of `places`
    * @param {number} cycles the cycles before the arrival
    * @param {BreakpointEvents} events receives the hit, and the note or the stop
    */
-  isStop(row, cycles, events) {
+  recordArrival(row, cycles, events) {
     const found = this.byAddress.get(parseInt(row[0], 16));
-    // The list lacks breakpoints that always stop time, because the session has these breakpoints.
+    // A breakpoint that is not in this list always stops the machine. The session itself has such breakpoints.
     if (!found) return true;
     const { id, holds, words, from } = found;
     const values = this.breakpointValues(found, row);

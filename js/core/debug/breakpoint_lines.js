@@ -6,7 +6,9 @@ import { MAX_BREAKPOINTS } from "./breakpoints.js";
 
 /** @typedef {import("./breakpoints.js").SavedBreakpoint} SavedBreakpoint */
 
+/** The pattern of a text in quotes, in which a backslash escapes a character. */
 const QUOTED_TEXT = '"((?:[^"\\\\]|\\\\.)*)"';
+/** Matches a breakpoint line, and captures its parts. */
 const BREAKPOINT_LINE = new RegExp("^break(?: line (\\d{1,5}))?(?: at 0x([0-9A-F]{3}))?( off)?(?: from (\\d{1,9}))?"
   + `(?: if ${QUOTED_TEXT})?(?: log ${QUOTED_TEXT})?$`);
 /** The maximum length of a condition or note, in characters. */
@@ -29,7 +31,7 @@ function unquote(text = "") {
 }
 
 /**
- * Returns one line per breakpoint.
+ * Returns the breakpoint lines of a project file, one per breakpoint.
  * @param {SavedBreakpoint[]} breakpoints
  */
 export function formatBreakpoints(breakpoints) {

@@ -1,5 +1,6 @@
-// Manages the breakpoints of the current session. A list of breakpoints moves with the source text. After each change of the list, the
-// bench receives the new breakpoints. Breakpoints that only the bench has, for example from a typed `break`, are added to the list.
+// Manages the breakpoints of the current session in a list. The breakpoints in the list move with the source text. After each change of the
+// list, the manager sends the breakpoints to the bench. If the bench gets a breakpoint in another way, for example from a typed `break`,
+// the manager adds it to the list.
 
 import { BreakpointList, MAX_BREAKPOINTS, MAX_ENABLED, instructionAtAddress, instructionForLine } from "./breakpoints.js";
 import { isSoft } from "./soft_breakpoints.js";
@@ -15,13 +16,13 @@ import * as say from "../../words/debug.js";
  */
 
 /**
- * The callbacks of the keeper.
- * @typedef {object} KeeperCalls
+ * The callbacks of the breakpoint manager.
+ * @typedef {object} ManagerCallbacks
  * @property {(placed: LocatedBreakpoint[]) => Promise<[number, string][]>} set Replaces all breakpoints of the bench. Resolves to the ids
  *   and error messages of breakpoints that cannot be compiled.
  * @property {() => void} changed Handles a change of the list or of its error messages.
- * @property {() => void} counted Handles a change of hit counts, without another change of the list.
- * @property {() => void} touched Handles a change by the user; the list must be saved.
+ * @property {() => void} counted Handles a change of hit counts only.
+ * @property {() => void} touched Handles a change that the user made, after which the list must be saved.
  * @property {(words: string) => void} showMessage Shows a message near the user's last action.
  * @property {(fault: unknown) => void} failed Reports an error that `set` threw.
  */
@@ -30,9 +31,9 @@ const TOO_MANY_ENABLED = say.tooManyEnabled(MAX_ENABLED);
 /** The maximum number of sessions with a stored list. */
 const MAX_LISTS = 30;
 
-/** The breakpoints of the current session, in the list and in the bench. */
+/** Keeps the list of breakpoints and the breakpoints of the bench equal. */
 export class BreakpointManager {
-  /** @param {KeeperCalls} calls */
+  /** @param {ManagerCallbacks} calls */
   constructor(calls) {
     this.calls = calls;
     this.list = new BreakpointList();
@@ -40,32 +41,34 @@ export class BreakpointManager {
     this.lists = new Map();
     /** @type {SourceMap | null} the source map; null if the source is not the program in ROM */
     this.map = null;
-    /** The reason why ROM does not contain the bytes of the source, or "". */
+    /** The reason why ROM does not contain the assembled source; "" if it does. */
     this.mapError = "";
     /** @type {string[]} the watch expressions, whose names conditions can use */
     this.watchTexts = [];
     /** @type {Map<number, string>} the error messages of breakpoints that cannot be compiled, by id */
     this.faults = new Map();
-    /** @type {Set<number> | null} the breakpoint addresses on the bench; null before the first report about a session */
-    this.onBench = null;
-    /** @type {string[] | null} the bench's breakpoint addresses that arrived during a request; applied after the request */
-    this.postponedBreaks = null;
+    /** @type {Set<number> | null} the addresses of the bench's breakpoints; null before the bench first reports them for a session */
+    this.benchAddresses = null;
+    /** @type {string[] | null} the bench's breakpoint addresses that were reported during a request; they are applied after the request */
+    this.postponedAddresses = null;
     /** True if the saved session contains a list of breakpoints. */
     this.hasSavedList = false;
-    /** The number of unanswered requests to the bench, and the contents of the last request as JSON. */
+    /** The number of unanswered requests to the bench, and the last request as JSON. */
     this.pendingCount = 0;
     this.lastRequest = "";
     /** @type {Promise<void>} resolves after all requests are answered */
     this.allSent = Promise.resolve();
-    /** @type {{ id: number, changes: Partial<SavedBreakpoint> } | null} the changed fields of a breakpoint that the user edits */
+    /**
+     * @type {{ id: number, changes: Partial<SavedBreakpoint> } | null} the fields that the user is editing, with the id of their breakpoint
+     */
     this.typedEdit = null;
   }
 
   // --- Reports from other parts of the page ---
 
   /**
-   * Switches to another session. If the list of this session is still in memory and equals the saved breakpoints, reuses that list, because
-   * only that list can restore breakpoints on undo.
+   * Switches to another session. If its list is still in memory and equals the saved breakpoints, reuses that list, because only that list
+   * can restore breakpoints on undo.
    * @param {string} id the session id
    * @param {SavedBreakpoint[] | undefined} savedBreakpoints the saved breakpoints; if undefined, the breakpoints of the session file are
    *   used
@@ -81,8 +84,8 @@ export class BreakpointManager {
     this.hasSavedList = savedBreakpoints !== undefined;
     this.map = null;
     this.mapError = "";
-    this.onBench = null;
-    this.postponedBreaks = null;
+    this.benchAddresses = null;
+    this.postponedAddresses = null;
     this.lastRequest = "";
     this.typedEdit = null;
     this.faults.clear();
@@ -95,10 +98,10 @@ export class BreakpointManager {
    */
   setWatchExpressions(texts) {
     this.watchTexts = texts;
-    if (this.onBench) this.apply();
+    if (this.benchAddresses) this.apply();
   }
 
-  /** Sends the list again, after the bench has restarted and has no breakpoints. */
+  /** Sends the list again after the bench has restarted, and thus has lost its breakpoints. */
   again() {
     this.lastRequest = "";
     this.apply();
@@ -111,19 +114,19 @@ export class BreakpointManager {
   applyTextEdits(edits) {
     const effectiveEdits = edits.filter((edit) => this.list.edit(edit));
     if (effectiveEdits.length === 0) return;
-    if (this.onBench) this.apply();
+    if (this.benchAddresses) this.apply();
     else this.calls.changed();
   }
 
   /**
-   * Sets the source map, and moves each breakpoint to an instruction of the program.
+   * Sets the source map, and moves each breakpoint to an instruction of the program in ROM.
    * @param {SourceMap | null} map null if the source is not the program in ROM
-   * @param {string} words the reason if `map` is null
+   * @param {string} words the reason why `map` is null
    */
   setSourceMap(map, words) {
     this.map = map;
     this.mapError = words;
-    if (!this.onBench) return;
+    if (!this.benchAddresses) return;
     const messages = map ? this.list.locate(map) : [];
     if (messages.length > 0) this.calls.showMessage(messages.join(" "));
     this.apply();
@@ -135,12 +138,12 @@ export class BreakpointManager {
    */
   take(breaks) {
     const addresses = breaks.map((address) => parseInt(address, 16));
-    const previousAddresses = this.onBench;
+    const previousAddresses = this.benchAddresses;
     if (previousAddresses && this.isApplying) {
-      this.postponedBreaks = breaks;
+      this.postponedAddresses = breaks;
       return;
     }
-    this.onBench = new Set(addresses);
+    this.benchAddresses = new Set(addresses);
     if (!previousAddresses) {
       // This is the first report after opening. If the session was saved without a list, its breakpoints come from the file.
       if (!this.hasSavedList) for (const address of addresses) this.addFromBench(address);
@@ -155,7 +158,7 @@ export class BreakpointManager {
     this.apply();
   }
 
-  /** The addresses of the breakpoints that stop time at every arrival. */
+  /** The addresses of the enabled breakpoints that stop the machine at every arrival. */
   get hardAddresses() {
     return this.list.placed.filter((each) => !isSoft(each)).map(({ address }) => address);
   }
@@ -178,7 +181,7 @@ export class BreakpointManager {
   }
 
   /**
-   * Removes a breakpoint from the list because the bench no longer has it.
+   * Removes a breakpoint that the bench no longer has from the list.
    * @param {number} address
    */
   removeMissing(address) {
@@ -225,7 +228,7 @@ export class BreakpointManager {
     return this.list.findByLine(line) || this.list.findByLine(nextLine);
   }
 
-  /** Returns a message that a breakpoint has no effect yet, with the reason; "" if no reason is known. */
+  /** Returns a message about why a new breakpoint has no effect yet; "" if no reason is known. */
   pendingMessage() {
     return this.mapError ? say.untilThen(this.mapError) : "";
   }
@@ -267,7 +270,7 @@ export class BreakpointManager {
   }
 
   /**
-   * Saves changes of a breakpoint while the user types. The bench receives the changes when the user enters them.
+   * Saves the changes of a breakpoint while the user types them. The bench receives them when the user has finished (`change`).
    * @param {number} id
    * @param {Partial<SavedBreakpoint>} changes the changed fields
    */
@@ -307,7 +310,7 @@ export class BreakpointManager {
   }
 
   /**
-   * Enables breakpoints up to the maximum, or disables all breakpoints.
+   * Enables as many breakpoints as possible, or disables all breakpoints.
    * @param {boolean} isOn
    */
   switchAll(isOn) {
@@ -344,14 +347,14 @@ export class BreakpointManager {
     this.apply();
   }
 
-  /** Sends the list to the bench, unless the bench already has this list. `settled` resolves after the bench has set the breakpoints. */
+  /** Sends the list to the bench, unless the bench already has this list. `allSent` resolves after the bench has set the breakpoints. */
   apply() {
     this.calls.changed();
     const { placed } = this.list;
-    // A name can have another meaning in another text, so the comparison includes the texts.
+    // A name in a condition can have another meaning in another source text, so the comparison includes the texts.
     const names = placed.some(isSoft) ? [this.map ? this.map.text : "", this.watchTexts] : [];
     const request = JSON.stringify([names, placed.map((each) => ({ ...each, line: 0, hits: 0 }))]);
-    const isNothingSet = placed.length === 0 && this.onBench !== null && this.onBench.size === 0;
+    const isNothingSet = placed.length === 0 && this.benchAddresses !== null && this.benchAddresses.size === 0;
     if (request === this.lastRequest || (this.lastRequest === "" && isNothingSet)) return;
     this.lastRequest = request;
     this.send(placed);
@@ -375,22 +378,22 @@ export class BreakpointManager {
   /**
    * Handles the bench's answer to a list.
    * @param {BreakpointList} list
-   * @param {number[]} hardAddresses the addresses of the breakpoints that stop time at every arrival
+   * @param {number[]} hardAddresses the addresses of the breakpoints that stop the machine at every arrival
    * @param {[number, string][]} faults the ids and error messages of breakpoints that cannot be compiled
    */
   handleAnswer(list, hardAddresses, faults) {
     if (list !== this.list) return;
     this.faults = new Map(faults);
-    this.onBench = new Set(hardAddresses);
+    this.benchAddresses = new Set(hardAddresses);
     this.calls.changed();
-    this.takePostponed();
+    this.applyPostponedAddresses();
   }
 
-  /** Applies the addresses that arrived during a request. A line that the user typed meanwhile can have changed breakpoints. */
-  takePostponed() {
-    const { postponedBreaks } = this;
-    if (this.isApplying || !postponedBreaks) return;
-    this.postponedBreaks = null;
-    this.take(postponedBreaks);
+  /** Applies the addresses that the bench reported during a request. The user can have changed them by a typed line in the meantime. */
+  applyPostponedAddresses() {
+    const { postponedAddresses } = this;
+    if (this.isApplying || !postponedAddresses) return;
+    this.postponedAddresses = null;
+    this.take(postponedAddresses);
   }
 }

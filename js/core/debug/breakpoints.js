@@ -1,5 +1,5 @@
-// The list of breakpoints. A breakpoint belongs to a source line and moves with that line. If the source is the program in ROM, each
-// breakpoint also has an address. A breakpoint outside the source has only an address.
+// Defines the list of breakpoints. A breakpoint belongs to a source line and moves with that line. If the source is the program in ROM,
+// each breakpoint also has an address. A breakpoint outside the source has only an address.
 
 import * as say from "../../words/debug.js";
 
@@ -13,7 +13,8 @@ import * as say from "../../words/debug.js";
  *   Breakpoint
  * @typedef {Omit<Breakpoint, "id" | "hits">} SavedBreakpoint a breakpoint as saved in a session or project
  *
- * An edit that replaces the text between two positions. Lines count from 0. `isWhole` is true if the edit replaces the whole text.
+ * An edit that replaces the text between two positions. `line` and `ch` (the column) count from 0. `text` and `removed` are the new and the
+ * old lines. `isWhole` is true if the edit replaces the whole text.
  * @typedef {{ from: { line: number, ch: number }, to: { line: number, ch: number }, text: string[], removed?: string[],
  *   origin?: string, isWhole?: boolean }} Edit
  */
@@ -22,13 +23,13 @@ import * as say from "../../words/debug.js";
 export const MAX_ENABLED = 32;
 /** The maximum number of breakpoints in a list. */
 export const MAX_BREAKPOINTS = 256;
-/** The maximum number of deleted breakpoints that the list stores, so that undo can restore them with their lines. */
-const MAX_DELETED = 256;
-/** The maximum number of replaced texts whose breakpoints the list stores. */
+/** The maximum number of deleted breakpoints that the list stores for undo, which restores them with their lines. */
+const MAX_DELETED_BREAKPOINTS = 256;
+/** The maximum number of earlier texts whose breakpoints the list stores. */
 const MAX_TEXTS = 30;
 
 /** @type {Omit<Breakpoint, "id" | "line" | "address">} the default fields of a breakpoint */
-const DEFAULTS = { isOn: true, condition: "", from: 1, note: "", hits: 0 };
+const DEFAULT_FIELDS = { isOn: true, condition: "", from: 1, note: "", hits: 0 };
 
 /** The breakpoints of a source text and of ROM. */
 export class BreakpointList {
@@ -54,7 +55,7 @@ export class BreakpointList {
    */
   createBreakpoint(fields) {
     this.lastId += 1;
-    return { ...DEFAULTS, line: 0, address: -1, ...fields, hits: 0, id: this.lastId };
+    return { ...DEFAULT_FIELDS, line: 0, address: -1, ...fields, hits: 0, id: this.lastId };
   }
 
   sort() {
@@ -118,7 +119,7 @@ export class BreakpointList {
   }
 
   /**
-   * Moves breakpoints after an edit of the text. Returns whether any breakpoint has moved.
+   * Updates the breakpoints after an edit of the text. Returns whether any breakpoint has changed.
    * @param {Edit} edit
    */
   edit(edit) {
@@ -135,7 +136,7 @@ export class BreakpointList {
     const storedBreakpoints = this.breakpointsByText.get(text.join("\n"));
     if (!storedBreakpoints) return false;
     const ids = new Set(storedBreakpoints.map(({ id }) => id));
-    // A breakpoint that has changed meanwhile keeps its changes. A breakpoint without a line belongs to ROM, not to the text.
+    // If a stored breakpoint has changed since, its changes are kept. A breakpoint without a line belongs to ROM, not to the text.
     const restoredBreakpoints = storedBreakpoints.filter(({ id, line }) => line > 0 || this.get(id))
       .map((each) => ({ ...(this.get(each.id) || each), line: each.line, address: each.address }));
     const romBreakpoints = this.all.filter(({ id, line, address }) => (
@@ -157,7 +158,7 @@ export class BreakpointList {
     for (const oldest of [...this.breakpointsByText.keys()].slice(0, -MAX_TEXTS)) this.breakpointsByText.delete(oldest);
   }
 
-  /** Drops breakpoints above the maximum number, and disables enabled breakpoints above their maximum number. */
+  /** Removes breakpoints above the maximum number, and disables breakpoints above the maximum number of enabled ones. */
   enforceLimits() {
     let count = 0;
     this.all = this.all.slice(0, MAX_BREAKPOINTS).map((each) => {
@@ -179,7 +180,7 @@ export class BreakpointList {
     this.all = this.all.flatMap((each) => {
       if (each.line < first) return [each];
       if (each.line > last) return [{ ...each, line: each.line + shift }];
-      // The breakpoint of a replaced line keeps its line number if the replacement has enough lines.
+      // A breakpoint on a replaced line keeps its line number if the new text has enough lines.
       if (each.line < first + count) return [each];
       this.storeDeleted(each, edit);
       return [];
@@ -189,8 +190,8 @@ export class BreakpointList {
   }
 
   /**
-   * Removes the line of each breakpoint that has an address, after another text has replaced the whole text. Returns whether there are any
-   * breakpoints.
+   * Clears the line of each breakpoint that has an address, after an unrelated text has replaced the whole text. Returns whether there are
+   * any breakpoints.
    */
   detachAll() {
     this.all = this.all.map((each) => (each.address >= 0 ? { ...each, line: 0 } : each));
@@ -205,11 +206,11 @@ export class BreakpointList {
    */
   storeDeleted(breakpoint, { from, removed = [] }) {
     this.deletedBreakpoints.push({ text: removed[breakpoint.line - from.line - 1] || "", breakpoint });
-    if (this.deletedBreakpoints.length > MAX_DELETED) this.deletedBreakpoints.shift();
+    if (this.deletedBreakpoints.length > MAX_DELETED_BREAKPOINTS) this.deletedBreakpoints.shift();
   }
 
   /**
-   * Restores the breakpoints on lines that an undo restores. Returns whether any breakpoint was restored.
+   * Restores the breakpoints on lines that an undo brings back. Returns whether any breakpoint was restored.
    * @param {Edit} edit
    * @param {number} first the first restored line, from 1
    * @param {number} count the number of restored lines
@@ -228,8 +229,8 @@ export class BreakpointList {
   }
 
   /**
-   * Moves each breakpoint to an instruction of the program, and sets its address. Called after the text became the program in ROM. Returns
-   * a message about each breakpoint that moved.
+   * Moves each breakpoint to an instruction of the program, and sets its address. Called after the source was assembled into ROM. Returns a
+   * message about each breakpoint that moved.
    * @param {SourceMap} map
    */
   locate(map) {
@@ -251,7 +252,7 @@ export class BreakpointList {
   }
 
   /**
-   * The enabled breakpoints that have an address.
+   * The breakpoints that are enabled and have an address.
    * @returns {LocatedBreakpoint[]}
    */
   get placed() {
@@ -281,7 +282,7 @@ export class BreakpointList {
 }
 
 /**
- * Returns the number of equal lines at the start or the end of two texts.
+ * Returns the number of lines that two texts have in common, at the start or at the end.
  * @param {string[]} oldLines the lines of one text
  * @param {string[]} newLines the lines of the other text
  * @param {number} max the maximum result
@@ -296,9 +297,9 @@ function countEqualLines(oldLines, newLines, max, isAtEnd) {
 }
 
 /**
- * Returns the first and last line that an edit replaces, counted from 1, and the number of new lines. Excludes equal lines at the start and
- * the end. Treats text that is inserted at the start of a line as new lines before this line. `isOther` is true if the edit replaces the
- * whole text with a text that has no line in common.
+ * Returns the first and the last line that an edit replaces, counted from 1, and the number of new lines. Lines that stay equal at the
+ * start and the end are excluded. Text that is inserted at the start of a line counts as new lines before this line. `isOther` is true if
+ * the edit replaces the whole text with a text that has no line in common.
  * @param {Edit} edit
  */
 function replacedLines({ from, to, text, removed = Array(to.line - from.line + 1).fill("\n"), isWhole = false }) {
@@ -313,8 +314,8 @@ function replacedLines({ from, to, text, removed = Array(to.line - from.line + 1
 }
 
 /**
- * Returns the line and the address of the instruction on a line, or else of the next instruction, with a message about the move in `words`.
- * If no instruction follows, the address is -1.
+ * Returns the line and the address of the instruction on a line. If the line has none, returns those of the next instruction, with a
+ * message in `words`. If no instruction follows, the address is -1.
  * @param {number} line
  * @param {SourceMap} map
  */
@@ -332,8 +333,8 @@ export function instructionForLine(line, map) {
 }
 
 /**
- * Returns the line and the address of the instruction at an address. For the second byte of an instruction, returns the next instruction,
- * or this instruction if no instruction follows, with a message in `words`.
+ * Returns the line and the address of the instruction at an address. If the address is the second byte of an instruction, returns those of
+ * the next instruction, or of this one if it is the last, with a message in `words`.
  * @param {number} address
  * @param {SourceMap} map
  */

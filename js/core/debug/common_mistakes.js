@@ -4,15 +4,15 @@
 // - a WRR at a port without outputs, or an RDR at a port without inputs;
 // - a write to a chip that is not on the board;
 // - an instruction at an address outside the program text;
-// - an instruction that uses an SRC that the program sent for another instruction.
+// - an instruction that uses a selection by SRC that the program made for another instruction.
 //
-// Before each run, this module asks the bench what the run will do. This module does not simulate instructions. src_selection.js determines
-// which instructions use the chip and register that SRC selects.
+// Before each run, this module asks the bench what the run will do. It does not simulate instructions. src_selection.js determines which
+// instructions use the chip and register that SRC selects.
 //
 //     const mistakes = new CommonMistakes(session);
 //     mistakes.begin();                                  before the machine runs; each kind is then reported once
 //     const { faults, stop } = mistakes.searchLines(lines);     before the lines run
-//     stop                                               the cycles up to a mistake that stops time, -1 for none
+//     stop                                               the cycles up to a mistake that stops the machine, -1 for none
 
 import { readBoard } from "../bench/answers.js";
 import { hex } from "../bench/numbers.js";
@@ -31,25 +31,27 @@ import * as say from "../../words/debug.js";
  * @typedef {import("../engine/worker_session.js").WorkerSession} WorkerSession
  * @typedef {"calls" | "return" | "lines" | "chip" | "bytes" | "source"} Kind
  *
- * A mistake: the address of the instruction, the cycles before the instruction, and a description. `isRepeat` is true if a mistake of the
- * same kind was reported before.
+ * A mistake: the address of the instruction, the number of cycles before it, and a description. `isRepeat` is true if a mistake of the same
+ * kind was reported before.
  * @typedef {{ kind: Kind, address: number, cycles: number, words: string, isRepeat?: boolean }} CommonMistake
  * @typedef {import("../conditions/condition_language.js").Condition} Condition
- * @typedef {{ faults: CommonMistake[], stop: number }} FoundMistakes
+ * @typedef {{ faults: CommonMistake[], stop: number }} FoundMistakes the mistakes in some lines, and the number of cycles before the one
+ *   that stops the machine (-1 for none)
  */
 
+/** The number of kinds of mistakes. */
 const KIND_COUNT = Object.keys(say.KINDS).length;
 /**
- * The number of cycles whose instructions are all checked after time starts and after each key change: half a second of a real 4004. After
- * these cycles, only samples are checked.
+ * The number of cycles in which every instruction is checked, after the machine starts and after each key change: half a second of a real
+ * 4004. After these cycles, only samples are checked.
  */
-const CHECKED_CYCLES = 50000;
-/** Every SAMPLE_INTERVAL-th call of `searchLines` checks a sample of SAMPLE_CYCLES cycles. */
-const SAMPLE_INTERVAL = 16;
+const FULLY_CHECKED_CYCLES = 50000;
+/** One in CALLS_PER_SAMPLE calls of `searchLines` checks a sample of SAMPLE_CYCLES cycles. */
+const CALLS_PER_SAMPLE = 16;
 const SAMPLE_CYCLES = 2000;
 /**
- * The maximum number of cycles that a call of `searchLines` checks. Lines at full speed have more cycles. A check of all cycles would be
- * too slow.
+ * The maximum number of cycles that a call of `searchLines` checks. At full speed, the lines of one call have more cycles, and a check of
+ * all cycles would be too slow.
  */
 export const MAX_CYCLES_PER_CALL = 10000;
 
@@ -61,43 +63,45 @@ export class CommonMistakes {
   /** @param {WorkerSession} session */
   constructor(session) {
     this.session = session;
-    /** @type {Set<Kind>} the kinds that stop time */
+    /** @type {Set<Kind>} the kinds that stop the machine */
     this.stops = new Set();
-    /** @type {Map<Kind, Condition>} the stop conditions by kind, evaluated before the instruction */
+    /** @type {Map<Kind, Condition>} by kind, the condition under which a mistake stops the machine; evaluated before the instruction */
     this.conditions = new Map();
     /** @type {SourceMap | null} the source map of the program in ROM; null if the source is unknown */
     this.map = null;
     /** @type {Uint8Array | null} the contents of ROM; null until they are read */
     this.codes = null;
-    /** @type {SrcSelection | null} the selection by SRC; null until the board is read */
+    /** @type {SrcSelection | null} the tracked selection by SRC; null until the board is read */
     this.selection = null;
-    /** @type {Set<Kind>} the kinds reported since time started */
+    /** @type {Set<Kind>} the kinds reported since the machine started */
     this.reportedKinds = new Set();
-    /** The address of the last mistake that stopped time, -1 for none. */
+    /** The address of the last mistake that stopped the machine, -1 for none. */
     this.stopAddress = -1;
-    /** The address of a mistake that is not reported again, because it stopped time and time continues there; -1 for none. */
+    /**
+     * The address of the mistake at which the machine stopped and from which it continues, -1 for none. This mistake is not reported again.
+     */
     this.skippedAddress = -1;
-    /** The number of cycles until only samples are checked. */
-    this.remainingCycles = CHECKED_CYCLES;
+    /** The number of cycles in which every instruction will still be checked. */
+    this.remainingCycles = FULLY_CHECKED_CYCLES;
     this.callCount = 0;
   }
 
-  /** Prepares for running time: allows each kind of mistake to be reported again. */
+  /** Prepares for a run: each kind of mistake can be reported again. */
   begin() {
     this.reportedKinds.clear();
-    this.remainingCycles = CHECKED_CYCLES;
+    this.remainingCycles = FULLY_CHECKED_CYCLES;
     this.skippedAddress = this.stopAddress;
     this.stopAddress = -1;
   }
 
-  /** Forgets the contents of ROM, the board and the selection by SRC. Called after any change of the session except a run. */
+  /** Discards the cached contents of ROM and the selection by SRC. Called after any change of the session except a run. */
   forget() {
     this.codes = null;
     this.selection = null;
   }
 
   /**
-   * Returns the mistakes in the next lines, up to the first mistake that stops time.
+   * Returns the mistakes in the next lines, up to the first mistake that stops the machine.
    * @param {PlannedLine[]} planned the next lines
    * @param {Uint8Array} [file] the session before the lines, if the lines have already run
    * @returns {FoundMistakes}
@@ -106,7 +110,7 @@ export class CommonMistakes {
     const maxCycles = this.cyclesToCheck(planned);
     if (maxCycles === 0 || (this.reportedKinds.size === KIND_COUNT && this.conditions.size === 0)) return NO_MISTAKES;
     const found = this.findMistakes(truncateLines(planned, maxCycles), file);
-    const stoppingMistake = found.find((fault) => this.isStop(fault, planned, file));
+    const stoppingMistake = found.find((fault) => this.stopsMachine(fault, planned, file));
     const faults = found.filter(({ isRepeat }) => !isRepeat);
     if (!stoppingMistake) return { faults, stop: -1 };
     this.stopAddress = stoppingMistake.address;
@@ -114,12 +118,12 @@ export class CommonMistakes {
   }
 
   /**
-   * Returns whether a mistake stops time.
+   * Returns whether a mistake stops the machine.
    * @param {CommonMistake} fault
    * @param {PlannedLine[]} planned the lines with the mistake
    * @param {Uint8Array} file the session before these lines
    */
-  isStop({ kind, cycles }, planned, file) {
+  stopsMachine({ kind, cycles }, planned, file) {
     if (!this.stops.has(kind)) return false;
     const condition = this.conditions.get(kind);
     if (!condition) return true;
@@ -132,16 +136,16 @@ export class CommonMistakes {
   }
 
   /**
-   * Returns the number of cycles to check in the next lines. This is the number of all cycles soon after time starts, soon after a key
-   * change, and if mistakes stop time. Otherwise it is the size of a sample, because a check executes each cycle three more times.
+   * Returns the number of cycles to check in the next lines. All cycles are checked soon after the machine starts or a key changes, and
+   * whenever mistakes stop the machine. Otherwise only a sample is checked, because a check runs each cycle three more times.
    * @param {PlannedLine[]} planned
    */
   cyclesToCheck(planned) {
     const cycles = planned.reduce((sum, each) => sum + plannedCycles(each), 0);
-    if (planned.some(({ change }) => change !== null)) this.remainingCycles = CHECKED_CYCLES;
+    if (planned.some(({ change }) => change !== null)) this.remainingCycles = FULLY_CHECKED_CYCLES;
     this.callCount += 1;
     const isAll = this.stops.size > 0 && cycles <= MAX_CYCLES_PER_CALL;
-    const sample = this.callCount % SAMPLE_INTERVAL === 0 ? SAMPLE_CYCLES : 0;
+    const sample = this.callCount % CALLS_PER_SAMPLE === 0 ? SAMPLE_CYCLES : 0;
     const maxCycles = isAll ? cycles : Math.min(cycles, MAX_CYCLES_PER_CALL, Math.max(this.remainingCycles, sample));
     this.remainingCycles = Math.max(0, this.remainingCycles - maxCycles);
     return maxCycles;
@@ -156,7 +160,7 @@ export class CommonMistakes {
   }
 
   /**
-   * Returns the mistakes in the given lines.
+   * Returns all mistakes in the given lines.
    * @param {PlannedLine[]} planned
    * @param {Uint8Array} file the session before the lines
    */
@@ -204,7 +208,7 @@ export class CommonMistakes {
       const hasChanged = changeIndex < changes.lines.length && changes.lines[changeIndex].startsWith(line);
       if (hasChanged || usesSelection(code) || isCall(code) || isReturn(code) || this.isOutsideProgram(address)) {
         const cycles = done + Number(line.slice(0, blank));
-        this.report(faults, address, cycles, this.findMistake(codes, address, values) || selection.findMistake(code, address, values));
+        this.addMistake(faults, address, cycles, this.findMistake(codes, address, values) || selection.findMistake(code, address, values));
         if (hasChanged) {
           values = rowValues(changes.lines[changeIndex].slice(line.length));
           changeIndex += 1;
@@ -221,7 +225,7 @@ export class CommonMistakes {
    * @param {number} cycles the cycles before the instruction
    * @param {{ kind: Kind, words: string } | null} fault null if the instruction has no mistake
    */
-  report(faults, address, cycles, fault) {
+  addMistake(faults, address, cycles, fault) {
     const isSkipped = cycles === 0 && address === this.skippedAddress;
     if (cycles === 0) this.skippedAddress = -1;
     if (!fault || isSkipped) return;

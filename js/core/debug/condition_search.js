@@ -13,7 +13,7 @@ import * as say from "../../words/debug.js";
  */
 
 /**
- * Compiles a condition for a search. `fault` is an error message with its column, or "".
+ * Compiles a condition for a search. `fault` is an error message with a column, "" for none.
  * @param {string} text
  * @param {Names} names
  * @returns {{ searchCondition: SearchCondition | null, fault: string }}
@@ -21,7 +21,7 @@ import * as say from "../../words/debug.js";
 export function compileSearchCondition(text, names) {
   const { condition, ...conditionError } = compileTracedCondition(text, names);
   if (!condition) {
-    // If the text has no comparison but an unknown name, the message reports the name.
+    // If the text is an unknown name instead of a comparison, the message names it.
     const value = compileExpression(text, names);
     const { fault, column } = value.expression ? conditionError : value;
     return { searchCondition: null, fault: inColumn(fault, column) };
@@ -30,7 +30,8 @@ export function compileSearchCondition(text, names) {
 }
 
 /**
- * Parses the text of a search. A place means a search for the next change of the place; a condition, for the moment it becomes true.
+ * Parses the goal of a search. If the text is a place, the goal is the next change of the place. If the text is a condition, the goal is
+ * the moment at which it becomes true.
  * @param {string} text
  * @param {Names} names
  * @returns {{ goal: { kind: "change", place: string } | { kind: "when", condition: string } | null, fault: string }}

@@ -1,5 +1,5 @@
-// Finds the changes of watched places. A data watch stops time when its place changes. The place is a register, a port, the lamps, a chain,
-// or a RAM character that the bench cannot watch, for example because the watch has a condition. Queries find the changes before the
+// Finds the changes of watched places. A data watch stops the machine when its place changes. The place is a register, a port, the lamps, a
+// chain, or a RAM character that the bench cannot watch, for example because the watch has a condition. Queries find the changes before the
 // session runs. The session file contains no data watch.
 
 import { readBoard } from "../bench/answers.js";
@@ -21,27 +21,27 @@ import { changedFrom, CHANGES_ALWAYS } from "../../words/debug.js";
  * @typedef {import("../engine/key_queue.js").PlannedLine} PlannedLine
  *
  * A watch as requested. `name`: the name of the place. `condition`: the condition that must be true for a change to count, "" for none.
- * `from`: the number of the first counted change that stops time.
+ * `from`: the number of the first change that stops the machine, among those that count.
  * @typedef {{ id: number, name: string, condition: string, from: number }} RequestedWatch
  *
- * A compiled watch. `probes`: the `trace` places that report the value. `hits`: the number of counted changes so far.
+ * A compiled watch. `probes`: the `trace` places that report the value. `hits`: the number of changes that counted so far.
  * @typedef {{ id: number, place: Place, probes: string[], condition: Condition | null, from: number, hits: number }} DataWatch
  *
- * The first change that stops time. `cycles`: the cycles before the change, -1 for no change. `id`: the id of the watch. `change`: a
- * description of the change. `hits`: the numbers of counted changes by watch id.
+ * The first change that stops the machine. `cycles`: the cycles before the change, -1 for no change. `id`: the id of the watch. `change`: a
+ * description of the change. `hits`: for each watch id, the number of changes that count.
  * @typedef {{ cycles: number, id: number, change: string, hits: Map<number, number> }} WatchEvents
  */
 
-/** The name of the place that cannot be watched, because every instruction changes it: the program counter. */
+/** The place that cannot be watched: the program counter, because every instruction changes it. */
 const UNWATCHABLE_PLACE = "pc";
 /** The maximum number of cycles in one query. */
-const QUERY_CYCLES = 50000;
+const MAX_QUERY_CYCLES = 50000;
 
-/** @returns {WatchEvents} an empty result */
-const emptyChange = () => ({ cycles: -1, id: 0, change: "", hits: new Map() });
+/** @returns {WatchEvents} a result without a change */
+const createEmptyResult = () => ({ cycles: -1, id: 0, change: "", hits: new Map() });
 
 /**
- * Compiles requested watches. `faults` contains the error messages of impossible watches, by watch id.
+ * Compiles requested watches. `faults` contains the error messages of watches that cannot be compiled, by watch id.
  * @param {RequestedWatch[]} requestedWatches
  * @param {Names} names
  * @returns {{ watches: DataWatch[], faults: Map<number, string> }}
@@ -67,13 +67,13 @@ export function compileWatches(requestedWatches, names) {
   return { watches, faults };
 }
 
-/** Finds changes of watched places. */
+/** Finds the changes of the watched places in the next lines. */
 export class DataWatches {
   /** @param {DataWatch[]} watches the watches; together they use at most MAX_PLACES places */
   constructor(watches) {
     this.watches = watches;
     this.places = [...new Set(watches.flatMap(({ probes, condition }) => [...probes, ...(condition ? condition.places : [])]))];
-    /** The column indexes of each watch in a trace row: for its place, and for its condition. */
+    /** For each watch id, the columns of a trace row that its place uses, and those that its condition uses. */
     this.columns = new Map(watches.map(({ id, probes, condition }) => (
       [id, [probes, condition ? condition.places : []].map((places) => places.map((place) => this.places.indexOf(place)))])));
   }
@@ -83,7 +83,7 @@ export class DataWatches {
   }
 
   /**
-   * Searches the next lines for changes, up to the first change that stops time.
+   * Searches the next lines for changes, up to the first change that stops the machine.
    * @param {Engine} engine
    * @param {Uint8Array} file the session file; not changed
    * @param {PlannedLine[]} planned
@@ -91,7 +91,7 @@ export class DataWatches {
    * @returns {WatchEvents}
    */
   searchLines(engine, file, planned, codes) {
-    const events = emptyChange();
+    const events = createEmptyResult();
     if (this.isEmpty) return events;
     const copy = file.slice();
     let done = 0;
@@ -113,10 +113,10 @@ export class DataWatches {
   }
 
   /**
-   * Returns the instruction that makes the first change that stops time; null if there is none.
+   * Returns the address of the instruction whose change stops the machine first, and the cycles before it; null if there is none.
    * @param {string} row the values before the run
    * @param {string[]} lines the trace lines
-   * @param {WatchEvents} events receives the counts, and the change that stops time
+   * @param {WatchEvents} events receives the counts, and the change that stops the machine
    */
   findStop(row, lines, events) {
     let valuesBefore = rowValues(row);
@@ -136,7 +136,7 @@ export class DataWatches {
   }
 
   /**
-   * Counts a change of a watch. Returns whether the change stops time.
+   * Counts a change of a watch. Returns whether the change stops the machine.
    * @param {DataWatch} watch
    * @param {string[]} before the values of all places
    * @param {string[]} after
@@ -150,7 +150,7 @@ export class DataWatches {
   }
 
   /**
-   * Returns whether a place changes and the condition is true after the change.
+   * Returns whether a change of a watched place counts: the place differs, and the condition is true after the change.
    * @param {DataWatch} watch
    * @param {string[]} before the values of all places
    * @param {string[]} after
@@ -172,18 +172,18 @@ export class DataWatches {
   }
 
   /**
-   * Adds to the counts of changes, after the session has run the lines.
-   * @param {Map<number, number>} hits the numbers of new changes by watch id
+   * Adds the new changes to the counts, after the session has run the lines.
+   * @param {Map<number, number>} hits the number of new changes, by watch id
    */
   count(hits) {
     for (const watch of this.watches) watch.hits += hits.get(watch.id) || 0;
   }
 
   /**
-   * Returns a finder for each watch. A finder searches the past for the last change of its place, and ignores hit counts.
+   * Returns a finder for each watch. A finder searches the past for the last change of its watched place; it ignores hit counts.
    * @param {Engine} engine
    */
-  finders(engine) {
+  createFinders(engine) {
     return this.watches.map((watch) => new LastWatchedChange(engine, watch));
   }
 }
@@ -215,25 +215,25 @@ class LastWatchedChange extends LastChangeFinder {
 }
 
 /**
- * Splits a run line into shorter run lines, each with few enough cycles for one query. Returns a key change unchanged, with 0 cycles.
+ * Splits a `run` line into shorter `run` lines of at most MAX_QUERY_CYCLES cycles. Returns a key change unchanged, with 0 cycles.
  * @param {PlannedLine} planned
  */
 function splitLine(planned) {
   const total = plannedCycles(planned);
   /** @type {(PlannedLine & { cycles: number })[]} */
   const shortLines = planned.change ? [{ ...planned, cycles: 0 }] : [];
-  for (let done = 0; done < total; done += QUERY_CYCLES) {
-    const cycles = Math.min(QUERY_CYCLES, total - done);
+  for (let done = 0; done < total; done += MAX_QUERY_CYCLES) {
+    const cycles = Math.min(MAX_QUERY_CYCLES, total - done);
     shortLines.push({ line: `run ${cycles}`, change: null, cycles });
   }
   return shortLines;
 }
 
 /**
- * Finds stops in advance, at soft breakpoints (arrivals.js) and at data watches. The earliest stop ends the run. This class has the
- * interface of `Arrivals`.
+ * Finds, in advance, the stops at soft breakpoints (arrivals.js) and at data watches. The earliest stop ends the run. This class has the
+ * same interface as `Arrivals`.
  */
-export class SoftStops {
+export class SoftStopFinder {
   /**
    * @param {import("./arrivals.js").Arrivals} arrivals
    * @param {DataWatches} dataWatches
@@ -266,7 +266,7 @@ export class SoftStops {
   }
 
   /**
-   * Adds hits and counted changes after the session has run the lines.
+   * Adds the new hits and changes to the counts, after the session has run the lines.
    * @param {import("./arrivals.js").BreakpointEvents} events the result of `searchLines` for these lines
    */
   count(events) {
@@ -293,8 +293,8 @@ export class SoftStops {
 }
 
 /**
- * Returns the place with a name if this place can be watched on a board; null if not. All `trace` places except the program counter can be
- * watched.
+ * Returns the place that has a name, if this place can be watched on a board; otherwise null. All `trace` places except the program counter
+ * can be watched.
  * @param {string} name
  * @param {string[]} board the answer to `board`
  */

@@ -1,9 +1,9 @@
-// Combines a session in memory with a debugger, the source lines of the program, and breakpoints on these lines. Used by editors, the
-// prompt and tests.
+// Combines a session in memory with a debugger, the source lines of the program, and breakpoints on these lines. The debug adapter, the
+// prompt and the tests use this class.
 //
 //     const engine = await Engine.load(bytes of the module);         (engine/engine.js)
 //     const session = new DebugSession(engine, { board, program });  both are texts; `file` instead of them: the bytes of a session file
-//     session.refused;                                               the texts that the bench rejected
+//     session.rejectedTexts;                                         the texts that the bench rejected
 //     session.breakpoints.add({ line: 12, condition: "r9 = 9" }); await session.applyBreakpoints();
 //     const stop = await session.go();                               runs up to a stop; go({ kind: "over" | "out" | "here" | "change" .. })
 //     stop.why, stop.words, session.line, session.values(["r4", "pc", "lamps"]), session.returns;
@@ -36,15 +36,15 @@ import * as say from "../../words/debug.js";
  * @typedef {{ file?: Uint8Array, board?: string, program?: string }} SessionContents the contents of a new session: the bytes of a session
  *   file, and the texts of the board and the program
  * @typedef {Stop & { words: string, tally: Tally }} DescribedStop the end of a run; `words` is its description. `why` is "pause" if
- *   `shouldContinue` ended it, and "lacks" if the board lacks a place
+ *   `shouldContinue` ended the run, and "lacks" if the board lacks the place in the goal
  */
 
-/** The length of the first piece of a run, in cycles. */
-const FIRST_PIECE = 50000;
+/** The maximum length of the first piece of a run, in cycles. */
+const MAX_FIRST_PIECE_CYCLES = 50000;
 /** The maximum length of a piece in cycles: a step back replays at most one piece (engine/timeline.js). */
-export const LARGEST_PIECE = 500000;
+export const MAX_PIECE_CYCLES = 500000;
 
-/** @type {ShouldContinue} a callback that never ends the work early */
+/** @type {ShouldContinue} a callback that lets the work continue to its end */
 const continueAlways = async () => true;
 
 /** A session with a debugger. */
@@ -55,12 +55,12 @@ export class DebugSession {
    */
   constructor(engine, { file, board = "", program = "" }) {
     const bytes = file ? file.slice() : engine.begin();
-    /** @type {{ word: "wire" | "asm", refusal: Refusal }[]} the refusals of the texts that the bench rejected */
+    /** @type {{ word: "wire" | "asm", refusal: Refusal }[]} the texts that the bench rejected, with its errors */
     this.rejectedTexts = [];
     this.boardText = board;
     this.program = program;
     /** The maximum length of a piece of a run, in cycles. */
-    this.largestPiece = LARGEST_PIECE;
+    this.maxPieceCycles = MAX_PIECE_CYCLES;
     if (!file) {
       this.sendText(engine, bytes, "wire", sentText(board, "#"));
       this.sendText(engine, bytes, "asm", sentText(program, ";"));
@@ -103,8 +103,8 @@ export class DebugSession {
   }
 
   /**
-   * Assembles another text into ROM, without any other change of the machine. Resolves to the refusal if the bench rejects the text, or
-   * else to null.
+   * Assembles another text into ROM, and changes nothing else in the machine. Resolves to the error if the bench rejects the text,
+   * otherwise to null.
    * @param {string} program
    * @returns {Promise<Refusal | null>}
    */
@@ -154,7 +154,7 @@ export class DebugSession {
   }
 
   /**
-   * Runs for a number of cycles, or to an earlier stop. The result has the `why` "passed" if all cycles have run.
+   * Runs for a number of cycles, or to an earlier stop. In the result, `why` is "passed" if all cycles have run.
    * @param {number} cycles
    * @param {ShouldContinue} [shouldContinue]
    * @returns {Promise<DescribedStop>}
@@ -173,7 +173,7 @@ export class DebugSession {
    */
   async runInPieces(goal, shouldContinue, maxCycles = Infinity) {
     const debug = this.debugger;
-    const piece = new PieceSize(Math.min(FIRST_PIECE, this.largestPiece), 1, this.largestPiece);
+    const piece = new PieceSize(Math.min(MAX_FIRST_PIECE_CYCLES, this.maxPieceCycles), 1, this.maxPieceCycles);
     /** @type {Tally} */
     let tally = NO_TALLY;
     for (let done = 0; ;) {
@@ -203,7 +203,7 @@ export class DebugSession {
   }
 
   /**
-   * Describes the condition of a breakpoint that stops time.
+   * Describes the condition of a breakpoint that stops the machine.
    * @param {number} id
    */
   describeBreakpoint(id) {
@@ -211,7 +211,7 @@ export class DebugSession {
   }
 
   /**
-   * Steps one instruction. A step at a call enters the subroutine.
+   * Runs one instruction. If it is a call, the next instruction is the first of the subroutine.
    * @returns {Promise<DescribedStop>}
    */
   async into() {
@@ -223,7 +223,7 @@ export class DebugSession {
   }
 
   /**
-   * Goes back to a goal in the past.
+   * Moves back to a goal in the past.
    * @param {BackGoal} goal
    * @param {ShouldContinue} [shouldContinue]
    */
@@ -233,7 +233,7 @@ export class DebugSession {
     return { ...result, words: wordsOfGone(goal, result, this.counterText, this.breakpoints.get(result.id)) };
   }
 
-  /** Returns to the moment before the last move back. */
+  /** Moves forward again, to the moment before the last move back. */
   forward() {
     const result = this.debugger.goForward();
     return { ...result, words: wordsOfGone({ kind: "forward" }, result, this.counterText) };
@@ -241,7 +241,7 @@ export class DebugSession {
 
   /**
    * Serves typed lines. A run in these lines ends at its first breakpoint. In the result, `words` is a message if a breakpoint ended the
-   * last line, or else "".
+   * last line, otherwise "".
    * @param {string} lines
    * @param {(done: number) => Promise<boolean>} [shouldContinue] called with the number of processed characters. If it returns false, no
    *   line takes effect

@@ -1,5 +1,5 @@
-// The debugger of a session: breakpoints, moves to a goal, stop reasons, values, and moves back in time. The debugger runs in the page's
-// worker and in Node. All its reports come from answers of the bench. The debugger adds only runs and breakpoints to the session.
+// The debugger of a session. It handles breakpoints, moves to a goal, stop reasons, values, and moves back in time. It runs in the page's
+// worker and in Node. All that it reports comes from answers of the bench. It adds only runs and breakpoints to the session.
 //
 //     const session = new WorkerSession(engine, file);               (debug_session.js does this, and also stores the source)
 //     const debug = new Debugger(session);
@@ -9,9 +9,9 @@
 //     debug.values(["r4", "lamps"]); await debug.goBack({ kind: "instruction" }, shouldContinue); debug.goForward();
 //
 // A move has a goal (goals.js). The debugger runs to a near goal at once. For any other goal, `isMoving` is true until `advance` reports a
-// stop or the caller calls `begin` or `endMove`. The bench has the hard breakpoints, which stop time at every arrival. Soft breakpoints
-// have a condition, a hit count or a note. The debugger finds their stops in advance (arrivals.js), so the session file does not contain
-// soft breakpoints.
+// stop or the caller calls `begin` or `endMove`. The bench has the hard breakpoints, which stop the machine at every arrival. Soft
+// breakpoints have a condition, a hit count or a note. The debugger finds their stops in advance (arrivals.js), so the session file does
+// not contain soft breakpoints.
 
 import { readBoard, readRun } from "../bench/answers.js";
 import { hex } from "../bench/numbers.js";
@@ -25,7 +25,7 @@ import { CYCLES_PER_SECOND } from "../time/mcs4_time.js";
 import { cyclesToGoal, searchGoal, truncateLines } from "./goal_search.js";
 import { Arrivals, MAX_NOTES, createEmptyEvents } from "./arrivals.js";
 import { compileSearchCondition } from "./condition_search.js";
-import { DataWatches, SoftStops, compileWatches } from "./data_watches.js";
+import { DataWatches, SoftStopFinder, compileWatches } from "./data_watches.js";
 import { parseCounter, createWatcher } from "./goals.js";
 import { findLastArrival, findLastCall } from "./last_arrival.js";
 import { isSoft, compileBreakpoint } from "./soft_breakpoints.js";
@@ -50,13 +50,14 @@ import { CommonMistakes } from "./common_mistakes.js";
  * @typedef {import("../engine/worker_session.js").LinesResult} LinesResult
  * @typedef {import("../engine/worker_session.js").WorkerSession} WorkerSession
  *
- * A callback after each piece of work. Resolves to true to continue. `done` is the number of cycles searched or run so far. `tally` is the
- * tally of the last piece of a run.
+ * A callback that is called after each piece of work. It resolves to true to continue. `done` is the number of cycles searched or run so
+ * far. `tally` contains the breakpoint events of the last piece of a run.
  * @typedef {(done: number, tally?: Tally) => Promise<boolean>} ShouldContinue
  *
- * A stop. `why` is the reason: "goal", the word that ended the run ("break", "watch", "code"), a refusal, "usual" for a common mistake, or
- * "recorded" for the end of a recording. `id`: the breakpoint or data watch, 0 for none. `change`: a description of the watched change.
- * `cycles`: the cycles since the start of the move or run. `returns`: true if a return reached the goal.
+ * A stop. `why` is the reason: "goal", the bench's reason for the end of a run ("break", "watch", "code"), an error answer of the bench,
+ * "usual" for a common mistake, or "recorded" for the end of a recording. `id`: the id of the breakpoint or data watch, 0 for none.
+ * `change`: a description of the watched change. `cycles`: the number of cycles since the start of the move or run. `returns`: true if the
+ * goal was reached by a return from a subroutine.
  * @typedef {{ why: string, id: number, cycles: number, returns: boolean, change?: string }} Stop
  *
  * The breakpoint events since the last report. `hits`: pairs of a breakpoint id and its number of new hits. `notes`: the last logged notes.
@@ -76,15 +77,15 @@ import { CommonMistakes } from "./common_mistakes.js";
 
 /** The maximum distance of a near goal in cycles: one second of a real 4004. */
 export const NEAR_CYCLES = CYCLES_PER_SECOND;
-/** The maximum distances of a near goal in cycles, for a change or condition, and for a number of instructions. */
-const NEAR_CHANGE = 10000000;
-const NEAR_COUNT = 100000000;
+/** The maximum distances of a near goal, in cycles: for a change or a condition, and for a number of instructions. */
+const NEAR_CHANGE_CYCLES = 10000000;
+const NEAR_COUNT_CYCLES = 100000000;
 
-/** @type {Tally} a tally without events */
+/** @type {Tally} a tally without any event */
 export const NO_TALLY = { hits: [], notes: [], noted: 0, usual: [] };
 
 /**
- * Joins two tallies.
+ * Joins the events of two tallies.
  * @param {Tally} one
  * @param {Tally} other the later tally
  * @returns {Tally}
@@ -103,8 +104,8 @@ export function joinTallies(one, other) {
  * @param {Goal} goal
  */
 export function nearDistance({ kind }) {
-  if (kind === "change" || kind === "when") return NEAR_CHANGE;
-  return kind === "count" ? NEAR_COUNT : NEAR_CYCLES;
+  if (kind === "change" || kind === "when") return NEAR_CHANGE_CYCLES;
+  return kind === "count" ? NEAR_COUNT_CYCLES : NEAR_CYCLES;
 }
 
 /** The debugger of a session. */
@@ -113,7 +114,7 @@ export class Debugger {
   constructor(session) {
     this.session = session;
     this.watches = new DataWatches([]);
-    this.arrivals = this.softStops([]);
+    this.arrivals = this.createStopFinder([]);
     this.commonMistakes = new CommonMistakes(session);
     /** @type {import("../engine/key_queue.js").PlannedLine[] | null} lines that have run but are not yet checked for mistakes */
     this.uncheckedLines = null;
@@ -123,7 +124,7 @@ export class Debugger {
     this.hardBreakpoints = null;
     /** @type {import("../conditions/condition_language.js").Names | null} the names for conditions; null before they are set */
     this.names = null;
-    /** @type {Watcher | null} the watcher of the current move */
+    /** @type {Watcher | null} the watcher that detects the goal of the current move */
     this.watcher = null;
     /** The cycle count at the start of the move or run. */
     this.startTotal = session.count.total;
@@ -138,7 +139,7 @@ export class Debugger {
 
   /**
    * Sets the breakpoints, at most one per address. Returns the bench lines for the hard breakpoints, which the caller must send. Also
-   * returns the ids and error messages of breakpoints that cannot be compiled. Such a breakpoint stops time at every arrival.
+   * returns the ids and error messages of breakpoints that cannot be compiled. Such a breakpoint stops the machine at every arrival.
    * @param {LocatedBreakpoint[]} placed the enabled breakpoints
    * @param {Names} names
    * @returns {{ lines: string, faults: [number, string][] }}
@@ -152,22 +153,22 @@ export class Debugger {
       return soft;
     });
     this.names = names;
-    this.arrivals = this.softStops(softBreakpoints);
+    this.arrivals = this.createStopFinder(softBreakpoints);
     this.hardBreakpoints = new Map(placed.filter((each) => !isSoft(each)).map(({ id, address }) => [address, id]));
     return { lines: this.breakLines(), faults };
   }
 
   /**
-   * Returns the finder of soft breakpoints and data watches.
+   * Returns an object that finds the stops at soft breakpoints and data watches.
    * @param {SoftBreakpoint[]} breakpoints
    */
-  softStops(breakpoints) {
-    return new SoftStops(new Arrivals(breakpoints), this.watches, () => this.session.codes);
+  createStopFinder(breakpoints) {
+    return new SoftStopFinder(new Arrivals(breakpoints), this.watches, () => this.session.codes);
   }
 
   /**
-   * Sets the data watches. The RAM characters that the bench watches stay watched. Returns error messages for impossible watches, by watch
-   * id.
+   * Sets the data watches. The bench still watches its own RAM characters. Returns the error messages of watches that cannot be compiled,
+   * by watch id.
    * @param {RequestedWatch[]} requestedWatches
    * @param {Names} names
    */
@@ -175,11 +176,11 @@ export class Debugger {
     const hits = new Map(this.watches.watches.map((watch) => [watch.id, watch.hits]));
     const { watches, faults } = compileWatches(requestedWatches, names);
     this.watches = new DataWatches(watches.map((watch) => ({ ...watch, hits: hits.get(watch.id) || 0 })));
-    this.arrivals = new SoftStops(this.arrivals.arrivals, this.watches, () => this.session.codes);
+    this.arrivals = new SoftStopFinder(this.arrivals.arrivals, this.watches, () => this.session.codes);
     return faults;
   }
 
-  /** Returns the bench lines after which the bench has the hard breakpoints and no others. */
+  /** Returns the bench lines that set the hard breakpoints and delete all others. */
   breakLines() {
     const { hardBreakpoints } = this;
     if (!hardBreakpoints) return "";
@@ -191,7 +192,7 @@ export class Debugger {
     return [...removalLines, ...additionLines].join("");
   }
 
-  // --- Running time ---
+  // --- Running ---
 
   /** Starts a move or run: resets the cycle count of the move. */
   begin() {
@@ -204,33 +205,34 @@ export class Debugger {
   /**
    * Runs for a number of cycles, including the queued key changes, up to the goal of the move or an earlier stop.
    * @param {number} cycles
-   * @param {boolean} [isHurried] true if the lamps must be shown soon; `checkLastLines` then finds the mistakes that do not stop time
+   * @param {boolean} [isHurried] true if the caller must show the lamps soon; `checkLastLines` then searches for mistakes later, if
+   *   mistakes do not stop the machine
    * @returns {DebugFrame}
    */
   advance(cycles, isHurried = false) {
     const { session } = this;
     const { engine, file } = session;
     let planned = session.queue.plan(cycles);
-    const toGoal = this.watcher ? cyclesToGoal(engine, file, planned, this.watcher) : -1;
-    if (toGoal >= 0) planned = truncateLines(planned, toGoal);
+    const cyclesBeforeGoal = this.watcher ? cyclesToGoal(engine, file, planned, this.watcher) : -1;
+    if (cyclesBeforeGoal >= 0) planned = truncateLines(planned, cyclesBeforeGoal);
     const events = this.arrivals.searchLines(engine, file, planned);
     if (events.cycles >= 0) planned = truncateLines(planned, events.cycles);
     const isLate = isHurried && this.commonMistakes.stops.size === 0 && session.recording === null;
-    const usual = isLate ? { faults: [], stop: -1 } : this.commonMistakes.searchLines(planned);
-    if (usual.stop >= 0) planned = truncateLines(planned, usual.stop);
+    const mistakes = isLate ? { faults: [], stop: -1 } : this.commonMistakes.searchLines(planned);
+    if (mistakes.stop >= 0) planned = truncateLines(planned, mistakes.stop);
     const countBefore = session.count.total;
     const frame = session.advanceBy(planned);
     this.arrivals.count(events);
     this.uncheckedLines = isLate ? planned : null;
-    const stop = this.findOtherStop(frame, usual.stop) || this.findStop(frame, events, toGoal);
+    const stop = this.findOtherStop(frame, mistakes.stop) || this.findStop(frame, events, cyclesBeforeGoal);
     if (stop) this.endMove();
-    const tally = { ...this.createTally(events, stop, countBefore), usual: [...this.takeLateMistakes(), ...usual.faults] };
+    const tally = { ...this.createTally(events, stop, countBefore), usual: [...this.takeLateMistakes(), ...mistakes.faults] };
     return { ...frame, stop, tally };
   }
 
   /**
-   * Checks the last lines for mistakes if `advance` has not checked them. The member `next` of the session still contains the session file
-   * from before these lines.
+   * Checks the last lines for mistakes, if `advance` has not checked them. The session file from before these lines is still in
+   * `session.next`.
    */
   checkLastLines() {
     const { uncheckedLines } = this;
@@ -246,10 +248,10 @@ export class Debugger {
   /**
    * Returns the stop for a mistake or for the end of a recording; null if there is none.
    * @param {Frame} frame
-   * @param {number} usual the cycles before the mistake, -1 for none
+   * @param {number} cyclesToMistake the cycles before the mistake, -1 for none
    */
-  findOtherStop(frame, usual) {
-    if (usual >= 0 && frame.cycles === usual) return this.createStop("usual");
+  findOtherStop(frame, cyclesToMistake) {
+    if (cyclesToMistake >= 0 && frame.cycles === cyclesToMistake) return this.createStop("usual");
     const { recorder } = this.session;
     if (!recorder || !recorder.stops || frame.end) return null;
     recorder.stops = false;
@@ -266,16 +268,16 @@ export class Debugger {
   }
 
   /**
-   * Returns the stop at the goal, at a breakpoint or by a bench answer; null if there is none.
+   * Returns the stop at the goal, at a breakpoint, or for another reason that the bench reports; null if there is none.
    * @param {Frame} frame
-   * @param {BreakpointEvents} events the breakpoint events found in advance
-   * @param {number} toGoal the cycles before the goal, -1 if it was not found
+   * @param {BreakpointEvents} events the breakpoint events that were found in advance
+   * @param {number} cyclesBeforeGoal the cycles before the goal, -1 if it was not found
    * @returns {Stop | null}
    */
-  findStop(frame, events, toGoal) {
+  findStop(frame, events, cyclesBeforeGoal) {
     const cycles = this.session.count.total - this.startTotal;
     const returns = this.watcher !== null && this.watcher.returns;
-    if (toGoal >= 0 && frame.cycles === toGoal) return { why: "goal", id: 0, cycles, returns };
+    if (cyclesBeforeGoal >= 0 && frame.cycles === cyclesBeforeGoal) return { why: "goal", id: 0, cycles, returns };
     if (events.cycles >= 0 && frame.cycles === events.cycles) {
       return { why: events.why, id: events.id, cycles, returns: false, change: events.change };
     }
@@ -307,7 +309,7 @@ export class Debugger {
 
   /**
    * Returns the tally of lines that have run.
-   * @param {BreakpointEvents} events the breakpoint events found in advance
+   * @param {BreakpointEvents} events the breakpoint events that were found in advance
    * @param {{ why: string, id: number } | null} stop
    * @param {number} before the cycle count before the lines
    * @returns {Tally}
@@ -322,7 +324,7 @@ export class Debugger {
   // --- Moves ---
 
   /**
-   * Moves to a near goal or an earlier stop. If the goal is not near, only starts the move; `advance` continues it.
+   * Moves to a near goal or an earlier stop. If the goal is not near, only starts the move, and `advance` continues it.
    * @param {Goal} requestedGoal
    * @param {number} maxDistance the maximum distance of a near goal, in cycles
    * @param {ShouldContinue} shouldContinue
@@ -351,7 +353,7 @@ export class Debugger {
   }
 
   /**
-   * Resolves to the breakpoint events in the next cycles, up to the first stop, without key changes.
+   * Resolves to the breakpoint events in the next cycles, up to the first stop. Assumes that no key changes.
    * @param {number} cycles
    * @param {ShouldContinue} shouldContinue
    */
@@ -401,7 +403,7 @@ export class Debugger {
   }
 
   /**
-   * Returns a goal with its compiled condition. Throws if the condition has an error, which the caller must have ruled out.
+   * Returns a goal with its compiled condition. Throws an error if the condition is invalid; callers check the condition first.
    * @template {Goal | BackGoal} Wanted
    * @param {Wanted} goal
    * @returns {Wanted}
@@ -416,7 +418,7 @@ export class Debugger {
   // --- The past ---
 
   /**
-   * Goes back to a goal in the past. The breakpoints stay as they are now.
+   * Moves back to a goal in the past. The current breakpoints remain set.
    * @param {BackGoal} goal
    * @param {(done?: number) => Promise<boolean>} shouldContinue
    * @returns {Promise<BackResult>}
@@ -432,7 +434,7 @@ export class Debugger {
   }
 
   /**
-   * Resolves to the moment of a goal in the past.
+   * Searches the past for a goal. Resolves to the moment at which the goal was reached.
    * @param {BackGoal} goal
    * @param {(done?: number) => Promise<boolean>} shouldContinue
    * @returns {Promise<BackSearchResult>}
@@ -447,8 +449,8 @@ export class Debugger {
   }
 
   /**
-   * Returns the breakpoints that stop time, in the form of soft breakpoints. Before breakpoints are set, returns the breakpoints of the
-   * bench.
+   * Returns the breakpoints that stop the machine, in the form of soft breakpoints. Until `setBreakpoints` is called, these are the
+   * breakpoints of the bench.
    * @returns {SoftBreakpoint[]}
    */
   stoppingBreakpoints() {
@@ -475,7 +477,7 @@ export class Debugger {
   }
 
   /**
-   * Returns to the moment before the last move back.
+   * Moves forward again, to the moment before the last move back.
    * @returns {BackResult}
    */
   goForward() {
@@ -485,7 +487,7 @@ export class Debugger {
   }
 
   /**
-   * Makes a past moment the present, with the current breakpoints.
+   * Replaces the state of the session with that of another moment, but with the current breakpoints.
    * @param {Present} present
    */
   enterMoment(present) {

@@ -1,11 +1,11 @@
-// Searches for a goal in the future: finds the number of cycles until the goal, with queries or on a temporary copy of the session. The
-// session does not change during the search, even if the page is closed. Afterwards, the session runs for that number of cycles.
+// Searches for a goal in the future: finds the number of cycles until the machine reaches the goal. The search uses queries, or runs a
+// temporary copy of the session, so that the session itself does not change. Afterwards, the session runs for that number of cycles.
 
 import { CancelledError } from "../bench/bench_errors.js";
 import { MAX_RUN_CYCLES } from "../engine/key_queue.js";
 import { FIRST_PIECE_CYCLES, PieceSize } from "../engine/piece_size.js";
 import { ForecastAnswers } from "../engine/forecast_answers.js";
-import { LARGEST_PIECE, missingGoalEnd, createWatcher } from "./goals.js";
+import { MAX_PIECE_CYCLES, missingGoalEnd, createWatcher } from "./goals.js";
 
 /**
  * @typedef {import("../engine/engine_host.js").EngineHost} Engine
@@ -16,7 +16,7 @@ import { LARGEST_PIECE, missingGoalEnd, createWatcher } from "./goals.js";
  */
 
 /**
- * Returns the bench lines that run a number of cycles, with the watcher's queries between the runs.
+ * Returns the bench lines that run a number of cycles, with the watcher's queries before and after each run.
  * @param {Watcher} watcher
  * @param {number} cycles
  */
@@ -46,7 +46,7 @@ function searchAnswers(answers, watcher) {
 }
 
 /**
- * Searches for a goal from the current state, without key changes.
+ * Searches for a goal from the current state. Assumes that no key changes.
  * @param {Engine} engine
  * @param {Uint8Array} file the session file; not changed
  * @param {Goal} goal
@@ -61,9 +61,9 @@ export async function searchGoal(engine, file, goal, shouldContinue, maxCycles, 
   const watcher = createWatcher(engine, file, goal, codes);
   if (!watcher) return { cycles: 0, isReached: false, end: missingGoalEnd(goal) };
   if (watcher.first) engine.serve(copy, watcher.first, copy);
-  const piece = new PieceSize(FIRST_PIECE_CYCLES, 1, LARGEST_PIECE);
+  const piece = new PieceSize(FIRST_PIECE_CYCLES, 1, MAX_PIECE_CYCLES);
   for (let done = 0; done < maxCycles;) {
-    const cycles = Math.min(piece.size, watcher.most(), maxCycles - done);
+    const cycles = Math.min(piece.size, watcher.maxRun(), maxCycles - done);
     const found = piece.measure(() => (
       searchAnswers(new ForecastAnswers(engine.serve(copy, pieceLines(watcher, cycles), copy).answers), watcher)));
     if (found) return { ...found, cycles: done + found.cycles };
@@ -86,7 +86,7 @@ export function plannedCycles({ line, change }) {
  * @param {Engine} engine
  * @param {Uint8Array} file the session file; not changed
  * @param {PlannedLine[]} planned the next lines
- * @param {Watcher} watcher a watcher that has read the answers to all earlier runs
+ * @param {Watcher} watcher a watcher that has examined all earlier runs
  */
 export function cyclesToGoal(engine, file, planned, watcher) {
   const lines = planned.map((each) => (
@@ -108,7 +108,7 @@ export function cyclesToGoal(engine, file, planned, watcher) {
 }
 
 /**
- * Returns the first lines, as far as they run a number of cycles. Shortens the last run if necessary.
+ * Returns the first of the given lines, up to a number of cycles. Shortens the last run if necessary.
  * @param {PlannedLine[]} planned
  * @param {number} cycles
  * @returns {PlannedLine[]}

@@ -1,5 +1,5 @@
-// Creates watchers for the goals of moves. A watcher detects that a run reaches the goal. Most watchers query the bench before a run: the
-// answers describe what the run will do.
+// Creates watchers for the goals of moves. A watcher detects whether a run reaches the goal. Most watchers query the bench before a run,
+// because the answers describe what the run will do.
 
 import { readBoard, readCounter, readRegisters } from "../bench/answers.js";
 import { parsePlace } from "../conditions/places.js";
@@ -15,28 +15,29 @@ import { becomesTrue } from "./condition_search.js";
  * @typedef {import("../engine/forecast_answers.js").TracedInstruction} TracedInstruction
  * @typedef {import("./condition_search.js").SearchCondition} SearchCondition
  *
- * The goal of a move. `over`: the end of the next instruction, or of the subroutine that this instruction calls. `out`: the return from the
- * current subroutine. `here`: an address. `count`: a number of instructions. `change`: a change of a place. `when`: a condition becomes
- * true; `searchCondition` is the compiled condition.
+ * The goal of a move, by its `kind`. `over`: the end of the next instruction, or of the subroutine that this instruction calls. `out`: the
+ * return from the current subroutine. `here`: an address. `count`: a number of instructions. `change`: a change of a place. `when`: a
+ * condition becomes true; `searchCondition` is the compiled condition.
  * @typedef {{ kind: "over" } | { kind: "out" } | { kind: "here", address: number } | { kind: "count", count: number } | { kind: "change",
  * place: string } | { kind: "when", condition: string, searchCondition?: SearchCondition }} Goal
  *
- * The result of a search for a goal. `cycles`: the number of cycles up to the goal or an earlier stop. `end`: the word that ended the run
- * early; "bound" if the search reached its limit; "lacks" if the board lacks the place; "outside" if no subroutine is open.
+ * The result of a search for a goal. `cycles`: the number of cycles up to the goal or an earlier stop. `end`: the bench's reason for an
+ * early end of the run; "bound" if the search reached its limit; "lacks" if the board lacks the place; "outside" if the program is in no
+ * subroutine.
  * @typedef {{ cycles: number, isReached: boolean, end: string }} SearchResult
  *
- * The watcher of a goal. `first`: a bench line to send once before all runs, "" for none. `most`: returns the maximum length of the next
+ * The watcher of a goal. `first`: a bench line to send once before all runs, "" for none. `maxRun`: returns the maximum length of the next
  * run in cycles. `before`: returns the queries before a run. `after`: the queries after a run. `take`: reads the answers to the queries and
  * to the run, and returns the result. `returns`: true if a return from a subroutine reaches the goal.
- * @typedef {{ first: string, most: () => number, before: (cycles: number) => string, after: string,
+ * @typedef {{ first: string, maxRun: () => number, before: (cycles: number) => string, after: string,
  *   take: (answers: ForecastAnswers) => SearchResult, returns: boolean }} Watcher
  */
 
 /** The maximum length of a piece of a search, in cycles. */
-export const LARGEST_PIECE = 4 * MAX_RUN_CYCLES;
+export const MAX_PIECE_CYCLES = 4 * MAX_RUN_CYCLES;
 
 /**
- * Reads an answer to `regs`. Returns the program counter, and in `isOwed` whether the second cycle of an instruction is pending.
+ * Reads an answer to `regs`. Returns the program counter, and whether the second cycle of an instruction is pending (`isOwed`).
  * @param {string} regs
  */
 export function parseCounter(regs) {
@@ -53,7 +54,7 @@ export function parseCounter(regs) {
 function traceWatcher(places, goal) {
   return {
     first: "",
-    most: () => LARGEST_PIECE,
+    maxRun: () => MAX_PIECE_CYCLES,
     before: (cycles) => `trace ${cycles}${places}\n`,
     after: "",
     take: (answers) => {
@@ -70,8 +71,8 @@ function traceWatcher(places, goal) {
 }
 
 /**
- * Returns a watcher for a condition. If a key change made the condition true before a run, the goal is one cycle after the start of the
- * run.
+ * Returns a watcher for a condition. If a key change between two runs made the condition true, the goal is one cycle after the start of the
+ * second run.
  * @param {SearchCondition} condition
  * @returns {Watcher}
  */
@@ -123,7 +124,7 @@ function countWatcher(count, isOwed) {
   let wasOwed = isOwed;
   return {
     first: "",
-    most: () => instructionsLeft,
+    maxRun: () => instructionsLeft,
     before: (cycles) => `count ${cycles}\n`,
     after: "regs\n",
     take: (answers) => {
@@ -152,7 +153,7 @@ function addressWatcher(engine, file, address) {
   if (!answer.startsWith("ok ")) return instructionWatcher(address);
   return {
     first,
-    most: () => LARGEST_PIECE,
+    maxRun: () => MAX_PIECE_CYCLES,
     before: () => "",
     after: "regs\n",
     take: (answers) => {
@@ -165,7 +166,7 @@ function addressWatcher(engine, file, address) {
 }
 
 /**
- * Returns a watcher that examines the addresses of all instructions, except the first one, which is the current position.
+ * Returns a watcher that examines the addresses of all instructions, except the first one, which is at the current position.
  * @param {number} address
  */
 function instructionWatcher(address) {
@@ -187,7 +188,7 @@ function isInSubroutine(regs, codes) {
 }
 
 /**
- * Returns the `end` of a search for a goal that does not exist.
+ * Returns the `end` of the search result for a goal that does not exist in the current state.
  * @param {Goal} goal
  */
 export function missingGoalEnd(goal) {
@@ -200,7 +201,7 @@ export function missingGoalEnd(goal) {
  * @param {Uint8Array} file the session file; not changed
  * @param {Goal} goal
  * @param {() => Uint8Array} [codes] returns the contents of ROM
- * @returns {Watcher | null} null if the goal does not exist
+ * @returns {Watcher | null} null if the goal does not exist in the current state
  */
 export function createWatcher(engine, file, goal, codes = () => romCodes(engine, file)) {
   if (goal.kind === "here") return addressWatcher(engine, file, goal.address);

@@ -1,6 +1,6 @@
-// Searches the past for the last arrival at a breakpoint, the last change of a watched place, or the last call of an open subroutine. A
-// copy of the session, with the current breakpoints, replays the past in blocks. The search ignores breakpoints with a note, and hit
-// counts.
+// Searches the past for the last arrival at a breakpoint, the last change of a watched place, or the call of a subroutine that has not
+// returned. A copy of the session, with the current breakpoints, replays the past in blocks. The search ignores hit counts, and breakpoints
+// that log a note.
 
 import { readItems, watchedPlaces } from "../bench/answers.js";
 import { searchResult, makeChangeFinder, searchPast } from "../engine/past_search.js";
@@ -19,7 +19,7 @@ import { parseCounter } from "./goals.js";
  */
 
 /** Matches bench lines that set or delete breakpoints or watches. */
-const MARK_LINE = /^(un)?(break|watch) /;
+const BREAKPOINT_OR_WATCH_LINE = /^(un)?(break|watch) /;
 /** The length of a JMS in cycles. */
 const JMS_CYCLES = 2;
 
@@ -32,12 +32,12 @@ class LastArrivalFinder {
   constructor(session, breakpoints) {
     this.engine = session.engine;
     this.arrivals = new Arrivals(breakpoints);
-    /** The cycle count and the program counter at the present moment. An arrival at this moment does not count. */
+    /** The cycle count and the program counter at present. An arrival at the present moment does not count. */
     this.presentMoment = { total: session.count.total, counter: parseCounter(session.ask("regs\n")[0]).counter };
     this.copy = new Uint8Array(0);
     this.total = 0;
     /** The cycle count at the last arrival that was found. */
-    this.foundAt = 0;
+    this.lastArrivalTotal = 0;
   }
 
   /**
@@ -55,7 +55,7 @@ class LastArrivalFinder {
   }
 
   /**
-   * Replays units of the past. Returns the last arrival in these units; null if there is none.
+   * Replays a part of the past, given as units. Returns the last arrival in these units; null if there is none.
    * @param {Unit[]} units
    * @returns {BackSearchResult | null}
    */
@@ -66,8 +66,8 @@ class LastArrivalFinder {
     let [lines, count] = ["", 0];
     for (const { line, cycles, moment } of units) {
       if (cycles === 0) {
-        // The replay skips lines that changed breakpoints in the past, and runs without a cycle.
-        if (MARK_LINE.test(line) || /^(run|step)\b/.test(line)) continue;
+        // The replay skips lines that changed breakpoints in the past, and runs of no cycle.
+        if (BREAKPOINT_OR_WATCH_LINE.test(line) || /^(run|step)\b/.test(line)) continue;
         [lines, count] = [`${lines}${line}\n`, count + 1];
         continue;
       }
@@ -78,7 +78,7 @@ class LastArrivalFinder {
           && breakpoint !== null && breakpoint.address === presentMoment.counter;
         if (breakpoint && !isNow) {
           found = searchResult({ moment: { ...moment, cycles: moment.cycles + cyclesRun }, end: "break", id: breakpoint.id });
-          this.foundAt = countBefore + cyclesRun;
+          this.lastArrivalTotal = countBefore + cyclesRun;
         }
         return false;
       });
@@ -91,11 +91,11 @@ class LastArrivalFinder {
 }
 
 /**
- * Returns the later one of two aims; the first searchResult if their moments are equal.
+ * Returns the search result with the later moment: `one` if the moments are equal, and the other result if one of them is null.
  * @param {BackSearchResult | null} one
  * @param {BackSearchResult | null} other
  */
-function laterAim(one, other) {
+function laterResult(one, other) {
   if (!one || !other) return one || other;
   const [a, b] = [one, other].map(({ moment }) => moment || { segment: -1, entry: -1, cycles: -1 });
   const isLater = [b.segment - a.segment, b.entry - a.entry, b.cycles - a.cycles].find((each) => each !== 0) || 0;
@@ -103,26 +103,26 @@ function laterAim(one, other) {
 }
 
 /**
- * Returns a finder that calls several finders and returns their latest searchResult.
+ * Returns a finder that calls several finders, and returns the latest of their results.
  * @param {Finder[]} finders
  * @returns {Finder}
  */
 function combineFinders(finders) {
   return {
     begin: ({ file, count }) => finders.forEach((finder) => finder.begin({ file: file.slice(), count })),
-    among: (units) => finders.map((finder) => finder.among(units)).reduce(laterAim, null),
+    among: (units) => finders.map((finder) => finder.among(units)).reduce(laterResult, null),
   };
 }
 
 /**
- * The watched places that the bench does not watch: a place ("" for none), and the places of the data watches.
+ * The places to search that the bench does not watch: `place` ("" for none), and those of the data watches.
  * @typedef {{ place: string, watches?: import("./data_watches.js").DataWatches }} ExtraWatches
  */
 
 /**
- * Finds the last arrival or change before the present. Resolves to its moment, or else to the start of the recorded past.
+ * Finds the last arrival or change before the present. Resolves to its moment, or to the start of the recorded past if there is none.
  * @param {WorkerSession} session
- * @param {SoftBreakpoint[]} breakpoints the breakpoints that stop time
+ * @param {SoftBreakpoint[]} breakpoints the breakpoints that stop the machine
  * @param {ExtraWatches} extraWatches
  * @param {ShouldContinue} shouldContinue
  * @returns {Promise<BackSearchResult>}
@@ -132,7 +132,7 @@ export async function findLastArrival(session, breakpoints, { place, watches }, 
   const places = [...watchedPlaces(session.ask("watches\n")[0]), ...(place === "" ? [] : [place])];
   const changes = places.map((each) => makeChangeFinder(engine, file, each));
   if (changes.some((each) => each === null)) return searchResult({ why: "lacks", place });
-  const finders = [...changes.flatMap((each) => (each ? [each] : [])), ...(watches ? watches.finders(engine) : [])];
+  const finders = [...changes.flatMap((each) => (each ? [each] : [])), ...(watches ? watches.createFinders(engine) : [])];
   const all = combineFinders([...(breakpoints.length > 0 ? [new LastArrivalFinder(session, breakpoints)] : []), ...finders]);
   const { found, beginning } = await searchPast(engine, timeline, all, shouldContinue);
   if (found) return found;
@@ -142,7 +142,7 @@ export async function findLastArrival(session, breakpoints, { place, watches }, 
 }
 
 /**
- * Finds the start of an open subroutine: resolves to the moment after the JMS that called the subroutine.
+ * Finds the start of a subroutine that has not returned. Resolves to the moment after the JMS that called the subroutine.
  * @param {WorkerSession} session
  * @param {number} call the address of the JMS
  * @param {string[]} returns the return addresses before the JMS, newest first
@@ -153,7 +153,7 @@ export async function findLastCall(session, call, returns, shouldContinue) {
   const holds = (/** @type {string[]} */ [answer]) => returns.every((each, at) => answer.split(",")[at] === each);
   const finder = new LastArrivalFinder(session, [{ id: 0, address: call, from: 1, hits: 0, places: ["ret"], holds, words: null }]);
   const { found } = await searchPast(session.engine, session.timeline, finder, shouldContinue);
-  const cyclesBack = session.count.total - finder.foundAt - JMS_CYCLES;
+  const cyclesBack = session.count.total - finder.lastArrivalTotal - JMS_CYCLES;
   if (!found || cyclesBack < 0) return searchResult({ why: "short" });
   const moment = cyclesBack === 0 ? session.timeline.end : session.timeline.before(cyclesBack);
   return moment ? searchResult({ moment }) : searchResult({ why: "short" });

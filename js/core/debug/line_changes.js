@@ -1,5 +1,5 @@
-// Collects the changes that the last source lines made. At each pause, adds the changes of the last step: one instruction, or a call that
-// the user stepped over.
+// Collects the changes of the machine state that each of the last source lines made. At each pause, adds the changes that the last step
+// made. A step is one instruction, or a call that the user stepped over.
 //
 //     const changes = new LineChanges();
 //     changes.addPause(machineState, cycles, map);   at a pause; `machineState` is the machine state, `cycles` is the cycle count
@@ -30,14 +30,14 @@ export function describeChanges(before, after) {
 }
 
 /**
- * Returns the number of the source line whose instruction was the only step between two pauses; 0 if there is none. The step of a call
- * includes the subroutine.
+ * Returns the number of the source line whose instruction was the only step between two pauses; 0 if there is no such line. A call and its
+ * subroutine are one step.
  * @param {MachineState} before
  * @param {MachineState} after
  * @param {number} cycles the cycles between the pauses
  * @param {SourceMap} map
  */
-function steppedLine({ registers: before }, { registers: after }, cycles, map) {
+function findSteppedLine({ registers: before }, { registers: after }, cycles, map) {
   const address = parseInt(before.counter, 16);
   if (!map.beginsInstruction(address) || before.owed !== "0" || after.owed !== "0") return 0;
   const line = map.lineOf(address);
@@ -45,12 +45,12 @@ function steppedLine({ registers: before }, { registers: after }, cycles, map) {
   const name = head ? head.text.toUpperCase() : "";
   const size = map.sizes[line];
   if (cycles === (name === "FIN" ? 2 : size)) return line;
-  // Only the newest return address is compared because nested calls can have overwritten older stack entries.
+  // Only the newest return address is compared, because nested calls can have overwritten older entries of the call stack.
   const isBack = parseInt(after.counter, 16) === address + size && before.returns[0] === after.returns[0];
   return name === "JMS" && isBack ? line : 0;
 }
 
-/** The changes that the last source lines made. */
+/** The changes of the machine state that the last source lines made. */
 export class LineChanges {
   constructor() {
     /** @type {MachineState | null} the state at the last pause; `cycles` is the cycle count at that pause */
@@ -74,11 +74,11 @@ export class LineChanges {
    */
   addPause(machineState, cycles, map) {
     const { before } = this;
-    const elapsed = cycles - this.cycles;
+    const elapsedCycles = cycles - this.cycles;
     this.before = machineState;
     this.cycles = cycles;
-    if (before && map && elapsed === 0) return;
-    const line = before && map && elapsed > 0 ? steppedLine(before, machineState, elapsed, map) : 0;
+    if (before && map && elapsedCycles === 0) return;
+    const line = before && map && elapsedCycles > 0 ? findSteppedLine(before, machineState, elapsedCycles, map) : 0;
     if (!before || line === 0) {
       this.lines = new Map();
       return;

@@ -13,7 +13,7 @@ import * as say from "../../words/debug.js";
  */
 
 /**
- * Describes a RAM character: its chip, register and number.
+ * Returns a description of a RAM character: its chip, register and number.
  * @param {number} byte the SRC byte that selects the character
  */
 export function describeCharacter(byte) {
@@ -129,7 +129,7 @@ export class MachineState {
   }
 
   /**
-   * Returns all values that an instruction can change, by name, in report order.
+   * Returns all values that an instruction can change, by name, in the order in which they are reported.
    * @returns {Map<string, string>}
    */
   all() {

@@ -1,5 +1,5 @@
-// Computes the values of places from a snapshot, in the form of answers to `trace` and `state`. With these values, the page evaluates
-// expressions without a query to the bench.
+// Computes the values of places from a snapshot, in the spelling of `trace` and `state`. With these values, the page evaluates expressions
+// without a query to the bench.
 
 import { parseItems } from "../bench/state_line.js";
 import { hex, parseNumber, indices } from "../bench/numbers.js";
@@ -52,7 +52,7 @@ function registerValue(place, machineState) {
 }
 
 /**
- * Returns the value of a place. Like `trace`, returns "0" if the board does not have the place.
+ * Returns the value of a place; "0", as `trace` does, if the board does not have the place.
  * @param {string} place a place that `trace` or `state` reports
  * @param {MachineState} machineState
  * @param {Board} board

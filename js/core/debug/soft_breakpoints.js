@@ -9,15 +9,15 @@ import * as say from "../../words/debug.js";
  * @typedef {import("./arrivals.js").SoftBreakpoint} SoftBreakpoint
  * @typedef {import("../conditions/condition_language.js").Names} Names
  *
- * A breakpoint at an address. `condition`: the text of the condition, "" for none. `from`: the number of the first hit that stops time; 1
- * means every hit. `note`: the text to log instead of a stop, with expressions in braces, "" for none. `hits`: the hit count.
+ * A breakpoint at an address. `condition`: the text of the condition, "" for none. `from`: the number of the first hit that stops the
+ * machine; 1 means every hit. `note`: the text to log instead of a stop, with expressions in braces, "" for none. `hits`: the hit count.
  * @typedef {{ id: number, address: number, condition: string, from: number, note: string, hits: number }} LocatedBreakpoint
  * @typedef {{ places: string[], words: (values: string[]) => string }} Note a compiled note: `words` returns the text for the values of
  *   `places`
  */
 
 /**
- * Returns whether a breakpoint has a condition, a note or a hit count. Such a breakpoint does not stop time at every arrival.
+ * Returns whether a breakpoint has a condition, a note or a hit count. Such a breakpoint does not stop the machine at every arrival.
  * @param {LocatedBreakpoint} placed
  */
 export function isSoft({ condition, from, note }) {
@@ -25,13 +25,13 @@ export function isSoft({ condition, from, note }) {
 }
 
 /**
- * Compiles the contents of a pair of braces in a note: a place (with its value as in an answer to `trace`), another expression, or a
- * condition.
+ * Compiles the text in a pair of braces of a note. The text is a place, whose value is spelled as in an answer to `trace`, another
+ * expression, or a condition.
  * @param {string} text
  * @param {Names} names
  * @returns {{ note: Note, fault: "", column: -1 } | { note: null, fault: string, column: number }}
  */
-function compileBraces(text, names) {
+function compileBracedText(text, names) {
   const lamp = names.face.lampNumbers.get(text.trim());
   const place = parsePlace(lamp === undefined ? text : `lamp ${lamp}`);
   const probes = place ? place.probesOn(names.board) : [];
@@ -43,8 +43,8 @@ function compileBraces(text, names) {
 }
 
 /**
- * Compiles a note such as `digit {r4}, lamps {lamps}, next {r4 + 1}`, in which values will replace the braces. `fault` is an error message
- * with a column of the note, "" for none.
+ * Compiles a note such as `digit {r4}, lamps {lamps}, next {r4 + 1}`. In the logged text, values replace the braces. `fault` is an error
+ * message with a column of the note, "" for none.
  * @param {string} text
  * @param {Names} names
  * @returns {{ note: Note, fault: string }}
@@ -59,7 +59,7 @@ export function compileNote(text, names) {
     start += piece.length;
     const found = /^\{(.*)\}$/.exec(piece);
     if (!found) return () => piece;
-    const { note, fault: bracesError, column } = compileBraces(found[1], names);
+    const { note, fault: bracesError, column } = compileBracedText(found[1], names);
     if (!note) {
       fault = fault || inColumn(say.noteAsks(piece, bracesError), pieceStart + 1 + column);
       return () => piece;
@@ -72,7 +72,7 @@ export function compileNote(text, names) {
 }
 
 /**
- * Compiles a breakpoint. A breakpoint with an error stops time at every arrival. `fault` is the error message, "" for none.
+ * Compiles a breakpoint. A breakpoint with an error stops the machine at every arrival. `fault` is the error message, "" for none.
  * @param {LocatedBreakpoint} placed
  * @param {Names} names
  * @returns {{ soft: SoftBreakpoint, fault: string }}

@@ -9,10 +9,10 @@ import * as say from "../../words/debug.js";
 /**
  * @typedef {import("../bench/answers.js").Board} Board
  * @typedef {import("./common_mistakes.js").Kind} Kind
- * @typedef {{ kind: Kind, words: string }} SelectionMistake
+ * @typedef {{ kind: Kind, words: string }} SelectionMistake a mistake: its kind, and a message
  */
 
-/** The opcodes of the instructions that write to a RAM bank, with their mnemonics; and the opcodes of those that read from a RAM bank. */
+/** The mnemonics of the instructions that write to a RAM bank, by opcode; and the opcodes of the instructions that read from one. */
 const RAM_WRITES = new Map([[0xE0, "WRM"], [0xE1, "WMP"], [0xE4, "WR0"], [0xE5, "WR1"], [0xE6, "WR2"], [0xE7, "WR3"]]);
 const RAM_READS = new Set([0xE8, 0xE9, 0xEB, 0xEC, 0xED, 0xEE, 0xEF]);
 
@@ -32,7 +32,7 @@ export function usesSelection(code) {
   return code >> 4 === 0xE || isSrc(code);
 }
 
-/** The selection by SRC, and the instructions that have used this selection. */
+/** Tracks the selection by SRC, and the instructions that have used this selection. */
 export class SrcSelection {
   /** @param {Board} board */
   constructor(board) {
@@ -62,7 +62,7 @@ export class SrcSelection {
   }
 
   /**
-   * Updates the selection after an instruction.
+   * Updates the tracked selection after an instruction.
    * @param {number} code
    * @param {number} address
    * @param {string[]} values the values of src, dcl and ret after the instruction
@@ -113,7 +113,7 @@ export class SrcSelection {
     return { kind: "source", words: say.sourceWasFor(message, otherUser) };
   }
 
-  /** A message about the address of the last SRC; "" before the first SRC. */
+  /** A part of a message that names the address of the last SRC; "" before the first SRC. */
   get description() {
     return this.srcAddress < 0 ? "" : say.lastSource(hex(this.srcAddress, 3));
   }

@@ -1,5 +1,5 @@
 // Plans how to serve typed lines, so that a `run` in these lines also ends at soft breakpoints. A copy of the session serves the lines
-// first. If a run reaches a soft breakpoint, the plan shortens the run to the cycles up to that breakpoint.
+// first. If a run reaches a soft breakpoint that stops the machine, the plan shortens the run so that it ends there.
 
 import { readRun } from "../bench/answers.js";
 import { CancelledError } from "../bench/bench_errors.js";
@@ -10,12 +10,12 @@ import { MAX_RUN_CYCLES } from "../engine/key_queue.js";
 /**
  * @typedef {import("../bench/inputs.js").Input} Input
  * @typedef {import("../engine/engine_host.js").EngineHost} Engine
- * @typedef {import("./data_watches.js").SoftStops} SoftStops
+ * @typedef {import("./data_watches.js").SoftStopFinder} SoftStopFinder
  * @typedef {import("./arrivals.js").BreakpointEvents} BreakpointEvents
  *
- * The plan. `lines`: the lines to serve. `runs`: the breakpoint events of each run, and the cycles before the run. If a breakpoint ends the
- * last line, `id` is the id of the breakpoint, `cut` is the typed line, and `why` and `change` have the meaning of `BreakpointEvents`.
- * Otherwise `id` is 0 and the texts are "".
+ * The plan. `lines`: the lines to serve. `runs`: the breakpoint events of each run, and the number of cycles before the run. If a
+ * breakpoint ends the last line early, `id` is the id of the breakpoint, `cut` is the line as typed, and `why` and `change` are those of
+ * `BreakpointEvents`. Otherwise `id` is 0 and the texts are "".
  * @typedef {{ lines: string, runs: { events: BreakpointEvents, done: number }[], id: number, cut: string, why: string,
  *   change: string }} TypedPlan
  */
@@ -33,7 +33,7 @@ function runCycles(input) {
  * Plans typed lines. Throws CancelledError if `shouldContinue` resolves to false.
  * @param {Engine} engine
  * @param {Uint8Array} file the session file; not changed
- * @param {SoftStops} arrivals finds the stops, and counts the hits
+ * @param {SoftStopFinder} arrivals finds the stops of the machine, and counts the hits
  * @param {string} lines
  * @param {(done: number) => Promise<boolean>} shouldContinue called with the number of planned characters; resolves to true to continue
  * @returns {Promise<TypedPlan>}

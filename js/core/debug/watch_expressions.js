@@ -21,7 +21,7 @@ import * as say from "../../words/debug.js";
  * character, "" for any other expression. `pieces` returns the current value.
  * @typedef {{ name: string, text: string, place: string, value: string, pieces: Reader }} WatchExpression
  *
- * Returns the value of a watch expression in a machine state, as pieces of text.
+ * A function that returns the value of a watch expression in a machine state, as pieces of text.
  * @typedef {(machineState: MachineState, names: Names) => Piece[]} Reader
  */
 
@@ -29,10 +29,10 @@ import * as say from "../../words/debug.js";
 export const MAX_WATCH_EXPRESSIONS = 40;
 const MAX_LENGTH = 200;
 /** The largest number that is shown only in decimal, without its hexadecimal form. */
-const MAX_DECIMAL_ONLY = 9;
+const MAX_DECIMAL_ONLY_VALUE = 9;
 
 /**
- * Returns the reader of a place that the user can edit.
+ * Returns the reader of a place whose value the user can edit.
  * @param {string} place
  * @param {(machineState: MachineState) => string} value
  * @returns {Reader}
@@ -44,7 +44,9 @@ function editableReader(place, value) {
   };
 }
 
-/** @type {Record<string, (machineState: MachineState) => string>} the values of named registers */
+/**
+ * @type {Record<string, (machineState: MachineState) => string>} functions that return the value of a register, by the name of the register
+ */
 const REGISTERS = {
   acc: ({ registers }) => registers.accumulator, cy: ({ registers }) => registers.carry, dcl: ({ registers }) => registers.bank,
 };
@@ -54,7 +56,7 @@ const REGISTERS = {
  * @param {string} place
  * @returns {Reader | null}
  */
-function machineReader(place) {
+function registerReader(place) {
   if (Object.prototype.hasOwnProperty.call(REGISTERS, place)) return editableReader(place, REGISTERS[place]);
   const register = /^r(\d+)$/.exec(place);
   if (register) return editableReader(place, (machineState) => machineState.register(Number(register[1])));
@@ -97,7 +99,7 @@ function portReader(place) {
 }
 
 /**
- * Returns the reader of a place that the user cannot edit.
+ * Returns the reader of a place whose value the user cannot edit.
  * @param {import("../conditions/places.js").Place} place
  * @returns {Reader}
  */
@@ -120,7 +122,7 @@ function expressionReader(text) {
     const answers = expression.places.map((place) => readPlaceValue(place, machineState, names.board));
     const number = expression.number ? expression.number(answers) : 0;
     const value = expression.textOf(answers);
-    return [number > MAX_DECIMAL_ONLY && /^\d+$/.test(value) ? say.withHex(value, number.toString(16).toUpperCase()) : value];
+    return [number > MAX_DECIMAL_ONLY_VALUE && /^\d+$/.test(value) ? say.withHex(value, number.toString(16).toUpperCase()) : value];
   };
 }
 
@@ -130,7 +132,7 @@ function expressionReader(text) {
  */
 function splitWatchExpression(text) {
   const [, name, value] = /^\s*([^\s=<>!&+()-]*)\s*=(?!=)\s*(.*?)\s*$/.exec(text) || [];
-  // `x = 5` is a comparison, because a name for a number would be useless.
+  // `x = 5` is a comparison: a watch that names a constant would be useless.
   const isComparison = name === undefined || KEYWORDS.has(name.toLowerCase()) || /^(test|owed)$/i.test(name) || parsePlace(name) !== null
     || !Number.isNaN(parseNumeral(value));
   if (isComparison) return { name: "", value: text.trim(), column: text.length - text.trimStart().length };
@@ -172,7 +174,7 @@ export function parseWatch(text, names = null) {
   const fault = place ? "" : expressionError(value, column, names);
   if (fault) return { watched: null, fault };
   const placeName = place ? place.name : "";
-  const pieces = machineReader(placeName) || portReader(placeName) || memoryReader(placeName)
+  const pieces = registerReader(placeName) || portReader(placeName) || memoryReader(placeName)
     || (place ? placeReader(place) : expressionReader(value));
   const character = /^(ram|st)\./.test(placeName) ? placeName : "";
   return { watched: { name: name || value, text: name ? `${name} = ${value}` : value, place: character, value, pieces }, fault: "" };

@@ -1,5 +1,5 @@
-// Describes the current value of a word in the source: a register, a register pair, the RAM character that an instruction uses, a number or
-// a label. A description is a list of pieces: texts, and values that the user can edit.
+// Describes the current value of a word in the source. The word is a register, a register pair, an instruction that uses a RAM character, a
+// number or a label. A description is a list of pieces: texts, and values that the user can edit.
 //
 //     pieces(valuesAt("        SRC P2", 13, machineState, names))     "P2 = 60: R4 6, R5 0; selects ROM 6, and of bank 0 chip 1, .."
 
@@ -16,8 +16,8 @@ import * as say from "../../words/debug.js";
  * @typedef {{ place: string, name: string, value: string }} Value
  * @typedef {string | Value} Piece
  *
- * The program in ROM. `nameOf` returns the value and the description of a program name. `describeInstruction` returns the description of
- * an instruction; "" for any other word.
+ * Two functions that explain the words of a program. `nameOf` returns the value and the description of a program name.
+ * `describeInstruction` returns the description of an instruction; "" for any other word.
  * @typedef {{ value: number, isLabel: boolean, words: string }} NamedValue
  * @typedef {{ nameOf: (name: string) => NamedValue | undefined, describeInstruction: (word: string) => string }} Program
  */
@@ -54,7 +54,7 @@ function registerValue(number, machineState) {
  * @param {MachineState} machineState
  * @returns {Value}
  */
-function machineValue(place, name, { registers }) {
+function accumulatorOrCarryValue(place, name, { registers }) {
   return { place, name, value: place === "acc" ? registers.accumulator : registers.carry };
 }
 
@@ -73,7 +73,7 @@ function characterPieces(bank, byte, machineState) {
 }
 
 /**
- * Describes the ROM port and the RAM character in the current bank that a byte selects when SRC sends this byte.
+ * Describes what a byte selects when SRC sends it: a ROM port, and a RAM character in the current bank.
  * @param {number} byte
  * @param {MachineState} machineState
  * @returns {Piece[]}
@@ -87,7 +87,8 @@ function selectionPieces(byte, machineState) {
 }
 
 /**
- * Describes a register or register pair. For the operand of SRC, also describes the chip and RAM character that SRC selects.
+ * Describes the value of a register or register pair. For the operand of SRC, also describes the chip and the RAM character that SRC
+ * selects.
  * @param {string} word
  * @param {Parts} parts the parts of the line
  * @param {MachineState} machineState
@@ -105,12 +106,13 @@ function registerPieces(word, { head }, machineState) {
 }
 
 /**
- * Describes the value that an instruction accesses through the selection by SRC. Returns no pieces if there is no such value.
+ * Describes the port or character that an instruction accesses, as selected by SRC. Returns no pieces for an instruction that accesses
+ * none.
  * @param {string} name the upper-case mnemonic
  * @param {MachineState} machineState
  * @returns {Piece[]}
  */
-function portPieces(name, machineState) {
+function selectedPieces(name, machineState) {
   const { bank } = machineState;
   if (name === "WRR" || name === "RDR") {
     const chip = machineState.source >> 4;
@@ -144,15 +146,17 @@ function portPieces(name, machineState) {
 function instructionPieces(name, description, parts, machineState) {
   const [operand] = parts.operands;
   if (name === "SRC" && operand && PAIR.test(operand.text)) return registerPieces(operand.text, parts, machineState);
-  const pieces = portPieces(name, machineState);
+  const pieces = selectedPieces(name, machineState);
   if (!ACCUMULATOR_WORD.test(description)) return pieces;
   /** @type {Piece[]} */
-  const accumulator = ["acc ", machineValue("acc", "acc", machineState), ", cy ", machineValue("cy", "cy", machineState)];
+  const accumulator = [
+    "acc ", accumulatorOrCarryValue("acc", "acc", machineState), ", cy ", accumulatorOrCarryValue("cy", "cy", machineState)];
   return pieces.length > 0 ? [...pieces, "; ", ...accumulator] : accumulator;
 }
 
 /**
- * Describes a number, also in binary. For the operand of FIM, also describes the chip and RAM character that SRC would select.
+ * Describes a number, with its value in binary. For the operand of FIM, also describes the chip and the RAM character that SRC would select
+ * with this number.
  * @param {string} numberText the number in decimal and hexadecimal
  * @param {number} value
  * @param {Parts} parts
