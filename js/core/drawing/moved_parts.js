@@ -5,7 +5,7 @@
  * @typedef {import("../board/wiring.js").Positions} Positions
  * @typedef {import("../board/wiring.js").Point} Point
  *
- * A text edit that deletes chains: the text before and after the edit, the numbers of the chains before the edit, and their positions.
+ * A text edit that deletes chains: the text before and after the edit, the numbers of the deleted chains, and their positions.
  * @typedef {{ before: string, after: string, chains: number[], points: Positions }} Deletion
  */
 
@@ -23,7 +23,7 @@ export class MovedParts {
   }
 
   /**
-   * Replaces all positions by those of another session.
+   * Replaces all positions with those of another session.
    * @param {[string, Point][]} points
    */
   begin(points) {
@@ -45,7 +45,7 @@ export class MovedParts {
   }
 
   /**
-   * Updates the positions after a text change that deletes or restores chains.
+   * Updates the positions if a change of the text performs or undoes one of the recorded deletions.
    * @param {string | null} textBefore
    * @param {string} textAfter
    */

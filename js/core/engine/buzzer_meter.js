@@ -4,8 +4,8 @@
 import { ForecastAnswers, parseTraceLine } from "./forecast_answers.js";
 
 /**
- * The levels of a signal line during an interval: the length of the interval in cycles, the first level, and the number of cycles before
- * each edge.
+ * The levels of a signal line during an interval: the length of the interval in cycles, the level at its start, and the time of each edge
+ * in cycles since the start.
  * @typedef {{ cycles: number, level: number, edges: number[] }} BuzzerLevels
  */
 
@@ -21,7 +21,7 @@ export class BuzzerMeter {
     return 1;
   }
 
-  get seesChanges() {
+  get needsStates() {
     return false;
   }
 
@@ -31,8 +31,9 @@ export class BuzzerMeter {
   }
 
   /**
-   * Returns the levels of the line, from the answers to the queries before runs. A line changes after the first cycle of an instruction.
-   * @param {string[][]} answerLists one list per line
+   * Returns the levels of the line since the previous call, from the answers to the queries before the runs. A line changes after the first
+   * cycle of an instruction.
+   * @param {string[][]} answerLists one list of answers for each planned line
    * @returns {BuzzerLevels}
    */
   take(answerLists) {

@@ -23,7 +23,7 @@ export function hasScannedDisplay(face) {
 }
 
 /**
- * Returns the brightness of the lamps in the 30 ms of the query, without the light before them.
+ * Returns the brightness of the lamps during the 30 ms that the query forecasts. Earlier light does not count.
  * @param {Face} face
  * @param {number} count the number of lamps on the board
  * @param {string[]} answers the answer to LAMPS_FORECAST_QUERY

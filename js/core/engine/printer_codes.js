@@ -22,7 +22,7 @@ export class PrinterCodes {
     this.strobe = strobe;
     this.port = port;
     this.codes = [...codes];
-    /** The last report: the number of codes and the cycle count of the last code. */
+    /** Identifies the last report: the number of codes, and the cycle count of the last code. */
     this.lastNews = "";
   }
 
@@ -53,7 +53,10 @@ export class PrinterCodes {
     return { strobe: this.strobe, port: this.port, codes: this.codes.slice(0, count) };
   }
 
-  /** @param {number} cycles the cycle count; later codes do not count */
+  /**
+   * Returns the number of codes that were sent up to a moment.
+   * @param {number} cycles the cycle count at that moment
+   */
   countAt(cycles) {
     let count = this.codes.length;
     while (count > 0 && this.codes[count - 1][0] > cycles) count -= 1;
@@ -66,7 +69,7 @@ export class PrinterCodes {
     return 1;
   }
 
-  get seesChanges() {
+  get needsStates() {
     return false;
   }
 
@@ -76,8 +79,8 @@ export class PrinterCodes {
   }
 
   /**
-   * Reads the codes from the answers to the queries before runs. An instruction takes effect after its first cycle.
-   * @param {string[][]} answerLists one list per line
+   * Reads the codes from the answers to the queries before the runs. An instruction takes effect after its first cycle.
+   * @param {string[][]} answerLists one list of answers for each planned line
    * @param {number} total the cycle count before the first line
    */
   take(answerLists, total) {
@@ -99,7 +102,7 @@ export class PrinterCodes {
   }
 
   /**
-   * Reads the codes that served lines sent to the printer. For this, a copy of the session serves the lines again.
+   * Reads the codes that already served lines sent to the printer, by serving the lines again on a copy of the session.
    * @param {Engine} engine
    * @param {Uint8Array} file the session file before the lines; changed
    * @param {AcceptedCommand[]} commands

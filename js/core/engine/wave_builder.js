@@ -11,16 +11,16 @@ import { parseTraceLine, rowValues } from "./forecast_answers.js";
  * @typedef {import("../waves/track.js").TrackData} TrackData
  * @typedef {import("../waves/wave_lines.js").WaveLine} WaveLine
  *
- * A reader of a line: the index of the line, and a function that converts the reported value of the place to the value of the line.
+ * A reader of a signal line: the index of the line, and a function that converts the reported value of a place to the value of the line.
  * @typedef {{ member: number, read: (answer: string) => number }} Reader
  *
- * A place, the lines to read from it, and the position of its value in each row.
+ * A `trace` place, the readers of its signal lines, and the character positions at which its value starts and ends in each row.
  * @typedef {{ place: string, readers: Reader[], from: number, to: number }} Field
  *
  * The places of one query, and the last row of their values.
  * @typedef {{ fields: Field[], row: string }} QueryGroup
  *
- * The part of a recording since the last call of `take`.
+ * The part of a recording since the last call of `take`. RecordedPart in wave_recorder.js explains the members.
  * @typedef {{ from: number, cycles: number, isStuck: boolean, isOwed: boolean, tracks: TrackData[], moments: Uint32Array,
  *   counters: Uint16Array }} WavePart
  */
@@ -54,7 +54,7 @@ function levelPlace(line) {
 }
 
 /**
- * Returns the places of lines without duplicates, and the functions that read the lines from the places.
+ * Returns the `trace` places of signal lines, without duplicates, each with the readers of its lines.
  * @param {WaveLine[]} lines
  * @param {"level" | "value"} kind the kind of lines
  */
@@ -86,7 +86,8 @@ function valuePlaces(places) {
 }
 
 /**
- * Returns the places of lines in groups, one group per query. Ports and values are in separate groups because values change far more often.
+ * Returns the `trace` places of signal lines in groups, one group per query. Ports and values are in separate groups because values change
+ * far more often.
  * @param {WaveLine[]} lines
  */
 function makeGroups(lines) {
@@ -179,7 +180,10 @@ export class WaveBuilder {
     this.takeEnd(run);
   }
 
-  /** @param {ForecastAnswers} answers the answers to the queries */
+  /**
+   * Reads the answers to the queries before a run.
+   * @param {ForecastAnswers} answers
+   */
   takeForecast(answers) {
     if (this.hasCounter) for (const line of answers.takeTrace().lines) this.takeInstructionLine(line);
     for (const group of this.groups) {
@@ -209,7 +213,10 @@ export class WaveBuilder {
     this.takeInstruction(this.elapsed + cycles, address);
   }
 
-  /** @param {import("./forecast_answers.js").RunResult} run */
+  /**
+   * Ends a run.
+   * @param {import("./forecast_answers.js").RunResult} run
+   */
   takeEnd({ cycles, end }) {
     this.elapsed += cycles;
     this.isStuck = end === "code";
@@ -233,8 +240,9 @@ export class WaveBuilder {
   }
 
   /**
+   * Records the start of an instruction. Replaces an earlier record for the same moment.
    * @param {number} moment
-   * @param {number} counter
+   * @param {number} counter the program counter
    */
   takeInstruction(moment, counter) {
     this.hasStarted = true;
