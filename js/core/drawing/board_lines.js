@@ -11,8 +11,8 @@ import * as say from "../../words/drawing.js";
  * @typedef {import("../bench/answers.js").Board & { buzzer?: string }} Board a board, with the signal line of its buzzer ("" for none)
  * @typedef {import("../bench/board_form.js").BoardLine} BoardLine
  *
- * The name of an input that a signal line can be connected to: `clock 0` or `data 0` for chain 0, `row 1` or `column 2` for the keys, `lamp
- * 3`, or `buzzer 0`.
+ * The name of an input that a signal line can be connected to: `lamp 3`, `buzzer 0`, `clock 0` or `data 0` for chain 0, and `row 1` or
+ * `column 2` for the keys.
  * @typedef {string} Target
  */
 

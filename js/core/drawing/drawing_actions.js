@@ -89,7 +89,7 @@ function connectLine(editedBoard, name, target) {
   const { board, draft } = editedBoard;
   const line = boardLines(board).find((each) => each.name === name);
   if (!line || !inputLines(board).has(target)) throw new ImpossibleAction(say.boardHasNo(line ? target : name));
-  if (!canWire(board, line, target)) throw new ImpossibleAction(wireRefusal(line, target));
+  if (!canWire(board, line, target)) throw new ImpossibleAction(wireErrorMessage(line, target));
   const [kind, number] = splitTarget(target);
   if (kind === "clock" || kind === "data") editedBoard.edit([setValue(draft, draft.entry("chain", number), kind, name)]);
   if (kind === "lamp") editedBoard.edit([setValue(draft, draft.entry("lamp", number), "line", name)]);
@@ -110,7 +110,7 @@ function connectLine(editedBoard, name, target) {
  * @param {import("../bench/board_form.js").BoardLine} line
  * @param {string} target
  */
-function wireRefusal({ name, kind, isInput }, target) {
+function wireErrorMessage({ name, kind, isInput }, target) {
   const [inputKind] = splitTarget(target);
   if (inputKind === "column") return say.needsInput(name, targetName(target));
   if (isInput) return say.needsOutput(name, targetName(target));
@@ -272,7 +272,7 @@ function perform(editedBoard, action) {
  * @param {string} textBefore the text before the action
  * @param {string} textAfter the text after the action
  */
-function newPanelError(textBefore, textAfter) {
+function findNewPanelError(textBefore, textAfter) {
   const oldMessages = new Face(textBefore).faults.map(({ words }) => words.replace(/\d+/g, ""));
   const { faults } = new Face(textAfter);
   if (faults.length <= oldMessages.length) return "";
@@ -292,7 +292,7 @@ export function applyAction(text, action) {
   if (!editedBoard.draft.isToml || !editedBoard.draft.boardAnswers) return { ...unchanged, refusal: say.TEXT_HAS_ERRORS };
   try {
     const [part, message] = perform(editedBoard, action);
-    const fault = newPanelError(text, editedBoard.text);
+    const fault = findNewPanelError(text, editedBoard.text);
     if (fault) return { ...unchanged, refusal: fault };
     const alsoAdded = editedBoard.addedParts.length > 0 ? say.withAlso(say.listOf(editedBoard.addedParts)) : "";
     const { edits, deletedChains } = editedBoard;

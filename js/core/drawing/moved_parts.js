@@ -19,7 +19,7 @@ export class MovedParts {
     /** @type {Deletion[]} */
     this.deletions = [];
     /** True if positions have changed since the last call of `takeNews`. */
-    this.hasNews = false;
+    this.hasChanged = false;
   }
 
   /**
@@ -58,9 +58,9 @@ export class MovedParts {
 
   /** Returns whether positions have changed since the previous call. */
   takeNews() {
-    const { hasNews } = this;
-    this.hasNews = false;
-    return hasNews;
+    const { hasChanged } = this;
+    this.hasChanged = false;
+    return hasChanged;
   }
 
   /**
@@ -95,7 +95,7 @@ export class MovedParts {
       if (found) chains.push([Number(found[1]), point]);
     }
     for (const [number] of chains) this.moved.delete(`chain ${number}`);
-    this.hasNews = true;
+    this.hasChanged = true;
     return chains;
   }
 }

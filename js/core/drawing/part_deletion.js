@@ -197,14 +197,14 @@ function markDeleted(board, deletedParts, part) {
   else if (kind === "keys") deletedParts.keys = true;
   else if (kind === "lamps") board.lamps.forEach((_, at) => deletedParts.lamps.add(at));
   else if (kind === "ram") markRamDeleted(board, deletedParts, part.slice(4));
-  else throw new ImpossibleAction(deletionRefusal(part));
+  else throw new ImpossibleAction(deletionErrorMessage(part));
 }
 
 /**
  * Returns the message for a part or pin that cannot be deleted.
  * @param {string} part
  */
-function deletionRefusal(part) {
+function deletionErrorMessage(part) {
   if (part === "processor" || part === "TEST") return say.PROCESSOR_STAYS;
   if (/^(clock|data)/.test(part)) return say.CHAIN_NEEDS_LINES;
   return say.LINE_STAYS;

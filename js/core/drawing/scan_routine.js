@@ -79,7 +79,7 @@ class Labels {
  * @param {Labels} labels
  * @returns {Line[]}
  */
-function shiftToFirstRow(first, labels) {
+function firstRowLines(first, labels) {
   if (first === 0) return [];
   const rounds = Math.ceil(first / REGISTER_VALUES);
   const [loopLabel, shift] = [labels.labelFor("first"), labels.labelFor("shift")];
@@ -99,7 +99,7 @@ function shiftToFirstRow(first, labels) {
  * @param {Labels} labels
  * @returns {Line[]}
  */
-function readColumns(columns, labels) {
+function columnLines(columns, labels) {
   const ports = columns.map(portForLine);
   const chips = ports.filter((port, at) => ports.findIndex((each) => isSamePort(each, port)) === at);
   return chips.flatMap((chip) => {
@@ -171,8 +171,8 @@ export function keyScanSource({ matrix, chains }, text) {
   const lines = [
     [scan, ["LDM", "0"]], ["", ["XCH", "R4"], say.FIRST_ROW],
     ["", ["LDM", String(REGISTER_VALUES - rows)]], ["", ["XCH", "R7"], say.counts(rows)],
-    ["", ["LDM", String(data.bit)]], ["", ["JMS", shift], say.ONE_ENTERS], ...shiftToFirstRow(first, labels),
-    ...readColumns(columns, labels).map((line, at) => /** @type {Line} */ (at === 0 ? [row, line[1], line[2]] : line)),
+    ["", ["LDM", String(data.bit)]], ["", ["JMS", shift], say.ONE_ENTERS], ...firstRowLines(first, labels),
+    ...columnLines(columns, labels).map((line, at) => /** @type {Line} */ (at === 0 ? [row, line[1], line[2]] : line)),
     ["", ["LDM", "0"]], ["", ["JMS", shift], say.NEXT_ROW], ["", ["INC", "R4"]], ["", ["ISZ", "R7,", row]], ["", ["BBL", "0"], say.NO_KEY],
     ...columns.flatMap((_, column) => /** @type {Line[]} */ ([
       [labels.labelFor(String(column)), ["LDM", String(column)], say.columnIsDown(column)], ["", ["JUN", labels.labelFor("down")]]])),

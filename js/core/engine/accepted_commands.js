@@ -50,7 +50,10 @@ export class CycleCount {
     this.reset = resetCycles;
   }
 
-  /** @param {AcceptedCommand[]} commands */
+  /**
+   * Adds the cycles of some commands.
+   * @param {AcceptedCommand[]} commands
+   */
   add(commands) {
     for (const { cycles, resets } of commands) {
       this.total += cycles;

@@ -95,12 +95,12 @@ class PatternTimes {
    * @param {string} marksBefore the marks before the change
    * @param {number} cycles the cycles before the change
    */
-  change(marks, marksBefore, cycles) {
+  recordChange(marks, marksBefore, cycles) {
     const { first, rows, columns, by } = this.group;
     const hasChanged = by < 0 ? lampsDiffer(marks, marksBefore, first, rows * columns)
       : lampsDiffer(marks, marksBefore, first, columns) || lampsDiffer(marks, marksBefore, by, rows);
     if (!hasChanged) return;
-    this.addUpTo(cycles);
+    this.countTimeUntil(cycles);
     this.changeTimes.add(cycles);
     this.patterns = digitPatterns(this.group, marks);
   }
@@ -109,7 +109,7 @@ class PatternTimes {
    * Counts the time for which the current patterns have been shown.
    * @param {number} now the current time in cycles
    */
-  addUpTo(now) {
+  countTimeUntil(now) {
     const cycles = now - this.patternStart;
     this.patternStart = now;
     if (cycles === 0) return;
@@ -126,7 +126,7 @@ class PatternTimes {
   take(cycles) {
     const { patterns } = this;
     const changes = this.changeTimes.take(cycles);
-    if (changes) this.addUpTo(cycles);
+    if (changes) this.countTimeUntil(cycles);
     this.patternStart = 0;
     if (!changes) return { patterns, moved: changes, shown: [] };
     const shown = this.patternCycles.map((times) => [...times]);
@@ -149,7 +149,7 @@ class ScannedLampTimes {
    * @param {string} marks the lamp marks until now
    * @param {number} now the current time in cycles
    */
-  addUpTo(marks, now) {
+  countTimeUntil(marks, now) {
     const cycles = now - this.lastCountTime;
     this.lastCountTime = now;
     if (cycles === 0) return;
@@ -166,7 +166,7 @@ class ScannedLampTimes {
    * @param {number} cycles the length of the interval
    */
   take(marks, cycles) {
-    this.addUpTo(marks, cycles);
+    this.countTimeUntil(marks, cycles);
     const litCycles = this.litCycles.slice();
     this.litCycles.fill(0);
     this.lastCountTime = 0;
@@ -196,15 +196,20 @@ export class BrightnessMeter {
 
   // --- The queries before each run ---
 
+  /** The number of queries before each run. */
   get count() {
     return 1;
   }
 
+  /** False because the answers to `state` are not used. */
   get needsStates() {
     return false;
   }
 
-  /** @param {number} cycles */
+  /**
+   * Returns the query lines before a run.
+   * @param {number} cycles the length of the run
+   */
   queries(cycles) {
     return `trace ${cycles} lamps\n`;
   }
@@ -234,10 +239,10 @@ export class BrightnessMeter {
   add(answers) {
     const { row, lines, cycles } = new ForecastAnswers(answers).takeTrace();
     const startCycles = this.cycles;
-    this.change(row.slice(1), startCycles);
+    this.recordChange(row.slice(1), startCycles);
     for (const line of lines) {
       const traced = parseTraceLine(line);
-      this.change(traced.row.slice(1), startCycles + traced.cycles + 1);
+      this.recordChange(traced.row.slice(1), startCycles + traced.cycles + 1);
     }
     // An empty run counts as one cycle, so that the lamps that are on are counted for at least one cycle.
     this.cycles = startCycles + Math.max(1, cycles);
@@ -248,7 +253,7 @@ export class BrightnessMeter {
    * @param {string} marks the new lamp marks
    * @param {number} cycles the time of the change, in cycles
    */
-  change(marks, cycles) {
+  recordChange(marks, cycles) {
     const { marks: marksBefore, litCycles, lastCountTime, changeTimes } = this;
     if (marks === marksBefore) return;
     this.marks = marks;
@@ -262,7 +267,7 @@ export class BrightnessMeter {
       lastCountTime[at] = cycles;
       changeTimes[at].add(cycles);
     }
-    for (const display of this.displays) display.change(marks, marksBefore, cycles);
-    for (const group of this.scannedLamps) group.addUpTo(marksBefore, cycles);
+    for (const display of this.displays) display.recordChange(marks, marksBefore, cycles);
+    for (const group of this.scannedLamps) group.countTimeUntil(marksBefore, cycles);
   }
 }

@@ -17,15 +17,20 @@ export class BuzzerMeter {
 
   // --- The queries before each run ---
 
+  /** The number of queries before each run. */
   get count() {
     return 1;
   }
 
+  /** False because the answers to `state` are not used. */
   get needsStates() {
     return false;
   }
 
-  /** @param {number} cycles */
+  /**
+   * Returns the query lines before a run.
+   * @param {number} cycles the length of the run
+   */
   queries(cycles) {
     return `trace ${cycles} ${this.line}\n`;
   }

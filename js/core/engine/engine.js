@@ -58,7 +58,7 @@ class Instance {
    * @param {ModuleBuffer} buffer
    * @param {number} room
    */
-  withRoom(buffer, room) {
+  ensureRoom(buffer, room) {
     if (room <= buffer.room) return buffer;
     const larger = this.allocate(room);
     this.calls.bench_buffer_back(buffer.offset);
@@ -88,7 +88,7 @@ class Instance {
       return encoder.encodeInto(lines, this.view(this.input, this.input.room)).written || 0;
     }
     const bytes = encoder.encode(lines);
-    this.input = this.withRoom(this.input, bytes.length);
+    this.input = this.ensureRoom(this.input, bytes.length);
     this.view(this.input, bytes.length).set(bytes);
     return bytes.length;
   }
@@ -98,7 +98,7 @@ class Instance {
    * @param {Uint8Array} file
    */
   copyFile(file) {
-    this.file = this.withRoom(this.file, file.length);
+    this.file = this.ensureRoom(this.file, file.length);
     this.view(this.file, file.length).set(file);
   }
 
@@ -202,7 +202,7 @@ export class Engine {
     const size = instance.copyLines(question, this.encoder);
     let { isDone, number, count } = this.tryToProve(size);
     if (!isDone && number === 0) {
-      instance.answers = instance.withRoom(instance.answers, count);
+      instance.answers = instance.ensureRoom(instance.answers, count);
       ({ isDone, number, count } = this.tryToProve(size));
     }
     return isDone ? this.decoder.decode(instance.view(instance.answers, count)) : `no ${number}`;
@@ -252,7 +252,7 @@ export class Engine {
     const inputSize = instance.copyLines(lines, this.encoder);
     let report = this.tryToServe(name, file, inputSize);
     if (report.requiredSize > 0) {
-      instance.answers = instance.withRoom(instance.answers, report.requiredSize);
+      instance.answers = instance.ensureRoom(instance.answers, report.requiredSize);
       report = this.tryToServe(name, file, inputSize);
     }
     const answers = this.decoder.decode(instance.view(instance.answers, report.count)).split("\n");

@@ -35,7 +35,10 @@ export class FullSpeed {
     this.pendingReport = emptyFrame();
   }
 
-  /** @param {boolean} isHidden true if the page is hidden; it then gets fewer reports */
+  /**
+   * Starts full speed.
+   * @param {boolean} isHidden true if the page is hidden; it then gets fewer reports
+   */
   start(isHidden) {
     this.isOn = true;
     this.isHidden = isHidden;

@@ -28,15 +28,20 @@ export class HeatMeter {
 
   // --- The queries before each run ---
 
+  /** The number of queries before each run. */
   get count() {
     return GROUPS_PER_CHIP;
   }
 
+  /** False because the answers to `state` are not used. */
   get needsStates() {
     return false;
   }
 
-  /** @param {number} cycles */
+  /**
+   * Returns the query lines before a run.
+   * @param {number} cycles the length of the run
+   */
   queries(cycles) {
     return this.groups.map((places) => `trace ${cycles} ${places.join(" ")}\n`).join("");
   }

@@ -1,5 +1,5 @@
-// Queues key changes. A program polls the keys only from time to time. Therefore each key stays down, and then up, long enough for the
-// program to notice even a short press.
+// Queues key changes. A program polls the keys only from time to time. Therefore the queue keeps each key down, and then up, long enough
+// for the program to notice even a short press.
 
 import { isSameKey, keyLine } from "../board/key_place.js";
 import { KEY_DOWN_CYCLES, KEY_UP_CYCLES } from "../time/mcs4_time.js";

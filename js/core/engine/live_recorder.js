@@ -118,10 +118,12 @@ export class LiveRecorder {
     return `${this.builder.queries(cycles)}${this.tracedPlaces ? `trace ${cycles} ${this.tracedPlaces}\n` : ""}`;
   }
 
+  /** The number of queries before each run. */
   get count() {
     return 1 + this.builder.groups.length + Number(this.tracedPlaces !== "");
   }
 
+  /** True because the recorder reads the answer to `state` after each key change. */
   get needsStates() {
     return true;
   }

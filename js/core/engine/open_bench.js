@@ -65,7 +65,7 @@ export class OpenBench {
   /**
    * Returns the current state of the session for the page, with the session file in a transferable buffer.
    * @param {string[]} snapshot
-   * @param {boolean} showsBoard
+   * @param {boolean} showsBoard true to include the answer to `board`
    * @returns {PageState}
    */
   snapshotReport(snapshot, showsBoard) {

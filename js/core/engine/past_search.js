@@ -65,7 +65,7 @@ export function searchResult(fields) {
  * @param {Timeline} timeline
  * @param {ShouldContinue} shouldContinue
  */
-async function lastInstruction(engine, timeline, shouldContinue) {
+async function findLastInstruction(engine, timeline, shouldContinue) {
   for (const cycles of [1, 2]) {
     const moment = timeline.before(cycles);
     if (!moment) break;
@@ -122,7 +122,7 @@ export class LastChangeFinder {
 }
 
 /** Finds the last moment at which a condition became true. */
-class LastTimeTrue extends LastChangeFinder {
+class LastTrueFinder extends LastChangeFinder {
   /**
    * @param {Engine} engine
    * @param {import("../debug/condition_search.js").SearchCondition} condition
@@ -199,11 +199,11 @@ export async function findBackTarget(engine, { timeline, file }, goal, shouldCon
     return (await searchPast(engine, timeline, finder, shouldContinue)).found || searchResult({ why: "short", place: goal.place });
   }
   if (goal.kind === "when") {
-    const finder = goal.searchCondition ? new LastTimeTrue(engine, goal.searchCondition) : null;
+    const finder = goal.searchCondition ? new LastTrueFinder(engine, goal.searchCondition) : null;
     const found = finder ? (await searchPast(engine, timeline, finder, shouldContinue)).found : null;
     return found || searchResult({ why: "short" });
   }
-  if (goal.kind === "instruction") return lastInstruction(engine, timeline, shouldContinue);
+  if (goal.kind === "instruction") return findLastInstruction(engine, timeline, shouldContinue);
   const moment = timeline.lastStop();
   return searchResult({ moment, why: moment ? "" : "short" });
 }

@@ -23,7 +23,7 @@ export class PrinterCodes {
     this.port = port;
     this.codes = [...codes];
     /** Identifies the last report: the number of codes, and the cycle count of the last code. */
-    this.lastNews = "";
+    this.lastReportKey = "";
   }
 
   copy() {
@@ -48,8 +48,8 @@ export class PrinterCodes {
   takeNews(total) {
     const count = this.countAt(total);
     const news = `${count} ${count > 0 ? this.codes[count - 1][0] : ""}`;
-    if (news === this.lastNews) return null;
-    this.lastNews = news;
+    if (news === this.lastReportKey) return null;
+    this.lastReportKey = news;
     return { strobe: this.strobe, port: this.port, codes: this.codes.slice(0, count) };
   }
 
@@ -65,15 +65,20 @@ export class PrinterCodes {
 
   // --- The queries before each run ---
 
+  /** The number of queries before each run. */
   get count() {
     return 1;
   }
 
+  /** False because the answers to `state` are not used. */
   get needsStates() {
     return false;
   }
 
-  /** @param {number} cycles */
+  /**
+   * Returns the query lines before a run.
+   * @param {number} cycles the length of the run
+   */
   queries(cycles) {
     return `trace ${cycles} ${this.strobe} ${this.port}\n`;
   }

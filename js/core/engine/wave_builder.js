@@ -45,7 +45,7 @@ function digitAt(line, index) {
  * k is line k. A chain reports its bits.
  * @param {string} line `rom0.3`, `ram0.1.3`, `chain0.5`
  */
-function levelPlace(line) {
+function placeOfBoardLine(line) {
   const dot = line.lastIndexOf(".");
   const [place, bit] = [line.slice(0, dot), Number(line.slice(dot + 1))];
   /** @type {(answer: string) => number} */
@@ -63,7 +63,7 @@ function fieldsForKind(lines, kind) {
   const places = new Map();
   lines.forEach((line, member) => {
     if (line.kind !== kind) return;
-    for (const { place, read } of kind === "level" ? [levelPlace(line.places[0])] : valuePlaces(line.places)) {
+    for (const { place, read } of kind === "level" ? [placeOfBoardLine(line.places[0])] : placesOfDigits(line.places)) {
       places.set(place, [...(places.get(place) || []), { member, read }]);
     }
   });
@@ -74,7 +74,7 @@ function fieldsForKind(lines, kind) {
  * Returns one place per digit of a value. The function that reads a digit returns the value that consists of all digits read so far.
  * @param {string[]} places most significant digit first
  */
-function valuePlaces(places) {
+function placesOfDigits(places) {
   const digits = places.map(() => "0");
   return places.map((place, at) => ({
     place,
@@ -90,7 +90,7 @@ function valuePlaces(places) {
  * far more often.
  * @param {WaveLine[]} lines
  */
-function makeGroups(lines) {
+function groupPlaces(lines) {
   /** @type {QueryGroup[]} */
   const groups = [];
   for (const places of [fieldsForKind(lines, "level"), fieldsForKind(lines, "value")]) {
@@ -139,7 +139,7 @@ export class WaveBuilder {
     this.isStuck = false;
     this.isSecondCycle = false;
     this.hasStarted = false;
-    this.groups = makeGroups(lines);
+    this.groups = groupPlaces(lines);
     this.tracks = lines.map(({ width }) => new Track(emptyTrack(width)));
     this.moments = new NumberQueue(new Uint32Array(0));
     this.counters = new NumberQueue(new Uint16Array(0));

@@ -139,7 +139,7 @@ export class WorkerSession {
    * @returns {Frame}
    */
   advanceBy(plannedLines) {
-    const { done: servedLines, answers, snapshot, measurements } = this.servePlanned(plannedLines);
+    const { done: servedLines, answers, snapshot, measurements } = this.servePlannedLines(plannedLines);
     this.adoptResult();
     const runs = answers.map(readRun);
     /** @type {(at: number) => number} */
@@ -211,19 +211,19 @@ export class WorkerSession {
    * before the last one stops early or is rejected, discards the result and serves only the lines up to that line.
    * @param {PlannedLine[]} plannedLines
    */
-  servePlanned(plannedLines) {
-    let served = this.tryPlanned(plannedLines);
+  servePlannedLines(plannedLines) {
+    let served = this.tryPlannedLines(plannedLines);
     const stopIndex = served.answers.findIndex((answer, at) => at < plannedLines.length && isStop(answer));
     let servedLines = plannedLines;
     if (stopIndex >= 0 && stopIndex < plannedLines.length - 1) {
       servedLines = plannedLines.slice(0, stopIndex + 1);
-      served = this.tryPlanned(servedLines);
+      served = this.tryPlannedLines(servedLines);
     }
     const { recording } = this;
     const stopCycle = recording ? recording.take(servedLines, served.traced, served.answers) : -1;
     if (stopCycle >= 0) {
       servedLines = truncateLines(servedLines, stopCycle);
-      served = this.tryPlanned(servedLines);
+      served = this.tryPlannedLines(servedLines);
     }
     const answers = served.answers.slice(0, servedLines.length);
     const snapshot = buildSnapshot(this.statusQueries.inputs, served.answers.slice(servedLines.length));
@@ -250,8 +250,11 @@ export class WorkerSession {
     };
   }
 
-  /** @param {PlannedLine[]} plannedLines the lines to serve in one call, together with all queries; only `next` changes, not `file` */
-  tryPlanned(plannedLines) {
+  /**
+   * Serves planned lines together with all queries, in one call. Writes the result to `next`; `file` does not change.
+   * @param {PlannedLine[]} plannedLines
+   */
+  tryPlannedLines(plannedLines) {
     const { recording, printing } = this;
     const { brightnessMeter, buzzerMeter, heatMeter } = this.metersFor(plannedLines);
     /** @type {import("./forecast_queries.js").QuerySource[]} */

@@ -11,7 +11,7 @@ import { PlaceQueries } from "./place_queries.js";
  * The position of a value in the answer to a query: the query, the index of the answer line, the index of the first character, and the
  * number of characters. If `precedingWord` is not "", the index counts from the end of that word. If `length` is 0, the value extends to
  * the end of the line.
- * @typedef {{ query: string, line: number, precedingWord: string, start: number, length: number }} Spot
+ * @typedef {{ query: string, line: number, precedingWord: string, start: number, length: number }} AnswerPosition
  */
 
 /**
@@ -37,9 +37,9 @@ function countChips({ banks }, bank) {
 /**
  * Returns the position of a processor register; null for any other place.
  * @param {string} name
- * @returns {Spot | null}
+ * @returns {AnswerPosition | null}
  */
-function registerSpot(name) {
+function registerPosition(name) {
   const found = REGISTER_POSITIONS.get(name);
   if (found) return { query: "regs", line: 0, precedingWord: "", start: found[0], length: found[1] };
   const register = /^r(\d+)$/.exec(name);
@@ -50,9 +50,9 @@ function registerSpot(name) {
  * Returns the position of a RAM nibble or status character, such as `ram.0.0x12` or `st.0.1.2`; null for any other place.
  * @param {string} name
  * @param {Board} board
- * @returns {Spot | null}
+ * @returns {AnswerPosition | null}
  */
-function memorySpot(name, board) {
+function memoryPosition(name, board) {
   const [word, ...parts] = name.split(".");
   if (word !== "ram" && word !== "st") return null;
   const [bank, at, statusIndex] = parts.map(parseNumber);
@@ -69,9 +69,9 @@ function memorySpot(name, board) {
  * reads the `state` line by position, without bench/state_line.js, because a search takes thousands of snapshots per second.
  * @param {string} name
  * @param {Board} board
- * @returns {Spot | null}
+ * @returns {AnswerPosition | null}
  */
-function portSpot(name, board) {
+function portPosition(name, board) {
   const match = /^ram(\d)\.(\d)$/.exec(name);
   if (!match || Number(match[2]) >= countChips(board, Number(match[1]))) return null;
   // `rams 0.0.H,0.1.H,1.0.H`
@@ -84,9 +84,9 @@ function portSpot(name, board) {
  * @param {string} name
  * @param {Board} board
  */
-function findSpot(name, board) {
+function findPosition(name, board) {
   if (name === "lamps") return { query: "lamps", line: 0, precedingWord: "", start: 6, length: 0 };
-  return registerSpot(name) || memorySpot(name, board) || portSpot(name, board);
+  return registerPosition(name) || memoryPosition(name, board) || portPosition(name, board);
 }
 
 export class PlaceReader {
@@ -96,19 +96,19 @@ export class PlaceReader {
    */
   constructor(names, board) {
     const all = [...new Set(names)];
-    const spots = all.map((name) => findSpot(name, board));
+    const positions = all.map((name) => findPosition(name, board));
     /** The places that only `trace` reports. */
-    this.remainingPlaces = new PlaceQueries(all.filter((_, at) => !spots[at]));
-    this.spots = spots.flatMap((spot) => spot || []);
+    this.remainingPlaces = new PlaceQueries(all.filter((_, at) => !positions[at]));
+    this.positions = positions.flatMap((each) => each || []);
     /** All places, in the order of the values. */
-    this.names = [...all.filter((_, at) => spots[at]), ...this.remainingPlaces.names];
-    this.queries = [...new Set(this.spots.map(({ query }) => query))];
+    this.names = [...all.filter((_, at) => positions[at]), ...this.remainingPlaces.names];
+    this.queries = [...new Set(this.positions.map(({ query }) => query))];
     /** The query lines. */
     this.lines = this.queries.map((query) => `${query}\n`).join("") + this.remainingPlaces.lines(1);
     const counts = this.queries.map((query) => (
       query.startsWith("ram ") ? 1 + LINES_PER_CHIP * countChips(board, Number(query.slice(4))) : 1));
-    /** The index of the answer line of each spot in the answers to all queries. */
-    this.answerIndexes = this.spots.map(({ query, line }) => (
+    /** For each position, the index of its line in the answers to all queries. */
+    this.answerIndexes = this.positions.map(({ query, line }) => (
       line + counts.slice(0, this.queries.indexOf(query)).reduce((sum, count) => sum + count, 0)));
     this.answerCount = counts.reduce((sum, count) => sum + count, 0);
   }
@@ -126,11 +126,11 @@ export class PlaceReader {
    * @param {PlaceValues} values
    */
   row(values) {
-    const { spots, answerIndexes, remainingPlaces: tracedPlaces } = this;
+    const { positions, answerIndexes, remainingPlaces: tracedPlaces } = this;
     const first = values.at;
     let row = "";
-    for (let each = 0; each < spots.length; each++) {
-      const { precedingWord, start, length } = spots[each];
+    for (let each = 0; each < positions.length; each++) {
+      const { precedingWord, start, length } = positions[each];
       const answer = values.answers[first + answerIndexes[each]];
       const begin = precedingWord === "" ? start : answer.indexOf(precedingWord) + precedingWord.length + start;
       row += `${each === 0 ? "" : " "}${length === 0 ? answer.slice(begin) : answer.substr(begin, length)}`;

@@ -148,7 +148,7 @@ export class Search {
     const start = { ...state, file };
     const { broken, after } = isWatched ? this.watcher.watch(start, steps, this.openProperties)
       : this.rerunWalk(start, steps, newSteps, snapshots);
-    if (after.length > 0) this.recordApplied(after[after.length - 1].memories);
+    if (after.length > 0) this.recordAppliedProperties(after[after.length - 1].memories);
     after.forEach(({ isNew }, at) => {
       if (isNew && !newSteps.includes(at)) newSteps.push(at);
     });
@@ -189,7 +189,7 @@ export class Search {
    * Records the properties to which something in a walk was relevant.
    * @param {number[][]} memories
    */
-  recordApplied(memories) {
+  recordAppliedProperties(memories) {
     memories.forEach((memory, at) => {
       if (this.campaign.properties[at].hasApplied(memory)) this.appliedProperties.add(at);
     });
@@ -263,16 +263,16 @@ export class Search {
     const newSteps = [];
     /** @type {Snapshot[]} */
     const snapshots = [];
-    const apparentState = new ApparentState(this, state);
+    const estimatedState = new EstimatedState(this, state);
     for (const [at, step] of steps.entries()) {
       const instructionCounts = counts ? values.counts() : [];
       if (values.takeRun().end !== "end") return { newSteps, isSuspect: true, snapshots };
       if (step.kind !== "none") values.skip(1);
       const snapshot = this.snapshotForRow(places.row(values));
       snapshots.push(snapshot);
-      if (apparentState.canBeViolated(step, snapshot, instructionCounts)) return { newSteps, isSuspect: true, snapshots };
+      if (estimatedState.canBeViolated(step, snapshot, instructionCounts)) return { newSteps, isSuspect: true, snapshots };
       if (this.coverage.add(instructionCounts)) newSteps.push(at);
-      if (this.recordIfNew(snapshot, apparentState.marks) && !newSteps.includes(at)) newSteps.push(at);
+      if (this.recordIfNew(snapshot, estimatedState.marks) && !newSteps.includes(at)) newSteps.push(at);
     }
     return { newSteps, isSuspect: false, snapshots };
   }
@@ -371,7 +371,7 @@ function stopsAtLabel({ form, guards }) {
  * The memories of the properties during a walk, estimated from snapshots and instruction counts. These show how often the program counter
  * reached a label during a wait, but not when.
  */
-class ApparentState {
+class EstimatedState {
   /**
    * @param {Search} search
    * @param {State} state

@@ -18,7 +18,7 @@ import * as say from "../../words/explore.js";
  */
 
 /** Records the calls that have not returned, across consecutive tests. */
-class OpenCalls extends ExecutionRecorder {
+class OpenCallRecorder extends ExecutionRecorder {
   begin() {
     this.lastPress.key = "";
   }
@@ -84,7 +84,7 @@ function formatLines(tests) {
  * Returns the minimum and the maximum number of calls that have not returned after some tests. If one of the tests resets the machine, the
  * number is unknown.
  * @param {Test[]} tests
- * @param {OpenCalls} recorder
+ * @param {OpenCallRecorder} recorder
  */
 function countOpenCalls(tests, recorder) {
   const isReset = tests.some(({ steps }) => expandSteps(steps).some(({ action }) => action.kind === "reset"));
@@ -116,7 +116,7 @@ export async function startCampaign(searchSetup, prepared, testText) {
   const { state } = campaign.from;
   const { tests, words } = findLeadingTests(prepared.names, testText, state);
   if (words) return { searchSetup, words };
-  const recorder = new OpenCalls(prepared.codes);
+  const recorder = new OpenCallRecorder(prepared.codes);
   const run = new TestRun(subject.engine, prepared, recorder, async () => {});
   let failureMessage = "";
   const leadingTests = cutAtSavedStates(tests, state);

@@ -68,7 +68,7 @@ export class Watcher {
     /** @type {StepState[]} */
     const stepStates = [];
     for (const [at, step] of steps.entries()) {
-      const broken = walk.step(reports[at], step);
+      const broken = walk.notifyStepEvents(reports[at], step);
       const isNew = this.coverage !== null && this.coverage.add(reports[at].counts);
       if (broken) return { broken: { ...broken, step: at }, after: stepStates };
       if (!/ end$/.test(reports[at].runAnswer)) break;
@@ -88,7 +88,7 @@ export class Watcher {
     const memories = start.memories.map((memory) => [...memory]);
     const walk = new Walk(this, memories, openProperties, start);
     walk.values = new PlaceValues(this.subject.engine.ask(start.file, this.places.lines(1)).answers).changes(this.places).values;
-    walk.notifyStep(step);
+    walk.notifyInputChange(step);
     return { broken: walk.broken && { ...walk.broken, step: 0 }, after: [{ time: walk.time, down: walk.down, memories, isNew: false }] };
   }
 
@@ -115,7 +115,7 @@ export class Watcher {
       if (step.kind !== "none") placeValues.skip(1);
     }
     const asksCalls = this.callProperties.some((at) => openProperties.includes(at));
-    this.addInstructionLists(file, steps, stepReports, stepReports.map((each) => this.needsList(each, asksCalls)));
+    this.addInstructionLists(file, steps, stepReports, stepReports.map((each) => this.needsInstructionList(each, asksCalls)));
     return stepReports;
   }
 
@@ -144,7 +144,7 @@ export class Watcher {
    * @param {StepReport} report
    * @param {boolean} asksCalls
    */
-  needsList({ changes, counts }, asksCalls) {
+  needsInstructionList({ changes, counts }, asksCalls) {
     if (counts.some(({ address }) => this.openLabels.has(address))) return true;
     if (!asksCalls) return false;
     const { codes } = this.subject;
@@ -203,17 +203,17 @@ class Walk {
    * @param {StepReport} report
    * @param {WalkStep} step
    */
-  step(report, step) {
+  notifyStepEvents(report, step) {
     const startTime = this.time;
     const end = Number(report.runAnswer.split(" ")[3]);
     this.values = report.values;
     this.notify("values", startTime);
-    if (report.list) this.notifyListed(report, startTime, end);
+    if (report.list) this.notifyListedInstructions(report, startTime, end);
     else for (const change of report.changes) this.notifyChange(change, startTime, end, true);
     this.time = startTime + end;
     this.notify("end", this.time);
-    this.notifyCode(report);
-    if (!this.broken) this.notifyStep(step);
+    this.notifyInvalidOpcode(report);
+    if (!this.broken) this.notifyInputChange(step);
     return this.broken;
   }
 
@@ -252,7 +252,7 @@ class Walk {
    * @param {number} startTime
    * @param {number} end
    */
-  notifyListed({ list, changes }, startTime, end) {
+  notifyListedInstructions({ list, changes }, startTime, end) {
     const { openLabels: labels, subject: { codes } } = this.watcher;
     let changeIndex = 0;
     for (const { cycles, address } of list || []) {
@@ -270,7 +270,7 @@ class Walk {
    * Records a violation if the run ended at an opcode that is not an instruction.
    * @param {StepReport} report
    */
-  notifyCode({ runAnswer }) {
+  notifyInvalidOpcode({ runAnswer }) {
     if (this.broken || !/ code$/.test(runAnswer)) return;
     const codeProperty = this.watcher.campaign.properties.findIndex(({ form }) => form === "code");
     if (this.openProperties.includes(codeProperty)) this.broken = { property: codeProperty, time: this.time };
@@ -280,7 +280,7 @@ class Walk {
    * Reports the change at the end of a step.
    * @param {WalkStep} step
    */
-  notifyStep(step) {
+  notifyInputChange(step) {
     const { campaign: { inputs } } = this.watcher;
     this.down = downInputsAfter(this.down, step);
     if (step.kind === "down") this.notify("down", this.time, { input: inputs[step.input].name });

@@ -81,8 +81,8 @@ export function chooseStep(campaign, down, ages, random) {
 /**
  * Returns a step with a random change after a given wait.
  * @param {Campaign} campaign
- * @param {number[]} down
- * @param {number[]} ages
+ * @param {number[]} down the indices of the inputs that are down
+ * @param {number[]} ages the cycles since the last change of each input
  * @param {number} wait
  * @param {Random} random
  * @returns {WalkStep}
