@@ -19,7 +19,7 @@ import { CycleCount } from "./accepted_commands.js";
  * @typedef {{ file: Uint8Array, count: CycleCount, entries: Entry[], cycles: number, letters: number, follows: boolean, marks: Mark[] }}
  * Segment
  *
- * A stored state in a segment: the session after `entry` entries, which ran `cycles` cycles.
+ * A state that is stored within a segment: the session after the first `entry` entries, which ran `cycles` cycles.
  * @typedef {{ entry: number, file: Uint8Array, count: CycleCount, cycles: number }} Mark
  *
  * A moment: after `entry` entries of a segment, and `cycles` cycles into the next entry.
@@ -165,7 +165,7 @@ export class Timeline {
   }
 
   /**
-   * Stores a mark if the previous mark is at least MARK_INTERVAL away.
+   * Stores a mark if at least MARK_INTERVAL cycles have run since the previous mark.
    * @param {Present} present
    */
   mark({ file, count }) {

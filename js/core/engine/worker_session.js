@@ -241,7 +241,7 @@ export class WorkerSession {
     return isShort ? { brightnessMeter, buzzerMeter, heatMeter } : { brightnessMeter: null, buzzerMeter: null, heatMeter: null };
   }
 
-  /** Returns the lamp brightness and the RAM changes of the next 30 ms; each is null if not requested. */
+  /** Returns a forecast of the lamp brightness and the RAM changes in the next 30 ms; each is null if not requested. */
   measureAhead() {
     const { brightnessMeter, heatMeter } = this;
     return {

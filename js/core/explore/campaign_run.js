@@ -28,7 +28,10 @@ import { createRandom } from "./walks.js";
 const PROOF_SHARE = 10;
 /** The number of counterexamples with failed confirmation after which the search no longer checks a property. */
 const MAX_UNCONFIRMED = 3;
-/** The number of cycles for minimising a counterexample, per second of search time, with a minimum and a maximum. */
+/**
+ * The maximum number of cycles to run while a counterexample is minimised: `second` cycles per second of search time, but at least `least`
+ * and at most `most`.
+ */
 const MINIMISING_CYCLES = { second: 2e6, least: 10e6, most: 60e6 };
 
 /**
@@ -116,7 +119,7 @@ export class CampaignRun {
   }
 
   /**
-   * Searches for a number of milliseconds. A counterexample takes longer because it is minimised.
+   * Searches for a number of milliseconds. If a counterexample is found, the call takes longer, because it also minimises it.
    * @param {number} milliseconds
    * @returns {Promise<ConfirmedViolation | null>} the counterexample; null if none was found
    */
@@ -176,7 +179,8 @@ export class CampaignRun {
   }
 
   /**
-   * Stores the test of a counterexample whose confirmation failed. Returns null.
+   * Stores the test of a counterexample whose confirmation failed. If there are too many of them, ends the search for this property.
+   * Returns null.
    * @param {number} property
    * @param {string} test
    */

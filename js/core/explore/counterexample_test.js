@@ -50,7 +50,7 @@ class TestWriter {
     this.pendingWait = campaign.begin;
   }
 
-  /** Writes the wait that is not written yet as a `run` line. */
+  /** Writes a `run` line for the waits that are not written yet. */
   writePendingWait() {
     if (this.pendingWait > 0) this.lines.push(`  run ${this.pendingWait}`);
     this.pendingWait = 0;

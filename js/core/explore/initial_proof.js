@@ -43,7 +43,7 @@ export class InitialProof {
      */
     this.questions = combinableQuestions.length > 1 ? [joinQuestions(combinableQuestions), ...separateQuestions] : separateQuestions;
     this.bounds = boundsUpTo(MAX_BOUND, FIRST_BOUND);
-    /** The number of questions asked in this round that stay in the list. */
+    /** The number of questions that this round has asked without a final answer; they are at the start of the list. */
     this.askedCount = 0;
     /** The duration of the last question in milliseconds. */
     this.lastDuration = 0;
@@ -69,7 +69,10 @@ export class InitialProof {
     return answer.kind === "holds" ? properties : [];
   }
 
-  /** @param {import("../prove/question.js").Question} question */
+  /**
+   * Returns the prover's answer to a question.
+   * @param {import("../prove/question.js").Question} question
+   */
   askProver(question) {
     const { engine, texts } = this.subject;
     const limits = { most: this.bounds[0], pause: PAUSE_CYCLES };

@@ -84,7 +84,7 @@ export class Minimiser {
   }
 
   /**
-   * Tries to remove some steps: first with their waits, then without. Returns whether one of the tries still violates the property.
+   * Tries to remove some steps: first with their waits, then without. Returns whether the property is still violated in one of these tries.
    * @param {(index: number) => boolean} isRemoved
    */
   async tryWithout(isRemoved) {

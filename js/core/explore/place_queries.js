@@ -40,7 +40,7 @@ export function listConditions({ condition, guards }) {
   return [condition, ...guards.map((guard) => guard.condition)];
 }
 
-/** @type {boolean[]} */
+/** @type {boolean[]} the values of the guard conditions of a property without guards */
 const NO_GUARDS = [];
 
 /** The conditions of a property, with the indices of their values in the list of the values of all places. */

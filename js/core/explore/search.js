@@ -37,7 +37,7 @@ import { MAX_RUN_CYCLES, runLines } from "../engine/key_queue.js";
  */
 
 const MAX_WALK_STEPS = 16;
-/** The maximum number of steps from power-on to a state. */
+/** The maximum number of steps from the start state to a stored state. */
 const MAX_DEPTH = 120;
 const MAX_STATES = 20000;
 const MAX_SNAPSHOTS = 200000;
@@ -122,7 +122,7 @@ export class Search {
   }
 
   /**
-   * Walks for a number of milliseconds, or until a walk finds a violation.
+   * Makes random walks for a number of milliseconds, or until a walk finds a violation.
    * @param {number} milliseconds
    * @returns {Violation | null}
    */
@@ -135,7 +135,10 @@ export class Search {
     return null;
   }
 
-  /** @returns {Violation | null} the violation in a random walk from a stored state */
+  /**
+   * Makes a random walk from a stored state, and stores the new states that it reaches.
+   * @returns {Violation | null} the first violation in the walk
+   */
   walk() {
     const state = this.pickState();
     const steps = this.chooseSteps(state);
@@ -341,7 +344,7 @@ export class Search {
 }
 
 /**
- * Returns the steps from power-on to a state.
+ * Returns all steps from the start state to a state.
  * @param {State} state
  */
 function collectSteps(state) {
@@ -356,7 +359,7 @@ function collectSteps(state) {
   return parts.flat();
 }
 
-/** @type {boolean[]} */
+/** @type {boolean[]} the values of the guard conditions of a property without guards */
 const NO_GUARDS = [];
 
 /**
@@ -386,7 +389,7 @@ class EstimatedState {
   }
 
   /**
-   * Returns whether a property can be violated in a step.
+   * Updates the memories after a step. Returns whether the step can have violated a property.
    * @param {WalkStep} step
    * @param {Snapshot} snapshot
    * @param {import("../engine/forecast_answers.js").InstructionCount[]} instructionCounts the instruction counts of the wait
@@ -412,7 +415,7 @@ class EstimatedState {
   }
 
   /**
-   * Returns whether a property with a label can be violated in a step.
+   * Updates the memory of a property with a label after a step. Returns whether the step can have violated it.
    * @param {Property} property
    * @param {number[]} memory
    * @param {import("./properties.js").Moment} moment the moment at the end of the wait
@@ -429,7 +432,7 @@ class EstimatedState {
       memory[0] = -1;
     }
     if (form === "every") {
-      // The counter reached the label at the start of the wait or later.
+      // The label was reached during this wait. Assume the earliest possible time, which is the start of the wait.
       if (moment.time - memory[0] > limit) return true;
       if (count > 0) memory[0] = this.time;
     }
@@ -441,7 +444,7 @@ class EstimatedState {
   }
 
   /**
-   * Returns whether the counter can have reached the required label too late.
+   * Updates the memory of a `within` property after a step. Returns whether the program counter can have reached the second label too late.
    * @param {Property} property
    * @param {number[]} memory
    * @param {import("./properties.js").Moment} moment the moment at the end of the wait
@@ -452,7 +455,7 @@ class EstimatedState {
     const isLate = () => memory[0] >= 0 && moment.time - memory[0] > limit;
     if (isLate()) return true;
     if (countAt(address) > 0) memory[0] = -1;
-    // The counter reached the first label at the start of the wait or later.
+    // The first label was reached during this wait. Assume the earliest possible time, which is the start of the wait.
     if (countAt(start) > 0 && memory[0] < 0) memory[0] = this.time;
     if (isLate()) return true;
     if (step.kind === "reset") update(memory, "reset", moment);

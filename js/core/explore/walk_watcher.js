@@ -291,6 +291,6 @@ class Walk {
   }
 }
 
-/** @type {boolean[]} */
+/** @type {boolean[]} the values of the guard conditions of a property without guards */
 const NO_GUARDS = [];
 const EMPTY_MOMENT = { time: 0, changed: 0, address: -1, holds: false, areOpen: NO_GUARDS, input: "", isDown: 0 };
