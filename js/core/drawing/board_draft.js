@@ -1,6 +1,5 @@
 // Parses the board text in the editor: its parts, their positions in the text, and the board that the text describes. Only the bench
-// decides whether a text is valid. The page compares the bench's answer to `board` with `boardAnswers`, and edits the text only if both are
-// equal.
+// decides whether a text is valid. Therefore the page edits the text only if the bench's answer to `board` equals `boardAnswers`.
 
 import { readBoard } from "../bench/answers.js";
 import { PART_KEYS, PART_KINDS } from "../bench/board_form.js";
@@ -31,11 +30,11 @@ export class BoardDraft {
   constructor(text) {
     this.text = text;
     this.lines = text.split("\n");
-    /** The offset at which each line starts, and the offset after the last line. */
+    /** The offset in the text at which each line starts, followed by the offset after the last line. */
     this.lineOffsets = [0];
     for (const line of this.lines) this.lineOffsets.push(this.lineOffsets[this.lineOffsets.length - 1] + line.length + 1);
     const { entries, keys, faults } = readBoardText(text);
-    /** The TOML keys outside tables. Their values can be arrays of parts. */
+    /** The TOML keys that belong to no table. The value of such a key can be an array of parts. */
     this.keys = keys;
     this.entries = entries;
     this.isToml = faults.length === 0;
@@ -114,7 +113,7 @@ export class BoardDraft {
     return end ? end.line : Math.max(line, ...keys.map(({ value }) => value.end.line));
   }
 
-  /** The board that the text describes, in the format of the bench's answer to `board`; null if a part has a missing key. */
+  /** The board that the text describes, in the format of the bench's answer to `board`; null if a part lacks a key. */
   get boardAnswers() {
     /** @type {string[]} */
     const lines = ["board"];
@@ -138,7 +137,7 @@ export class BoardDraft {
   /** @returns {Board} */
   get board() {
     const { boardAnswers } = this;
-    if (!boardAnswers) throw new Error("the text is no board");
+    if (!boardAnswers) throw new Error("the text does not describe a board");
     return readBoard(boardAnswers);
   }
 

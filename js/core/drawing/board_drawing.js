@@ -1,5 +1,5 @@
-// The state of the board editor, without the DOM: the selection, an unfinished wire, and the actions. Before an action edits the board
-// text, the bench checks the resulting text. The drawing shows the bench's answer to `board`.
+// The board editor without its view: its selection, the wire that the user is drawing, and its actions. Before an action edits the board
+// text, the bench checks the resulting text. The drawing shows the board that the bench reports.
 
 import { readBoard, parseRefusal } from "../bench/answers.js";
 import { boardLines } from "../bench/board_form.js";
@@ -18,10 +18,10 @@ import * as say from "../../words/drawing.js";
  * @typedef {import("./drawing_actions.js").ShelfPart} ShelfPart
  * @typedef {import("./text_edits.js").TextEdit} TextEdit
  *
- * The state for the view. `board` and `face`: the board that the text describes, and its front panel. `isWired`: true if the session has
- * the same board. `fault`: the message if the board cannot be drawn, or "". `shelf`: the parts on the shelf; each has a message if it
- * cannot be added now, or "". `chosen` and `fields`: the selection and its fields. `begun`: the start pin of an unfinished wire, or "".
- * `ends`: the possible end pins of the wire. `lastMessage`: the last message.
+ * The state that the view shows. `board` and `face`: the board that the text describes, and its front panel. `isWired`: true if the session
+ * has the same board. `fault`: the message if the board cannot be drawn, or "". `shelf`: the parts that the user can add; each has a
+ * message if it cannot be added now, or "". `selected` and `fields`: the selected part or pin, and its form. `wireStart`: the start pin of
+ * an unfinished wire, or "". `ends`: the possible end pins of that wire. `lastMessage`: the last message to the user.
  * @typedef {{ board: Board, face: Face, isWired: boolean, fault: string, shelf: Map<ShelfPart, string>, selected: string,
  *   fields: import("./selection_form.js").SelectionForm, wireStart: string, ends: Set<string>, lastMessage: string }} DrawingState
  */
@@ -46,7 +46,9 @@ export class Drawing {
   constructor(calls, show) {
     this.calls = calls;
     this.show = show;
-    /** The bench's answers to `board`: for the session (joined into one text), and for the text in the editor. */
+    /**
+     * The bench's answers to `board`: for the session as one text (`wiredAnswers`), and for the text in the editor as lines (`answers`).
+     */
     this.wiredAnswers = "";
     this.answers = ["board"];
     /** @type {Board} */
@@ -55,7 +57,7 @@ export class Drawing {
     this.fault = "";
     /** @type {Map<ShelfPart, string>} */
     this.shelf = new Map();
-    /** The last text read; null before the first reading. */
+    /** The last text that was read from the editor; null before the first one. */
     this.text = /** @type {string | null} */ (null);
     this.selected = "";
     this.wireStart = "";
@@ -86,7 +88,7 @@ export class Drawing {
    * Runs an action after all earlier actions.
    * @param {() => Promise<void>} action
    */
-  inTurn(action) {
+  runInOrder(action) {
     const result = this.lastAction.then(action);
     this.lastAction = result.catch(() => {});
     return result;
@@ -94,7 +96,7 @@ export class Drawing {
 
   /** After all earlier actions, reads the text if it has changed, and shows the board. */
   refresh() {
-    return this.inTurn(() => this.readText());
+    return this.runInOrder(() => this.readText());
   }
 
   /** Reads the text if it has changed, and shows the board. */
@@ -109,7 +111,7 @@ export class Drawing {
   }
 
   /**
-   * Sets the board of a text.
+   * Stores a board text, and the board that it describes.
    * @param {string} text
    * @param {string[]} answers the answer to `board`
    * @param {string} fault the message if the board cannot be drawn, or ""
@@ -127,7 +129,8 @@ export class Drawing {
   }
 
   /**
-   * Asks the bench about a text. Resolves to the answer to `board`, and to a message if the bench rejects the text.
+   * Has the bench wire a board text, without changing the session. Resolves to the answer to `board`, and to the message if the bench
+   * rejects the text.
    * @param {string} text
    */
   async ask(text) {
@@ -180,8 +183,8 @@ export class Drawing {
   }
 
   /**
-   * Handles a click, tap or Enter on a part or pin. If an unfinished wire can end at the pin, the wire ends there. Otherwise the part or
-   * pin is selected, and a wire begins at the pin.
+   * Handles a click, tap or Enter on a part or pin. If an unfinished wire can end at the pin, connects it. Otherwise selects the part or
+   * pin and, if it is a pin, begins a wire there.
    * @param {string} name
    */
   handleClick(name) {
@@ -215,10 +218,10 @@ export class Drawing {
 
   /**
    * Performs an action after all earlier actions.
-   * @param {DrawingAction} act
+   * @param {DrawingAction} action
    */
-  act(act) {
-    return this.inTurn(() => this.perform(act));
+  act(action) {
+    return this.runInOrder(() => this.perform(action));
   }
 
   /**
@@ -233,7 +236,7 @@ export class Drawing {
     if (result.edits.length === 0) return this.say(say.NO_CHANGE);
     const { refused, answers } = await this.ask(result.text);
     if (refused || !matchesBench(result.text, answers)) return this.say(say.notDone(refused || say.CANNOT_READ));
-    // If the user edited the text during the check, start again.
+    // If the user edited the text during the check, perform the action on the new text.
     if (this.calls.text() !== text) return this.perform(action);
     this.calls.edit(result.edits);
     this.movedParts.note(text, result.text, result.deletedChains);
@@ -247,7 +250,7 @@ export class Drawing {
    * @param {"undo" | "redo"} operation
    */
   undoOrRedo(operation) {
-    return this.inTurn(async () => {
+    return this.runInOrder(async () => {
       const isDone = this.calls[operation]();
       this.lastMessage = operation === "undo" ? say.UNDONE : say.REDONE;
       if (!isDone) this.lastMessage = operation === "undo" ? say.NOTHING_TO_UNDO : say.NOTHING_TO_REDO;

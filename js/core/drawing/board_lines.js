@@ -1,6 +1,6 @@
-// Defines the signal lines of a board, the inputs that use them, and the allowed wires between lines and inputs. The bench decides which
-// wires are allowed; a unit test compares each pair of a line and an input with the bench. A buzzer exists only on the front panel; it uses
-// a line like a lamp.
+// Lists the signal lines of a board, the inputs that can be connected to them, and the allowed connections. The bench decides which
+// connections are allowed; a unit test compares this module with the bench for each pair of a line and an input. A buzzer is defined only
+// in the front panel. Like a lamp, it is connected to one signal line.
 
 import { BITS_PER_CHIP, boardLines } from "../bench/board_form.js";
 import { indices } from "../bench/numbers.js";
@@ -11,14 +11,15 @@ import * as say from "../../words/drawing.js";
  * @typedef {import("../bench/answers.js").Board & { buzzer?: string }} Board a board, with the signal line of its buzzer ("" for none)
  * @typedef {import("../bench/board_form.js").BoardLine} BoardLine
  *
- * An input that uses a signal line: `clock 0` or `data 0` of a chain, `row 1` or `column 2` of the keys, `lamp 3`, or `buzzer 0`.
+ * The name of an input that a signal line can be connected to: `lamp 3`, `buzzer 0`, `clock 0` or `data 0` for chain 0, and `row 1` or
+ * `column 2` for the keys.
  * @typedef {string} Target
  */
 
 export const BUZZER = "buzzer 0";
 
 /**
- * Returns a board with the signal line of its buzzer from the front panel.
+ * Adds the signal line of the buzzer, which the front panel defines, to a board.
  * @param {import("../bench/answers.js").Board} board
  * @param {import("../board/face.js").Face} face
  * @returns {Board}
@@ -29,7 +30,7 @@ export function boardWithBuzzer(board, face) {
 }
 
 /**
- * Returns the signal line of each input.
+ * Returns the signal line to which each input is connected.
  * @param {Board} board
  * @returns {Map<Target, string>}
  */
@@ -116,7 +117,7 @@ export function possibleSources(board, target) {
 }
 
 /**
- * Returns the unused lines.
+ * Returns the signal lines that are connected to no input.
  * @param {Board} board
  */
 export function freeLines(board) {

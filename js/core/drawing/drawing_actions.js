@@ -1,4 +1,4 @@
-// Translates an action in the board drawing to edits of the board text. If the action is impossible, returns a message instead. Only the
+// Translates an action in the board drawing into edits of the board text. If the action is impossible, returns a message instead. Only the
 // bench decides whether the resulting text is valid.
 
 import { boardLines } from "../bench/board_form.js";
@@ -63,16 +63,16 @@ function addFromShelf(editedBoard, { part, line, digits = 1 }) {
     case "lamp": return addLamp(editedBoard, line);
     case "buzzer": return addBuzzer(editedBoard, line);
     case "digit": case "segments": return addDisplay(editedBoard, part, digits);
-    default: return addTest(editedBoard, part);
+    default: return addTestPinPart(editedBoard, part);
   }
 }
 
 /**
- * Adds a button or switch at the TEST pin; returns the part name.
+ * Adds a button or switch at the TEST pin; returns the name of the part.
  * @param {EditedBoard} editedBoard
  * @param {"button" | "switch"} kind
  */
-function addTest(editedBoard, kind) {
+function addTestPinPart(editedBoard, kind) {
   if (new Face(editedBoard.text).test) throw new ImpossibleAction(say.TEST_IN_USE);
   ensureRom(editedBoard);
   editedBoard.edit(setLineText(editedBoard.draft, "test", "", `${kind} ${kind === "button" ? "PUSH" : "RUN"}`));
@@ -89,7 +89,7 @@ function connectLine(editedBoard, name, target) {
   const { board, draft } = editedBoard;
   const line = boardLines(board).find((each) => each.name === name);
   if (!line || !inputLines(board).has(target)) throw new ImpossibleAction(say.boardHasNo(line ? target : name));
-  if (!canWire(board, line, target)) throw new ImpossibleAction(wireRefusal(line, target));
+  if (!canWire(board, line, target)) throw new ImpossibleAction(wireErrorMessage(line, target));
   const [kind, number] = splitTarget(target);
   if (kind === "clock" || kind === "data") editedBoard.edit([setValue(draft, draft.entry("chain", number), kind, name)]);
   if (kind === "lamp") editedBoard.edit([setValue(draft, draft.entry("lamp", number), "line", name)]);
@@ -110,7 +110,7 @@ function connectLine(editedBoard, name, target) {
  * @param {import("../bench/board_form.js").BoardLine} line
  * @param {string} target
  */
-function wireRefusal({ name, kind, isInput }, target) {
+function wireErrorMessage({ name, kind, isInput }, target) {
   const [inputKind] = splitTarget(target);
   if (inputKind === "column") return say.needsInput(name, targetName(target));
   if (isInput) return say.needsOutput(name, targetName(target));
@@ -119,7 +119,7 @@ function wireRefusal({ name, kind, isInput }, target) {
 }
 
 /**
- * Makes a ROM line an input or an output; throws `ImpossibleAction` if connected parts need the other direction.
+ * Makes a ROM line an input or an output; throws `ImpossibleAction` if a connected part needs the current direction.
  * @param {EditedBoard} editedBoard
  * @param {string} line
  * @param {string} mode `i`, `0` or `1`
@@ -158,7 +158,7 @@ function copyPart(editedBoard, part) {
 }
 
 /**
- * Names a lamp; throws `ImpossibleAction` if the new name would change the lamps on the grid.
+ * Names a lamp; throws `ImpossibleAction` if the new name would change which lamps the front-panel grid shows.
  * @param {EditedBoard} editedBoard
  * @param {number} lamp
  * @param {string} name
@@ -268,11 +268,11 @@ function perform(editedBoard, action) {
 }
 
 /**
- * Returns the message for a front-panel error that an action caused; "" if there is none.
+ * Returns the message for an error in the front panel that an action has caused; "" if there is none.
  * @param {string} textBefore the text before the action
  * @param {string} textAfter the text after the action
  */
-function newPanelError(textBefore, textAfter) {
+function findNewPanelError(textBefore, textAfter) {
   const oldMessages = new Face(textBefore).faults.map(({ words }) => words.replace(/\d+/g, ""));
   const { faults } = new Face(textAfter);
   if (faults.length <= oldMessages.length) return "";
@@ -292,7 +292,7 @@ export function applyAction(text, action) {
   if (!editedBoard.draft.isToml || !editedBoard.draft.boardAnswers) return { ...unchanged, refusal: say.TEXT_HAS_ERRORS };
   try {
     const [part, message] = perform(editedBoard, action);
-    const fault = newPanelError(text, editedBoard.text);
+    const fault = findNewPanelError(text, editedBoard.text);
     if (fault) return { ...unchanged, refusal: fault };
     const alsoAdded = editedBoard.addedParts.length > 0 ? say.withAlso(say.listOf(editedBoard.addedParts)) : "";
     const { edits, deletedChains } = editedBoard;
@@ -313,7 +313,7 @@ export function reasonNotToAdd(text, part) {
 }
 
 /**
- * Returns whether the page and the bench read the same board from a text. Otherwise the drawing cannot edit the text.
+ * Returns whether the page and the bench read the same board from a text. If not, the drawing cannot edit the text.
  * @param {string} text
  * @param {string[]} answers the answer to `board` after the bench has wired the text
  */

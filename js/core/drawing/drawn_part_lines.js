@@ -4,7 +4,7 @@ import { partLines } from "../bench/part_lines.js";
 import { Face } from "../board/face.js";
 
 /**
- * Returns the line range of each part. A comment defines a buzzer, or a button or switch at the TEST pin.
+ * Returns the range of lines that define each part. Comment lines define the buzzer, and the button or switch at the TEST pin.
  * @param {string} text
  */
 export function drawnPartLines(text) {

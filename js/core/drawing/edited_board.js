@@ -9,7 +9,7 @@ import { applyEdits, makeSuccessive } from "./text_edits.js";
  * @typedef {import("./text_edits.js").TextEdit} TextEdit
  */
 
-/** The error for an impossible action. The message gives the reason and, if possible, a remedy. */
+/** The error for an action that is impossible. Its message says why and, if possible, what to do. */
 export class ImpossibleAction extends Error {}
 
 /** The board text during an action. */
@@ -19,7 +19,7 @@ export class EditedBoard {
     this.draft = new BoardDraft(text);
     /** @type {TextEdit[]} */
     this.edits = [];
-    /** @type {string[]} the names of the parts that the action also added because the new part needs them */
+    /** @type {string[]} the names of the parts that the action added because the new part needs them */
     this.addedParts = [];
     /** @type {number[]} the deleted chains, by their original numbers */
     this.deletedChains = [];

@@ -1,4 +1,5 @@
-// Edits the front panel in a board text: sets names and colours, and removes and renumbers entries after lamps, keys or chains are deleted.
+// Edits the front panel in a board text: sets names and colours, and, when parts are deleted, removes their entries and renumbers the
+// others.
 
 import { COLOURS, LINE_KINDS } from "../board/face_words.js";
 import { addFaceLine, faceLines, headNumber, removeFaceLine, removeWords, setWord } from "./face_lines.js";
@@ -10,16 +11,16 @@ import { addFaceLine, faceLines, headNumber, removeFaceLine, removeWords, setWor
  */
 
 export { COLOURS };
-/** The kinds of lines that start with a row number. */
+/** The kinds of front-panel lines that have a row number before the colon. */
 const ROW_KINDS = ["row", "grid"];
-/** The kinds of lines that start with a lamp number. */
+/** The kinds of front-panel lines that have a lamp number before the colon. */
 const LAMP_KINDS = new Set(
   [...LINE_KINDS].filter(([name, { head }]) => head.startsWith("N") && !ROW_KINDS.includes(name)).map(([name]) => name),
 );
-/** The kinds of lines that start with a port or a port line. */
+/** The kinds of front-panel lines that have a port or a port line before the colon. */
 const PORT_KINDS = ["port", "buzzer", "printer"];
-/** The list entry for a lamp or key without a name or colour. */
-const NO_WORD = "_";
+/** The entry for a lamp or key without a name or colour in a list. */
+const EMPTY_ENTRY = "_";
 
 /**
  * Converts a name to one word, with underscores instead of blanks.
@@ -30,8 +31,8 @@ export function toWord(name) {
 }
 
 /**
- * Sets the name or colour of a lamp. The edit changes the list that contains the lamp, extends the list that ends before the lamp, or adds
- * a line.
+ * Sets the name or colour of a lamp. The edit changes the list that contains the lamp, extends the list that ends just before the lamp, or
+ * adds a line.
  * @param {BoardDraft} draft
  * @param {"lamp" | "colour"} kind
  * @param {number} lamp
@@ -43,8 +44,8 @@ function setListWord(draft, kind, lamp, text) {
   const containingLine = lists.find((line) => headNumber(line) <= lamp && lamp < headNumber(line) + line.words.length);
   if (containingLine) {
     const others = containingLine.words.filter((_, at) => headNumber(containingLine) + at !== lamp);
-    if (text === "" && others.every((word) => word.text === NO_WORD)) return [removeFaceLine(draft, containingLine)];
-    return setWord(containingLine.words[lamp - headNumber(containingLine)], text || NO_WORD);
+    if (text === "" && others.every((word) => word.text === EMPTY_ENTRY)) return [removeFaceLine(draft, containingLine)];
+    return setWord(containingLine.words[lamp - headNumber(containingLine)], text || EMPTY_ENTRY);
   }
   if (text === "") return [];
   const precedingList = lists.find((line) => headNumber(line) + line.words.length === lamp);
@@ -53,7 +54,7 @@ function setListWord(draft, kind, lamp, text) {
 }
 
 /**
- * Sets the name of a lamp and updates the grid.
+ * Sets the name of a lamp, also in the lines of the grid.
  * @param {BoardDraft} draft
  * @param {number} lamp
  * @param {string} name "" for none
@@ -64,7 +65,7 @@ export function nameLamp(draft, lamp, name) {
   const nameLine = lines.find((line) => line.kind === "lamp" && headNumber(line) <= lamp && lamp < headNumber(line) + line.words.length);
   const oldName = nameLine && nameLine.words[lamp - headNumber(nameLine)].text;
   const gridWords = lines.filter(({ kind }) => kind === "grid").flatMap(({ words }) => words)
-    .filter(({ text }) => text === oldName && text !== NO_WORD);
+    .filter(({ text }) => text === oldName && text !== EMPTY_ENTRY);
   return [...setListWord(draft, "lamp", lamp, word), ...gridWords.flatMap((each) => setWord(each, word || String(lamp)))];
 }
 
@@ -80,23 +81,23 @@ export function colourLamp(draft, lamp, colour) {
     && lamp <= Number(line.last.text));
   if (!range || !range.first || !range.last) return setListWord(draft, "colour", lamp, colour);
   const first = headNumber(range);
-  const [oldColour = { text: NO_WORD }] = range.words;
+  const [oldColour = { text: EMPTY_ENTRY }] = range.words;
   const count = Number(range.last.text) - first + 1;
-  const colours = Array.from({ length: count }, (_, at) => (first + at === lamp ? colour || NO_WORD : oldColour.text));
+  const colours = Array.from({ length: count }, (_, at) => (first + at === lamp ? colour || EMPTY_ENTRY : oldColour.text));
   const isUniform = colours.every((word) => word === colours[0]);
-  if (isUniform) return colours[0] === NO_WORD ? [removeFaceLine(draft, range)] : setWord(range.words[0], colours[0]);
+  if (isUniform) return colours[0] === EMPTY_ENTRY ? [removeFaceLine(draft, range)] : setWord(range.words[0], colours[0]);
   return [{ from: range.first.to, to: range.end, insert: `: ${colours.join(" ")}` }];
 }
 
 /**
- * Sets the name of a key. If the list of the row is too short, the keys before it get their default names, such as `0.1`.
+ * Sets the name of a key. If the list of its row is too short, the keys before this key get their default names, such as `0.1`.
  * @param {BoardDraft} draft
  * @param {{ row: number, column: number }} key
  * @param {string} name "" for a position without a key
  * @returns {TextEdit[]}
  */
 export function nameKey(draft, { row, column }, name) {
-  const word = toWord(name) || NO_WORD;
+  const word = toWord(name) || EMPTY_ENTRY;
   const line = faceLines(draft).find((each) => each.kind === "row" && headNumber(each) === row);
   const count = line ? line.words.length : 0;
   if (line && column < count) return setWord(line.words[column], word);
@@ -133,7 +134,7 @@ export function moveBuzzer(draft, line) {
 }
 
 /**
- * Adds a group of lamps, such as a display or a bar.
+ * Adds the line for a group of lamps, such as a display or a bar.
  * @param {BoardDraft} draft
  * @param {string} kind
  * @param {number} first the number of the first lamp
@@ -213,11 +214,11 @@ function renumberGrid(draft, line, deletedLamps, newNumber) {
     .flatMap((list) => list.words.map(({ text }, at) => /** @type {[string, number]} */ ([text, headNumber(list) + at]))));
   const texts = line.words.map(({ text }) => {
     const named = names.get(text);
-    if (named !== undefined) return deletedLamps.has(named) ? NO_WORD : text;
+    if (named !== undefined) return deletedLamps.has(named) ? EMPTY_ENTRY : text;
     if (!/^\d+$/.test(text)) return text;
-    return deletedLamps.has(Number(text)) ? NO_WORD : String(newNumber(Number(text)));
+    return deletedLamps.has(Number(text)) ? EMPTY_ENTRY : String(newNumber(Number(text)));
   });
-  if (texts.every((text) => text === NO_WORD)) return [removeFaceLine(draft, line)];
+  if (texts.every((text) => text === EMPTY_ENTRY)) return [removeFaceLine(draft, line)];
   return line.words.flatMap((word, at) => setWord(word, texts[at]));
 }
 
@@ -230,7 +231,7 @@ function renumberGrid(draft, line, deletedLamps, newNumber) {
 export function renamePorts(draft, newPortName) {
   return faceLines(draft).flatMap((line) => {
     if (!line.first || !PORT_KINDS.includes(line.kind)) return [];
-    // A printer line names two ports: that of the strobe line, and the code port.
+    // A printer line contains two ports: the port of the strobe line, and the port for the character code.
     const words = [line.first, ...(line.kind === "printer" ? line.words.slice(0, 1) : [])];
     const renamed = words.map(({ text }, at) => renamePort(text, line.kind !== "port" && at === 0, newPortName));
     if (renamed.includes("")) return [removeFaceLine(draft, line)];

@@ -8,9 +8,9 @@ import { removeLines } from "./part_edits.js";
  * @typedef {import("./text_edits.js").TextEdit} TextEdit
  * @typedef {{ text: string, from: number, to: number }} FaceWord a word, and the offsets of its start and its end
  *
- * A front-panel line. `line`: the line number in the text. `kind`: the first word. `first` and `last`: the words before the colon, `N` or
- * `N to N`, null for none. `words`: the words after the colon. `end`: the offset at which the line ends. All offsets count from the start
- * of the text.
+ * A front-panel line, such as `# colour 0 to 3: green`. `line`: the line number in the text. `kind`: the first word. `first` and `last`:
+ * the first and last number or port before the colon, null for none. `words`: the words after the colon. `end`: the offset at which the
+ * line ends. All offsets count from the start of the text.
  * @typedef {{ line: number, kind: string, first: FaceWord | null, last: FaceWord | null, words: FaceWord[], end: number }} FaceLine
  */
 
@@ -49,7 +49,7 @@ export function faceLines(draft) {
 }
 
 /**
- * Returns the number before the colon; NaN if the line has none.
+ * Returns the first number before the colon; NaN if there is none.
  * @param {FaceLine} line
  */
 export function headNumber({ first }) {
@@ -104,7 +104,7 @@ export function removeWords({ words, first, last }, isDeleted) {
   return words.flatMap(({ from, to }, at) => {
     if (!isDeleted(at)) return [];
     const previousEnd = words[at - 1] ? words[at - 1].to : from;
-    // For the first words, the blanks after them are deleted instead, so that the blank after the colon stays.
+    // If no word stays before this one, delete the blanks after it instead, so that the blank after the colon stays.
     const next = words[at + 1];
     if (at === 0 || words.slice(0, at).every((_, each) => isDeleted(each))) return [{ from, to: next ? next.from : to, insert: "" }];
     return head ? [{ from: previousEnd, to, insert: "" }] : [];

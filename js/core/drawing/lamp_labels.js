@@ -6,7 +6,7 @@ import * as say from "../../words/drawing.js";
 
 /** @typedef {import("../board/face.js").Face} Face */
 
-/** The lamp labels of a BCD digit, and of a seven-segment digit. */
+/** The labels of the lamps in a BCD digit, and in a seven-segment digit. */
 const BCD_LABELS = ["8", "4", "2", "1"];
 const SEGMENT_LABELS = ["a", "b", "c", "d", "e", "f", "g"];
 const POINT_LABEL = "point";

@@ -5,7 +5,7 @@
  * @typedef {import("../board/wiring.js").Positions} Positions
  * @typedef {import("../board/wiring.js").Point} Point
  *
- * A text edit that deletes chains: the text before and after the edit, the numbers of the chains before the edit, and their positions.
+ * A text edit that deletes chains: the text before and after the edit, the numbers of the deleted chains, and their positions.
  * @typedef {{ before: string, after: string, chains: number[], points: Positions }} Deletion
  */
 
@@ -19,11 +19,11 @@ export class MovedParts {
     /** @type {Deletion[]} */
     this.deletions = [];
     /** True if positions have changed since the last call of `takeNews`. */
-    this.hasNews = false;
+    this.hasChanged = false;
   }
 
   /**
-   * Replaces all positions by those of another session.
+   * Replaces all positions with those of another session.
    * @param {[string, Point][]} points
    */
   begin(points) {
@@ -45,7 +45,7 @@ export class MovedParts {
   }
 
   /**
-   * Updates the positions after a text change that deletes or restores chains.
+   * Updates the positions if a change of the text performs or undoes one of the recorded deletions.
    * @param {string | null} textBefore
    * @param {string} textAfter
    */
@@ -58,9 +58,9 @@ export class MovedParts {
 
   /** Returns whether positions have changed since the previous call. */
   takeNews() {
-    const { hasNews } = this;
-    this.hasNews = false;
-    return hasNews;
+    const { hasChanged } = this;
+    this.hasChanged = false;
+    return hasChanged;
   }
 
   /**
@@ -95,7 +95,7 @@ export class MovedParts {
       if (found) chains.push([Number(found[1]), point]);
     }
     for (const [number] of chains) this.moved.delete(`chain ${number}`);
-    this.hasNews = true;
+    this.hasChanged = true;
     return chains;
   }
 }

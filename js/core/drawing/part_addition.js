@@ -1,4 +1,4 @@
-// Adds parts to a board and connects them to free signal lines. If there are too few free lines, also adds chips with free lines.
+// Adds parts to a board and connects them to free signal lines. If there are too few free lines, adds chips that have more.
 
 import { formatQuantity, indices } from "../bench/numbers.js";
 import { Face } from "../board/face.js";
@@ -61,7 +61,7 @@ export function addRam(editedBoard) {
 }
 
 /**
- * Adds a part that another part needs; returns its name.
+ * Adds a part because the new part needs it; returns its name.
  * @param {EditedBoard} editedBoard
  * @param {() => string} add adds the part and returns its name
  */
@@ -167,7 +167,7 @@ function ensureBits(editedBoard, count) {
 }
 
 /**
- * Adds a key matrix with one row and one column per free input line, at most four; returns its name.
+ * Adds a key matrix with one row, and with a column for each free input line (at most four columns). Returns its name.
  * @param {EditedBoard} editedBoard
  */
 export function addKeys(editedBoard) {
@@ -241,7 +241,7 @@ export function addLamp(editedBoard, line = "", colour = "") {
   ensureRom(editedBoard);
   const lampNumber = editedBoard.board.lamps.length;
   const hasRam = editedBoard.board.banks.length > 0;
-  // The first lamp of a board without RAM gets a RAM chip, so that later lamps can be at the same port.
+  // If the board has no RAM, add a RAM chip for its first lamp, so that later lamps can use the same port.
   if (!line && !hasRam && lampNumber === 0) addRequired(editedBoard, () => addRam(editedBoard));
   addLamps(editedBoard, [line || ensureLines(editedBoard, 1, freeLampLines, () => addRam(editedBoard))[0]]);
   if (colour) editedBoard.edit(colourLamp(editedBoard.draft, lampNumber, colour));
@@ -330,7 +330,7 @@ function takeSegmentBits(editedBoard, count) {
 }
 
 /**
- * Throws `ImpossibleAction` if an action removes an output line of the buzzer or the printer.
+ * Throws `ImpossibleAction` if an action takes an output line away from the buzzer or the printer.
  * @param {EditedBoard} editedBoard
  * @param {(line: string) => boolean} isLost returns true if a line is no longer an output after the action
  */

@@ -1,4 +1,5 @@
-// Deletes parts of a board, and the parts that depend on them, such as the lamps of a deleted chain. All other parts keep their wires.
+// Deletes parts of a board together with the parts that depend on them, such as the lamps at a deleted chain. All other parts stay
+// connected.
 
 import { formatQuantity } from "../bench/numbers.js";
 import { Face } from "../board/face.js";
@@ -20,8 +21,8 @@ import * as say from "../../words/drawing.js";
  *   lamps: Set<number> }} DeletedParts
  */
 
-/** @returns {DeletedParts} empty sets: no parts to delete */
-function makeEmptyDeletion() {
+/** @returns {DeletedParts} the parts to delete, at first none */
+function createDeletedParts() {
   return { roms: new Set(), rams: new Set(), chains: new Set(), keys: false, columns: new Set(), lamps: new Set() };
 }
 
@@ -57,7 +58,7 @@ export function displayAt(face, lamp) {
 }
 
 /**
- * Adds the parts that depend on the parts to delete.
+ * Extends the parts to delete by the parts that depend on them.
  * @param {Board} board
  * @param {Face} face
  * @param {DeletedParts} deletedParts
@@ -96,7 +97,8 @@ function removeAll(editedBoard, deletedParts) {
 }
 
 /**
- * Returns numbers in descending order: removals in this order do not renumber the parts that follow.
+ * Returns numbers in descending order. If parts are removed in this order, a removal does not change the numbers of the parts still to be
+ * removed.
  * @param {Set<number>} numbers
  */
 function sortDescending(numbers) {
@@ -195,14 +197,14 @@ function markDeleted(board, deletedParts, part) {
   else if (kind === "keys") deletedParts.keys = true;
   else if (kind === "lamps") board.lamps.forEach((_, at) => deletedParts.lamps.add(at));
   else if (kind === "ram") markRamDeleted(board, deletedParts, part.slice(4));
-  else throw new ImpossibleAction(deletionRefusal(part));
+  else throw new ImpossibleAction(deletionErrorMessage(part));
 }
 
 /**
  * Returns the message for a part or pin that cannot be deleted.
  * @param {string} part
  */
-function deletionRefusal(part) {
+function deletionErrorMessage(part) {
   if (part === "processor" || part === "TEST") return say.PROCESSOR_STAYS;
   if (/^(clock|data)/.test(part)) return say.CHAIN_NEEDS_LINES;
   return say.LINE_STAYS;
@@ -238,9 +240,9 @@ export function deletePart(editedBoard, part) {
     return "";
   }
   if (part.startsWith("row ")) return deleteRow(editedBoard, Number(part.slice(4)));
-  const deletedParts = makeEmptyDeletion();
+  const deletedParts = createDeletedParts();
   markDeleted(board, deletedParts, part);
-  // Chains depend on ROMs and RAM chips. Keys and lamps depend on chains. Two passes are therefore enough.
+  // Two passes are enough: chains depend on ROMs and RAM chips, and keys and lamps depend on chains.
   const face = new Face(editedBoard.text);
   for (let pass = 0; pass < 2; pass++) addDependents(board, face, deletedParts);
   const description = describeDependents(board, deletedParts, part);

@@ -13,7 +13,7 @@ import { PART_KEYS } from "../bench/board_form.js";
  * @typedef {Record<string, string | number | string[]>} PartValues the values of a part, by key
  */
 
-/** The maximum length of an array line after an element is added, in characters. A longer array continues on the next line. */
+/** The maximum length of a line to which an array element is added, in characters. An element that does not fit goes on a new line. */
 const MAX_LINE_LENGTH = 100;
 const INDENT = "    ";
 
@@ -44,7 +44,7 @@ function isBlank(line) {
 }
 
 /**
- * Returns whether there are no blank lines between the tables in the text.
+ * Returns whether the text has at least two tables, and no blank lines between its tables.
  * @param {BoardDraft} draft
  */
 function isCompact({ entries, lines }) {
@@ -123,7 +123,7 @@ export function appendElement(draft, array, element) {
   const { next } = tokensAround(draft, elementEnd, elementEnd);
   const hasComma = next !== null && next.text === ",";
   const indent = last.line > array.line ? (/^[ \t]*/.exec(line) || [""])[0] : INDENT;
-  // The new line goes before the remaining text of the array.
+  // The new line goes before the closing bracket if that is on the same line, otherwise after the whole line.
   const end = next && next.text === "]" && array.end.line === last.end.line ? elementEnd : draft.offset(last.end.line, line.length);
   const comma = { from: elementEnd, to: elementEnd, insert: "," };
   return [{ from: end, to: end, insert: `\n${indent}${element}${hasComma ? "," : ""}` }, ...(hasComma ? [] : [comma])];
@@ -132,8 +132,8 @@ export function appendElement(draft, array, element) {
 /**
  * Deletes whole lines. If the deletion leaves adjacent blank lines, also deletes one of them.
  * @param {BoardDraft} draft
- * @param {number} first
- * @param {number} last
+ * @param {number} first the number of the first line, from 1
+ * @param {number} last the number of the last line
  * @returns {TextEdit}
  */
 export function removeLines({ lines, lineOffsets, text }, first, last) {

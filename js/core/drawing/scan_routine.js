@@ -7,8 +7,9 @@ import * as say from "../../words/key_scan.js";
  * @typedef {import("../bench/answers.js").Board} Board
  * @typedef {import("../bench/answers.js").Matrix} Matrix
  *
- * The port of a signal line. `bank`: the RAM bank that DCL must select, -1 for a ROM. `source`: the SRC byte that selects the port.
- * `write`: the instruction that writes to the port. `title`: the name of the port. `bit`: the value of the line's bit: 1, 2, 4 or 8.
+ * The port of a signal line. `bank`: the RAM bank that DCL must select, or -1 for a ROM port. `source`: the byte that SRC must send to
+ * select the port. `write`: the instruction that writes to the port. `title`: the name of the port. `bit`: the value of the line's bit in
+ * the port (1, 2, 4 or 8).
  * @typedef {{ bank: number, source: number, write: string, title: string, bit: number }} Port
  *
  * A source line: its label ("" for none), its instruction with operands, and its comment.
@@ -17,7 +18,7 @@ import * as say from "../../words/key_scan.js";
 
 const LABEL_WIDTH = 12;
 const COMMENT_COLUMN = 32;
-/** The number of values of a register. An ISZ loop has at most this number of rounds. */
+/** The number of values of a 4-bit register, which is the maximum number of iterations of an ISZ loop. */
 const REGISTER_VALUES = 16;
 
 /**
@@ -58,7 +59,7 @@ function formatLine([label, instruction, comment = ""]) {
   return comment === "" ? code : `${code.padEnd(COMMENT_COLUMN)}; ${comment}`;
 }
 
-/** Creates the labels of the routine, with a prefix that does not occur in the source. */
+/** Creates the labels of the routine. They start with a prefix that does not occur in the source. */
 class Labels {
   /** @param {string} text */
   constructor(text) {
@@ -78,7 +79,7 @@ class Labels {
  * @param {Labels} labels
  * @returns {Line[]}
  */
-function shiftToFirstRow(first, labels) {
+function firstRowLines(first, labels) {
   if (first === 0) return [];
   const rounds = Math.ceil(first / REGISTER_VALUES);
   const [loopLabel, shift] = [labels.labelFor("first"), labels.labelFor("shift")];
@@ -98,7 +99,7 @@ function shiftToFirstRow(first, labels) {
  * @param {Labels} labels
  * @returns {Line[]}
  */
-function readColumns(columns, labels) {
+function columnLines(columns, labels) {
   const ports = columns.map(portForLine);
   const chips = ports.filter((port, at) => ports.findIndex((each) => isSamePort(each, port)) === at);
   return chips.flatMap((chip) => {
@@ -153,8 +154,8 @@ function headerLines({ chain, first, rows, columns }, clock, data, labels) {
 }
 
 /**
- * Returns the source of the routine. If the text has no instructions, a program that calls the routine precedes it. Returns "" for a board
- * without keys.
+ * Returns the source of the routine. If the source text has no instructions yet, the result begins with a program that calls the routine.
+ * Returns "" for a board without keys.
  * @param {Board} board
  * @param {string} text the source that will contain the routine
  */
@@ -170,8 +171,8 @@ export function keyScanSource({ matrix, chains }, text) {
   const lines = [
     [scan, ["LDM", "0"]], ["", ["XCH", "R4"], say.FIRST_ROW],
     ["", ["LDM", String(REGISTER_VALUES - rows)]], ["", ["XCH", "R7"], say.counts(rows)],
-    ["", ["LDM", String(data.bit)]], ["", ["JMS", shift], say.ONE_ENTERS], ...shiftToFirstRow(first, labels),
-    ...readColumns(columns, labels).map((line, at) => /** @type {Line} */ (at === 0 ? [row, line[1], line[2]] : line)),
+    ["", ["LDM", String(data.bit)]], ["", ["JMS", shift], say.ONE_ENTERS], ...firstRowLines(first, labels),
+    ...columnLines(columns, labels).map((line, at) => /** @type {Line} */ (at === 0 ? [row, line[1], line[2]] : line)),
     ["", ["LDM", "0"]], ["", ["JMS", shift], say.NEXT_ROW], ["", ["INC", "R4"]], ["", ["ISZ", "R7,", row]], ["", ["BBL", "0"], say.NO_KEY],
     ...columns.flatMap((_, column) => /** @type {Line[]} */ ([
       [labels.labelFor(String(column)), ["LDM", String(column)], say.columnIsDown(column)], ["", ["JUN", labels.labelFor("down")]]])),
@@ -184,8 +185,8 @@ export function keyScanSource({ matrix, chains }, text) {
 }
 
 /**
- * Returns the edit that inserts a routine into a text, with blank lines around it. The routine goes after the caret line, or to the end if
- * there is no caret.
+ * Returns the edit that inserts a routine into a text, with blank lines around it. The routine is inserted after the line with the caret,
+ * or at the end if there is no caret.
  * @param {string} text
  * @param {number} line the caret line, 0 for none
  * @param {string} code the routine

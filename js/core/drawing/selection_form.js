@@ -1,5 +1,5 @@
-// Creates the form for the selected part or pin, with fields such as its name, colour, wires, and number of chips. Each field has a
-// function that returns the action for a new value.
+// Creates the form for the selected part or pin, with fields such as its name, its colour, its signal line, and its number of chips. Each
+// field has a function that returns the action for a new value.
 
 import { indices } from "../bench/numbers.js";
 import { COLOURS } from "../board/face_words.js";
@@ -13,7 +13,8 @@ import * as say from "../../words/drawing.js";
  * @typedef {import("../board/face.js").Face} Face
  * @typedef {import("./drawing_actions.js").DrawingAction} DrawingAction
  *
- * A field: its label, its value, its options with titles (null for free text), and a function that returns the action for a new value.
+ * A field of the form: its label, its value, the values to choose from with their titles (null for free text), and a function that returns
+ * the action for a new value.
  * @typedef {{ label: string, value: string, options: { value: string, words: string }[] | null,
  *   act: (value: string) => DrawingAction }} Field
  *
@@ -71,7 +72,7 @@ function lineField(board, target, label = targetName(target)) {
  * @param {Face} face
  * @param {string} part
  */
-function portField(face, part) {
+function portNameField(face, part) {
   const faceText = face.ports.get(part.replace(" ", ""));
   return textField(say.WHAT_IS_THERE, faceText ? faceText.text : "", (name) => ({ kind: "name", part, name }));
 }
@@ -100,12 +101,12 @@ const deleteButton = (part, word = say.DELETE) => ({ word, act: { kind: "delete"
  * @param {string} part
  * @returns {SelectionForm}
  */
-function romFields(board, face, part) {
+function romForm(board, face, part) {
   const chip = splitTarget(part)[1];
   const rom = board.roms.find((each) => Number(each.chip) === chip);
   const port = rom ? rom.port : "0000";
   const lines = indices(4).map((at) => directionField(`rom${chip}.${at}`, port));
-  const fields = [portField(face, part), ...lines];
+  const fields = [portNameField(face, part), ...lines];
   return { title: say.romWithPort(chip), part, fields, buttons: [copyButton(part), deleteButton(part)] };
 }
 
@@ -116,12 +117,12 @@ function romFields(board, face, part) {
  * @param {string} part
  * @returns {SelectionForm}
  */
-function chainFields(board, face, part) {
+function chainForm(board, face, part) {
   const chainNumber = splitTarget(part)[1];
   const chips = choiceField("chips", String(board.chains[chainNumber].chips), rangeNumbers(VALUE_RANGES["chain.chips"]), (value) => (
     { kind: "chips", chain: chainNumber, chips: Number(value) }));
   const lines = [lineField(board, `clock ${chainNumber}`, "clock"), lineField(board, `data ${chainNumber}`, "data")];
-  const fields = [portField(face, part), ...lines, chips];
+  const fields = [portNameField(face, part), ...lines, chips];
   return { title: say.chainOf(chainNumber), part, fields, buttons: [copyButton(part), deleteButton(part)] };
 }
 
@@ -131,7 +132,7 @@ function chainFields(board, face, part) {
  * @param {Face} face
  * @returns {SelectionForm}
  */
-function keysFields(board, face) {
+function keysForm(board, face) {
   const rows = choiceField("rows", String(board.rows), rangeNumbers(VALUE_RANGES["keys.rows"]), (value) => (
     { kind: "rows", rows: Number(value) }));
   const columns = indices(board.columns).map((at) => lineField(board, `column ${at}`, `column ${at}`));
@@ -152,7 +153,7 @@ function keysFields(board, face) {
  * @param {number} lamp
  * @returns {SelectionForm}
  */
-function lampFields(board, face, lamp) {
+function lampForm(board, face, lamp) {
   const part = `lamp ${lamp}`;
   const groupLamps = lampsInSameGroup(face, lamp);
   const isSingle = groupLamps.length === 1;
@@ -174,7 +175,7 @@ function lampFields(board, face, lamp) {
  * @param {Face} face
  * @returns {SelectionForm}
  */
-function buzzerFields(board, { buzzer }) {
+function buzzerForm(board, { buzzer }) {
   const name = textField("name", buzzer ? buzzer.name : "", (value) => ({ kind: "name", part: "buzzer", name: value }));
   const fields = [name, lineField(board, BUZZER, "buzzer")];
   return { title: say.THE_BUZZER_TITLE, part: "buzzer", fields, buttons: [deleteButton("buzzer")] };
@@ -186,9 +187,9 @@ function buzzerFields(board, { buzzer }) {
  * @param {string} part
  * @returns {SelectionForm}
  */
-function ramFields(face, part) {
+function ramForm(face, part) {
   const title = say.ramWithPort(part.slice(4));
-  return { title, part: part.split(".")[0], fields: [portField(face, part)], buttons: [copyButton(part), deleteButton(part)] };
+  return { title, part: part.split(".")[0], fields: [portNameField(face, part)], buttons: [copyButton(part), deleteButton(part)] };
 }
 
 /**
@@ -197,7 +198,7 @@ function ramFields(face, part) {
  * @param {string} name
  * @returns {SelectionForm}
  */
-function lineFields(board, name) {
+function lineForm(board, name) {
   const line = boardLines(board).find((each) => each.name === name);
   const rom = line && line.kind === "rom" ? board.roms.find(({ chip }) => name.startsWith(`rom${chip}.`)) : null;
   const isInput = line !== undefined && line.isInput;
@@ -215,7 +216,7 @@ function lineFields(board, name) {
  * @param {string} target
  * @returns {SelectionForm}
  */
-function targetFields(board, target) {
+function targetForm(board, target) {
   const [kind, number] = splitTarget(target);
   const canDelete = kind === "column" || (kind === "row" && number === board.rows - 1 && number > 0);
   const name = targetName(target);
@@ -233,19 +234,19 @@ function targetFields(board, target) {
  */
 export function selectionForm(board, face, selection) {
   const [kind, number] = splitTarget(selection);
-  if (kind === "rom") return romFields(board, face, selection);
-  if (kind === "chain") return chainFields(board, face, selection);
-  if (kind === "keys") return keysFields(board, face);
-  if (kind === "lamp") return lampFields(board, face, number);
-  if (kind === "ram") return ramFields(face, selection);
-  if (kind === "buzzer" && board.buzzer) return buzzerFields(board, face);
+  if (kind === "rom") return romForm(board, face, selection);
+  if (kind === "chain") return chainForm(board, face, selection);
+  if (kind === "keys") return keysForm(board, face);
+  if (kind === "lamp") return lampForm(board, face, number);
+  if (kind === "ram") return ramForm(face, selection);
+  if (kind === "buzzer" && board.buzzer) return buzzerForm(board, face);
   if (kind === "lamps") return { title: say.ALL_LAMPS, part: "lamp 0", fields: [], buttons: [deleteButton("lamps", say.DELETE_ALL_LAMPS)] };
   if (kind === "test" && face.test) {
     const name = textField("name", face.test.name, (value) => ({ kind: "name", part: "test", name: value }));
     return { title: say.atTest(face.test.kind), part: "test", fields: [name], buttons: [deleteButton("test")] };
   }
-  if (inputLines(board).has(selection)) return targetFields(board, selection);
-  if (selection.includes(".")) return lineFields(board, selection);
+  if (inputLines(board).has(selection)) return targetForm(board, selection);
+  if (selection.includes(".")) return lineForm(board, selection);
   const title = textField("title", face.title, (name) => ({ kind: "name", part: "title", name }));
   return { title: say.BOARD_TITLE, part: "", fields: [title], buttons: [] };
 }

@@ -1,5 +1,5 @@
-// Applies and inverts text edits. An edit replaces a range of characters. The edits of a list are applied in order: each edit applies to
-// the text that the earlier edits produced.
+// Applies and inverts text edits. An edit replaces a range of characters. In a list of edits, each edit applies to the text that the
+// earlier edits produced.
 
 /**
  * An edit: `insert` replaces the characters from offset `from` up to offset `to`.

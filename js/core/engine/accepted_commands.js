@@ -1,4 +1,5 @@
-// Finds the commands that the bench has accepted, and their cycles. From these commands a session counts its cycles and replays its past.
+// Finds the commands that the bench has accepted, and the cycles that each of them ran. A session uses them to count its cycles and to
+// replay its past.
 
 import { readRun } from "../bench/answers.js";
 
@@ -13,15 +14,15 @@ import { readRun } from "../bench/answers.js";
 const RESET_COMMANDS = { reset: true, wire: true };
 
 /**
- * Returns the lines that send a command again: the command, and the text that follows it.
+ * Returns the lines that repeat a command: the command itself, and the text after a `wire` or `asm` command.
  * @param {Input} input
  */
-function commandText({ line, text, kind }) {
+function repeatedLines({ line, text, kind }) {
   return kind === "wire" || kind === "asm" ? [line, ...text, "."].join("\n") : line;
 }
 
 /**
- * Returns the accepted commands among inputs.
+ * Returns the commands that the bench accepted among some inputs.
  * @param {Input[]} inputs
  * @param {string[][]} answers the answer lines of each input
  * @returns {AcceptedCommand[]}
@@ -33,12 +34,12 @@ export function findAcceptedCommands(inputs, answers) {
     const [answer = ""] = answers[at];
     if (!answer.startsWith("ok ")) return;
     const run = readRun(answer);
-    commands.push({ line: commandText(input), cycles: run ? run.cycles : 0, resets: RESET_COMMANDS[input.kind] === true });
+    commands.push({ line: repeatedLines(input), cycles: run ? run.cycles : 0, resets: RESET_COMMANDS[input.kind] === true });
   });
   return commands;
 }
 
-/** Counts all cycles of the session, and the cycles up to the last reset. */
+/** The number of cycles that a session has run: in total, and up to its last reset. */
 export class CycleCount {
   /**
    * @param {number} totalCycles
@@ -49,7 +50,10 @@ export class CycleCount {
     this.reset = resetCycles;
   }
 
-  /** @param {AcceptedCommand[]} commands */
+  /**
+   * Adds the cycles of some commands.
+   * @param {AcceptedCommand[]} commands
+   */
   add(commands) {
     for (const { cycles, resets } of commands) {
       this.total += cycles;

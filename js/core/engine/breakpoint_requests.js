@@ -1,4 +1,4 @@
-// Requests that define where time stops: at breakpoints and at common mistakes.
+// Requests that set the breakpoints, and the kinds of common mistakes at which time stops.
 
 import { readBoard } from "../bench/answers.js";
 import { Face } from "../board/face.js";
@@ -19,9 +19,10 @@ export class BreakpointRequests {
   }
 
   /**
-   * Sets the breakpoints. Serves a line for each breakpoint that always stops, so that the bench itself stops there.
+   * Sets the breakpoints. Also sets each unconditional breakpoint in the bench, so that the bench itself stops there.
    * @param {LocatedBreakpoint[]} breakpoints
-   * @param {{ board: string, program: string, watched?: string[] }} texts the texts whose names conditions can use
+   * @param {{ board: string, program: string, watched?: string[] }} texts the texts that define the names in conditions; `watched` are the
+   *   watch expressions
    * @returns {Promise<BreakpointReply>}
    */
   async setBreakpoints(breakpoints, texts) {
@@ -30,11 +31,11 @@ export class BreakpointRequests {
     const names = { face: new Face(texts.board), board: readBoard(session.statusQueries.board), map: new SourceMap(map, texts.program),
       watched: collectWatchNames(texts.watched) };
     const { lines, faults } = this.bench.debugger.setBreakpoints(breakpoints, names);
-    return { ...(lines ? await this.bench.serve(lines) : this.bench.nothingServed()), faults };
+    return { ...(lines ? await this.bench.serve(lines) : this.bench.replyWithoutServing()), faults };
   }
 
   /**
-   * Sets the common mistakes that stop time.
+   * Sets the kinds of common mistakes at which time stops.
    * @param {Kind[]} kinds
    */
   stopAtFaults(kinds) {

@@ -1,5 +1,5 @@
-// Measures the duty cycle of each lamp, the patterns of each digit, and the times of their changes while time runs. Reads them from the
-// answers to a `trace` before each run.
+// While time runs, measures how long each lamp is on, and how long each digit of a display shows each pattern. The data come from a `trace`
+// query before each run, which forecasts the run.
 
 import { digitPatterns, UNLIT_PATTERN, isLit } from "../board/digit_patterns.js";
 import { fittingGroups, isScanned } from "../board/face_board.js";
@@ -9,22 +9,25 @@ import { ForecastAnswers, parseTraceLine } from "./forecast_answers.js";
  * @typedef {import("../board/face.js").Face} Face
  * @typedef {import("../board/face.js").Group} Group
  *
- * The changes within an interval, in cycles: the time before the first change, the longest time between two changes, and the time since the
- * last change (`rest`). Null if nothing changed.
+ * The changes within an interval, as times in cycles: before the first change (`first`), the longest between two changes (`longest`), and
+ * since the last change (`rest`). Null if nothing changed.
  * @typedef {{ first: number, longest: number, rest: number } | null} ChangeSummary
  *
- * The contents of a display. `patterns` are those at the end of the interval. If they changed, `shown` lists the patterns of each digit
- * with their durations in cycles.
+ * The contents of a display during an interval. `patterns`: the pattern of each digit at the end. `moved`: the pattern changes. If there
+ * were any, `shown` lists for each digit its patterns with their durations in cycles.
  * @typedef {{ patterns: number[], moved: ChangeSummary, shown: [number, number][][] }} ShownDisplay
  *
- * The light during an interval. `face`: the page's number of the front panel. `marks`: the lamps that are on at the end. `lamps`: the
- * number of cycles for which each lamp was on. `moved`: the changes of each lamp. `scanned`: for each multiplexed group except displays,
- * the cycles of its lamps, row by row.
+ * The light during an interval of `cycles` cycles. `face`: the number that the page gave to the front panel. `marks`: one character per
+ * lamp at the end, `*` for on. `lamps`: the number of cycles for which each lamp was on. `moved`: the changes of each lamp. `scanned`: for
+ * each multiplexed group except displays, the number of cycles for which each of its lamps was on, row by row.
  * @typedef {{ face: number, cycles: number, marks: string, lamps: number[], moved: ChangeSummary[], displays: ShownDisplay[],
  *   scanned: number[][] }} LitShares
  */
 
-/** The maximum number of cycles that are measured during a run. At full speed, `measureAhead` measures instead. */
+/**
+ * The maximum number of cycles of a run that is measured. At full speed, runs are longer; `measureAhead` then measures the next 30 ms
+ * instead.
+ */
 export const MAX_MEASURED_CYCLES = 20000;
 
 /**
@@ -39,18 +42,18 @@ function lampsDiffer(marks, marksBefore, first, count) {
   return false;
 }
 
-/** Records when changes happen. */
+/** Records the times of changes within an interval. */
 class ChangeTimes {
   constructor() {
     this.firstChange = -1;
     this.lastChange = 0;
-    this.longestRest = 0;
+    this.longestGap = 0;
   }
 
-  /** @param {number} cycles the cycles before the change */
+  /** @param {number} cycles the time of the change, in cycles since the start of the interval */
   add(cycles) {
     if (this.firstChange < 0) this.firstChange = cycles;
-    else this.longestRest = Math.max(this.longestRest, cycles - this.lastChange);
+    else this.longestGap = Math.max(this.longestGap, cycles - this.lastChange);
     this.lastChange = cycles;
   }
 
@@ -61,9 +64,9 @@ class ChangeTimes {
    */
   take(cycles) {
     if (this.firstChange < 0) return null;
-    const changes = { first: this.firstChange, longest: this.longestRest, rest: cycles - this.lastChange };
+    const changes = { first: this.firstChange, longest: this.longestGap, rest: cycles - this.lastChange };
     this.firstChange = -1;
-    this.longestRest = 0;
+    this.longestGap = 0;
     return changes;
   }
 }
@@ -74,10 +77,10 @@ class PatternTimes {
   constructor(group) {
     this.group = group;
     this.changeTimes = new ChangeTimes();
-    /** @type {number[]} the current patterns; `patternStart` is the time in cycles at which they started */
+    /** @type {number[]} the current pattern of each digit; `patternStart` is the time in cycles at which these patterns started */
     this.patterns = [];
     this.patternStart = 0;
-    /** @type {Map<number, number>[]} the cycles by pattern, one map per digit */
+    /** @type {Map<number, number>[]} one map per digit, with the number of cycles for which it showed each pattern */
     this.patternCycles = Array.from({ length: group.rows }, () => new Map());
   }
 
@@ -87,23 +90,26 @@ class PatternTimes {
   }
 
   /**
-   * Records a lamp change if it changes this display.
+   * Records a change of lamps if it changes this display.
    * @param {string} marks
    * @param {string} marksBefore the marks before the change
    * @param {number} cycles the cycles before the change
    */
-  change(marks, marksBefore, cycles) {
+  recordChange(marks, marksBefore, cycles) {
     const { first, rows, columns, by } = this.group;
     const hasChanged = by < 0 ? lampsDiffer(marks, marksBefore, first, rows * columns)
       : lampsDiffer(marks, marksBefore, first, columns) || lampsDiffer(marks, marksBefore, by, rows);
     if (!hasChanged) return;
-    this.addUpTo(cycles);
+    this.countTimeUntil(cycles);
     this.changeTimes.add(cycles);
     this.patterns = digitPatterns(this.group, marks);
   }
 
-  /** @param {number} now the current time in cycles */
-  addUpTo(now) {
+  /**
+   * Counts the time for which the current patterns have been shown.
+   * @param {number} now the current time in cycles
+   */
+  countTimeUntil(now) {
     const cycles = now - this.patternStart;
     this.patternStart = now;
     if (cycles === 0) return;
@@ -120,7 +126,7 @@ class PatternTimes {
   take(cycles) {
     const { patterns } = this;
     const changes = this.changeTimes.take(cycles);
-    if (changes) this.addUpTo(cycles);
+    if (changes) this.countTimeUntil(cycles);
     this.patternStart = 0;
     if (!changes) return { patterns, moved: changes, shown: [] };
     const shown = this.patternCycles.map((times) => [...times]);
@@ -134,17 +140,18 @@ class ScannedLampTimes {
   /** @param {Group} group */
   constructor(group) {
     this.group = group;
-    this.lastCountCycles = 0;
+    this.lastCountTime = 0;
     this.litCycles = new Array(group.rows * group.columns).fill(0);
   }
 
   /**
+   * Counts the time for which the lamps have been on.
    * @param {string} marks the lamp marks until now
    * @param {number} now the current time in cycles
    */
-  addUpTo(marks, now) {
-    const cycles = now - this.lastCountCycles;
-    this.lastCountCycles = now;
+  countTimeUntil(marks, now) {
+    const cycles = now - this.lastCountTime;
+    this.lastCountTime = now;
     if (cycles === 0) return;
     const { first, rows, columns, by } = this.group;
     for (let row = 0; row < rows; row++) {
@@ -159,10 +166,10 @@ class ScannedLampTimes {
    * @param {number} cycles the length of the interval
    */
   take(marks, cycles) {
-    this.addUpTo(marks, cycles);
+    this.countTimeUntil(marks, cycles);
     const litCycles = this.litCycles.slice();
     this.litCycles.fill(0);
-    this.lastCountCycles = 0;
+    this.lastCountTime = 0;
     return litCycles;
   }
 }
@@ -181,38 +188,43 @@ export class BrightnessMeter {
     this.cycles = 0;
     /** The current lamp marks; "" before the first report. */
     this.marks = "";
-    /** @type {number[]} the cycles for which each lamp was on, up to `lastCountCycles` */
+    /** @type {number[]} the number of cycles for which each lamp was on, counted up to `lastCountTime` */
     this.litCycles = new Array(count).fill(0);
-    this.lastCountCycles = new Array(count).fill(0);
+    this.lastCountTime = new Array(count).fill(0);
     this.changeTimes = this.litCycles.map(() => new ChangeTimes());
   }
 
   // --- The queries before each run ---
 
+  /** The number of queries before each run. */
   get count() {
     return 1;
   }
 
-  get seesChanges() {
+  /** False because the answers to `state` are not used. */
+  get needsStates() {
     return false;
   }
 
-  /** @param {number} cycles */
+  /**
+   * Returns the query lines before a run.
+   * @param {number} cycles the length of the run
+   */
   queries(cycles) {
     return `trace ${cycles} lamps\n`;
   }
 
   /**
-   * Returns the light since the previous call, from the answers to the queries before runs.
-   * @param {string[][]} answerLists one list per line
+   * Returns the light since the previous call. It is computed from the answers to the queries before the runs.
+   * @param {string[][]} answerLists one list of answers for each planned line
    * @returns {LitShares}
    */
   take(answerLists) {
     for (const answers of answerLists) if (answers.length > 0) this.add(answers);
-    const { number: face, cycles, marks, litCycles, lastCountCycles, changeTimes } = this;
+    const { number: face, cycles, marks, litCycles, lastCountTime, changeTimes } = this;
     for (let at = 0; at < litCycles.length; at++) {
-      if (isLit(marks, at)) litCycles[at] += cycles - lastCountCycles[at];
-      lastCountCycles[at] = 0;
+      if (isLit(marks, at)) litCycles[at] += cycles - lastCountTime[at];
+      lastCountTime[at] = 0;
     }
     const litShares = {
       face, cycles, marks, lamps: litCycles.slice(), moved: changeTimes.map((each) => each.take(cycles)),
@@ -223,25 +235,26 @@ export class BrightnessMeter {
     return litShares;
   }
 
-  /** @param {string[]} answers the lines of the answer to one query; an instruction takes effect after its first cycle */
+  /** @param {string[]} answers the lines of the answer to one `trace` query. An instruction takes effect after its first cycle */
   add(answers) {
     const { row, lines, cycles } = new ForecastAnswers(answers).takeTrace();
     const startCycles = this.cycles;
-    this.change(row.slice(1), startCycles);
+    this.recordChange(row.slice(1), startCycles);
     for (const line of lines) {
       const traced = parseTraceLine(line);
-      this.change(traced.row.slice(1), startCycles + traced.cycles + 1);
+      this.recordChange(traced.row.slice(1), startCycles + traced.cycles + 1);
     }
-    // A trace of no cycles counts as one cycle, so that the lamps that are on are counted for at least one cycle.
+    // An empty run counts as one cycle, so that the lamps that are on are counted for at least one cycle.
     this.cycles = startCycles + Math.max(1, cycles);
   }
 
   /**
+   * Records a change of lamps.
    * @param {string} marks the new lamp marks
-   * @param {number} cycles the cycles before the change
+   * @param {number} cycles the time of the change, in cycles
    */
-  change(marks, cycles) {
-    const { marks: marksBefore, litCycles, lastCountCycles, changeTimes } = this;
+  recordChange(marks, cycles) {
+    const { marks: marksBefore, litCycles, lastCountTime, changeTimes } = this;
     if (marks === marksBefore) return;
     this.marks = marks;
     if (marksBefore === "") {
@@ -250,11 +263,11 @@ export class BrightnessMeter {
     }
     for (let at = 0; at < litCycles.length; at++) {
       if (marks.charCodeAt(at) === marksBefore.charCodeAt(at)) continue;
-      if (isLit(marksBefore, at)) litCycles[at] += cycles - lastCountCycles[at];
-      lastCountCycles[at] = cycles;
+      if (isLit(marksBefore, at)) litCycles[at] += cycles - lastCountTime[at];
+      lastCountTime[at] = cycles;
       changeTimes[at].add(cycles);
     }
-    for (const display of this.displays) display.change(marks, marksBefore, cycles);
-    for (const group of this.scannedLamps) group.addUpTo(marksBefore, cycles);
+    for (const display of this.displays) display.recordChange(marks, marksBefore, cycles);
+    for (const group of this.scannedLamps) group.countTimeUntil(marksBefore, cycles);
   }
 }

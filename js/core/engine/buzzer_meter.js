@@ -4,8 +4,8 @@
 import { ForecastAnswers, parseTraceLine } from "./forecast_answers.js";
 
 /**
- * The levels of a signal line during an interval: the length of the interval in cycles, the first level, and the number of cycles before
- * each edge.
+ * The levels of a signal line during an interval: the length of the interval in cycles, the level at its start, and the time of each edge
+ * in cycles since the start.
  * @typedef {{ cycles: number, level: number, edges: number[] }} BuzzerLevels
  */
 
@@ -17,22 +17,28 @@ export class BuzzerMeter {
 
   // --- The queries before each run ---
 
+  /** The number of queries before each run. */
   get count() {
     return 1;
   }
 
-  get seesChanges() {
+  /** False because the answers to `state` are not used. */
+  get needsStates() {
     return false;
   }
 
-  /** @param {number} cycles */
+  /**
+   * Returns the query lines before a run.
+   * @param {number} cycles the length of the run
+   */
   queries(cycles) {
     return `trace ${cycles} ${this.line}\n`;
   }
 
   /**
-   * Returns the levels of the line, from the answers to the queries before runs. A line changes after the first cycle of an instruction.
-   * @param {string[][]} answerLists one list per line
+   * Returns the levels of the line since the previous call, from the answers to the queries before the runs. A line changes after the first
+   * cycle of an instruction.
+   * @param {string[][]} answerLists one list of answers for each planned line
    * @returns {BuzzerLevels}
    */
   take(answerLists) {

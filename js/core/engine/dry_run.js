@@ -1,4 +1,4 @@
-// Loads texts into an empty session. Returns the resulting board, and the texts that the bench rejects.
+// Loads a board text and a program text into a new session, and reports the texts that the bench rejects.
 
 import { findLineFaults, sentText } from "../text/sendable_text.js";
 import { wordsOfLine } from "../../words/stops.js";
@@ -7,7 +7,7 @@ import { wordsOfLine } from "../../words/stops.js";
  * @typedef {import("./engine_host.js").EngineHost} Engine
  * @typedef {{ boardText: string, programText: string }} Texts
  *
- * A rejected text: the command that sent it, and the answer.
+ * A rejected text: the command that sent it, and the error message or the bench's answer.
  * @typedef {{ word: "wire" | "asm", answer: string }} RejectedText
  *
  * The session file with the accepted texts, the answer to `board`, and the rejected texts.

@@ -4,7 +4,8 @@
 import { BenchRefusal, BenchTrap, OUT_OF_MEMORY } from "../bench/bench_errors.js";
 
 /**
- * The result of served lines: the shell's status, the first answer `session N`, and the other answers.
+ * The result of serving lines: the shell's exit status, the answer `session N` to the opening of the session (`opened`), and the answers to
+ * the lines.
  * @typedef {{ status: number, opened: string, answers: string[] }} ServedAnswers
  *
  * A buffer in the memory of the module. `room` is its size in bytes.
@@ -22,7 +23,7 @@ import { BenchRefusal, BenchTrap, OUT_OF_MEMORY } from "../bench/bench_errors.js
 
 /** The initial size of the input and answer buffers, in bytes. */
 const FIRST_CAPACITY = 1 << 20;
-/** The size of a call report in bytes: a 32-bit number, and a 64-bit count at COUNT_OFFSET. */
+/** The size in bytes of the report that a call writes: a 32-bit number at offset 0, and a 64-bit count at COUNT_OFFSET. */
 const REPORT_SIZE = 16;
 const COUNT_OFFSET = 8;
 
@@ -57,7 +58,7 @@ class Instance {
    * @param {ModuleBuffer} buffer
    * @param {number} room
    */
-  withRoom(buffer, room) {
+  ensureRoom(buffer, room) {
     if (room <= buffer.room) return buffer;
     const larger = this.allocate(room);
     this.calls.bench_buffer_back(buffer.offset);
@@ -65,7 +66,8 @@ class Instance {
   }
 
   /**
-   * Returns the first bytes of a buffer. Growth of the module's memory detaches the old array.
+   * Returns the first `count` bytes of a buffer. If the module's memory has grown, the old array is detached, so this method creates a new
+   * one.
    * @param {ModuleBuffer} buffer
    * @param {number} count
    */
@@ -80,20 +82,23 @@ class Instance {
    * @param {string} lines
    * @param {TextEncoder} encoder
    */
-  takeLines(lines, encoder) {
+  copyLines(lines, encoder) {
     // A UTF-16 code unit needs at most three bytes in UTF-8.
     if (lines.length * 3 <= this.input.room) {
       return encoder.encodeInto(lines, this.view(this.input, this.input.room)).written || 0;
     }
     const bytes = encoder.encode(lines);
-    this.input = this.withRoom(this.input, bytes.length);
+    this.input = this.ensureRoom(this.input, bytes.length);
     this.view(this.input, bytes.length).set(bytes);
     return bytes.length;
   }
 
-  /** @param {Uint8Array} file */
-  takeFile(file) {
-    this.file = this.withRoom(this.file, file.length);
+  /**
+   * Copies a session file into the file buffer.
+   * @param {Uint8Array} file
+   */
+  copyFile(file) {
+    this.file = this.ensureRoom(this.file, file.length);
     this.view(this.file, file.length).set(file);
   }
 
@@ -128,7 +133,7 @@ export class Engine {
     this.module = module;
     this.encoder = new TextEncoder();
     this.decoder = new TextDecoder();
-    /** @type {Instance | null} null if a restart failed for lack of memory; the next call then tries again */
+    /** @type {Instance | null} null if there was too little memory for a restart; the next call then tries again */
     this.currentInstance = new Instance(module);
     /** The size of a session file in bytes. */
     this.size = this.currentInstance.size;
@@ -166,7 +171,7 @@ export class Engine {
   }
 
   /**
-   * Serves lines on the session in a file. The new file has a snapshot instead of a log.
+   * Serves lines on the session in a file. The new file contains a snapshot of the state instead of the log of commands.
    * @param {Uint8Array} file
    * @param {string} lines
    * @param {Uint8Array} target the array for the new file; can be `file`
@@ -194,10 +199,10 @@ export class Engine {
    */
   prove(question) {
     const { instance } = this;
-    const size = instance.takeLines(question, this.encoder);
+    const size = instance.copyLines(question, this.encoder);
     let { isDone, number, count } = this.tryToProve(size);
     if (!isDone && number === 0) {
-      instance.answers = instance.withRoom(instance.answers, count);
+      instance.answers = instance.ensureRoom(instance.answers, count);
       ({ isDone, number, count } = this.tryToProve(size));
     }
     return isDone ? this.decoder.decode(instance.view(instance.answers, count)) : `no ${number}`;
@@ -214,9 +219,9 @@ export class Engine {
     return { isDone, ...instance.readReport() };
   }
 
-  /** Does nothing: `keep` is part of the interface of hosts, but this host is equally fast for every state. */
+  /** Does nothing. `keep` is part of the interface of hosts, but this host has nothing to optimise. */
   keep() {
-    // A state consists only of its bytes.
+    // The bytes of a state are all that this host uses.
   }
 
   /**
@@ -244,10 +249,10 @@ export class Engine {
    */
   callForAnswers(name, file, lines) {
     const { instance } = this;
-    const inputSize = instance.takeLines(lines, this.encoder);
+    const inputSize = instance.copyLines(lines, this.encoder);
     let report = this.tryToServe(name, file, inputSize);
-    if (report.answersNeed > 0) {
-      instance.answers = instance.withRoom(instance.answers, report.answersNeed);
+    if (report.requiredSize > 0) {
+      instance.answers = instance.ensureRoom(instance.answers, report.requiredSize);
       report = this.tryToServe(name, file, inputSize);
     }
     const answers = this.decoder.decode(instance.view(instance.answers, report.count)).split("\n");
@@ -257,19 +262,20 @@ export class Engine {
   }
 
   /**
-   * Makes one call. If the answers do not fit into the buffer, the call has no effect and `answersNeed` is the required size in bytes.
+   * Calls the module once. If the answers do not fit into the buffer, the call has no effect and `requiredSize` is the size that the buffer
+   * needs, in bytes; otherwise it is 0.
    * @param {ServingCall} name
    * @param {Uint8Array} file
    * @param {number} inputSize the length of the lines in bytes
    */
   tryToServe(name, file, inputSize) {
     const { instance } = this;
-    instance.takeFile(file);
+    instance.copyFile(file);
     const { file: bytes, input, answers, report } = instance;
     const isServed = this.call((calls) => calls[name](bytes.offset, BigInt(file.length), input.offset, BigInt(inputSize),
       answers.offset, BigInt(answers.room), report.offset));
     const { number, count } = instance.readReport();
     if (!isServed && number !== 0) throw new BenchRefusal(number);
-    return { number, count, answersNeed: isServed ? 0 : count };
+    return { number, count, requiredSize: isServed ? 0 : count };
   }
 }

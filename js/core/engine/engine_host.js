@@ -1,5 +1,5 @@
-// The interface of a host that runs sessions for the bench. A host takes a state and lines, and returns answers and the next state. There
-// are two hosts: the module (engine.js) and the native program (js/node/native_engine.mjs). js/test/engine_hosts.test.js tests both hosts.
+// The interface of a host, which runs sessions: given a state and lines, it returns the answers and the next state. There are two hosts:
+// the module (engine.js) and the native program (js/node/native_engine.mjs). js/test/engine_hosts.test.js tests both hosts.
 
 /**
  * The state of a session. Only the host that created a state can interpret its bytes. A copy of the bytes is the same state. All states of
@@ -14,7 +14,7 @@
  * @property {(state: State, lines: string, into: State) => ServedAnswers} serve serves lines on a state, and writes the next state into
  *   `into`, which can be the same array
  * @property {(state: State, lines: string) => ServedAnswers} ask returns the answers of `serve`; the state does not change
- * @property {(state: State) => void} keep informs the host that many runs will start from this state, so that the host can optimise
+ * @property {(state: State) => void} keep informs the host that many runs will start from this state, so that it can make them faster
  * @property {(state: State) => Uint8Array} bytesOf returns the bytes of the session file
  * @property {(bytes: Uint8Array) => State} stateOf returns the state in a session file; if the bytes are not a session, the next call that
  *   serves lines on it rejects them

@@ -29,7 +29,7 @@ export class FileRequests {
   }
 
   /**
-   * Returns the same session with a snapshot instead of its log. Throws if the bytes are not a session.
+   * Returns a session file that contains a snapshot of the state instead of the log of commands. Throws if the bytes are not a session.
    * @param {Uint8Array} file
    */
   settled(file) {
@@ -49,7 +49,7 @@ export class FileRequests {
   }
 
   /**
-   * Returns source texts for a session file without source texts.
+   * Returns source texts for a session file, which itself contains none.
    * @param {Uint8Array} file
    */
   texts(file) {
@@ -57,7 +57,7 @@ export class FileRequests {
   }
 
   /**
-   * Returns a new session file with imported texts, and the refusals of these texts.
+   * Loads imported texts into a new session. Returns its file, and the texts that the bench rejected.
    * @param {import("./dry_run.js").Texts} texts
    */
   dryRun(texts) {

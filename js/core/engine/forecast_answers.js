@@ -1,13 +1,12 @@
-// Parses the bench's forecasts of runs: the answers to `trace` and `count` in a list of consecutive answers.
+// Parses the bench's forecasts of runs, which are the answers to `trace` and `count` queries.
 
 import { readRun } from "../bench/answers.js";
 
 /**
- * A traced instruction: the cycles before it, its address, and the row of watched values after it. Each value in a row is preceded by a
- * blank.
+ * A traced instruction: the cycles before it, its address, and the row of traced values after it. In a row, a blank precedes each value.
  * @typedef {{ cycles: number, address: number, row: string }} TracedInstruction
  *
- * The counts of an instruction: how often it started, and how often it jumped (-1 if it cannot jump).
+ * The counts of an instruction in a run: how often it started (`begun`), and how often it jumped (-1 if it cannot jump).
  * @typedef {{ address: number, begun: number, jumped: number }} InstructionCount
  *
  * A trace: the row before the run, the instruction lines, and the cycles of the run.
@@ -48,7 +47,7 @@ export function rowValues(row) {
   return row.slice(1).split(" ");
 }
 
-/** Reads consecutive answers. */
+/** Reads the answers in a list one after another. */
 export class ForecastAnswers {
   /** @param {string[]} answers */
   constructor(answers) {
@@ -90,7 +89,7 @@ export class ForecastAnswers {
   }
 
   /**
-   * Consumes and parses the next answer to a run. For a refusal, `end` is the answer.
+   * Consumes and parses the next answer to a run. If the bench rejected the run, `end` is the whole answer.
    * @returns {RunResult}
    */
   takeRun() {

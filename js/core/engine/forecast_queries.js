@@ -1,4 +1,4 @@
-// Adds queries before each planned run, in the same call. With these queries the bench forecasts what happens in the run.
+// Adds queries before each planned run and sends them in the same call. In its answers, the bench forecasts what happens during the run.
 
 import { plannedCycles } from "../debug/goal_search.js";
 import { ForecastAnswers } from "./forecast_answers.js";
@@ -10,9 +10,9 @@ import { ForecastAnswers } from "./forecast_answers.js";
  * @typedef {{ line: string, change: object | null }} SentLine
  *
  * A source of queries before each run, such as the recorder or the printer. `queries` returns the query lines for a run of `cycles` cycles.
- * `count` is the number of queries; each query has an answer like that of `trace`. `seesChanges` is true if the source also needs the state
- * after each key change.
- * @typedef {{ queries: (cycles: number) => string, count: number, seesChanges: boolean }} QuerySource
+ * `count` is the number of these queries; the format of each answer is that of `trace`. `needsStates` is true if the source also needs the
+ * answer to `state` after each key change.
+ * @typedef {{ queries: (cycles: number) => string, count: number, needsStates: boolean }} QuerySource
  */
 
 /**
@@ -21,7 +21,7 @@ import { ForecastAnswers } from "./forecast_answers.js";
  * @param {QuerySource[]} querySources
  */
 export function linesWithQueries(plannedLines, querySources) {
-  const afterChange = querySources.some(({ seesChanges }) => seesChanges) ? "state\n" : "";
+  const afterChange = querySources.some(({ needsStates }) => needsStates) ? "state\n" : "";
   return plannedLines.map((each) => {
     if (each.change) return `${each.line}\n${afterChange}`;
     return `${querySources.map((source) => source.queries(plannedCycles(each))).join("")}${each.line}\n`;
@@ -29,8 +29,8 @@ export function linesWithQueries(plannedLines, querySources) {
 }
 
 /**
- * Splits the answers of a call. `answers` are the answers to the planned lines and to all later lines. `sourceAnswers` has one list for
- * each source of queries; the list contains the answers to the queries of the source, for each planned line.
+ * Separates the answers to planned lines from the answers to queries. `answers` are those to the planned lines and to all lines after them.
+ * `sourceAnswers[s][p]` contains the answers to the queries of source `s` for planned line `p`.
  * @param {SentLine[]} plannedLines
  * @param {QuerySource[]} querySources
  * @param {string[]} allAnswers
@@ -42,12 +42,12 @@ export function splitAnswers(plannedLines, querySources, allAnswers) {
   const lineAnswers = [];
   /** @type {string[][][]} */
   const sourceAnswers = querySources.map(() => []);
-  const seesChanges = querySources.some((source) => source.seesChanges);
+  const needsStates = querySources.some((source) => source.needsStates);
   for (const { change } of plannedLines) {
     if (change) {
       lineAnswers.push(answers.take());
-      const state = seesChanges ? [answers.take()] : [];
-      querySources.forEach((source, at) => sourceAnswers[at].push(source.seesChanges ? state : []));
+      const state = needsStates ? [answers.take()] : [];
+      querySources.forEach((source, at) => sourceAnswers[at].push(source.needsStates ? state : []));
       continue;
     }
     querySources.forEach(({ count }, at) => {
@@ -60,7 +60,7 @@ export function splitAnswers(plannedLines, querySources, allAnswers) {
   return { answers: [...lineAnswers, ...allAnswers.slice(answers.at)], sourceAnswers };
 }
 
-/** Marks a line that is neither a run nor a key change. */
+/** The `change` of a line that is neither a run nor a key change. */
 const OTHER_CHANGE = {};
 
 /**

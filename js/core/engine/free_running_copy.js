@@ -7,7 +7,7 @@ import { joinLines } from "../bench/inputs.js";
  * Returns the lines that remove all breakpoints and watches.
  * @param {string[]} answers the answers to `breaks` and `watches`
  */
-function linesWithoutStops([breaks, watches]) {
+function stopRemovalLines([breaks, watches]) {
   const unwatches = readItems(watches).map((each) => each.split(".")).map(([bank, source]) => `unwatch ${bank} 0x${source}`);
   return joinLines([...readItems(breaks).map((address) => `unbreak 0x${address}`), ...unwatches]);
 }
@@ -19,6 +19,6 @@ function linesWithoutStops([breaks, watches]) {
  */
 export function copyWithoutStops(engine, file) {
   const copy = file.slice();
-  engine.serve(copy, linesWithoutStops(engine.ask(copy, "breaks\nwatches\n").answers), copy);
+  engine.serve(copy, stopRemovalLines(engine.ask(copy, "breaks\nwatches\n").answers), copy);
   return copy;
 }

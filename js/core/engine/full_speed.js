@@ -1,4 +1,4 @@
-// Runs time at full speed in the worker: one batch of cycles after another. Decides when to report to the page.
+// Runs the machine at full speed in the worker, in batches of cycles, and decides when to report to the page.
 
 import { RunLog } from "../bench/run_log.js";
 import { NO_TALLY, joinTallies } from "../debug/debugger.js";
@@ -9,16 +9,16 @@ import { NO_TALLY, joinTallies } from "../debug/debugger.js";
  */
 
 /** The target duration of a batch, in milliseconds. */
-const BATCH_TIME = 50;
+const BATCH_MILLISECONDS = 50;
 /** The minimum and maximum number of cycles in a batch. */
-const MIN_BATCH = 50000;
-const MAX_BATCH = 8000000;
+const MIN_BATCH_CYCLES = 50000;
+const MAX_BATCH_CYCLES = 8000000;
 /** The interval between reports to a hidden page, in milliseconds. The page saves the session at each report. */
 const HIDDEN_REPORT_INTERVAL = 1000;
 
 /**
  * Returns an empty report. `end` is the answer that ended the run early, `stop` the reason why time stopped, and `tally` the breakpoint
- * events. Light, sound and RAM changes are not measured at full speed.
+ * events. At full speed, the lamps (`litShares`), the buzzer (`heard`) and RAM changes (`warmed`) are not measured.
  * @returns {Omit<DebugFrame, "ran">}
  */
 function emptyFrame() {
@@ -29,13 +29,16 @@ export class FullSpeed {
   constructor() {
     this.isOn = false;
     this.isHidden = false;
-    this.batchCycles = MIN_BATCH;
+    this.batchCycles = MIN_BATCH_CYCLES;
     this.lastReport = 0;
     this.runLog = new RunLog();
     this.pendingReport = emptyFrame();
   }
 
-  /** @param {boolean} isHidden true if the page is hidden; it then gets fewer reports */
+  /**
+   * Starts full speed.
+   * @param {boolean} isHidden true if the page is hidden; it then gets fewer reports
+   */
   start(isHidden) {
     this.isOn = true;
     this.isHidden = isHidden;
@@ -46,7 +49,10 @@ export class FullSpeed {
     this.isOn = false;
   }
 
-  /** @param {Machine} machine runs one batch */
+  /**
+   * Runs one batch, adds its result to the pending report, and adapts the size of the next batch.
+   * @param {Machine} machine
+   */
   batch(machine) {
     const start = performance.now();
     const frame = machine.advance(this.batchCycles);
@@ -62,11 +68,14 @@ export class FullSpeed {
       warmed: null,
     };
     if (stop) this.isOn = false;
-    const wanted = this.batchCycles * Math.min(2, Math.max(0.5, BATCH_TIME / Math.max(1, time)));
-    this.batchCycles = Math.round(Math.min(MAX_BATCH, Math.max(MIN_BATCH, wanted)));
+    const wanted = this.batchCycles * Math.min(2, Math.max(0.5, BATCH_MILLISECONDS / Math.max(1, time)));
+    this.batchCycles = Math.round(Math.min(MAX_BATCH_CYCLES, Math.max(MIN_BATCH_CYCLES, wanted)));
   }
 
-  /** @param {boolean} isPageReady true if the page is ready for another report */
+  /**
+   * Returns whether to send a report to the page now.
+   * @param {boolean} isPageReady true if the page is ready for another report
+   */
   isReportDue(isPageReady) {
     if (!this.isOn) return true;
     if (!isPageReady) return false;
@@ -74,7 +83,7 @@ export class FullSpeed {
   }
 
   /**
-   * Returns the report since the previous one, and starts a new report.
+   * Returns the report on all batches since the previous report, and starts a new one.
    * @returns {DebugFrame}
    */
   take() {

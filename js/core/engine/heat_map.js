@@ -1,5 +1,6 @@
 // Creates the heat map: the number of recent changes of each RAM nibble, and the time and cause of the last change. A copy of the session
-// replays the past, and the bench forecasts the changes of each unit. A write of the same value is not a change.
+// replays the past in units (see replay_units.js), and the bench forecasts the changes in each unit. Writing the same value again is not a
+// change.
 
 import { CancelledError } from "../bench/bench_errors.js";
 import { hex, indices } from "../bench/numbers.js";
@@ -18,23 +19,24 @@ import { sumCycles, splitIntoPieces, splitUnits, unitsBetween } from "./replay_u
  * @typedef {import("./timeline.js").Timeline} Timeline
  * @typedef {import("./replay_units.js").Unit} Unit
  *
- * A changed place, by its `poke` name, with its number of changes. For the last change: the cycles since then, and the address of the
- * instruction that made it; or -1 and the command.
+ * A RAM nibble that has changed: its name in `poke` commands, and its number of changes. `ago` is the number of cycles since its last
+ * change, and `address` is the address of the instruction that made this change. If a command made it, `address` is -1 and `line` is the
+ * command.
  * @typedef {{ place: string, count: number, ago: number, address: number, line: string }} HeatCell
  *
- * The changes in the last cycles. `cycles` is less than requested if the past is shorter.
+ * The changes in the last `cycles` cycles. This number is smaller than requested if the past is shorter.
  * @typedef {{ cycles: number, cells: HeatCell[] }} Heat
  */
 
 const REGISTERS_PER_CHIP = 4;
 /**
- * The number of place groups per RAM chip. A group fits into one `trace`: the nibbles of a register, or the status characters of all
+ * The number of `trace` queries for one RAM chip: one for the nibbles of each register, and one for the status characters of all its
  * registers.
  */
 export const GROUPS_PER_CHIP = REGISTERS_PER_CHIP + 1;
 
 /**
- * Returns the places of all RAM nibbles on a board, in groups for `trace`.
+ * Returns the names of all RAM nibbles on a board, in groups. One `trace` query can report a group.
  * @param {Board} board
  */
 export function nibbleGroups({ banks }) {
@@ -47,7 +49,7 @@ export function nibbleGroups({ banks }) {
 }
 
 /**
- * Returns the moment `cycles` cycles ago; if the past is shorter, its start.
+ * Returns the moment that is `cycles` cycles ago, or the start of the past if the past is shorter.
  * @param {Timeline} timeline
  * @param {number} cycles
  * @returns {Moment}
@@ -60,7 +62,7 @@ function findStart(timeline, cycles) {
   return { segment, entry: 0, cycles: 0 };
 }
 
-/** Counts changes by place. */
+/** Counts the changes of each RAM nibble. */
 export class ChangeCounter {
   /** @param {string[][]} groups */
   constructor(groups) {

@@ -1,5 +1,5 @@
-// Reports the RAM nibbles that change while time runs. Reads the changes from the answers to a `trace` before each run. Watches one chip at
-// a time, so that the work per frame does not grow with the number of chips.
+// Reports the RAM nibbles that change while time runs, from the answers to `trace` queries before each run. Watches one chip at a time, so
+// that the work per frame does not grow with the number of chips.
 
 import { ChangeCounter, GROUPS_PER_CHIP, nibbleGroups } from "./heat_map.js";
 import { ForecastAnswers, parseTraceLine } from "./forecast_answers.js";
@@ -28,22 +28,27 @@ export class HeatMeter {
 
   // --- The queries before each run ---
 
+  /** The number of queries before each run. */
   get count() {
     return GROUPS_PER_CHIP;
   }
 
-  get seesChanges() {
+  /** False because the answers to `state` are not used. */
+  get needsStates() {
     return false;
   }
 
-  /** @param {number} cycles */
+  /**
+   * Returns the query lines before a run.
+   * @param {number} cycles the length of the run
+   */
   queries(cycles) {
     return this.groups.map((places) => `trace ${cycles} ${places.join(" ")}\n`).join("");
   }
 
   /**
-   * Returns the changes of the watched chip, from the answers to the queries before runs. The next call watches the next chip.
-   * @param {string[][]} answerLists one list per line
+   * Returns the changes in the watched chip, from the answers to the queries before the runs. Then watches the next chip.
+   * @param {string[][]} answerLists one list of answers for each planned line
    * @returns {ChipHeat}
    */
   take(answerLists) {
@@ -54,6 +59,7 @@ export class HeatMeter {
   }
 
   /**
+   * Adds the changes in one run to a counter.
    * @param {ChangeCounter} counter
    * @param {ForecastAnswers} answers the answers to the queries before one run
    */

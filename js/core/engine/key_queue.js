@@ -1,14 +1,14 @@
-// Queues key changes. A program polls the keys only from time to time. Therefore each key stays down, and then up, long enough for the
-// program to notice even a short press.
+// Queues key changes. A program polls the keys only from time to time. Therefore the queue keeps each key down, and then up, long enough
+// for the program to notice even a short press.
 
 import { isSameKey, keyLine } from "../board/key_place.js";
 import { KEY_DOWN_CYCLES, KEY_UP_CYCLES } from "../time/mcs4_time.js";
 
-/** The maximum length of one run line, in cycles. */
+/** The maximum number of cycles of one `run` command. */
 export const MAX_RUN_CYCLES = 100000;
 
 /**
- * Returns the run lines for any number of cycles.
+ * Returns `run` commands that together run a number of cycles.
  * @param {number} cycles
  */
 export function runLines(cycles) {
@@ -26,10 +26,10 @@ export function runLines(cycles) {
  */
 
 /**
- * Returns the minimum number of cycles after a change.
+ * Returns the minimum number of cycles between a key change and the next one.
  * @param {Change} change
  */
-function cyclesAfter(change) {
+function minCyclesAfter(change) {
   return change.word === "press" ? KEY_DOWN_CYCLES : KEY_UP_CYCLES;
 }
 
@@ -65,7 +65,7 @@ export class KeyQueue {
   }
 
   /**
-   * Returns the lines for the next cycles: runs, and the key changes that become due between them.
+   * Returns the lines for the next cycles: `run` commands, and between them the key changes that become due.
    * @param {number} cycles
    * @returns {PlannedLine[]}
    */
@@ -79,7 +79,7 @@ export class KeyQueue {
       const change = this.changes[nextChange];
       if (change && remainingWait === 0) {
         plannedLines.push({ line: keyLine(change.word, change.key), change });
-        remainingWait = cyclesAfter(change);
+        remainingWait = minCyclesAfter(change);
         nextChange += 1;
       }
       const maxRun = this.changes[nextChange] ? Math.min(remainingWait, MAX_RUN_CYCLES) : MAX_RUN_CYCLES;
@@ -92,7 +92,7 @@ export class KeyQueue {
   }
 
   /**
-   * Updates the queue after lines have run. The last run can have ended early.
+   * Updates the queue after planned lines were executed. The last run can have ended early.
    * @param {PlannedLine[]} plannedLines
    * @param {(at: number) => number} cyclesOf returns the number of cycles that the line at an index ran
    */
@@ -100,7 +100,7 @@ export class KeyQueue {
     plannedLines.forEach(({ change }, at) => {
       if (change) {
         this.changes = this.changes.filter((each) => each !== change);
-        this.remainingWait = cyclesAfter(change);
+        this.remainingWait = minCyclesAfter(change);
       } else {
         this.remainingWait = Math.max(0, this.remainingWait - cyclesOf(at));
       }

@@ -19,11 +19,12 @@ import { RECORDING_PIECE_CYCLES, RECORDING_PIECE_UNITS } from "./piece_size.js";
  * @typedef {import("./wave_recorder.js").Texts} Texts
  * @typedef {import("../waves/trigger.js").Trigger} Trigger
  *
- * Settings: the number of cycles to record after the trigger, and whether time stops at the end.
+ * Settings: the number of cycles to record after the trigger (`behind`), and whether time stops at the end of the recording.
  * @typedef {{ behind: number, stopsTime: boolean }} LiveSetup
  *
- * A part of a recording. `triggered`: the moment of the trigger, -1 before the trigger. `over`: the reason why the recording ended, ""
- * while it continues: "hand", "trigger", "board", "program", "back", "lines", "long".
+ * A part of a recording. `triggerMoment`: the moment of the trigger, -1 before the trigger. `over`: the reason why the recording ended, or
+ * "" while it continues. The reasons are: the user ended it ("hand"), it is complete ("trigger"), the board or the program changed
+ * ("board", "program"), the session moved in time ("back"), too many lines were entered ("lines"), or it is too long ("long").
  * @typedef {RecordedPart & { triggerMoment: number, over: string }} LivePart
  */
 
@@ -48,10 +49,13 @@ export class LiveRecorder {
     this.options = { behind: 0, stopsTime: false };
     this.triggerMoment = -1;
     this.over = "";
+    /** True if the trigger condition was true at the last check. At first true, because only a change to true triggers. */
     this.wasTrue = true;
     /** True if time must stop because the recording is complete. */
     this.stops = false;
+    /** 1 for each address whose listing line was already sent to the page. */
     this.listedAddresses = new Uint8Array(ADDRESS_COUNT);
+    /** The places in the trigger condition, for `trace`; "" if there are none, and after the trigger. */
     this.tracedPlaces = "";
   }
 
@@ -76,7 +80,7 @@ export class LiveRecorder {
   }
 
   /**
-   * Returns everything recorded so far, as a recording in progress.
+   * Returns the recording so far, which the page extends with the later parts.
    * @param {Uint8Array} file
    * @returns {Recording}
    */
@@ -85,7 +89,7 @@ export class LiveRecorder {
   }
 
   /**
-   * Returns the part since the previous call.
+   * Returns the part of the recording since the previous call.
    * @param {Uint8Array} file
    * @returns {LivePart}
    */
@@ -96,7 +100,10 @@ export class LiveRecorder {
     return { ...part, listing: listingLinesAt(this.engine, file, newAddresses), triggerMoment: this.triggerMoment, over: this.over };
   }
 
-  /** @param {string} reason the reason, as in `over` */
+  /**
+   * Ends the recording.
+   * @param {string} reason the reason, as in `over` of LivePart
+   */
   stop(reason) {
     if (this.isOn) this.over = reason;
   }
@@ -111,16 +118,19 @@ export class LiveRecorder {
     return `${this.builder.queries(cycles)}${this.tracedPlaces ? `trace ${cycles} ${this.tracedPlaces}\n` : ""}`;
   }
 
+  /** The number of queries before each run. */
   get count() {
     return 1 + this.builder.groups.length + Number(this.tracedPlaces !== "");
   }
 
-  get seesChanges() {
+  /** True because the recorder reads the answer to `state` after each key change. */
+  get needsStates() {
     return true;
   }
 
   /**
-   * Records the effect of lines. Returns the cycle at which time must stop, counted from the first line; -1 if time continues.
+   * Records the effect of planned lines. Returns the number of cycles after which time must stop, counted from the first line; -1 if time
+   * continues.
    * @param {SentLine[]} plannedLines
    * @param {string[][]} tracedAnswers the answers to the queries before each line
    * @param {string[]} answers the answers to the lines, followed by the answer to `state`
@@ -138,21 +148,21 @@ export class LiveRecorder {
       }
       const from = builder.elapsed;
       builder.takeForecast(lineAnswers);
-      if (this.tracedPlaces) this.takeCondition(lineAnswers, from);
+      if (this.tracedPlaces) this.triggerOnCondition(lineAnswers, from);
       builder.takeEnd(readRun(answers[at]) || { cycles: 0, end: answers[at] });
     });
     builder.takeState(answers[plannedLines.length]);
-    if (trigger && trigger.edge) this.takeEdges(trigger, counts);
-    else if (trigger && trigger.address >= 0) this.takeArrival(trigger.address, instructionCount);
+    if (trigger && trigger.edge) this.triggerOnEdge(trigger, counts);
+    else if (trigger && trigger.address >= 0) this.triggerOnArrival(trigger.address, instructionCount);
     return this.endIfComplete(startMoment, instructionCount);
   }
 
   /**
-   * Triggers at the first moment at which the condition becomes true in a run.
+   * Sets the trigger moment to the first moment at which the trigger condition becomes true in a run.
    * @param {ForecastAnswers} answers
    * @param {number} from the moment before the run
    */
-  takeCondition(answers, from) {
+  triggerOnCondition(answers, from) {
     const { row, lines } = answers.takeTrace();
     this.checkCondition(rowValues(row), from);
     for (const line of lines) {
@@ -173,11 +183,11 @@ export class LiveRecorder {
   }
 
   /**
-   * Triggers at the first matching edge of the trigger's signal lines.
+   * Sets the trigger moment to the first matching edge of the trigger's signal lines.
    * @param {Trigger} trigger
    * @param {number[]} counts the number of earlier changes of each line
    */
-  takeEdges({ members, edge }, counts) {
+  triggerOnEdge({ members, edge }, counts) {
     if (this.triggerMoment >= 0) return;
     const level = { rises: 1, falls: 0, changes: -1 }[edge || "changes"];
     const edgeMoments = members.flatMap((member, index) => {
@@ -189,11 +199,11 @@ export class LiveRecorder {
   }
 
   /**
-   * Triggers at the next instruction at an address. The instruction at the start of the recording does not count.
+   * Sets the trigger moment to the next start of an instruction at an address. An instruction at the start of the recording does not count.
    * @param {number} address
    * @param {number} earlierCount the number of earlier instructions
    */
-  takeArrival(address, earlierCount) {
+  triggerOnArrival(address, earlierCount) {
     if (this.triggerMoment >= 0) return;
     const [moments, counters] = [this.builder.moments.all, this.builder.counters.all];
     const found = moments.findIndex((moment, at) => at >= earlierCount && moment > 0 && counters[at] === address);
@@ -221,7 +231,7 @@ export class LiveRecorder {
   // --- While time is paused ---
 
   /**
-   * Records the effect of served lines. For this, a copy of the session serves the lines again.
+   * Records the effect of lines that were served while time was paused, by serving them again on a copy of the session.
    * @param {Uint8Array} file the session file before the lines; changed
    * @param {AcceptedCommand[]} commands
    */

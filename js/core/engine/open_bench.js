@@ -1,4 +1,4 @@
-// Contains the state that all requests share: the module, and the open session with its debugger.
+// The state that all requests share: the WebAssembly module, and the open session with its debugger.
 
 import { readBoard } from "../bench/answers.js";
 import { Face } from "../board/face.js";
@@ -21,11 +21,11 @@ import { findDifference, readProgram } from "./program_check.js";
  * @typedef {import("../debug/debugger.js").Debugger} Debugger
  * @typedef {import("./engine.js").Engine} Engine
  *
- * The texts that name the lines of a recording. `values` are the names of values to record in addition to the board lines. `watched` are
- * the watch expressions.
+ * The texts that give names to the lines of a recording. `values` are the names of registers and RAM nibbles to record in addition to the
+ * board lines. `watched` are the watch expressions.
  * @typedef {{ board: string, program: string, values?: string[], watched?: string[] }} WaveTexts
  *
- * A callback during long work. It receives the progress, and resolves to true if the work must continue.
+ * A callback during a long task. It receives the progress, and resolves to true if the task must continue.
  * @typedef {(done: number, total: number) => Promise<boolean>} ShouldContinue
  */
 
@@ -65,7 +65,7 @@ export class OpenBench {
   /**
    * Returns the current state of the session for the page, with the session file in a transferable buffer.
    * @param {string[]} snapshot
-   * @param {boolean} showsBoard
+   * @param {boolean} showsBoard true to include the answer to `board`
    * @returns {PageState}
    */
   snapshotReport(snapshot, showsBoard) {
@@ -99,7 +99,7 @@ export class OpenBench {
   }
 
   /**
-   * Calls a function that serves lines; resolves to its result and the state for the page.
+   * Calls a function that serves lines. Resolves to the result of these lines, together with the new state for the page.
    * @param {() => Promise<import("./worker_session.js").ResultAndSnapshot>} serve
    * @returns {Promise<LinesReply>}
    */
@@ -116,7 +116,7 @@ export class OpenBench {
    * Returns the state for the page without serving lines.
    * @returns {LinesReply}
    */
-  nothingServed() {
+  replyWithoutServing() {
     const report = this.snapshotReport(this.session.takeSnapshot(), false);
     return { entries: [], first: "", status: 0, touchesRom: false, wires: false, ...report };
   }
@@ -165,7 +165,7 @@ export class OpenBench {
     return { ...result, tally: joinTallies(lateTally, tally), ...this.snapshotReport(this.session.takeSnapshot(), false) };
   }
 
-  /** Does the work of the debugger that was postponed until after the report to the page. */
+  /** Runs the debugger's checks of the last lines, which were postponed until after the report to the page. */
   checkLastLines() {
     if (this.currentDebugger) this.currentDebugger.checkLastLines();
   }

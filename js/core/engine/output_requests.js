@@ -1,4 +1,4 @@
-// Requests that start reports on lamps, RAM, the buzzer and the printer. Frames carry these reports.
+// Requests that start or end the reports on lamps, RAM, the buzzer and the printer. While time runs, each frame contains these reports.
 
 import { readBoard } from "../bench/answers.js";
 import { Face } from "../board/face.js";
@@ -47,7 +47,7 @@ export class OutputRequests {
   }
 
   /**
-   * Starts reports on the codes that are sent to a printer. Another printer starts a new printout.
+   * Starts reports on the codes that are sent to a printer. If it is not the current printer, starts a new printout.
    * @param {{ strobe: string, port: string } | null} printer null ends the reports
    */
   printOn(printer) {

@@ -1,4 +1,5 @@
-// Finds the changes of values in some units of the past. A copy of the session replays the units, and the bench forecasts the changes.
+// Finds the changes of values in a part of the past. A copy of the session replays this part in units, and the bench forecasts the changes
+// in each unit.
 
 import { ForecastAnswers, parseTraceLine } from "./forecast_answers.js";
 
@@ -7,13 +8,14 @@ import { ForecastAnswers, parseTraceLine } from "./forecast_answers.js";
  * @typedef {import("./forecast_answers.js").Trace} Trace
  * @typedef {import("./replay_units.js").Unit} Unit
  *
- * A change in a group of values: the rows before and after the change, the unit, and the cycles of the unit before the change. `address` is
- * the address of the instruction that made the change; it is -1 if the command `line` made it.
+ * A change in a group of values: the trace rows before and after the change, the unit with the change, and the number of cycles from the
+ * start of the unit to the change. `address` is the address of the instruction that made the change; it is -1 if the command `line` made
+ * it.
  * @typedef {{ group: number, before: string, after: string, unit: Unit, cycles: number, address: number, line: string }} PastChange
  */
 
 /**
- * Returns for each unit one trace per group, followed by the traces of the state after all units.
+ * Returns one list of traces for each unit, and one for the state after the last unit. A list has one trace per group of places.
  * @param {Engine} engine
  * @param {Uint8Array} file the session file; changed to the state after the units
  * @param {Unit[]} units
@@ -38,8 +40,8 @@ function traceUnits(engine, file, units, groups) {
  * @param {Uint8Array} file
  * @param {Unit[]} units
  * @param {string[][]} groups the places to watch, in groups that fit into one `trace`
- * @param {(change: PastChange) => void} report called for each change: first for all changes of the first group in order, then for the next
- *   group
+ * @param {(change: PastChange) => void} report called for each change; the changes of the first group come first, in order, then those of
+ *   the next group
  */
 export function reportChanges(engine, file, units, groups, report) {
   const traces = traceUnits(engine, file, units, groups);

@@ -18,34 +18,35 @@ import { sumCycles, splitIntoPieces, unitsBetween } from "./replay_units.js";
  * @typedef {import("./timeline.js").Timeline} Timeline
  * @typedef {import("./replay_units.js").Unit} Unit
  *
- * The target of a move back. "arrival": a breakpoint, or the moment before a change of a watched value or of `place` ("" for none). "when":
- * the moment before a condition becomes true; `searchCondition` is the compiled condition. "call": the call of an open subroutine,
- * identified by the address of its JMS and the return addresses before it.
+ * The target of a move back. "stop": the last moment at which time was paused. "instruction": the start of the last instruction. "change":
+ * the moment before the last change of `place`. "arrival": the last breakpoint, or the moment before a change of a watched value or of
+ * `place` ("" for none). "when": the moment before a condition became true; `searchCondition` is the compiled condition. "call": the call
+ * of a subroutine that has not returned, given by the address of its JMS and the return addresses before the call.
  * @typedef {{ kind: "stop" } | { kind: "instruction" } | { kind: "change", place: string } | { kind: "arrival", place: string }
  *   | { kind: "when", condition: string, searchCondition?: import("../debug/condition_search.js").SearchCondition }
  *   | { kind: "call", call: number, returns: string[] }} BackGoal
  *
- * The result of a search of the past. `moment` is null if nothing was found; `why` then gives the reason: the past is too short, or the
- * board does not have the place. For a change: its place, the old and the new value, and the command that made it ("" for an instruction).
- * For an arrival, `end` is its kind: a breakpoint (with its `id`), a change, or the start of the stored past. `present` is the session at
- * that moment, if known.
+ * The result of a search of the past. If nothing was found, `moment` is null and `why` is the reason: the past is too short ("short"), or
+ * the board does not have the place ("lacks"). For a change, the result has its place, the old value (`from`), the new value (`to`), and
+ * the command that made it ("" for an instruction). For an arrival, `end` is its kind: a breakpoint (with its `id`), a change, or the start
+ * of the stored past. `present` is the session at that moment, if known.
  * @typedef {{ moment: Moment | null, why: "" | "short" | "lacks", place: string, from: string, to: string, line: string, end: "" | "break"
  * | "change" | "beginning", id: number, present: import("./timeline.js").Present | null }} BackSearchResult
  *
- * A search of the past. `begin` sets the session at which the next units start. `among` replays consecutive units on the file of that
- * session, and returns the last match in the units.
+ * An object that searches a part of the past. `begin` sets the session at the start of the next units. `among` replays consecutive units
+ * from there, and returns the last match in them.
  * @typedef {{ begin: (present: import("./timeline.js").Present) => void, among: (units: Unit[]) => BackSearchResult | null }} Finder
  */
 
 /**
  * The length of the first block of a search, in cycles before the present. Each further block is BLOCK_GROWTH times as long, up to
- * MAX_BLOCK.
+ * MAX_BLOCK_CYCLES.
  */
-const FIRST_BLOCK = 500;
+const FIRST_BLOCK_CYCLES = 500;
 const BLOCK_GROWTH = 8;
-const MAX_BLOCK = 4000000;
+const MAX_BLOCK_CYCLES = 4000000;
 
-/** @type {Omit<BackSearchResult, "moment" | "present">} the fields of a result if there was no search */
+/** @type {Omit<BackSearchResult, "moment" | "present">} the default fields of a result */
 export const EMPTY_REPORT = { why: "", place: "", from: "", to: "", line: "", end: "", id: 0 };
 
 /**
@@ -58,13 +59,13 @@ export function searchResult(fields) {
 }
 
 /**
- * Resolves to the start of the last instruction. This start is one cycle ago, or two cycles ago if one cycle ago a second cycle was
- * pending.
+ * Resolves to the start of the last instruction. It is one cycle ago, or two cycles ago if the last cycle was the second cycle of an
+ * instruction.
  * @param {Engine} engine
  * @param {Timeline} timeline
  * @param {ShouldContinue} shouldContinue
  */
-async function lastInstruction(engine, timeline, shouldContinue) {
+async function findLastInstruction(engine, timeline, shouldContinue) {
   for (const cycles of [1, 2]) {
     const moment = timeline.before(cycles);
     if (!moment) break;
@@ -121,7 +122,7 @@ export class LastChangeFinder {
 }
 
 /** Finds the last moment at which a condition became true. */
-class LastTimeTrue extends LastChangeFinder {
+class LastTrueFinder extends LastChangeFinder {
   /**
    * @param {Engine} engine
    * @param {import("../debug/condition_search.js").SearchCondition} condition
@@ -150,7 +151,7 @@ class LastTimeTrue extends LastChangeFinder {
  */
 export async function searchPast(engine, timeline, finder, shouldContinue) {
   let to = timeline.end;
-  for (let size = FIRST_BLOCK; ; size = Math.min(MAX_BLOCK, size * BLOCK_GROWTH)) {
+  for (let size = FIRST_BLOCK_CYCLES; ; size = Math.min(MAX_BLOCK_CYCLES, size * BLOCK_GROWTH)) {
     // At the start of a segment, the search continues at the end of the previous segment.
     if (to.entry === 0 && to.cycles === 0) {
       if (!timeline.segments[to.segment].follows) return { found: null, beginning: to };
@@ -198,11 +199,11 @@ export async function findBackTarget(engine, { timeline, file }, goal, shouldCon
     return (await searchPast(engine, timeline, finder, shouldContinue)).found || searchResult({ why: "short", place: goal.place });
   }
   if (goal.kind === "when") {
-    const finder = goal.searchCondition ? new LastTimeTrue(engine, goal.searchCondition) : null;
+    const finder = goal.searchCondition ? new LastTrueFinder(engine, goal.searchCondition) : null;
     const found = finder ? (await searchPast(engine, timeline, finder, shouldContinue)).found : null;
     return found || searchResult({ why: "short" });
   }
-  if (goal.kind === "instruction") return lastInstruction(engine, timeline, shouldContinue);
+  if (goal.kind === "instruction") return findLastInstruction(engine, timeline, shouldContinue);
   const moment = timeline.lastStop();
   return searchResult({ moment, why: moment ? "" : "short" });
 }

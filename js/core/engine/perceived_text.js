@@ -23,7 +23,7 @@ export function hasScannedDisplay(face) {
 }
 
 /**
- * Returns the brightness of the lamps in the 30 ms of the query, without the light before them.
+ * Returns the brightness of the lamps during the 30 ms that the query forecasts. Earlier light does not count.
  * @param {Face} face
  * @param {number} count the number of lamps on the board
  * @param {string[]} answers the answer to LAMPS_FORECAST_QUERY
@@ -46,12 +46,18 @@ export class PerceivedText {
     this.text = new DisplayText(displays, [...face.lamps].map(([at, { text }]) => ({ at, text })));
   }
 
-  /** @param {string[]} answers the answer to LAMPS_FORECAST_QUERY */
+  /**
+   * Returns the text that a person reads from the displays and lamps in the forecast.
+   * @param {string[]} answers the answer to LAMPS_FORECAST_QUERY
+   */
   read(answers) {
     return this.readBrightness(forecastBrightness(this.face, this.count, answers));
   }
 
-  /** @param {Brightness} brightness */
+  /**
+   * Returns the text that a person reads from displays and lamps with a given brightness.
+   * @param {Brightness} brightness
+   */
   readBrightness(brightness) {
     return this.text.words(brightness.patterns, (lamp) => brightness.isOn[lamp]);
   }

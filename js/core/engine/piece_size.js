@@ -1,8 +1,8 @@
-// Divides long work into pieces. Between two pieces the work can report its progress and be cancelled.
+// Chooses the size of the pieces into which a long task is divided. Between two pieces, the task can report its progress and be cancelled.
 
 /** The target duration of a piece, in milliseconds. */
-const PIECE_TIME = 40;
-/** The length of the first piece, in cycles, of work that examines each cycle. */
+const PIECE_MILLISECONDS = 40;
+/** The length of the first piece, in cycles, of a task that examines each cycle. */
 export const FIRST_PIECE_CYCLES = 1000;
 /** The maximum number of cycles in a piece of a search. */
 export const SEARCH_PIECE_CYCLES = 400000;
@@ -26,7 +26,7 @@ export class PieceSize {
   }
 
   /**
-   * Runs a piece; computes the size of the next piece from the duration.
+   * Runs a piece, and computes the size of the next piece from the duration of this one.
    * @template Result
    * @param {() => Result} act
    * @returns {Result}
@@ -34,7 +34,7 @@ export class PieceSize {
   measure(act) {
     const start = performance.now();
     const result = act();
-    const wanted = this.size * Math.min(4, Math.max(0.25, PIECE_TIME / Math.max(1, performance.now() - start)));
+    const wanted = this.size * Math.min(4, Math.max(0.25, PIECE_MILLISECONDS / Math.max(1, performance.now() - start)));
     this.size = Math.round(Math.min(this.max, Math.max(this.min, wanted)));
     return result;
   }

@@ -22,8 +22,8 @@ export class PrinterCodes {
     this.strobe = strobe;
     this.port = port;
     this.codes = [...codes];
-    /** The last report: the number of codes and the cycle count of the last code. */
-    this.lastNews = "";
+    /** Identifies the last report: the number of codes, and the cycle count of the last code. */
+    this.lastReportKey = "";
   }
 
   copy() {
@@ -48,12 +48,15 @@ export class PrinterCodes {
   takeNews(total) {
     const count = this.countAt(total);
     const news = `${count} ${count > 0 ? this.codes[count - 1][0] : ""}`;
-    if (news === this.lastNews) return null;
-    this.lastNews = news;
+    if (news === this.lastReportKey) return null;
+    this.lastReportKey = news;
     return { strobe: this.strobe, port: this.port, codes: this.codes.slice(0, count) };
   }
 
-  /** @param {number} cycles the cycle count; later codes do not count */
+  /**
+   * Returns the number of codes that were sent up to a moment.
+   * @param {number} cycles the cycle count at that moment
+   */
   countAt(cycles) {
     let count = this.codes.length;
     while (count > 0 && this.codes[count - 1][0] > cycles) count -= 1;
@@ -62,22 +65,27 @@ export class PrinterCodes {
 
   // --- The queries before each run ---
 
+  /** The number of queries before each run. */
   get count() {
     return 1;
   }
 
-  get seesChanges() {
+  /** False because the answers to `state` are not used. */
+  get needsStates() {
     return false;
   }
 
-  /** @param {number} cycles */
+  /**
+   * Returns the query lines before a run.
+   * @param {number} cycles the length of the run
+   */
   queries(cycles) {
     return `trace ${cycles} ${this.strobe} ${this.port}\n`;
   }
 
   /**
-   * Reads the codes from the answers to the queries before runs. An instruction takes effect after its first cycle.
-   * @param {string[][]} answerLists one list per line
+   * Reads the codes from the answers to the queries before the runs. An instruction takes effect after its first cycle.
+   * @param {string[][]} answerLists one list of answers for each planned line
    * @param {number} total the cycle count before the first line
    */
   take(answerLists, total) {
@@ -99,7 +107,7 @@ export class PrinterCodes {
   }
 
   /**
-   * Reads the codes that served lines sent to the printer. For this, a copy of the session serves the lines again.
+   * Reads the codes that already served lines sent to the printer, by serving the lines again on a copy of the session.
    * @param {Engine} engine
    * @param {Uint8Array} file the session file before the lines; changed
    * @param {AcceptedCommand[]} commands

@@ -10,7 +10,7 @@ import { LONGEST_TEXT, TEXT_TOO_LONG } from "../text/sendable_text.js";
  * @typedef {import("../bench/answers.js").Refusal} Refusal
  * @typedef {import("./engine_host.js").EngineHost} Engine
  *
- * An assembled program: the answers to `map`, the refusal of the text if it was rejected, and the bytes by address, -1 for no byte.
+ * An assembled program: its text, the answer to `map`, the error in the text (null for none), and the bytes by address (-1 for no byte).
  * @typedef {{ text: string, map: string[], refusal: Refusal | null, bytes: Int16Array }} Program
  *
  * The first address at which ROM differs from the program; `hasRom` is false if the board has no ROM at that address.
@@ -22,8 +22,8 @@ import { LONGEST_TEXT, TEXT_TOO_LONG } from "../text/sendable_text.js";
 export const ALL_ROMS = `wire\n${PAGE_NUMBERS.map((chip) => `[[rom]]\nchip = ${chip}\nport = "0000"\n`).join("")}.\n`;
 
 /**
- * Returns the reason why a text cannot be sent to the bench, or null. Either the text is too long, or one of its lines is only a dot and
- * would end the text. The second reason has no refusal number, so `number` is 0.
+ * Returns the reason why a text cannot be sent to the bench, or null if it can be sent. Either the text is too long, or one of its lines is
+ * only a dot, which would end the text. The second reason has no error number, so `number` is 0.
  * @param {string} text
  * @returns {Refusal | null}
  */

@@ -22,7 +22,7 @@ export class ProgramRequests {
   }
 
   /**
-   * Returns the ROM bytes that do not belong to a program.
+   * Returns the size of a program in bytes, and the addresses outside the program at which ROM is not 0.
    * @param {string} text the text as sent to the bench
    */
   leftovers(text) {

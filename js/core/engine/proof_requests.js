@@ -1,4 +1,4 @@
-// Requests that prove properties with the prover in the module.
+// Requests that prove properties with the prover in the WebAssembly module.
 
 import { beginProving, createJudgedLine } from "../prove/bounded_proof.js";
 
@@ -10,12 +10,12 @@ export class ProofRequests {
   /** @param {OpenBench} bench */
   constructor(bench) {
     this.bench = bench;
-    /** @type {import("../prove/property_judge.js").PropertyJudge | null} the judgement in progress */
+    /** @type {import("../prove/property_judge.js").PropertyJudge | null} the proof in progress; null if none has started */
     this.proving = null;
   }
 
   /**
-   * Starts to prove properties. Returns the errors in the texts, and the number of properties to judge.
+   * Starts to prove properties. Returns the errors in the texts, and the number of properties to prove.
    * @param {import("../explore/sliced_search.js").ExploredTexts} texts
    * @param {number} maxStates the maximum number of states per prover question
    */
@@ -33,7 +33,7 @@ export class ProofRequests {
     return { faults, count: proving ? proving.total : 0 };
   }
 
-  /** Resolves to the line for the next judged property; null if all properties are judged. */
+  /** Proves the next property. Resolves to the line with its result, or to null if no property is left. */
   async proveNext() {
     if (!this.proving) throw new Error("nothing is proved");
     const judged = await this.proving.next();

@@ -33,8 +33,8 @@ export class RecordingRequests {
   }
 
   /**
-   * Starts a recording that continues until `endRecording`. `waves` in the state for the page contains the later parts. If the trigger has
-   * an error, nothing is recorded and `fault` is the message.
+   * Starts a recording that continues until `endRecording`. Returns the start of the recording. Each later report to the page contains the
+   * next part as `waves`. If the trigger has an error, nothing is recorded and `fault` is the message.
    * @param {WaveTexts} texts
    * @param {{ trigger: string } & LiveSetup} options
    * @returns {{ recorded: Recording | null, fault: string }}

@@ -1,4 +1,4 @@
-// Divides the past into units that a caller can replay. A unit is a command, or a run between two commands.
+// Divides the past into units, which a caller can replay. A unit is a command, or a part of a run.
 
 /**
  * @typedef {import("./timeline.js").Moment} Moment
@@ -30,7 +30,7 @@ export function unitsBetween(timeline, from, to) {
 }
 
 /**
- * Returns the same units, with long units split into parts.
+ * Returns the same units, with each long unit split into shorter runs.
  * @param {Unit[]} units
  * @param {number} maxCycles the maximum number of cycles in a part
  */

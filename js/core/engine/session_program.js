@@ -11,11 +11,12 @@ import { readProgram } from "./program_check.js";
  * @typedef {import("./engine_host.js").EngineHost} EngineHost
  * @typedef {import("../testing/test_preparation.js").TextFault} TextFault
  *
- * The first difference between ROM and the program: the address, the byte in ROM, the source line, and the byte that the line produces.
+ * The first difference between ROM and the program: the address, the byte in ROM (`is`), the source line, and the byte that this line
+ * assembles to (`makes`).
  * @typedef {{ address: string, is: string, line: number, makes: string }} OtherByte
  *
- * The program of a session, as described by its text. `faults` are the errors in the text, `other` is a difference from ROM, and `map` is
- * the source map.
+ * The source text of a session's program, compared with ROM. `faults` are the errors in the text, `other` is the first difference from ROM
+ * (null for none), and `map` is the source map.
  * @typedef {{ faults: TextFault[], other: OtherByte | null, map: SourceMap }} SessionProgram
  */
 

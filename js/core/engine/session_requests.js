@@ -36,15 +36,15 @@ export class SessionRequests {
   }
 
   /**
-   * Restores the past that the page stored before it opened the session. Returns the number of used entries in the last segment; -1 if the
-   * past does not belong to this session.
+   * Restores the past that the page has stored for this session. Returns the number of entries used from the last segment, or -1 if the
+   * stored past does not lead to this session.
    * @param {import("./timeline.js").StoredSegment[]} segments
    */
   recall(segments) {
     try {
       return this.bench.session.timeline.recall(this.bench.engine, segments);
     } catch (fault) {
-      // The stored bytes are no valid session file.
+      // The stored bytes are not a valid session file.
       if (fault instanceof BenchRefusal) return -1;
       throw fault;
     }
@@ -60,7 +60,7 @@ export class SessionRequests {
   }
 
   /**
-   * Serves typed lines, either all or none. A run in them ends at its first breakpoint.
+   * Serves lines that the user typed, either all or none. A `run` command in these lines ends at the first breakpoint.
    * @param {string} lines
    * @returns {Promise<TypedReply>}
    */

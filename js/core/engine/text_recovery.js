@@ -13,8 +13,8 @@ import { MAX_LISTING_LINES, PAGE_NUMBERS, listQueries } from "../bench/rom_bytes
  * @typedef {import("./engine_host.js").EngineHost} Engine
  */
 
-/** Empty tests and properties. */
-const NO_TESTS = { testText: "", propertiesText: "" };
+/** The tests and properties of a session whose program is not that of an example: none. */
+const NO_TEST_TEXTS = { testText: "", propertiesText: "" };
 /** The queries that list all ROMs. */
 const LIST_ALL_ROMS = listQueries(PAGE_NUMBERS);
 
@@ -34,10 +34,10 @@ export function recoverTexts(engine, file, examples) {
     if (engine.ask(exampleFile, "board\n").answers.join("\n") !== board) continue;
     const isSame = engine.ask(exampleFile, LIST_ALL_ROMS).answers.join("\n") === rom;
     if (isSame) return textsOfExample(example);
-    return { boardText: example.board, programText: disassembleRom(engine, file), ...NO_TESTS };
+    return { boardText: example.board, programText: disassembleRom(engine, file), ...NO_TEST_TEXTS };
   }
   const lines = board.split("\n").slice(1);
-  return { boardText: lines.map((line) => `${line}\n`).join(""), programText: disassembleRom(engine, file), ...NO_TESTS };
+  return { boardText: lines.map((line) => `${line}\n`).join(""), programText: disassembleRom(engine, file), ...NO_TEST_TEXTS };
 }
 
 /**

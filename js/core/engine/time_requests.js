@@ -1,4 +1,4 @@
-// Requests while time runs: cycles and keys in real time, and full speed.
+// Requests that run time, press and release keys meanwhile, and start and end full speed.
 
 /**
  * @typedef {import("./open_bench.js").OpenBench} OpenBench
@@ -15,7 +15,7 @@ export class TimeRequests {
   /**
    * Runs the next cycles.
    * @param {number} cycles
-   * @param {Key | null} [key] a key to press; the press waits for earlier changes
+   * @param {Key | null} [key] a key to press; earlier key changes are made first
    * @returns {Frame}
    */
   advance(cycles, key = null) {

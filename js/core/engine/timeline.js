@@ -1,7 +1,7 @@
-// Stores the past of a session, for moves back in time: the session file at some moments, and the accepted commands after each of these
-// moments. To compute a past state, a copy of such a file runs the commands again. When the past becomes too long, segments without stops
-// are removed first. The past is stored in the memory of this worker. The page receives the additions (session/stored_history.js), and
-// restores the past after a reload.
+// Stores the past of a session, so that the session can move back in time: the session file at some moments, and the accepted commands
+// after each of these moments. To compute a past state, it runs the commands again on a copy of such a file. When the past becomes too
+// long, segments without stops are removed first. The past is stored in the memory of this worker. The page receives the additions
+// (session/stored_history.js), and restores the past after a reload.
 
 import { CancelledError } from "../bench/bench_errors.js";
 import { stripSeq } from "../bench/state_line.js";
@@ -14,19 +14,21 @@ import { CycleCount } from "./accepted_commands.js";
  * A command. `isStop` is true if time was paused before the command.
  * @typedef {{ line: string, cycles: number, resets: boolean, isStop: boolean }} Entry
  *
- * A part of the past: the file and the cycle count at its start, and the commands after that. `letters` is the total length of the command
- * lines in characters. `follows` is true if the segment starts where the previous segment ends.
+ * A part of the past: the session file and the cycle count at its start, and the commands after that, which run `cycles` cycles. `letters`
+ * is the total length of the command lines in characters. `follows` is true if the segment starts where the previous segment ends.
  * @typedef {{ file: Uint8Array, count: CycleCount, entries: Entry[], cycles: number, letters: number, follows: boolean, marks: Mark[] }}
  * Segment
  *
- * A stored state in a segment: the session after `entry` entries, which ran `cycles` cycles.
+ * A state that is stored within a segment: the session after the first `entry` entries, which ran `cycles` cycles.
  * @typedef {{ entry: number, file: Uint8Array, count: CycleCount, cycles: number }} Mark
  *
  * A moment: after `entry` entries of a segment, and `cycles` cycles into the next entry.
  * @typedef {{ segment: number, entry: number, cycles: number }} Moment
+ *
+ * A session at a moment: its file and its cycle count.
  * @typedef {{ file: Uint8Array, count: CycleCount }} Present
  *
- * The entries since the last report. If `isNewPast` is true, they start a new past.
+ * The entries since the last report to the page. If `isNewPast` is true, they replace the past that was reported before.
  * @typedef {{ isNewPast: boolean, entries: Entry[] }} News
  *
  * A segment that the page restores: the file and the cycle counts at its start, and its entries.
@@ -36,15 +38,18 @@ import { CycleCount } from "./accepted_commands.js";
  * @typedef {(done?: number) => Promise<boolean>} ShouldContinue
  */
 
-/** The limits of a segment, so that it can be replayed quickly: the numbers of cycles, of entries, and of characters in the lines. */
-const SEGMENT_CYCLES = 4000000;
-export const SEGMENT_ENTRIES = 4000;
-const SEGMENT_LETTERS = 200000;
+/** The maximum numbers of cycles, of entries, and of characters in the command lines of a segment. They limit the time of a replay. */
+const MAX_SEGMENT_CYCLES = 4000000;
+export const MAX_SEGMENT_ENTRIES = 4000;
+const MAX_SEGMENT_CHARACTERS = 200000;
 /** The maximum number of segments. Each segment contains a file of 164 KB. */
 const MAX_SEGMENTS = 48;
-/** The distance between marks in the last two segments, in cycles. It limits the number of cycles that a short move back replays. */
-const MARK_CYCLES = 250000;
-/** The maximum number of steps forward after moves back. */
+/**
+ * The minimum distance between two marks in a segment, in cycles. Only the last two segments have marks. A short move back then replays few
+ * cycles.
+ */
+const MARK_INTERVAL = 250000;
+/** The maximum number of moves back that moves forward can undo. */
 export const MAX_FORWARD = 64;
 /** The maximum length of a replayed command, in characters. After a longer command, a new segment starts. */
 const MAX_LINE_LENGTH = 20000;
@@ -54,8 +59,8 @@ const MAX_LINE_LENGTH = 20000;
  */
 const MAX_TRIES = 8;
 /** The maximum number of cycles and of lines that one call replays. */
-const PIECE_CYCLES = 1000000;
-const PIECE_LINES = 500;
+const MAX_PIECE_CYCLES = 1000000;
+const MAX_PIECE_LINES = 500;
 
 export class Timeline {
   /** @param {Present} present */
@@ -64,7 +69,7 @@ export class Timeline {
     this.segments = [segmentAt(present, false)];
     /** True if time is paused; the next entry then starts at a stop. */
     this.isStopped = true;
-    /** @type {({ segments: Segment[] } & Present)[]} the targets of moves forward; the last one is used next */
+    /** @type {({ segments: Segment[] } & Present)[]} the targets of moves forward; the next move forward goes to the last of them */
     this.future = [];
     /** @type {News} */
     this.news = { isNewPast: true, entries: [] };
@@ -102,6 +107,7 @@ export class Timeline {
   }
 
   /**
+   * Puts stored segments before the first segment. Returns `count`.
    * @param {StoredSegment[]} stored
    * @param {number} count the number of entries to use from the last segment
    */
@@ -128,7 +134,7 @@ export class Timeline {
   }
 
   /**
-   * Appends commands to the past. Stored objects are never changed.
+   * Appends commands to the past. A stored entry never changes.
    * @param {AcceptedCommand[]} commands
    * @param {Present} present the session after the commands
    */
@@ -136,7 +142,7 @@ export class Timeline {
     if (commands.length === 0) return;
     this.future = [];
     const { last } = this;
-    const isTooLong = commands.length > SEGMENT_ENTRIES || commands.some(({ line }) => line.length > MAX_LINE_LENGTH);
+    const isTooLong = commands.length > MAX_SEGMENT_ENTRIES || commands.some(({ line }) => line.length > MAX_LINE_LENGTH);
     if (isTooLong) this.news = { isNewPast: true, entries: [] };
     else {
       for (const { line, cycles, resets } of commands) {
@@ -150,7 +156,7 @@ export class Timeline {
     }
     this.mark(present);
     const { cycles: segmentCycles, entries, letters } = last;
-    const isFull = segmentCycles >= SEGMENT_CYCLES || entries.length >= SEGMENT_ENTRIES || letters >= SEGMENT_LETTERS;
+    const isFull = segmentCycles >= MAX_SEGMENT_CYCLES || entries.length >= MAX_SEGMENT_ENTRIES || letters >= MAX_SEGMENT_CHARACTERS;
     if (isTooLong || isFull) {
       this.segments.push(segmentAt(present, !isTooLong));
       if (this.segments.length > 2) this.segments[this.segments.length - 3].marks = [];
@@ -159,13 +165,13 @@ export class Timeline {
   }
 
   /**
-   * Stores a mark if the previous mark is at least MARK_CYCLES away.
+   * Stores a mark if at least MARK_INTERVAL cycles have run since the previous mark.
    * @param {Present} present
    */
   mark({ file, count }) {
     const { entries, cycles, marks } = this.last;
     const before = marks.length > 0 ? marks[marks.length - 1].cycles : 0;
-    if (cycles - before >= MARK_CYCLES) marks.push({ entry: entries.length, file: file.slice(), count: count.copy(), cycles });
+    if (cycles - before >= MARK_INTERVAL) marks.push({ entry: entries.length, file: file.slice(), count: count.copy(), cycles });
   }
 
   /** Removes the oldest segment without a stop; if all segments have stops, removes the oldest segment. */
@@ -196,8 +202,8 @@ export class Timeline {
   }
 
   /**
-   * Returns the moment `cycles` cycles before another moment. Commands without cycles at that moment are already done. Returns null if the
-   * past is too short.
+   * Returns the moment `cycles` cycles before another moment; null if the past is too short. If commands without cycles were entered at
+   * that time, the moment is after them.
    * @param {number} cycles 1 or more
    * @param {Moment} [from]
    * @returns {Moment | null}
@@ -220,7 +226,7 @@ export class Timeline {
   }
 
   /**
-   * Resolves to the session at a moment. For this, a copy runs the commands again.
+   * Resolves to the session at a moment, by running the commands again on a copy.
    * @param {Engine} engine
    * @param {Moment} moment
    * @param {ShouldContinue} shouldContinue
@@ -274,6 +280,7 @@ export class Timeline {
 }
 
 /**
+ * Converts a segment that the page stored.
  * @param {StoredSegment} stored
  * @param {number} index the index of the segment
  * @returns {Segment}
@@ -305,7 +312,7 @@ function queryState(engine, file) {
 function nextPiece(entries, from) {
   let cycles = 0;
   let to = from;
-  while (to < entries.length && to - from < PIECE_LINES && cycles < PIECE_CYCLES) {
+  while (to < entries.length && to - from < MAX_PIECE_LINES && cycles < MAX_PIECE_CYCLES) {
     cycles += entries[to].cycles;
     to += 1;
   }
@@ -313,8 +320,9 @@ function nextPiece(entries, from) {
 }
 
 /**
+ * Creates an empty segment that starts at the given session.
  * @param {Present} present
- * @param {boolean} follows
+ * @param {boolean} follows true if the segment starts where the previous one ends
  * @returns {Segment}
  */
 function segmentAt({ file, count }, follows) {
@@ -322,7 +330,7 @@ function segmentAt({ file, count }, follows) {
 }
 
 /**
- * Returns the first cycles of an entry as a separate entry; no entry for 0 cycles.
+ * Returns a list with one entry, which runs the first `cycles` cycles of the given entry; an empty list for 0 cycles.
  * @param {Entry | undefined} entry
  * @param {number} cycles
  * @returns {Entry[]}

@@ -20,7 +20,7 @@ export class TravelRequests {
   }
 
   /**
-   * Sets the names that conditions can use.
+   * Sets the names that can occur in conditions.
    * @param {{ board: string, program: string, watched?: string[] }} texts
    */
   takeNames(texts) {
@@ -28,20 +28,20 @@ export class TravelRequests {
   }
 
   /**
-   * Moves to a goal or an earlier stop. If neither is within `maxCycles` cycles, the session does not change, and running time continues
-   * towards the goal.
+   * Runs to a goal, or to a breakpoint before it. If neither is within `maxCycles` cycles, the session does not change; it then approaches
+   * the goal while time runs.
    * @param {Goal} goal
    * @param {number} [maxCycles]
    * @returns {Promise<GoalReply>}
    */
   async goOn(goal, maxCycles = nearDistance(goal)) {
     const { found, result, tally } = await this.bench.debugger.goOn(goal, maxCycles, (done) => this.bench.shouldContinue(done, maxCycles));
-    if (!result) return { ...this.bench.nothingServed(), found, tally };
+    if (!result) return { ...this.bench.replyWithoutServing(), found, tally };
     const { snapshot, ...served } = result;
     return { ...served, ...this.bench.snapshotReport(snapshot, false), found, tally };
   }
 
-  /** Drops the goal because the user starts or pauses time. */
+  /** Gives up the goal, because the user starts or pauses time. */
   drop() {
     this.bench.debugger.begin();
   }

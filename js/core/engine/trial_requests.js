@@ -1,4 +1,4 @@
-// Requests that run tests and search for counterexamples, in separate sessions.
+// Requests that run tests and search for counterexamples. Both use separate sessions; the open session does not change.
 
 import { SlicedSearch, parseSearchTexts, prepareSearch } from "../explore/sliced_search.js";
 import { sampleTest } from "../testing/sample_test.js";

@@ -11,16 +11,16 @@ import { parseTraceLine, rowValues } from "./forecast_answers.js";
  * @typedef {import("../waves/track.js").TrackData} TrackData
  * @typedef {import("../waves/wave_lines.js").WaveLine} WaveLine
  *
- * A reader of a line: the index of the line, and a function that converts the reported value of the place to the value of the line.
+ * A reader of a signal line: the index of the line, and a function that converts the reported value of a place to the value of the line.
  * @typedef {{ member: number, read: (answer: string) => number }} Reader
  *
- * A place, the lines to read from it, and the position of its value in each row.
+ * A `trace` place, the readers of its signal lines, and the character positions at which its value starts and ends in each row.
  * @typedef {{ place: string, readers: Reader[], from: number, to: number }} Field
  *
  * The places of one query, and the last row of their values.
  * @typedef {{ fields: Field[], row: string }} QueryGroup
  *
- * The part of a recording since the last call of `take`.
+ * The part of a recording since the last call of `take`. RecordedPart in wave_recorder.js explains the members.
  * @typedef {{ from: number, cycles: number, isStuck: boolean, isOwed: boolean, tracks: TrackData[], moments: Uint32Array,
  *   counters: Uint16Array }} WavePart
  */
@@ -45,7 +45,7 @@ function digitAt(line, index) {
  * k is line k. A chain reports its bits.
  * @param {string} line `rom0.3`, `ram0.1.3`, `chain0.5`
  */
-function levelPlace(line) {
+function placeOfBoardLine(line) {
   const dot = line.lastIndexOf(".");
   const [place, bit] = [line.slice(0, dot), Number(line.slice(dot + 1))];
   /** @type {(answer: string) => number} */
@@ -54,7 +54,7 @@ function levelPlace(line) {
 }
 
 /**
- * Returns the places of lines without duplicates, and the functions that read the lines from the places.
+ * Returns the `trace` places of signal lines, without duplicates, each with the readers of its lines.
  * @param {WaveLine[]} lines
  * @param {"level" | "value"} kind the kind of lines
  */
@@ -63,7 +63,7 @@ function fieldsForKind(lines, kind) {
   const places = new Map();
   lines.forEach((line, member) => {
     if (line.kind !== kind) return;
-    for (const { place, read } of kind === "level" ? [levelPlace(line.places[0])] : valuePlaces(line.places)) {
+    for (const { place, read } of kind === "level" ? [placeOfBoardLine(line.places[0])] : placesOfDigits(line.places)) {
       places.set(place, [...(places.get(place) || []), { member, read }]);
     }
   });
@@ -74,7 +74,7 @@ function fieldsForKind(lines, kind) {
  * Returns one place per digit of a value. The function that reads a digit returns the value that consists of all digits read so far.
  * @param {string[]} places most significant digit first
  */
-function valuePlaces(places) {
+function placesOfDigits(places) {
   const digits = places.map(() => "0");
   return places.map((place, at) => ({
     place,
@@ -86,10 +86,11 @@ function valuePlaces(places) {
 }
 
 /**
- * Returns the places of lines in groups, one group per query. Ports and values are in separate groups because values change far more often.
+ * Returns the `trace` places of signal lines in groups, one group per query. Ports and values are in separate groups because values change
+ * far more often.
  * @param {WaveLine[]} lines
  */
-function makeGroups(lines) {
+function groupPlaces(lines) {
   /** @type {QueryGroup[]} */
   const groups = [];
   for (const places of [fieldsForKind(lines, "level"), fieldsForKind(lines, "value")]) {
@@ -138,7 +139,7 @@ export class WaveBuilder {
     this.isStuck = false;
     this.isSecondCycle = false;
     this.hasStarted = false;
-    this.groups = makeGroups(lines);
+    this.groups = groupPlaces(lines);
     this.tracks = lines.map(({ width }) => new Track(emptyTrack(width)));
     this.moments = new NumberQueue(new Uint32Array(0));
     this.counters = new NumberQueue(new Uint16Array(0));
@@ -179,7 +180,10 @@ export class WaveBuilder {
     this.takeEnd(run);
   }
 
-  /** @param {ForecastAnswers} answers the answers to the queries */
+  /**
+   * Reads the answers to the queries before a run.
+   * @param {ForecastAnswers} answers
+   */
   takeForecast(answers) {
     if (this.hasCounter) for (const line of answers.takeTrace().lines) this.takeInstructionLine(line);
     for (const group of this.groups) {
@@ -209,7 +213,10 @@ export class WaveBuilder {
     this.takeInstruction(this.elapsed + cycles, address);
   }
 
-  /** @param {import("./forecast_answers.js").RunResult} run */
+  /**
+   * Ends a run.
+   * @param {import("./forecast_answers.js").RunResult} run
+   */
   takeEnd({ cycles, end }) {
     this.elapsed += cycles;
     this.isStuck = end === "code";
@@ -233,8 +240,9 @@ export class WaveBuilder {
   }
 
   /**
+   * Records the start of an instruction. Replaces an earlier record for the same moment.
    * @param {number} moment
-   * @param {number} counter
+   * @param {number} counter the program counter
    */
   takeInstruction(moment, counter) {
     this.hasStarted = true;

@@ -1,4 +1,4 @@
-// Records the signal lines of a board for the next or the last cycles of a session, in the worker. For this, it runs a copy of the session,
+// Records the signal lines of a board for the next or the last cycles of a session. To do so, it runs a copy of the session in the worker,
 // and asks the bench for a forecast before each run.
 
 import { readBoard } from "../bench/answers.js";
@@ -22,14 +22,14 @@ import { copyWithoutStops } from "./free_running_copy.js";
  * The program in ROM: its text, the source lines by address (0 for none), and its labels in ascending address order.
  * @typedef {{ text: string, lines: Uint16Array, labels: { address: number, name: string }[] }} RecordedProgram
  *
- * A recording in a message, or the next part of one. A moment is a number of cycles since the start. The value at a moment is the value
- * after that many cycles.
+ * A recording in a message to the page, or the next part of one. A moment is a number of cycles since the start of the recording; the value
+ * of a line at a moment is its value after that many cycles.
  * - `from`, `cycles`: the moments at which the part starts and ends;
  * - `isStuck`: true if the next opcode is not an instruction;
  * - `tracks`: the signal lines over time;
- * - `moments`, `counters`: the start of each instruction and the end, and the program counters at these moments;
+ * - `moments`, `counters`: the moments at which instructions start, followed by the end; and the program counter at each of them;
  * - `isOwed`: true if the first of these moments is the second cycle of an instruction;
- * - `listing`: the listing lines at new program counters.
+ * - `listing`: the address and the listing line of each instruction that has not occurred in earlier parts.
  * @typedef {import("./wave_builder.js").WavePart & { listing: [number, string][] }} RecordedPart
  *
  * A complete recording with its signal lines. `program` is null if the text is not the program in ROM.
@@ -154,8 +154,8 @@ function unitsFrom(timeline, from) {
 }
 
 /**
- * Records the last cycles before the present, as far as the past reaches. For this, a copy runs the cycles and all commands between them
- * again.
+ * Records the last cycles before the present, as far as the past reaches, by running these cycles and all commands between them again on a
+ * copy.
  * @param {Engine} engine
  * @param {Timeline} timeline
  * @param {number} cycles

@@ -1,5 +1,5 @@
-// Records the signal lines of a board piece by piece for a file that is written at the same time. Only one piece is in memory, even for a
-// long recording.
+// Records the signal lines of a board piece by piece, while a file of the recording is written. Only one piece is in memory at a time, even
+// for a long recording.
 
 import { Waves } from "../waves/wave_recording.js";
 import { ForecastAnswers } from "./forecast_answers.js";
@@ -22,7 +22,7 @@ const PIECE_CYCLES = 20000;
 const dependsOnCounter = ({ kind }) => kind === "pc" || kind === "label";
 
 /**
- * Returns the chosen lines of a board, and the member lines of chosen ports.
+ * Returns the chosen signal lines of a board together with the lines of each chosen port.
  * @param {WaveLine[]} lines the signal lines of the board
  * @param {number[]} chosenLines the indices of the chosen lines
  * @returns {{ lines: WaveLine[], chosen: number[] }} `chosen` are the new indices of the chosen lines

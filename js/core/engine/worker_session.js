@@ -13,7 +13,7 @@ import { PieceSize } from "./piece_size.js";
 import { romCodes } from "./rom_codes.js";
 import { EYE_CYCLES } from "../time/mcs4_time.js";
 import { MAX_MEASURED_CYCLES } from "./brightness_meter.js";
-import { SEGMENT_ENTRIES, Timeline } from "./timeline.js";
+import { MAX_SEGMENT_ENTRIES, Timeline } from "./timeline.js";
 
 /**
  * @typedef {import("./accepted_commands.js").AcceptedCommand} AcceptedCommand
@@ -34,25 +34,25 @@ import { SEGMENT_ENTRIES, Timeline } from "./timeline.js";
  * An input, the number of lines in its text, and its answer lines.
  * @typedef {{ line: string, textLines: number, answers: string[] }} ServedInput
  *
- * The result of served lines: the last inputs, the first answer, the shell's final status, and whether the lines can have changed ROM or
- * the board.
+ * The result of serving lines: the last inputs, the first answer, the shell's exit status, and whether the lines can have changed ROM
+ * (`touchesRom`) or the board (`wires`).
  * @typedef {{ entries: ServedInput[], first: string, status: number, touchesRom: boolean, wires: boolean }} LinesResult
  * @typedef {LinesResult & { snapshot: string[] }} ResultAndSnapshot
  *
- * The result of a run. `end` is the answer that ended the run early, or "". `litShares`, `heard` and `warmed` are lamp brightness, sound
- * and RAM changes; each is null if not requested.
+ * The result of running cycles. `ran` are the executed lines. `end` is the answer that ended the run early, or "". `litShares`, `heard` and
+ * `warmed` are the lamp brightness, the buzzer levels and the RAM changes; each is null if not requested.
  * @typedef {{ ran: RunEntry[], cycles: number, end: string, changesKeys: boolean, snapshot: string[], litShares: LitShares | null, heard:
  * BuzzerLevels | null, warmed: ChipHeat | null }} Frame
  */
 
 /** The maximum number of served inputs in a result. */
 export const MAX_ENTRIES = 400;
-/** The maximum number of served cycles that a recording replays. */
-const MAX_FOLLOWED_CYCLES = 2000000;
-/** The size of a piece of lines in characters: of the first piece, at least, and at most. */
-const FIRST_PIECE = 4096;
-const MIN_PIECE = 256;
-const MAX_PIECE = 1 << 20;
+/** The maximum number of cycles in served lines that a recording replays. Longer lines end the recording. */
+const MAX_REPLAYED_CYCLES = 2000000;
+/** The first, the minimum and the maximum length of a piece of lines, in characters. */
+const FIRST_PIECE_LENGTH = 4096;
+const MIN_PIECE_LENGTH = 256;
+const MAX_PIECE_LENGTH = 1 << 20;
 
 /** @type {Record<string, true>} the kinds of commands that can change ROM */
 const ROM_COMMANDS = { poke: true, wire: true, asm: true };
@@ -73,10 +73,10 @@ export class WorkerSession {
     this.queue = new KeyQueue();
     this.statusQueries = makeStatusQueries(engine, file);
     this.timeline = new Timeline(this);
-    /** @type {AcceptedCommand[]} breakpoint changes since the last move in time; recorded before the next command */
+    /** @type {AcceptedCommand[]} the breakpoint changes since the last move in time; the next command records them in the past first */
     this.unrecordedCommands = [];
     /** @type {Uint8Array | null} the bytes in ROM; null until they are read */
-    this.readCodes = null;
+    this.cachedRomBytes = null;
     /** @type {LiveRecorder | null} the recorder of the board's signal lines */
     this.recorder = null;
     /** @type {PrinterCodes | null} the printout of the board's printer */
@@ -103,8 +103,8 @@ export class WorkerSession {
 
   /** The bytes in ROM. */
   get codes() {
-    if (!this.readCodes) this.readCodes = romCodes(this.engine, this.file);
-    return this.readCodes;
+    if (!this.cachedRomBytes) this.cachedRomBytes = romCodes(this.engine, this.file);
+    return this.cachedRomBytes;
   }
 
   /**
@@ -119,7 +119,7 @@ export class WorkerSession {
     return takeSnapshotOf(this.engine, this.file, this.statusQueries);
   }
 
-  /** Uses the file that the last call wrote as the session file from now on. */
+  /** Makes the file that the last call wrote the session file. */
   adoptResult() {
     [this.file, this.next] = [this.next, this.file];
   }
@@ -139,7 +139,7 @@ export class WorkerSession {
    * @returns {Frame}
    */
   advanceBy(plannedLines) {
-    const { done: servedLines, answers, snapshot, sensed } = this.servePlanned(plannedLines);
+    const { done: servedLines, answers, snapshot, measurements } = this.servePlannedLines(plannedLines);
     this.adoptResult();
     const runs = answers.map(readRun);
     /** @type {(at: number) => number} */
@@ -157,7 +157,7 @@ export class WorkerSession {
       end: isStop(last) ? last : "",
       changesKeys: servedLines.some((each) => each.change !== null),
       snapshot,
-      ...sensed,
+      ...measurements,
     };
   }
 
@@ -184,7 +184,7 @@ export class WorkerSession {
     this.statusQueries = statusQueries;
     this.queue.clear();
     this.unrecordedCommands = [];
-    this.readCodes = null;
+    this.cachedRomBytes = null;
     if (this.recorder) this.recorder.stop("back");
     if (wires) this.forgetMeters();
     return wires;
@@ -196,8 +196,8 @@ export class WorkerSession {
   }
 
   /**
-   * Changes breakpoints after a move in time. The past contains the changes only from the next command on, so that a move forward is still
-   * possible.
+   * Changes breakpoints after a move in time. The changes are added to the past only with the next command, so that a move forward is still
+   * possible until then.
    * @param {string} lines commands that change breakpoints
    */
   changeBreaks(lines) {
@@ -207,31 +207,32 @@ export class WorkerSession {
   }
 
   /**
-   * Serves lines up to the first run that stops early, or up to a refusal. One call serves all lines. If a line before the last one stops
-   * early or is rejected, discards the result, and serves only the lines up to that line.
+   * Serves planned lines up to the first run that stops early, or up to the first rejected line. Tries all lines in one call. If a line
+   * before the last one stops early or is rejected, discards the result and serves only the lines up to that line.
    * @param {PlannedLine[]} plannedLines
    */
-  servePlanned(plannedLines) {
-    let served = this.tryPlanned(plannedLines);
+  servePlannedLines(plannedLines) {
+    let served = this.tryPlannedLines(plannedLines);
     const stopIndex = served.answers.findIndex((answer, at) => at < plannedLines.length && isStop(answer));
     let servedLines = plannedLines;
     if (stopIndex >= 0 && stopIndex < plannedLines.length - 1) {
       servedLines = plannedLines.slice(0, stopIndex + 1);
-      served = this.tryPlanned(servedLines);
+      served = this.tryPlannedLines(servedLines);
     }
     const { recording } = this;
     const stopCycle = recording ? recording.take(servedLines, served.traced, served.answers) : -1;
     if (stopCycle >= 0) {
       servedLines = truncateLines(servedLines, stopCycle);
-      served = this.tryPlanned(servedLines);
+      served = this.tryPlannedLines(servedLines);
     }
     const answers = served.answers.slice(0, servedLines.length);
     const snapshot = buildSnapshot(this.statusQueries.inputs, served.answers.slice(servedLines.length));
-    return { done: servedLines, answers, snapshot, sensed: served.readMeters() };
+    return { done: servedLines, answers, snapshot, measurements: served.readMeters() };
   }
 
   /**
-   * Returns the meters of lamps, buzzer and RAM. A meter is null if it is not requested, or if the lines are too long.
+   * Returns the meters of lamps, buzzer and RAM that measure planned lines. A meter is null if it is not requested, or if the lines run too
+   * many cycles.
    * @param {PlannedLine[]} plannedLines
    */
   metersFor(plannedLines) {
@@ -240,7 +241,7 @@ export class WorkerSession {
     return isShort ? { brightnessMeter, buzzerMeter, heatMeter } : { brightnessMeter: null, buzzerMeter: null, heatMeter: null };
   }
 
-  /** Returns the lamp brightness and the RAM changes of the next 30 ms; each is null if not requested. */
+  /** Returns a forecast of the lamp brightness and the RAM changes in the next 30 ms; each is null if not requested. */
   measureAhead() {
     const { brightnessMeter, heatMeter } = this;
     return {
@@ -249,8 +250,11 @@ export class WorkerSession {
     };
   }
 
-  /** @param {PlannedLine[]} plannedLines the lines to serve in one call, with all queries; `file` does not change */
-  tryPlanned(plannedLines) {
+  /**
+   * Serves planned lines together with all queries, in one call. Writes the result to `next`; `file` does not change.
+   * @param {PlannedLine[]} plannedLines
+   */
+  tryPlannedLines(plannedLines) {
     const { recording, printing } = this;
     const { brightnessMeter, buzzerMeter, heatMeter } = this.metersFor(plannedLines);
     /** @type {import("./forecast_queries.js").QuerySource[]} */
@@ -271,7 +275,7 @@ export class WorkerSession {
   }
 
   /**
-   * Adds served lines to the recording. Ends the recording instead if the lines are too many or too long.
+   * Adds the effect of served lines to the recording. If there are too many lines or cycles, ends the recording instead.
    * @param {Uint8Array} fileBefore the session file before the lines
    * @param {AcceptedCommand[]} commands
    */
@@ -279,7 +283,7 @@ export class WorkerSession {
     const { recording } = this;
     if (!recording) return;
     const total = commands.reduce((sum, { cycles }) => sum + cycles, 0);
-    if (commands.length > SEGMENT_ENTRIES || total > MAX_FOLLOWED_CYCLES) recording.stop("lines");
+    if (commands.length > MAX_SEGMENT_ENTRIES || total > MAX_REPLAYED_CYCLES) recording.stop("lines");
     else recording.follow(fileBefore, commands);
   }
 
@@ -296,7 +300,7 @@ export class WorkerSession {
     const printing = this.printing && this.printing.copy();
     // Each piece is served on `from`. The session file does not change until all pieces are done.
     let [from, to] = [this.file, this.next];
-    const size = new PieceSize(FIRST_PIECE, MIN_PIECE, MAX_PIECE);
+    const size = new PieceSize(FIRST_PIECE_LENGTH, MIN_PIECE_LENGTH, MAX_PIECE_LENGTH);
     for (let at = 0; at < lines.length;) {
       const end = findInputEnd(lines, at, size.size);
       const piece = lines.slice(at, end);
@@ -317,7 +321,7 @@ export class WorkerSession {
     // Nothing below can fail. The session changes now.
     if (from !== this.file) [this.file, this.next] = [from, this.file];
     this.statusQueries = statusQueries;
-    if (report.touchesRom) this.readCodes = null;
+    if (report.touchesRom) this.cachedRomBytes = null;
     this.timeline.stop();
     this.count = report.count;
     this.printing = printing;
@@ -332,7 +336,7 @@ export class WorkerSession {
 }
 
 /**
- * The status queries of a board: the answer to `board`, the queries as lines, and the queries as inputs.
+ * The answer to `board`, and the queries for a snapshot of that board: as lines, and parsed as inputs.
  * @typedef {{ board: string[], lines: string, inputs: Input[] }} StatusQueries
  */
 
@@ -358,7 +362,7 @@ function takeSnapshotOf(engine, file, { lines, inputs }) {
   return buildSnapshot(inputs, engine.ask(file, lines).answers);
 }
 
-/** Collects the results of all pieces. */
+/** Collects the results of all pieces of lines. */
 class LinesReport {
   /** @param {CycleCount} count the cycle count before the first piece */
   constructor(count) {
@@ -383,7 +387,7 @@ class LinesReport {
     const answerLists = matchAnswers(inputs, answers);
     const acceptedCommands = findAcceptedCommands(inputs, answerLists);
     this.count.add(acceptedCommands);
-    if (this.acceptedCommands.length <= SEGMENT_ENTRIES) this.acceptedCommands = this.acceptedCommands.concat(acceptedCommands);
+    if (this.acceptedCommands.length <= MAX_SEGMENT_ENTRIES) this.acceptedCommands = this.acceptedCommands.concat(acceptedCommands);
     if (this.first === "" && answers.length > 0) this.first = answers[0];
     this.status = status;
     this.touchesRom = this.touchesRom || inputs.some((input) => ROM_COMMANDS[input.kind]);

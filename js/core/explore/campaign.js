@@ -1,5 +1,5 @@
-// Parses a properties text: the inputs, the definition of new states, and the properties. The manual describes its lines ("Looking for what
-// breaks it").
+// Parses a properties text, which defines the inputs, the values that distinguish states, and the properties. The manual describes its
+// lines in the chapter "Looking for what breaks it".
 
 import { MAX_RUN_CYCLES } from "../engine/key_queue.js";
 import { hasScannedDisplay } from "../engine/perceived_text.js";
@@ -24,24 +24,26 @@ import { noKey } from "../../words/testing.js";
  * @typedef {import("./subject.js").Subject} Subject
  * @typedef {{ line: number, column: number, words: string }} Fault `column` counts from 0; -1 if unknown
  *
- * A campaign: the contents of a properties text. Times are in cycles.
+ * A campaign: the parsed contents of a properties text. Times are in cycles.
  * - `maxKeysDown`: the maximum number of keys that are down at the same time; `canReset`: true if the search can cut the power;
  * - `minWait`, `maxWait`: the range of waits between two changes;
- * - `maxHoldTime`, `minReleaseTime`: the maximum time for which an input is down, and the minimum time for which it is up;
+ * - `maxHoldTime`, `minReleaseTime`: the maximum time for which an input stays down, and the minimum time for which it stays up;
  * - `begin`: the time at which the check of the properties starts;
- * - `down`, `up`: the press and release times of the keys for a model, and `command`: the command of the model ("" for none);
+ * - `command`: the external command of the model ("" for none); `down`, `up`: how long the model's keys are pressed and released;
  * - `notes`: the `trace` places whose values distinguish states;
- * - `before`: the test lines that lead to the start state, and `calls`: the range of the number of open calls in the start state.
+ * - `from`: the start state, null for power-on; `before`: the test lines that lead to it; `calls`: the minimum and maximum number of calls
+ *   that have not returned in it.
  * @typedef {{ inputs: Input[], maxKeysDown: number, canReset: boolean, minWait: number, maxWait: number, maxHoldTime: number,
  *   minReleaseTime: number, begin: number, down: number, up: number, notes: string[], properties: Property[], command: string,
  *   from: StartState | null, before: string[], calls: { least: number, most: number } }} Campaign
  *
- * The start state of a search: its name, the test file that saves it ("" for the tests next to the properties), and the line with `from`.
+ * The start state of a search: its name, the test file that saves it ("" for the tests that belong to the program), and the number of the
+ * `from` line.
  * @typedef {{ state: string, file: string, line: number }} StartState
  */
 
 /**
- * Converts a column in a line with single blanks to the column in the original line.
+ * Converts a column in a normalised line, which has only single blanks, to the column in the original line.
  * @param {string} originalLine
  * @param {number} column
  */
@@ -54,13 +56,13 @@ function columnInLine(originalLine, column) {
   return place;
 }
 
-/** The maximum number of `note` places. */
+/** The maximum number of places in all `note` lines. */
 const MAX_NOTES = 16;
-/** The default maximum number of keys that are pressed at the same time. */
+/** The default for the maximum number of keys that are down at the same time. */
 const DEFAULT_MAX_KEYS_DOWN = 2;
 /** The default waits, 1 and 20 ms, in cycles. */
 const DEFAULT_WAITS = { minWait: cyclesFromMilliseconds(1), maxWait: cyclesFromMilliseconds(20) };
-/** The default press and release times of the keys for a model, in cycles. */
+/** The default times for which a model's keys are pressed and released, in cycles. */
 const DEFAULT_PACE = { down: TOOL_KEY_DOWN_CYCLES, up: TOOL_KEY_UP_CYCLES };
 
 class PropertiesReader {
@@ -89,7 +91,7 @@ class PropertiesReader {
     /** The `while` condition of the current line; "" for none. */
     this.whileCondition = "";
     this.line = "";
-    /** The index in the current line at which the search for the text of a condition starts. */
+    /** The index in the current line from which `parseCondition` searches for the condition, to report the column of an error. */
     this.searchStart = 0;
   }
 
@@ -100,8 +102,8 @@ class PropertiesReader {
   }
 
   /**
-   * Parses a condition that violates a property or reaches a goal. With a `while` condition, the result is true only if both conditions
-   * are true.
+   * Parses a condition that violates a property, or reaches a goal, when it is true. With a `while` condition, the result is true only if
+   * both conditions are true.
    * @param {string} text
    */
   parseViolation(text) {
@@ -110,7 +112,8 @@ class PropertiesReader {
   }
 
   /**
-   * Parses a condition that must be true. With a `while` condition, the result is also true if the `while` condition is false.
+   * Parses a condition that violates a property when it is false. With a `while` condition, the result is also true if the `while`
+   * condition is false.
    * @param {string} text
    */
   parseRequirement(text) {
@@ -118,7 +121,10 @@ class PropertiesReader {
     return this.whileCondition === "" ? condition : this.parseCondition(`not (${this.whileCondition}) or (${text})`);
   }
 
-  /** @param {string} word */
+  /**
+   * Returns the address of a label; fails if there is no such label.
+   * @param {string} word the label, such as `@count`
+   */
   parseLabel(word) {
     const name = word.replace(/^@/, "");
     const found = this.names.map.names.get(name);
@@ -126,7 +132,10 @@ class PropertiesReader {
       : fail(word.startsWith("@") ? noLabel(name) : say.labelSyntax(word));
   }
 
-  /** @param {string} name */
+  /**
+   * Returns the front-panel input with a name; fails if there is none.
+   * @param {string} name
+   */
   findInput(name) {
     const { face } = this.names;
     const found = [...listKeyInputs(face), createTestInput(face)].find((each) => each.name === name && (each.isKey || face.test));
@@ -141,8 +150,9 @@ class PropertiesReader {
   }
 
   /**
+   * Returns the number of cycles of a time, such as `5 ms`.
    * @param {string} text
-   * @param {string} syntax
+   * @param {string} syntax the error message if the text is not a time
    */
   parseTime(text, syntax) {
     const cycles = parseWholeDuration(text.trim().split(/\s+/));
@@ -153,7 +163,7 @@ class PropertiesReader {
 /**
  * Parses two times, with or without `to` between them.
  * @param {string[]} words
- * @param {string} syntax
+ * @param {string} syntax the error message if the words are not two times
  */
 function parseTwoTimes(words, syntax) {
   const first = parseDuration(words, 0);
@@ -168,7 +178,7 @@ function parseTwoTimes(words, syntax) {
  * The parsers of lines for inputs and timing, by first word.
  * @type {Record<string, (reader: PropertiesReader, words: string[]) => void>}
  */
-const SETTINGS = {
+const SETTING_PARSERS = {
   press: (reader, words) => {
     if (words.length === 0) fail(say.PRESS_SYNTAX);
     for (const word of words) reader.addInput(reader.findInput(word));
@@ -225,10 +235,10 @@ const SETTINGS = {
 };
 
 /**
- * Returns whether a line of a properties text describes inputs or timing, not a property.
+ * Returns whether a line of a properties text sets inputs or timing, rather than a property.
  * @param {string} line without leading blanks
  */
-export const isSetting = (line) => Object.prototype.hasOwnProperty.call(SETTINGS, line.split(/\s/)[0]);
+export const isSetting = (line) => Object.prototype.hasOwnProperty.call(SETTING_PARSERS, line.split(/\s/)[0]);
 
 /**
  * Returns the `trace` places for a word of a `note` line; fails if `trace` does not report the word.
@@ -251,7 +261,7 @@ const FOR_DURATION = /^(.*) for (\S+(?: \S+)?)$/;
  * The parsers of property lines, by first word.
  * @type {Record<string, (reader: PropertiesReader, rest: string, text: string) => Property>}
  */
-const PROPERTIES = {
+const PROPERTY_PARSERS = {
   never: (reader, rest, text) => {
     const [, condition, time] = FOR_DURATION.exec(rest) || ["", rest, ""];
     if (condition === "") fail(say.NEVER_SYNTAX);
@@ -307,7 +317,8 @@ const PROPERTIES = {
 const GUARD_START = /^(while|once|after press)\b/;
 
 /**
- * Splits a line after its first guard, at a comma outside quoted texts. Returns null if the line has no guard.
+ * Splits a line into its first guard and the text after the comma; a comma in a quoted text does not count. Returns null if the line has no
+ * guard.
  * @param {string} text
  */
 function splitGuard(text) {
@@ -318,6 +329,7 @@ function splitGuard(text) {
 }
 
 /**
+ * Parses a guard, except `while`.
  * @param {PropertiesReader} reader
  * @param {string} text the guard: `once C`, `after press K`, `after press K within TIME`
  * @returns {Guard}
@@ -356,7 +368,7 @@ function parseGuardedLine(reader, text, firstGuard) {
   reader.searchStart = text.length - unguardedText.length;
   const property = parseUnguardedLine(reader, unguardedText);
   if (!property || !GUARDABLE_FORMS.has(property.form)) return fail(say.GUARD_SYNTAX);
-  // For a press, the `while` condition counts at the moment of the press.
+  // For `after press`, the `while` condition must be true at the moment of the press.
   if (property.form === "after press" && reader.whileCondition !== "") {
     guards.push({ kind: "while", key: "", limit: 0, condition: reader.parseCondition(reader.whileCondition) });
   }
@@ -373,6 +385,7 @@ const ONCE_PER_PRESS_LINE = /^(@\S+) at most once for each press$/;
 const WITHIN_LINE = /^(@\S+) to (@\S+) within (.+)$/;
 
 /**
+ * Parses a line. A setting changes the reader; a property is returned.
  * @param {PropertiesReader} reader
  * @param {string} text the text of the line
  * @returns {Property | null} null for a setting
@@ -385,6 +398,7 @@ function parseLine(reader, text) {
 }
 
 /**
+ * Parses a line, or the part of a line after its guards.
  * @param {PropertiesReader} reader
  * @param {string} text
  * @returns {Property | null} null for a setting
@@ -401,14 +415,14 @@ function parseUnguardedLine(reader, text) {
   const [, start, target, time] = WITHIN_LINE.exec(text) || [];
   if (start) return withinProperty(text, reader.parseLabel(start), reader.parseLabel(target), reader.parseTime(time, say.WITHIN_SYNTAX));
   const [kind, ...words] = text.split(" ");
-  if (Object.prototype.hasOwnProperty.call(PROPERTIES, kind)) return PROPERTIES[kind](reader, words.join(" "), text);
-  if (!Object.prototype.hasOwnProperty.call(SETTINGS, kind)) fail(say.unknownFirstWord(kind.slice(0, 30), say.FORMS));
-  SETTINGS[kind](reader, words);
+  if (Object.prototype.hasOwnProperty.call(PROPERTY_PARSERS, kind)) return PROPERTY_PARSERS[kind](reader, words.join(" "), text);
+  if (!Object.prototype.hasOwnProperty.call(SETTING_PARSERS, kind)) fail(say.unknownFirstWord(kind.slice(0, 30), say.FORMS));
+  SETTING_PARSERS[kind](reader, words);
   return null;
 }
 
 /**
- * Returns whether the properties have no model, or have keys for the model.
+ * Returns false if there is a model but no key that could be pressed for it.
  * @param {PropertiesReader} reader
  */
 function hasKeysForModel({ command, inputs }) {
@@ -416,8 +430,8 @@ function hasKeysForModel({ command, inputs }) {
 }
 
 /**
- * Adds all inputs of the front panel if no line names an input, and the default note if there is no note. Returns whether the search can
- * change an input or cut the power.
+ * If no line names an input, adds all inputs of the front panel. If no line names a place to note, adds the lamps. Returns whether the
+ * search can change an input or cut the power.
  * @param {PropertiesReader} reader
  * @param {string} text
  */

@@ -1,4 +1,4 @@
-// Runs a campaign: the search, the minimising and confirmation of counterexamples, and the report.
+// Runs a campaign: searches for counterexamples, minimises and confirms them, and creates the report.
 
 import { omittedGuards } from "../prove/question.js";
 import { formatTest, formatViolationLines } from "./counterexample_test.js";
@@ -15,32 +15,36 @@ import { createRandom } from "./walks.js";
  * @typedef {import("./search.js").Violation} Violation
  * @typedef {import("./subject.js").Subject} Subject
  *
- * A function that returns whether a test has the expected result: it must fail, or pass if the property is a goal.
+ * A function that runs the test of a counterexample and returns whether it has the expected result: it must fail or, if the property is a
+ * goal, pass.
  * @typedef {(test: string, isGoal: boolean) => boolean | Promise<boolean>} ConfirmTest
  *
- * A confirmed counterexample: the number of its property, its test, and its steps. `violation` is null if the display differs from the
- * text of a model.
+ * A confirmed counterexample: the index of its property, its test (in `found`), and its steps (in `violation`). `violation` is null if the
+ * property is a model.
  * @typedef {{ property: number, found: Counterexample, violation: Violation | null }} ConfirmedViolation
  */
 
-/** The maximum share of the search time for the initial proof is 1 / PROOF_SHARE. */
+/** The initial proof gets at most 1 / PROOF_SHARE of the search time. */
 const PROOF_SHARE = 10;
-/** The number of failed confirmations after which the search drops a property. */
+/** The number of counterexamples with failed confirmation after which the search no longer checks a property. */
 const MAX_UNCONFIRMED = 3;
-/** The number of cycles for minimising a counterexample, per second of search time, with a minimum and a maximum. */
+/**
+ * The maximum number of cycles to run while a counterexample is minimised: `second` cycles per second of search time, but at least `least`
+ * and at most `most`.
+ */
 const MINIMISING_CYCLES = { second: 2e6, least: 10e6, most: 60e6 };
 
 /**
- * Returns the number of cycles for minimising a counterexample.
- * @param {number} seconds
+ * Returns the maximum number of cycles to run while a counterexample is minimised.
+ * @param {number} seconds the search time
  */
 export function minimisingCycles(seconds) {
   return Math.max(MINIMISING_CYCLES.least, Math.min(MINIMISING_CYCLES.most, seconds * MINIMISING_CYCLES.second));
 }
 
 /**
- * Returns the time for the initial proof in milliseconds, out of the total number of seconds.
- * @param {number} seconds
+ * Returns the maximum time for the initial proof, in milliseconds.
+ * @param {number} seconds the search time
  */
 export function initialProofTime(seconds) {
   return 1000 * seconds / PROOF_SHARE;
@@ -72,14 +76,14 @@ export class CampaignRun {
     this.proof = new InitialProof(subject, campaign, proofTime);
     /** The time spent so far by the search, the proof and the model, in milliseconds. */
     this.timeSpent = { search: 0, proof: 0, model: 0 };
-    /** The number of the `model` property; -1 if the search has no model command. */
+    /** The index of the `model` property; -1 if the search has no model command. */
     this.modelIndex = modelCommand ? campaign.properties.findIndex(({ form }) => form === "model") : -1;
     this.model = modelCommand && this.modelIndex >= 0
       ? new Model(subject, campaign, this.search.start, modelCommand, createRandom(seed)) : null;
     /** @type {(Counterexample | null)[]} */
     this.counterexamples = campaign.properties.map(() => null);
     this.unconfirmedCounts = campaign.properties.map(() => 0);
-    /** @type {string[]} the tests without the expected result */
+    /** @type {string[]} the tests of counterexamples whose confirmation failed */
     this.unconfirmedTests = [];
   }
 
@@ -100,7 +104,7 @@ export class CampaignRun {
   }
 
   /**
-   * Asks the model about several key sequences.
+   * Compares the display with the model after several key sequences. Resolves to the first confirmed difference, or to null.
    * @param {Model} model
    * @returns {Promise<ConfirmedViolation | null>}
    */
@@ -115,7 +119,7 @@ export class CampaignRun {
   }
 
   /**
-   * Searches for a number of milliseconds. A counterexample takes longer because it is minimised.
+   * Searches for a number of milliseconds. If a counterexample is found, the call takes longer, because it also minimises it.
    * @param {number} milliseconds
    * @returns {Promise<ConfirmedViolation | null>} the counterexample; null if none was found
    */
@@ -137,7 +141,7 @@ export class CampaignRun {
   }
 
   /**
-   * Minimises and confirms a violation. Resolves to null if its test does not have the expected result.
+   * Minimises and confirms a violation. Resolves to null if the confirmation fails.
    * @param {Violation} violation
    * @returns {Promise<ConfirmedViolation | null>}
    */
@@ -165,6 +169,7 @@ export class CampaignRun {
   }
 
   /**
+   * Stores the counterexample of a property, and ends the search for others.
    * @param {number} property
    * @param {Counterexample} counterexample
    */
@@ -174,6 +179,8 @@ export class CampaignRun {
   }
 
   /**
+   * Stores the test of a counterexample whose confirmation failed. If there are too many of them, ends the search for this property.
+   * Returns null.
    * @param {number} property
    * @param {string} test
    */
@@ -185,6 +192,7 @@ export class CampaignRun {
   }
 
   /**
+   * Returns the report of the search so far.
    * @param {Pick<Report, "names" | "sums" | "seconds" | "isStopped">} details
    * @returns {Report}
    */

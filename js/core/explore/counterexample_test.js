@@ -1,4 +1,5 @@
-// Writes a counterexample as a test for mcs4 test. The test fails as long as the program is unchanged; for a goal, it passes.
+// Writes a counterexample as a test for `mcs4 test`. The test fails as long as the program still has the error; for a goal, the test
+// passes.
 
 import { readCounter } from "../bench/answers.js";
 import { hex } from "../bench/numbers.js";
@@ -49,7 +50,7 @@ class TestWriter {
     this.pendingWait = campaign.begin;
   }
 
-  /** Writes the pending wait. */
+  /** Writes a `run` line for the waits that are not written yet. */
   writePendingWait() {
     if (this.pendingWait > 0) this.lines.push(`  run ${this.pendingWait}`);
     this.pendingWait = 0;
@@ -82,7 +83,7 @@ class TestWriter {
 
   /**
    * Returns the text of the property's condition, or of its negation.
-   * @param {boolean} holds
+   * @param {boolean} holds false for the negation
    */
   conditionText(holds) {
     const { condition, address } = this.property;
@@ -109,9 +110,9 @@ class TestWriter {
   }
 
   /**
-   * Writes an `until` line: a condition must become true within a time that started at or before the last change.
-   * @param {string} words
-   * @param {number} since
+   * Writes an `until` line, which requires that a condition becomes true before the time of the violation.
+   * @param {string} words the condition
+   * @param {number} since the time at which the wait for the condition starts, in cycles
    */
   writeUntil(words, since) {
     const from = Math.max(since, this.lastChangeTime);
@@ -121,7 +122,7 @@ class TestWriter {
 }
 
 /**
- * The functions that write the last requirement of a test, by property form.
+ * The functions that write the last lines of a test, which check the property, by property form.
  * @type {Record<Property["form"], (writer: TestWriter) => void>}
  */
 const FINAL_LINES = {
@@ -154,7 +155,7 @@ const FORM_NOTES = {
 };
 
 /**
- * Returns the test for a counterexample.
+ * Returns the text of the test for a counterexample.
  * @param {Subject} subject
  * @param {Uint8Array} file
  * @param {Campaign} campaign

@@ -1,6 +1,9 @@
-// Stores session files as differences: for each file, the 32-bit words that differ from those of the first file. Most words are the same.
+// Stores session files compactly: for each file, only the 32-bit words that differ from those of the first file. Most words are the same.
 
-/** @typedef {{ indexes: Uint32Array, words: Uint32Array }} FileDelta */
+/**
+ * A stored file: the indices and the values of the words that differ from those of the first file.
+ * @typedef {{ indexes: Uint32Array, words: Uint32Array }} FileDelta
+ */
 
 /** The size of a word in bytes. */
 const WORD_BYTES = 4;
@@ -29,7 +32,7 @@ export class DeltaFiles {
   }
 
   /**
-   * Returns the bytes of a stored file. The next call overwrites the array.
+   * Returns the bytes of a stored file. The next call of this method overwrites the returned array.
    * @param {FileDelta} delta
    */
   file({ indexes, words }) {

@@ -1,5 +1,5 @@
-// Asks the prover before the search, because a property that is proved for all inputs needs no search. The prover gets a share of the
-// search time. Each round asks about all properties that are still open, with twice the bound on the number of states.
+// Asks the prover before the search starts, because a property that is proved for all inputs needs no search. The prover gets a part of the
+// search time. Each round asks about all properties that are not proved yet, with twice the bound on the number of states.
 
 import { allMistakes } from "../prove/mistakes.js";
 import {
@@ -10,14 +10,16 @@ import {
  * @typedef {import("./campaign.js").Campaign} Campaign
  * @typedef {import("./subject.js").Subject} Subject
  *
- * A question for the prover, and the numbers of the properties that a positive answer proves.
+ * A question for the prover, and the indices of the properties that a positive answer proves.
  * @typedef {{ properties: number[], question: import("../prove/question.js").Question }} PropertyQuestion
  */
 
 /** The bound on the number of states in the first round, and its maximum. */
 const FIRST_BOUND = 100;
 const MAX_BOUND = 999999999;
-/** The `pause` of a question, in cycles. A low number keeps the first question short if the program seldom reads inputs. */
+/**
+ * The `pause` parameter of a question, in cycles. A small value keeps the first question short for a program that seldom reads its inputs.
+ */
 const PAUSE_CYCLES = 100;
 
 export class InitialProof {
@@ -35,12 +37,13 @@ export class InitialProof {
     const combinableQuestions = separateQuestions.filter(({ properties: [at], question }) => (
       !needsSeparateQuestion(campaign.properties[at], question)));
     /**
-     * The remaining questions. The first one can combine several others; these remain in the list in case the combination is not proved.
+     * The remaining questions. The first one can combine several others, which stay in the list in case the combined question is not
+     * proved.
      * @type {PropertyQuestion[]}
      */
     this.questions = combinableQuestions.length > 1 ? [joinQuestions(combinableQuestions), ...separateQuestions] : separateQuestions;
     this.bounds = boundsUpTo(MAX_BOUND, FIRST_BOUND);
-    /** The number of questions with the current bound so far. */
+    /** The number of questions that this round has asked without a final answer; they are at the start of the list. */
     this.askedCount = 0;
     /** The duration of the last question in milliseconds. */
     this.lastDuration = 0;
@@ -51,7 +54,7 @@ export class InitialProof {
     return this.questions.length > 0 && this.timeLeft > this.lastDuration;
   }
 
-  /** Asks the next question. Returns the numbers of the properties that the answer proves. */
+  /** Asks the next question. Returns the indices of the properties that the answer proves. */
   ask() {
     const { properties, question } = this.questions[this.askedCount];
     const startTime = performance.now();
@@ -66,7 +69,10 @@ export class InitialProof {
     return answer.kind === "holds" ? properties : [];
   }
 
-  /** @param {import("../prove/question.js").Question} question */
+  /**
+   * Returns the prover's answer to a question.
+   * @param {import("../prove/question.js").Question} question
+   */
   askProver(question) {
     const { engine, texts } = this.subject;
     const limits = { most: this.bounds[0], pause: PAUSE_CYCLES };
@@ -84,7 +90,7 @@ export class InitialProof {
     this.questions = this.questions.filter((each) => each.properties.some((at) => this.states[at] === 0));
   }
 
-  /** Doubles the bound, and with it the expected duration. */
+  /** Starts the next round with a larger bound, and doubles the expected duration of a question. */
   raiseBound() {
     this.askedCount = 0;
     this.bounds.shift();

@@ -11,11 +11,11 @@ import { downInputsAfter, initialDownInputs, areAllowed, longestWaitAfter } from
  * @typedef {import("./walks.js").WalkStep} WalkStep
  */
 
-/** The cost of a step in cycles, in addition to its wait. */
+/** The number of cycles that a step counts against the limit, in addition to its wait. */
 const STEP_COST = 500;
-/** The maximum number of additional cycles to try for the first wait. */
+/** The number of longer waits that `removeStart` tries for the first wait, one cycle apart. */
 const MAX_EXTRA_CYCLES = 256;
-/** The fractions of a wait to try. */
+/** The fractions to which `shortenWaits` tries to shorten a wait. */
 const WAIT_FRACTIONS = [0, 1 / 4, 1 / 2, 3 / 4, 7 / 8, 15 / 16, 63 / 64];
 
 export class Minimiser {
@@ -47,7 +47,7 @@ export class Minimiser {
       isShorter = await this.removeSteps();
       isShorter = (await this.removePairs()) || isShorter;
       isShorter = (await this.shortenWaits()) || isShorter;
-      // This step needs the most tries, so it comes last.
+      // `removeStart` needs the most tries, so it comes last.
       isShorter = isShorter || (await this.removeStart());
     }
     return { property: this.property, steps: this.steps, time: this.time };
@@ -84,7 +84,7 @@ export class Minimiser {
   }
 
   /**
-   * Removes some steps, with their waits if possible. Returns whether the remaining steps violate the property.
+   * Tries to remove some steps: first with their waits, then without. Returns whether the property is still violated in one of these tries.
    * @param {(index: number) => boolean} isRemoved
    */
   async tryWithout(isRemoved) {
@@ -94,7 +94,7 @@ export class Minimiser {
   }
 
   /**
-   * Returns the steps without some of them, with the same total time; null if a wait becomes too long.
+   * Returns the steps that are not removed, with the waits of the removed steps added to theirs; null if a wait becomes too long.
    * @param {(index: number) => boolean} isRemoved
    */
   stepsWithout(isRemoved) {
@@ -106,7 +106,7 @@ export class Minimiser {
     for (const [at, step] of this.steps.entries()) {
       waited += step.wait;
       if (isRemoved(at)) continue;
-      // If no input is down, a wait can be longer. Each wait must fit into one run.
+      // While no input is down, a wait can exceed the maximum of the campaign, but must fit into one run.
       if (waited > (down.length > 0 ? campaign.maxWait : MAX_RUN_CYCLES)) return null;
       remainingSteps.push({ ...step, wait: waited });
       down = downInputsAfter(down, step);
@@ -115,7 +115,7 @@ export class Minimiser {
     return remainingSteps;
   }
 
-  /** Removes a press and its release. Returns whether it found such a pair. */
+  /** Removes a press together with its release. Returns whether such a pair was removed. */
   async removePairs() {
     for (let at = 0; at < this.steps.length; at++) {
       const { kind, input } = this.steps[at];
@@ -127,8 +127,8 @@ export class Minimiser {
   }
 
   /**
-   * Removes all steps before a moment at which no input is down. Because the phase of the program is then different, also tries additional
-   * cycles for the next wait. Returns whether steps were removed.
+   * Removes all steps before a moment at which no input is down. The program is then in a different phase when the next input changes, so
+   * this method also tries longer first waits. Returns whether steps were removed.
    */
   async removeStart() {
     const { campaign, steps } = this;

@@ -1,6 +1,6 @@
 // A model: an external command that computes the expected display text. Its input has one line per key sequence: the key names, separated
-// by blanks. Its output has one line per sequence: the expected text after these keys. An empty line accepts any text. Each sequence
-// begins in the start state and uses the press and release times of the properties text.
+// by blanks. Its output has one line per sequence: the text that the display must show after these keys. An empty line accepts any text.
+// Each sequence begins in the start state and uses the press and release times of the properties text.
 
 import { readItems } from "../bench/answers.js";
 import { DisplayText } from "../board/display_text.js";
@@ -13,7 +13,7 @@ import { runLines } from "../engine/key_queue.js";
  * @typedef {import("./walks.js").Random} Random
  * @typedef {import("./walk_watcher.js").WalkStart} WalkStart
  *
- * The output of the command: the expected text after each key sequence, or an error message.
+ * The output of the command: the expected text after each key sequence (`shown`), or an error message.
  * @typedef {{ shown: string[], fault: string }} ModelOutput
  * @typedef {(chains: string[]) => ModelOutput | Promise<ModelOutput>} ModelCommand
  *
@@ -39,7 +39,7 @@ export class Model {
     this.start = start;
     this.modelCommand = modelCommand;
     this.random = random;
-    /** The numbers of the inputs that are keys. */
+    /** The indices of the inputs that are keys. */
     this.keys = campaign.inputs.flatMap(({ isKey }, at) => (isKey ? [at] : []));
     this.sequenceCount = 0;
     /** The error message of the command, or "". After an error, the command is not called again. */
@@ -59,7 +59,7 @@ export class Model {
   }
 
   /**
-   * Returns the first key sequence after which the display differs.
+   * Resolves to the first difference between display and model after some key sequences, or to null.
    * @param {number[][]} keySequences
    * @returns {Promise<Difference | null>}
    */
@@ -80,7 +80,8 @@ export class Model {
   }
 
   /**
-   * Returns the display after a key sequence: the number, the names of the other lamps that are on, and both joined as in mcs4 display.
+   * Returns what the display shows after a key sequence: the number, the number with the lamp names that `mcs4 display` appends (`whole`),
+   * and the names of the other lamps that are on.
    * @param {number[]} keys
    */
   displayAfter(keys) {
@@ -98,7 +99,7 @@ export class Model {
   }
 
   /**
-   * Removes keys as long as a difference remains.
+   * Removes one key after another as long as the display still differs from the model.
    * @param {Difference} difference
    */
   async shorten(difference) {

@@ -1,4 +1,4 @@
-// Queries the `trace` places in properties and notes, at most 16 per query, and evaluates conditions on the answers.
+// Queries the values of `trace` places, at most 16 per query, and evaluates the conditions of properties on these values.
 
 import { MAX_PLACES } from "../bench/inputs.js";
 import { parseRefusal } from "../bench/answers.js";
@@ -24,7 +24,7 @@ export class PlaceQueries {
   }
 
   /**
-   * Returns the positions of some places among all places.
+   * Returns the indices of some places in the list of all places.
    * @param {string[]} places
    */
   indexes(places) {
@@ -40,10 +40,10 @@ export function listConditions({ condition, guards }) {
   return [condition, ...guards.map((guard) => guard.condition)];
 }
 
-/** @type {boolean[]} */
-const NONE = [];
+/** @type {boolean[]} the values of the guard conditions of a property without guards */
+const NO_GUARDS = [];
 
-/** The conditions of a property, with the positions of their values among the values of all places. */
+/** The conditions of a property, with the indices of their values in the list of the values of all places. */
 export class Conditions {
   /**
    * @param {Property} property
@@ -56,21 +56,25 @@ export class Conditions {
     this.guardConditions = guards;
   }
 
-  /** @param {string[]} values */
+  /**
+   * Returns whether the property's own condition is true.
+   * @param {string[]} values the values of all places
+   */
   holds(values) {
     return evaluateCondition(this.ownCondition, values);
   }
 
   /**
-   * Returns for each guard whether its condition is true.
+   * Returns a list that says, for each guard, whether its condition is true.
    * @param {string[]} values
    */
   areOpen(values) {
-    return this.guardConditions.length === 0 ? NONE : this.guardConditions.map((guard) => evaluateCondition(guard, values));
+    return this.guardConditions.length === 0 ? NO_GUARDS : this.guardConditions.map((guard) => evaluateCondition(guard, values));
   }
 }
 
 /**
+ * Returns whether a condition is true; false if there is no condition.
  * @param {{ condition: import("../conditions/condition_language.js").Condition | null, indexes: number[] }} query
  * @param {string[]} values
  */
@@ -78,10 +82,10 @@ function evaluateCondition({ condition, indexes }, values) {
   return condition !== null && condition.holds(indexes.map((at) => values[at]));
 }
 
-/** Reads consecutive answers to place queries. */
+/** Reads the answers to place queries one after another. */
 export class PlaceValues extends ForecastAnswers {
   /**
-   * Returns the current values of all places; skips the lines of later changes.
+   * Returns the current values of all places, separated by blanks, and ignores later changes.
    * @param {PlaceQueries} places
    */
   row(places) {
@@ -111,7 +115,7 @@ export class PlaceValues extends ForecastAnswers {
     return { values, changes: changesByGroup.flat().sort((one, other) => one.cycles - other.cycles) };
   }
 
-  /** Returns the answer to `count`; an empty list if the bench rejects the wait. */
+  /** Consumes and parses the answer to `count`; returns an empty list if the bench rejected the query. */
   counts() {
     if (!parseRefusal(this.answers[this.at])) return this.takeCounts();
     this.skip(1);
@@ -120,14 +124,15 @@ export class PlaceValues extends ForecastAnswers {
 }
 
 /**
- * An instruction that changes values in a group of places: its cycle, its address, and the new values. `from` is the position of the first
- * value among the values of all places.
+ * An instruction that changes values in a group of places: the cycles before it, its address, and the new values of the group. `from` is
+ * the index of the first of them in the list of the values of all places.
  * @typedef {{ cycles: number, address: number, from: number, values: string[] }} Change
  */
 
 /**
+ * Parses a trace line.
  * @param {string} line
- * @param {number} from
+ * @param {number} from the index of its first value in the list of the values of all places
  * @returns {Change}
  */
 function parseChange(line, from) {

@@ -1,5 +1,5 @@
-// Reads the current values of `trace` places with the fastest queries: `lamps`, `regs`, `state` and `ram` report most of these places in
-// the same spelling. Unlike `trace`, these queries need no copy of the bench.
+// Reads the current values of `trace` places with the fastest queries. `lamps`, `regs`, `state` and `ram` report most of these values in
+// the same format as `trace`, but need no copy of the bench.
 
 import { parseNumber } from "../bench/numbers.js";
 import { PlaceQueries } from "./place_queries.js";
@@ -8,18 +8,22 @@ import { PlaceQueries } from "./place_queries.js";
  * @typedef {import("../bench/answers.js").Board} Board
  * @typedef {import("./place_queries.js").PlaceValues} PlaceValues
  *
- * The position of a value: the query, the index of the answer line, the first character, and the number of characters. If the answer has
- * words of varying length, `precedingWord` is the word before the value. If `length` is 0, the value extends to the end of the line.
- * @typedef {{ query: string, line: number, precedingWord: string, start: number, length: number }} Spot
+ * The position of a value in the answer to a query: the query, the index of the answer line, the index of the first character, and the
+ * number of characters. If `precedingWord` is not "", the index counts from the end of that word. If `length` is 0, the value extends to
+ * the end of the line.
+ * @typedef {{ query: string, line: number, precedingWord: string, start: number, length: number }} AnswerPosition
  */
 
-/** The positions of registers in `acc H cy B pc HHH owed B dcl D test B r HHHHHHHHHHHHHHHH ..`: first character and length. */
-const REGISTERS = new Map([["acc", [4, 1]], ["cy", [9, 1]], ["pc", [14, 3]], ["dcl", [29, 1]]]);
-/** The position of r0 in the same line. */
-const FIRST_REGISTER = 40;
+/**
+ * The position of each register in the answer to `regs` (`acc H cy B pc HHH owed B dcl D test B r HHHHHHHHHHHHHHHH ..`): the index of its
+ * first character, and its length.
+ */
+const REGISTER_POSITIONS = new Map([["acc", [4, 1]], ["cy", [9, 1]], ["pc", [14, 3]], ["dcl", [29, 1]]]);
+/** The index of register r0 in the answer to `regs`. */
+const R0_POSITION = 40;
 /** The number of `ram` lines per chip: one per register, and one for the port. */
-const CHIP_LINES = 5;
-const CHIP_REGISTERS = 4;
+const LINES_PER_CHIP = 5;
+const REGISTERS_PER_CHIP = 4;
 
 /**
  * Returns the number of chips in a bank of the board.
@@ -31,42 +35,43 @@ function countChips({ banks }, bank) {
 }
 
 /**
+ * Returns the position of a processor register; null for any other place.
  * @param {string} name
- * @returns {Spot | null}
+ * @returns {AnswerPosition | null}
  */
-function registerSpot(name) {
-  const found = REGISTERS.get(name);
+function registerPosition(name) {
+  const found = REGISTER_POSITIONS.get(name);
   if (found) return { query: "regs", line: 0, precedingWord: "", start: found[0], length: found[1] };
   const register = /^r(\d+)$/.exec(name);
-  return register && { query: "regs", line: 0, precedingWord: "", start: FIRST_REGISTER + Number(register[1]), length: 1 };
+  return register && { query: "regs", line: 0, precedingWord: "", start: R0_POSITION + Number(register[1]), length: 1 };
 }
 
 /**
- * Returns the position of a RAM or status character: `ram.0.0x12`, `st.0.1.2`.
+ * Returns the position of a RAM nibble or status character, such as `ram.0.0x12` or `st.0.1.2`; null for any other place.
  * @param {string} name
  * @param {Board} board
- * @returns {Spot | null}
+ * @returns {AnswerPosition | null}
  */
-function memorySpot(name, board) {
+function memoryPosition(name, board) {
   const [word, ...parts] = name.split(".");
   if (word !== "ram" && word !== "st") return null;
   const [bank, at, statusIndex] = parts.map(parseNumber);
   const register = word === "ram" ? at >> 4 : at;
   if ((register >> 2) >= countChips(board, bank)) return null;
-  const line = 1 + (register >> 2) * CHIP_LINES + (register % CHIP_REGISTERS);
+  const line = 1 + (register >> 2) * LINES_PER_CHIP + (register % REGISTERS_PER_CHIP);
   // `0.0.1 HHHHHHHHHHHHHHHH HHHH`
   const start = word === "ram" ? 6 + (at % 16) : 23 + statusIndex;
   return { query: `ram ${bank}`, line, precedingWord: "", start, length: 1 };
 }
 
 /**
- * Returns the position of a RAM port, such as `ram0.1`. Only its latch drives it. This module reads characters by position, without
- * bench/state_line.js, because a search takes thousands of snapshots per second.
+ * Returns the position of a RAM port, such as `ram0.1`; null for any other place. The value of a RAM port is that of its latch. This module
+ * reads the `state` line by position, without bench/state_line.js, because a search takes thousands of snapshots per second.
  * @param {string} name
  * @param {Board} board
- * @returns {Spot | null}
+ * @returns {AnswerPosition | null}
  */
-function portSpot(name, board) {
+function portPosition(name, board) {
   const match = /^ram(\d)\.(\d)$/.exec(name);
   if (!match || Number(match[2]) >= countChips(board, Number(match[1]))) return null;
   // `rams 0.0.H,0.1.H,1.0.H`
@@ -75,12 +80,13 @@ function portSpot(name, board) {
 }
 
 /**
+ * Returns the position of a place in the answer to a fast query; null if only `trace` reports the place.
  * @param {string} name
  * @param {Board} board
  */
-function findSpot(name, board) {
+function findPosition(name, board) {
   if (name === "lamps") return { query: "lamps", line: 0, precedingWord: "", start: 6, length: 0 };
-  return registerSpot(name) || memorySpot(name, board) || portSpot(name, board);
+  return registerPosition(name) || memoryPosition(name, board) || portPosition(name, board);
 }
 
 export class PlaceReader {
@@ -90,25 +96,25 @@ export class PlaceReader {
    */
   constructor(names, board) {
     const all = [...new Set(names)];
-    const spots = all.map((name) => findSpot(name, board));
+    const positions = all.map((name) => findPosition(name, board));
     /** The places that only `trace` reports. */
-    this.remainingPlaces = new PlaceQueries(all.filter((_, at) => !spots[at]));
-    this.spots = spots.flatMap((spot) => spot || []);
+    this.remainingPlaces = new PlaceQueries(all.filter((_, at) => !positions[at]));
+    this.positions = positions.flatMap((each) => each || []);
     /** All places, in the order of the values. */
-    this.names = [...all.filter((_, at) => spots[at]), ...this.remainingPlaces.names];
-    this.queries = [...new Set(this.spots.map(({ query }) => query))];
+    this.names = [...all.filter((_, at) => positions[at]), ...this.remainingPlaces.names];
+    this.queries = [...new Set(this.positions.map(({ query }) => query))];
     /** The query lines. */
     this.lines = this.queries.map((query) => `${query}\n`).join("") + this.remainingPlaces.lines(1);
     const counts = this.queries.map((query) => (
-      query.startsWith("ram ") ? 1 + CHIP_LINES * countChips(board, Number(query.slice(4))) : 1));
-    /** The line index of each position in the whole answer. */
-    this.answerIndexes = this.spots.map(({ query, line }) => (
+      query.startsWith("ram ") ? 1 + LINES_PER_CHIP * countChips(board, Number(query.slice(4))) : 1));
+    /** For each position, the index of its line in the answers to all queries. */
+    this.answerIndexes = this.positions.map(({ query, line }) => (
       line + counts.slice(0, this.queries.indexOf(query)).reduce((sum, count) => sum + count, 0)));
     this.answerCount = counts.reduce((sum, count) => sum + count, 0);
   }
 
   /**
-   * Returns the positions of some places among all places.
+   * Returns the indices of some places in the list of all places.
    * @param {string[]} places
    */
   indexes(places) {
@@ -116,15 +122,15 @@ export class PlaceReader {
   }
 
   /**
-   * Returns the values of all places, from the answers to the query lines.
+   * Returns the values of all places, separated by blanks, from the answers to the query lines.
    * @param {PlaceValues} values
    */
   row(values) {
-    const { spots, answerIndexes, remainingPlaces: tracedPlaces } = this;
+    const { positions, answerIndexes, remainingPlaces: tracedPlaces } = this;
     const first = values.at;
     let row = "";
-    for (let each = 0; each < spots.length; each++) {
-      const { precedingWord, start, length } = spots[each];
+    for (let each = 0; each < positions.length; each++) {
+      const { precedingWord, start, length } = positions[each];
       const answer = values.answers[first + answerIndexes[each]];
       const begin = precedingWord === "" ? start : answer.indexOf(precedingWord) + precedingWord.length + start;
       row += `${each === 0 ? "" : " "}${length === 0 ? answer.slice(begin) : answer.substr(begin, length)}`;

@@ -1,6 +1,6 @@
 // Properties: requirements that a program must meet for all inputs, and goals that it must be able to reach. A property receives the events
-// of a walk in time order and returns the time at which it is violated, or at which its goal is reached. The property keeps its memory of
-// the walk in a list of numbers, so that a walk can continue from a stored state.
+// of a walk in time order and returns the time at which it is violated, or at which its goal is reached. What it must remember of the walk
+// is a list of numbers, its memory. The memory is stored with each state, so that a walk can continue from there.
 
 import * as say from "../../words/explore.js";
 
@@ -16,14 +16,14 @@ import * as say from "../../words/explore.js";
  * @typedef {"values" | "label" | "down" | "reset" | "end" | "call" | "return"} Event
  *
  * The circumstances of an event. Times are in cycles since power-on.
- * - `time`: the time of the event; `changed`: the end of the instruction's first cycle, at which the values have changed;
+ * - `time`: the time of the event; `changed`: for `values`, the end of the first cycle of the instruction that changed them;
  * - `address`: the address that the program counter reaches;
- * - `holds`: true if the condition is true; `areOpen`: true for each guard condition that is true;
- * - `input`: the input that goes down; `isDown`: the number of inputs that are down.
+ * - `holds`: true if the property's condition is true; `areOpen`: for each guard, true if its condition is true;
+ * - `input`: the name of the input that goes down; `isDown`: the number of inputs that are down.
  * @typedef {{ time: number, changed: number, address: number, holds: boolean, areOpen: boolean[], input: string,
  *   isDown: number }} Moment
  *
- * A guard determines when a property is checked:
+ * A guard of a property. The property is checked only:
  * - `press`: for `limit` cycles after a press of the key, or without a limit if `limit` is 0;
  * - `once`: after the first moment at which the condition is true;
  * - `while`: as long as the condition is true.
@@ -32,9 +32,9 @@ import * as say from "../../words/explore.js";
  * A property or a goal.
  * - `form`: the form of its line; `text`, `line`: its text and line number; `address`: the address of its label, -1 for none;
  * - `start`: for `within`, the address at which the time starts; `limit`: the time limit in cycles; `keys`: the keys in its text;
- * - `from`: creates the initial memory; `update`: updates the memory for an event, and returns the time of the violation or -1;
- * - `newStateKey`: formats the numbers in the memory that distinguish states;
- * - `hasApplied`: returns false if nothing in the walk was relevant to the property.
+ * - `from`: returns the initial memory; `update`: updates the memory after an event, and returns the time of the violation or -1;
+ * - `newStateKey`: returns the part of the memory that distinguishes states, as text;
+ * - `hasApplied`: returns whether anything in the walk was relevant to the property, such as a press of its key.
  * @typedef {{ form: Form, text: string, line: number, condition: Condition | null, address: number, start: number, limit: number,
  *   isGoal: boolean, keys: string[], guards: Guard[], from: (time: number, isDown: number) => number[],
  *   update: (memory: number[], event: Event, moment: Moment) => number, newStateKey: (memory: number[]) => string,
@@ -43,7 +43,7 @@ import * as say from "../../words/explore.js";
  *   | "model" | "code" | "calls" | "returns" | "mistake"} Form
  */
 
-/** The number for "no time" and for "no address". */
+/** The value of a time or address that does not exist. */
 const UNSET = -1;
 /** The maximum number of open calls: the 4004 stores three return addresses. */
 const MAX_OPEN_CALLS = 3;
@@ -72,31 +72,33 @@ function conditionOrAddress(condition) {
 const isReportedTrue = (event, { holds }) => event === "label" || (event === "values" && holds);
 
 /** @type {Property["update"]} returns the time of the event if the condition is true */
-const violatedWhenTrue = (_, event, moment) => (isReportedTrue(event, moment) ? moment.time : UNSET);
+const violationWhenTrue = (_, event, moment) => (isReportedTrue(event, moment) ? moment.time : UNSET);
 /** @type {Property["update"]} returns the time of the event if the condition is false */
-const violatedWhenFalse = (_, event, { time, holds }) => (event === "values" && !holds ? time : UNSET);
+const violationWhenFalse = (_, event, { time, holds }) => (event === "values" && !holds ? time : UNSET);
 
 /**
+ * Creates the property that a condition is never true.
  * @param {string} text
  * @param {Condition} condition
  * @returns {Property}
  */
 export function neverProperty(text, condition) {
-  return { ...DEFAULT_PROPERTY, form: "never", text, ...conditionOrAddress(condition), update: violatedWhenTrue };
+  return { ...DEFAULT_PROPERTY, form: "never", text, ...conditionOrAddress(condition), update: violationWhenTrue };
 }
 
 /**
+ * Creates the property that a condition is always true.
  * @param {string} text
  * @param {Condition} condition
  * @returns {Property}
  */
 export function alwaysProperty(text, condition) {
-  return { ...DEFAULT_PROPERTY, form: "always", text, condition, update: violatedWhenFalse };
+  return { ...DEFAULT_PROPERTY, form: "always", text, condition, update: violationWhenFalse };
 }
 
 /**
- * Creates the property that a condition is never true for more than `limit` consecutive cycles. Memory: the time since which the
- * condition has been true.
+ * Creates the property that a condition is never true for more than `limit` consecutive cycles. Memory: the time at which the condition
+ * became true; -1 while it is false.
  * @param {string} text
  * @param {Condition} condition
  * @param {number} limit
@@ -135,8 +137,8 @@ export function atProperty(text, condition, address) {
 }
 
 /**
- * Creates the property that a condition becomes true only after certain key presses, in order, since it was last true. Memory: the number
- * of these presses so far, 1 if the condition is true, and 1 if it was ever true.
+ * Creates the property that a condition becomes true only after certain keys were pressed in order. After the condition was true, the keys
+ * must be pressed again. Memory: the number of these presses so far; 1 if the condition is true; and 1 if it was ever true.
  * @param {string} text
  * @param {Condition} condition
  * @param {string[]} keys
@@ -182,7 +184,7 @@ export function everyProperty(text, address, limit) {
 
 /**
  * Creates the property that the program counter reaches the label at `address` within `limit` cycles after the label at `start`. Memory:
- * the time at which the wait for the label started, and 1 if there ever was a wait.
+ * the time at which the label at `start` was reached, -1 if the property is not waiting for `address`; and 1 if `start` was ever reached.
  * @param {string} text
  * @param {number} start
  * @param {number} address
@@ -215,8 +217,8 @@ export function withinProperty(text, start, address, limit) {
 export const listAddresses = ({ address, start }) => [address, start].filter((each) => each >= 0);
 
 /**
- * Creates the property that a condition becomes true within `limit` cycles after a key press. Memory: the time at which the wait for the
- * condition started, 1 if there ever was a wait, and 1 if the condition is true.
+ * Creates the property that a condition becomes true within `limit` cycles after a key press. Memory: the time of the press, -1 if the
+ * property is not waiting for the condition; 1 if the key was ever pressed; and 1 if the condition is true.
  * @param {string} text
  * @param {string} key
  * @param {Condition} condition
@@ -243,8 +245,8 @@ export function afterPressProperty(text, key, condition, limit) {
 }
 
 /**
- * Creates the property that the program counter reaches a label at most once per press. Memory: the number of presses for which the label
- * was not yet reached, and 1 if the label was ever reached.
+ * Creates the property that the program counter reaches a label at most once per press. Memory: the number of presses, including the inputs
+ * that were down at the start, minus the number of times that the label was reached; and 1 if it was ever reached.
  * @param {string} text
  * @param {number} address
  * @returns {Property}
@@ -272,7 +274,7 @@ export function oncePerPressProperty(text, address) {
  * @returns {Property}
  */
 export function reachProperty(text, condition) {
-  return { ...DEFAULT_PROPERTY, form: "reach", text, condition, isGoal: true, update: violatedWhenTrue };
+  return { ...DEFAULT_PROPERTY, form: "reach", text, condition, isGoal: true, update: violationWhenTrue };
 }
 
 /**
@@ -293,7 +295,7 @@ export const GUARDABLE_FORMS = new Set(["never", "never for", "always", "at", "a
 
 /**
  * Returns the memory of a guard after an event. For a `press` or `once` guard, this is the time at which the guard opened. For a `while`
- * guard, it is the last time at which the guard was open. The memory of a closed guard is UNSET.
+ * guard, it is the last time at which the guard was open. If the guard is closed, its memory is UNSET.
  * @param {Guard} guard
  * @param {number} since
  * @param {Event} event
@@ -328,14 +330,14 @@ function lastOpenCycle({ kind, limit }, since) {
  */
 function notifyGuarded({ form, update, keys }, memory, event, moment, isOpen) {
   if (form === "never for") return update(memory, event, { ...moment, holds: moment.holds && isOpen });
-  // The guards must be open at the press, but can be closed at its effect.
+  // The guards must be open when the key is pressed, but not when the condition becomes true.
   if (form === "after press") return event === "down" && moment.input === keys[0] && !isOpen ? UNSET : update(memory, event, moment);
   return isOpen || event === "reset" ? update(memory, event, moment) : UNSET;
 }
 
 /**
- * Creates a property that is checked only while all guards are open. Memory: the memory of each guard, 1 if all guards were ever open, and
- * the memory of the original property.
+ * Creates a property that is checked only while all guards are open. Memory: the memory of each guard; 1 if all guards were ever open at
+ * the same time; and the memory of the original property.
  * @param {string} text
  * @param {Property} property
  * @param {Guard[]} guards
@@ -351,7 +353,7 @@ export function guardedProperty(text, property, guards) {
     update: (memory, event, moment) => {
       const ownMemory = memory.slice(ownStart);
       const lastOpen = Math.min(...guards.map((guard, index) => lastOpenCycle(guard, memory[index])));
-      // The closing of a guard also ends the time for which the condition has been true.
+      // When a guard closes, the condition no longer counts as true.
       const hasClosed = property.form === "never for" && lastOpen < moment.time && lastOpen !== UNSET;
       const closing = { ...moment, time: lastOpen + 1, changed: lastOpen + 1, holds: false };
       let violationTime = hasClosed ? property.update(ownMemory, "values", closing) : UNSET;

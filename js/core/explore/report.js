@@ -1,4 +1,5 @@
-// The result of a search and its TAP output. Joins the reports of searches with other seeds, processes or machines.
+// The report of a search, and its TAP output. Also joins reports of several searches with different seeds, which can come from different
+// processes or machines.
 
 import { formatQuantity } from "../bench/numbers.js";
 import { TAP_HEAD, tapDescription, yamlString } from "../testing/tap.js";
@@ -14,12 +15,14 @@ import { neverReached, proved } from "../../words/prove.js";
  * A counterexample: its test, its number of steps, its cycles, and the seed of the search that found it.
  * @typedef {{ test: string, steps: number, cycles: number, seed: number }} Counterexample
  *
- * A property in a report. `isSkipped`: it is a model whose command was not run. `applied`: it was checked. `states`: the number of states
- * in the proof for all inputs, otherwise 0. `leftOut`: the guards that the proof leaves out. `chains`: the number of key sequences for
- * which the display was compared with the model.
+ * The result for a property. `isSkipped`: true if it is a model whose command was not run. `applied`: true if something in the search was
+ * relevant to it. `states`: the number of states in its proof for all inputs, 0 if it is not proved. `leftOut`: the guards that the proof
+ * does not consider. `chains`: for a model, the number of key sequences that were compared. `found`: its counterexample.
  * @typedef {{ text: string, line: number, isGoal: boolean, isSkipped: boolean, applied: boolean, states: number, leftOut: string,
  *   chains: number, found: Counterexample | null }} PropertyResult
  *
+ * A report. `names` are the names of the files, `sums` their checksums, `steps` and `states` the numbers of steps and states so far, and
+ * `covered` is the executed code, in the format of Coverage in search_coverage.js. `isStopped` is true if the user stopped the search.
  * @typedef {{ form: "explore 1", names: { board: string, program: string, properties: string }, sums: string, properties: PropertyResult[],
  *   seeds: number[], steps: number, states: number, seconds: number, covered: string, instructions: Instruction[],
  *   isStopped: boolean }} Report
@@ -35,7 +38,7 @@ export const formatNumber = (number) => Math.round(number).toLocaleString("en");
 export const formatSteps = (count) => formatQuantity(count, "step");
 
 /**
- * Returns the shorter of two counterexamples, by steps and then by time.
+ * Returns the counterexample with fewer steps; if the numbers of steps are equal, the one that takes less time.
  * @param {Counterexample | null} first
  * @param {Counterexample | null} second
  */
@@ -81,7 +84,7 @@ export function hasExpectedResult({ isGoal, isSkipped, found }) {
 }
 
 /**
- * Returns the remark after the property text.
+ * Returns the remark on the result of a property, such as `broken, 3 steps`.
  * @param {PropertyResult} property
  * @param {Report} report
  */
@@ -118,17 +121,17 @@ function formatTapLines(property, index, report) {
   return [...lines, ...found.test.trimEnd().split("\n").map((line) => `    ${line}`), "  ..."];
 }
 
-/** The maximum number of reported line numbers. */
-const MAX_LINES = 40;
+/** The maximum number of line numbers in a list of lines. */
+const MAX_LISTED_LINES = 40;
 
 /** @param {number[]} lines */
 function formatLineNumbers(lines) {
-  const more = lines.length - MAX_LINES;
-  return `${say.linesAre(lines.length, lines.slice(0, MAX_LINES).join(" "))}${more > 0 ? andMore(more) : ""}`;
+  const more = lines.length - MAX_LISTED_LINES;
+  return `${say.linesAre(lines.length, lines.slice(0, MAX_LISTED_LINES).join(" "))}${more > 0 ? andMore(more) : ""}`;
 }
 
 /**
- * Returns the report lines about executed code.
+ * Returns the lines of the report that say which code was executed.
  * @param {Report} report
  */
 export function coverageLines({ covered, instructions }) {
@@ -158,7 +161,7 @@ export function formatTap(report) {
 }
 
 /**
- * Returns the tests of all counterexamples with their origin.
+ * Returns the tests of all counterexamples, each after a comment with the location of its property.
  * @param {Report} report
  */
 export function formatReportTests(report) {

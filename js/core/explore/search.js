@@ -1,6 +1,7 @@
-// The search: walks that start at stored states. For most walks, only a snapshot after each change is read. If a walk shows something new,
-// its code is counted. A walk is watched instruction by instruction if it executes code for the first time, if a property needs more data,
-// or if a property seems violated. A sample of the other walks is also watched.
+// Searches for violations by random walks that start at stored states. Of most walks, the search only reads a snapshot after each change.
+// If a walk shows something new, the search repeats it to count its instructions (walk_counter.js). It watches a walk instruction by
+// instruction (walk_watcher.js) if the walk executes code for the first time, if a property needs more data, or if a property seems
+// violated. It also watches a sample of the other walks.
 
 import { countWalk, isCountingSufficient } from "./walk_counter.js";
 import { Coverage } from "./search_coverage.js";
@@ -21,29 +22,33 @@ import { MAX_RUN_CYCLES, runLines } from "../engine/key_queue.js";
  * @typedef {import("./walks.js").WalkStep} WalkStep
  * @typedef {import("./delta_files.js").FileDelta} FileDelta
  *
- * A stored state: the steps from its parent, and how often the search resumed here.
- * `ages` are the cycles since the last change of each input.
+ * A stored state: its session file (`delta`), its time in cycles, the steps from its parent, and how many walks have started at it
+ * (`resumeCount`). `down` are the inputs that are down, `ages` are the cycles since the last change of each input, and `memories` are those
+ * of the properties.
  * @typedef {{ delta: FileDelta, time: number, down: number[], ages: number[], memories: number[][], parent: State | null,
  *   steps: WalkStep[], depth: number, resumeCount: number }} State
  *
- * The violation of a property, or the arrival at a goal: the property number, the steps from the start state, and the time in cycles.
+ * The violation of a property, or the arrival at a goal: the index of the property, the steps from the start state, and the time in cycles.
  * @typedef {{ property: number, steps: WalkStep[], time: number }} Violation
  *
- * The snapshot of a state after a step: the values of the notes, and whether conditions and guard conditions are true, in property order.
+ * A snapshot of the state after a step: the values of the noted places and, for each property, whether its condition is true (`holds`), and
+ * which of its guard conditions are true (`areOpen`).
  * @typedef {{ notes: string, holds: boolean[], areOpen: boolean[][] }} Snapshot
  */
 
 const MAX_WALK_STEPS = 16;
-/** The maximum number of steps from power-on to a state. */
+/** The maximum number of steps from the start state to a stored state. */
 const MAX_DEPTH = 120;
 const MAX_STATES = 20000;
 const MAX_SNAPSHOTS = 200000;
-/** Of this many consecutive walks, one is watched even if it shows nothing new. */
+/** One in this many walks is watched even if it shows nothing new. */
 const WATCH_INTERVAL = 32;
-/** The number of states that are drawn for each walk. The walk starts at the state with the lowest `resumeCount`. */
+/**
+ * The number of states that are picked at random for each walk. The walk starts at the one of them at which the fewest walks have started.
+ */
 const CANDIDATE_COUNT = 3;
-/** The number of recently stored states. Half of all walks start at one of them. */
-const RECENT_STATES = 6;
+/** Half of all walks start at a recently stored state. This is the mean number of states that were stored after it. */
+const MEAN_STATES_BACK = 6;
 
 export class Search {
   /**
@@ -61,15 +66,15 @@ export class Search {
     this.places = new PlaceReader([...campaign.notes, ...conditionPlaces], subject.names.board);
     this.notes = this.places.indexes(campaign.notes);
     this.conditions = campaign.properties.map((property) => new Conditions(property, this.places));
-    /** @type {number[]} the properties that are not violated so far */
+    /** @type {number[]} the indices of the properties for which the search still looks for a violation */
     this.openProperties = campaign.properties.flatMap(({ form }, at) => (form === "model" ? [] : [at]));
-    /** @type {Set<number>} the properties that applied to at least one state */
+    /** @type {Set<number>} the indices of the properties to which something in a walk was relevant */
     this.appliedProperties = new Set();
     this.steps = 0;
     this.walks = 0;
-    /** @type {Map<string, Snapshot>} the snapshots, by row of values */
+    /** @type {Map<string, Snapshot>} the snapshots that were computed before, by row of values */
     this.snapshots = new Map();
-    /** @type {Set<string>} */
+    /** @type {Set<string>} the keys of all states so far; see `recordIfNew` */
     this.seenKeys = new Set();
     /** The start state. */
     this.start = this.createStart();
@@ -101,7 +106,7 @@ export class Search {
   }
 
   /**
-   * Sets the memories about open calls to the number of open calls at the start state.
+   * Sets the memories of the call properties to the number of calls that have not returned in the start state.
    * @param {number[][]} memories
    */
   countCalls(memories) {
@@ -117,7 +122,7 @@ export class Search {
   }
 
   /**
-   * Walks for a number of milliseconds, or until a walk finds a violation.
+   * Makes random walks for a number of milliseconds, or until a walk finds a violation.
    * @param {number} milliseconds
    * @returns {Violation | null}
    */
@@ -130,7 +135,10 @@ export class Search {
     return null;
   }
 
-  /** @returns {Violation | null} the violation in a random walk from a stored state */
+  /**
+   * Makes a random walk from a stored state, and stores the new states that it reaches.
+   * @returns {Violation | null} the first violation in the walk
+   */
   walk() {
     const state = this.pickState();
     const steps = this.chooseSteps(state);
@@ -143,7 +151,7 @@ export class Search {
     const start = { ...state, file };
     const { broken, after } = isWatched ? this.watcher.watch(start, steps, this.openProperties)
       : this.rerunWalk(start, steps, newSteps, snapshots);
-    if (after.length > 0) this.recordApplied(after[after.length - 1].memories);
+    if (after.length > 0) this.recordAppliedProperties(after[after.length - 1].memories);
     after.forEach(({ isNew }, at) => {
       if (isNew && !newSteps.includes(at)) newSteps.push(at);
     });
@@ -153,8 +161,8 @@ export class Search {
   }
 
   /**
-   * Repeats a walk up to its last new state to determine the memories of the properties. Counts cycles only if that is sufficient and the
-   * walk executes no code for the first time. Otherwise, watches the walk.
+   * Repeats a walk up to its last new state to determine the memories of the properties. If instruction counts are sufficient and the walk
+   * executes no code for the first time, uses these. Otherwise, watches the walk.
    * @param {import("./walk_watcher.js").WalkStart} start
    * @param {WalkStep[]} steps
    * @param {number[]} newSteps the steps that show something new; the steps that execute code for the first time are added
@@ -184,7 +192,7 @@ export class Search {
    * Records the properties to which something in a walk was relevant.
    * @param {number[][]} memories
    */
-  recordApplied(memories) {
+  recordAppliedProperties(memories) {
     memories.forEach((memory, at) => {
       if (this.campaign.properties[at].hasApplied(memory)) this.appliedProperties.add(at);
     });
@@ -196,7 +204,7 @@ export class Search {
     const isLast = random() < 0.5;
     let chosenState = null;
     for (let tries = 0; tries < CANDIDATE_COUNT; tries++) {
-      const stepsBack = Math.floor(-Math.log(1 - random()) * RECENT_STATES);
+      const stepsBack = Math.floor(-Math.log(1 - random()) * MEAN_STATES_BACK);
       const state = states[isLast ? Math.max(0, states.length - 1 - stepsBack) : randomBelow(random, states.length)];
       if (!chosenState || state.resumeCount < chosenState.resumeCount) chosenState = state;
     }
@@ -222,14 +230,14 @@ export class Search {
     return steps;
   }
 
-  /** The numbers of the open properties with a label. */
+  /** The indices of the open properties with a label. */
   get labelProperties() {
     return this.openProperties.filter((at) => this.campaign.properties[at].address >= 0);
   }
 
   /**
-   * Returns the addresses of labels at which a property can be violated independently of earlier events. A run stops at these addresses.
-   * The maximum number is 32, the limit of the bench.
+   * The addresses of the labels at which a property can be violated, no matter what happened before. The bench stops there. There are at
+   * most 32 of them, the maximum number of breakpoints.
    * @returns {number[]}
    */
   get stopAddresses() {
@@ -239,8 +247,8 @@ export class Search {
   }
 
   /**
-   * Reads a snapshot after each change of a walk. Returns the snapshots, the steps after which something is new, and whether a property
-   * seems violated.
+   * Runs a walk and reads a snapshot after each change. Returns the snapshots, the indices of the steps after which something is new, and
+   * whether a property seems violated.
    * @param {Uint8Array} file
    * @param {State} state
    * @param {WalkStep[]} steps
@@ -258,22 +266,23 @@ export class Search {
     const newSteps = [];
     /** @type {Snapshot[]} */
     const snapshots = [];
-    const apparentState = new ApparentState(this, state);
+    const estimatedState = new EstimatedState(this, state);
     for (const [at, step] of steps.entries()) {
       const instructionCounts = counts ? values.counts() : [];
       if (values.takeRun().end !== "end") return { newSteps, isSuspect: true, snapshots };
       if (step.kind !== "none") values.skip(1);
       const snapshot = this.snapshotForRow(places.row(values));
       snapshots.push(snapshot);
-      if (apparentState.isBroken(step, snapshot, instructionCounts)) return { newSteps, isSuspect: true, snapshots };
+      if (estimatedState.canBeViolated(step, snapshot, instructionCounts)) return { newSteps, isSuspect: true, snapshots };
       if (this.coverage.add(instructionCounts)) newSteps.push(at);
-      if (this.recordIfNew(snapshot, apparentState.marks) && !newSteps.includes(at)) newSteps.push(at);
+      if (this.recordIfNew(snapshot, estimatedState.marks) && !newSteps.includes(at)) newSteps.push(at);
     }
     return { newSteps, isSuspect: false, snapshots };
   }
 
   /**
-   * @param {string} row
+   * Returns the snapshot with a row of values.
+   * @param {string} row the values of all places, separated by blanks
    * @returns {Snapshot}
    */
   snapshotForRow(row) {
@@ -291,7 +300,7 @@ export class Search {
   }
 
   /**
-   * Records the state in a snapshot. Returns false if the state is not new.
+   * Records the state that a snapshot shows. Returns whether this state is new.
    * @param {Snapshot} snapshot
    * @param {string} marks the parts of the property memories that distinguish states
    */
@@ -326,7 +335,7 @@ export class Search {
   }
 
   /**
-   * Closes a property that is violated or cannot be judged.
+   * Ends the search for violations of a property.
    * @param {number} property
    */
   closeProperty(property) {
@@ -335,7 +344,7 @@ export class Search {
 }
 
 /**
- * Returns the steps from power-on to a state.
+ * Returns all steps from the start state to a state.
  * @param {State} state
  */
 function collectSteps(state) {
@@ -350,11 +359,11 @@ function collectSteps(state) {
   return parts.flat();
 }
 
-/** @type {boolean[]} */
-const NONE = [];
+/** @type {boolean[]} the values of the guard conditions of a property without guards */
+const NO_GUARDS = [];
 
 /**
- * Returns whether a property can be violated whenever the program counter reaches its label.
+ * Returns whether a property can be violated each time that the program counter reaches its label, no matter what happened before.
  * @param {Property} property
  */
 function stopsAtLabel({ form, guards }) {
@@ -362,10 +371,10 @@ function stopsAtLabel({ form, guards }) {
 }
 
 /**
- * The property memories after a step, estimated from snapshots. A snapshot does not show when the program counter reached a label, only how
- * often it did so during the wait.
+ * The memories of the properties during a walk, estimated from snapshots and instruction counts. These show how often the program counter
+ * reached a label during a wait, but not when.
  */
-class ApparentState {
+class EstimatedState {
   /**
    * @param {Search} search
    * @param {State} state
@@ -380,17 +389,17 @@ class ApparentState {
   }
 
   /**
-   * Returns whether a property can be violated in a step.
+   * Updates the memories after a step. Returns whether the step can have violated a property.
    * @param {WalkStep} step
    * @param {Snapshot} snapshot
    * @param {import("../engine/forecast_answers.js").InstructionCount[]} instructionCounts the instruction counts of the wait
    */
-  isBroken(step, { holds, areOpen }, instructionCounts) {
+  canBeViolated(step, { holds, areOpen }, instructionCounts) {
     const { campaign: { properties, inputs }, conditionProperties, memories } = this;
     this.down = downInputsAfter(this.down, step);
     const input = step.kind === "down" ? inputs[step.input].name : "";
     const time = this.time + step.wait;
-    const moment = { time, changed: time, address: -1, holds: false, areOpen: NONE, input, isDown: this.down.length };
+    const moment = { time, changed: time, address: -1, holds: false, areOpen: NO_GUARDS, input, isDown: this.down.length };
     const countAt = (/** @type {number} */ label) => (instructionCounts.find(({ address }) => address === label) || { begun: 0 }).begun;
     const isAtLabel = this.labelProperties.some((at) => (
       properties[at].form === "within" ? this.canBeLate(properties[at], memories[at], moment, step, countAt)
@@ -406,7 +415,7 @@ class ApparentState {
   }
 
   /**
-   * Returns whether a property with a label can be violated in a step.
+   * Updates the memory of a property with a label after a step. Returns whether the step can have violated it.
    * @param {Property} property
    * @param {number[]} memory
    * @param {import("./properties.js").Moment} moment the moment at the end of the wait
@@ -415,7 +424,7 @@ class ApparentState {
    */
   canViolateAtLabel(property, memory, moment, step, count) {
     const { form, update, limit, guards } = property;
-    // Only watching shows whether the guards were open at that time.
+    // Only watching the walk shows whether the guards were open when the counter reached the label.
     if (guards.length > 0) return count > 0 || form === "after press";
     if (stopsAtLabel(property)) return count > 0;
     if (form === "after press" && memory[0] >= 0 && (count > 0 || moment.time > memory[0] + limit)) {
@@ -423,7 +432,7 @@ class ApparentState {
       memory[0] = -1;
     }
     if (form === "every") {
-      // The counter reached the label at the start of the wait or later.
+      // The label was reached during this wait. Assume the earliest possible time, which is the start of the wait.
       if (moment.time - memory[0] > limit) return true;
       if (count > 0) memory[0] = this.time;
     }
@@ -435,7 +444,7 @@ class ApparentState {
   }
 
   /**
-   * Returns whether the counter can have reached the required label too late.
+   * Updates the memory of a `within` property after a step. Returns whether the program counter can have reached the second label too late.
    * @param {Property} property
    * @param {number[]} memory
    * @param {import("./properties.js").Moment} moment the moment at the end of the wait
@@ -446,7 +455,7 @@ class ApparentState {
     const isLate = () => memory[0] >= 0 && moment.time - memory[0] > limit;
     if (isLate()) return true;
     if (countAt(address) > 0) memory[0] = -1;
-    // The counter reached the first label at the start of the wait or later.
+    // The first label was reached during this wait. Assume the earliest possible time, which is the start of the wait.
     if (countAt(start) > 0 && memory[0] < 0) memory[0] = this.time;
     if (isLate()) return true;
     if (step.kind === "reset") update(memory, "reset", moment);

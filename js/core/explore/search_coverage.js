@@ -1,4 +1,4 @@
-// The code that a search has executed so far. For each address: whether an instruction started there, whether it jumped, and whether it
+// The code that a search has executed so far: for each address, whether an instruction started there, whether it jumped, and whether it
 // continued at the next address.
 
 import { ADDRESS_COUNT } from "../bench/rom_bytes.js";
@@ -11,7 +11,7 @@ const JUMPED = 2;
 const CONTINUED = 4;
 
 export class Coverage {
-  /** @param {string} [text] a coverage as text (the property `text`) */
+  /** @param {string} [text] a coverage in the format of the property `text` */
   constructor(text = "") {
     this.flags = new Uint8Array(ADDRESS_COUNT);
     [...text].forEach((digit, address) => {
@@ -49,8 +49,9 @@ export class Coverage {
   }
 
   /**
-   * Returns the numbers of executed instructions (`run`) and branch directions (`ways`), and their total numbers. `left` are the lines that
-   * were not executed, and `oneWay` the lines with only one executed branch direction.
+   * Returns the number of executed instructions (`run`) of all instructions (`all`), and the number of executed branch directions (`ways`)
+   * of all branch directions (`allWays`). `left` are the lines that were not executed, and `oneWay` the lines whose branch always went in
+   * the same direction.
    * @param {Instruction[]} instructions
    */
   summary(instructions) {

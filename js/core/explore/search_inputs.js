@@ -5,7 +5,8 @@ import { keyLine, pinKey } from "../board/key_place.js";
 /**
  * @typedef {import("../board/key_place.js").Key} Key
  *
- * An input, which is down or up: the bench lines that change its position, the test lines for the same, and its position at power-on.
+ * An input, which is either down or up. `down` and `up` are the bench lines that change its position, and `downWords` and `upWords` the
+ * test lines that do the same. `isDown` is its position at power-on.
  * @typedef {{ name: string, key: Key, isKey: boolean, down: string, up: string, downWords: string, upWords: string,
  *   isDown: boolean }} Input
  *
@@ -13,10 +14,10 @@ import { keyLine, pinKey } from "../board/key_place.js";
  */
 
 /**
- * Creates an input that is up.
+ * Creates an input that is up at power-on.
  * @param {string} name
  * @param {Key} key
- * @param {[string, string]} words the words in a test for down and for up
+ * @param {[string, string]} words the test lines that change the input to down and to up
  * @returns {Input}
  */
 export function createInput(name, key, [downWords, upWords]) {

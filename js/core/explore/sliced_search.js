@@ -24,11 +24,12 @@ import * as say from "../../words/explore.js";
  * @typedef {{ subject: Subject, campaign: Campaign }} SearchSetup
  * @typedef {import("../testing/test_preparation.js").PreparedTests} PreparedTests
  *
- * The progress: the result so far, the counterexamples since the last report with their sessions, and whether the search is over.
+ * The progress of a search: the report so far, the new counterexamples with the session file at the end of each, and whether the search is
+ * complete.
  * @typedef {{ report: Report, found: { property: number, file: Uint8Array }[], isDone: boolean }} Progress
  */
 
-/** The time between two checks of the clock, in milliseconds. */
+/** The duration of one slice of the search, in milliseconds. Between two slices, the time limit is checked. */
 const SLICE_MS = 50;
 
 /**
@@ -52,7 +53,7 @@ export function parseSearchTexts(engine, { boardText, programText, testText, pro
 }
 
 /**
- * Returns errors in the properties text with the name of the text.
+ * Adds the name of the text to errors in the properties text.
  * @param {{ line: number, words: string }[]} faults
  * @returns {TextFault[]}
  */
@@ -61,7 +62,8 @@ function propertyFaults(faults) {
 }
 
 /**
- * Returns a campaign and its subject at the start state, or the errors in the texts.
+ * Parses the texts and runs the tests that lead to the start state. Resolves to a campaign and its subject at the start state, or to the
+ * errors in the texts.
  * @param {Engine} engine
  * @param {ExploredTexts} texts
  * @returns {Promise<{ searchSetup: SearchSetup | null, faults: TextFault[] }>}
@@ -79,7 +81,7 @@ export class SlicedSearch {
    * @param {Engine} engine
    * @param {ExploredTexts} texts
    * @param {SearchSetup} searchSetup
-   * @param {RunOptions} asked
+   * @param {RunOptions} options
    * @param {() => Promise<void>} yieldToMessages yields to messages during minimising
    */
   constructor(engine, texts, { subject, campaign }, { seed, seconds }, yieldToMessages) {

@@ -17,14 +17,14 @@ import * as say from "../../words/explore.js";
  * @typedef {{ subject: Subject, campaign: Campaign }} SearchSetup
  */
 
-/** Counts the calls that have not returned, over consecutive tests. */
-class OpenCalls extends ExecutionRecorder {
+/** Records the calls that have not returned, across consecutive tests. */
+class OpenCallRecorder extends ExecutionRecorder {
   begin() {
     this.lastPress.key = "";
   }
 
   end() {
-    // Calls of a test stay open when the next test continues.
+    // Calls that have not returned stay open in the next test, which continues from the saved state.
   }
 }
 
@@ -58,9 +58,9 @@ export function findLeadingTests(names, testText, state) {
 }
 
 /**
- * Returns the tests, each cut after the line that saves the state from which the next test continues.
+ * Returns the tests without the lines after the one that saves the state from which the next test continues.
  * @param {Test[]} tests
- * @param {string} state
+ * @param {string} state the name of the state that the last test saves
  * @returns {Test[]}
  */
 function cutAtSavedStates(tests, state) {
@@ -81,9 +81,10 @@ function formatLines(tests) {
 }
 
 /**
- * Returns the range of the number of open calls after tests. The number is unknown if one of the tests resets the machine.
+ * Returns the minimum and the maximum number of calls that have not returned after some tests. If one of the tests resets the machine, the
+ * number is unknown.
  * @param {Test[]} tests
- * @param {OpenCalls} recorder
+ * @param {OpenCallRecorder} recorder
  */
 function countOpenCalls(tests, recorder) {
   const isReset = tests.some(({ steps }) => expandSteps(steps).some(({ action }) => action.kind === "reset"));
@@ -115,7 +116,7 @@ export async function startCampaign(searchSetup, prepared, testText) {
   const { state } = campaign.from;
   const { tests, words } = findLeadingTests(prepared.names, testText, state);
   if (words) return { searchSetup, words };
-  const recorder = new OpenCalls(prepared.codes);
+  const recorder = new OpenCallRecorder(prepared.codes);
   const run = new TestRun(subject.engine, prepared, recorder, async () => {});
   let failureMessage = "";
   const leadingTests = cutAtSavedStates(tests, state);

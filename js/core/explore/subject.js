@@ -12,7 +12,7 @@ import * as say from "../../words/explore.js";
  * @typedef {import("../engine/engine_host.js").EngineHost} Engine
  * @typedef {import("../conditions/condition_language.js").Names} Names
  *
- * A program instruction: its line, its address, and whether it has two possible successors.
+ * An instruction of the program: its source line, its address, and whether it can either jump or continue at the next address.
  * @typedef {{ line: number, address: number, isBranch: boolean }} Instruction
  *
  * @typedef {{ engine: Engine, file: Uint8Array, names: Names & { map: SourceMap }, codes: Uint8Array,

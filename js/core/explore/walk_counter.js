@@ -1,5 +1,5 @@
-// Determines the executed code and the open calls of a walk, which snapshots do not show, from the answers to `count`. This takes a
-// fraction of the time of watching (walk_watcher.js), but does not determine property memories that depend on the time of an event.
+// Determines, from the answers to `count`, the executed code of a walk and its number of open calls, which snapshots do not show. This is
+// much faster than watching the walk (walk_watcher.js), but cannot determine memories of properties that depend on the time of an event.
 
 import { isCall, isReturn } from "../engine/rom_codes.js";
 import { PlaceValues } from "./place_queries.js";
@@ -14,11 +14,12 @@ import { downInputsAfter, changeLine } from "./walks.js";
 
 /** The memory of a property whose condition is false. */
 const FALSE_CONDITION_MEMORY = [-1];
+/** The forms of properties whose memory can be determined without watching, if they have no guards. */
 const COUNTABLE_FORMS = new Set(["code", "never", "always", "never for", "reach", "reach at", "model", "calls", "returns"]);
 
 /**
- * Returns whether snapshots and counts are sufficient for the memories of the open properties. A `never for` property needs watching while
- * its condition is true, because snapshots do not show how long a condition has been true.
+ * Returns whether snapshots and counts are sufficient to determine the memories of the open properties. A `never for` property needs
+ * watching while its condition is true, because snapshots do not show how long a condition has been true.
  * @param {Property[]} properties
  * @param {number[]} openProperties the numbers of the open properties
  * @param {boolean[][]} holds true if the condition is true after a step, by step and property
@@ -35,7 +36,7 @@ export function isCountingSufficient(properties, openProperties, holds) {
  * @param {Property} property
  * @param {number[]} memory
  * @param {WalkStep} step
- * @param {number} openedCalls the change of the number of open calls: the number of calls minus the number of returns
+ * @param {number} openedCalls the number of calls minus the number of returns in the step
  */
 function updateMemory({ form }, memory, { kind }, openedCalls) {
   if (form === "calls" || form === "returns") return [kind === "reset" ? 0 : memory[0] + openedCalls];

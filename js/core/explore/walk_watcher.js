@@ -16,17 +16,19 @@ import { downInputsAfter, changeLine } from "./walks.js";
  * @typedef {import("./place_queries.js").Change} Change
  * @typedef {import("../engine/forecast_answers.js").InstructionCount} InstructionCount
  *
- * The start of a walk: the session, the cycles since power-on, the inputs that are down, and the memory of each property.
+ * The start of a walk: the session file, the cycles since power-on, the indices of the inputs that are down, and the memory of each
+ * property.
  * @typedef {{ file: Uint8Array, time: number, down: number[], memories: number[][] }} WalkStart
  *
- * The violation of a property, or the arrival at a goal: the property number, the time, and the number of complete steps before it.
+ * The violation of a property, or the arrival at a goal: the index of the property, the time, and the number of complete steps before it.
  * @typedef {{ property: number, time: number, step: number }} WalkViolation
  *
  * The state after a step: the time, the inputs that are down, and the memory of each property. `isNew` is true if the step executed code
  * for the first time.
  * @typedef {{ time: number, down: number[], memories: number[][], isNew: boolean }} StepState
  *
- * The answers about one step. `list` contains all instructions of the step; null if they were not queried.
+ * The bench's answers for one step: the values of all places before it, their changes, the instruction counts, and the answer to the run.
+ * `list` contains all executed instructions; it is null if they were not queried.
  * @typedef {{ values: string[], changes: Change[], counts: InstructionCount[], runAnswer: string,
  *   list: { cycles: number, address: number }[] | null }} StepReport
  */
@@ -45,7 +47,7 @@ export class Watcher {
     this.callProperties = campaign.properties.flatMap(({ form }, at) => (form === "calls" || form === "returns" ? [at] : []));
     this.places = new PlaceQueries(this.callProperties.length > 0 ? [...conditionPlaces, "ret"] : conditionPlaces);
     this.conditions = campaign.properties.map((property) => new Conditions(property, this.places));
-    /** @type {Set<number>} the labels of the open properties */
+    /** @type {Set<number>} the addresses of the labels in the open properties */
     this.openLabels = new Set();
     /** True if the queries include `count`. */
     this.asksCounts = coverage !== null || this.callProperties.length > 0 || campaign.properties.some(({ address }) => address >= 0);
@@ -66,7 +68,7 @@ export class Watcher {
     /** @type {StepState[]} */
     const stepStates = [];
     for (const [at, step] of steps.entries()) {
-      const broken = walk.step(reports[at], step);
+      const broken = walk.notifyStepEvents(reports[at], step);
       const isNew = this.coverage !== null && this.coverage.add(reports[at].counts);
       if (broken) return { broken: { ...broken, step: at }, after: stepStates };
       if (!/ end$/.test(reports[at].runAnswer)) break;
@@ -76,7 +78,7 @@ export class Watcher {
   }
 
   /**
-   * Watches a change of an input that no wait precedes.
+   * Watches the change of a step without its wait.
    * @param {WalkStart} start
    * @param {WalkStep} step
    * @param {number[]} openProperties the numbers of properties
@@ -86,11 +88,12 @@ export class Watcher {
     const memories = start.memories.map((memory) => [...memory]);
     const walk = new Walk(this, memories, openProperties, start);
     walk.values = new PlaceValues(this.subject.engine.ask(start.file, this.places.lines(1)).answers).changes(this.places).values;
-    walk.notifyStep(step);
+    walk.notifyInputChange(step);
     return { broken: walk.broken && { ...walk.broken, step: 0 }, after: [{ time: walk.time, down: walk.down, memories, isNew: false }] };
   }
 
   /**
+   * Runs a walk, and returns the bench's answers for each step.
    * @param {Uint8Array} file
    * @param {WalkStep[]} steps
    * @param {number[]} openProperties
@@ -112,16 +115,16 @@ export class Watcher {
       if (step.kind !== "none") placeValues.skip(1);
     }
     const asksCalls = this.callProperties.some((at) => openProperties.includes(at));
-    this.addInstructionLists(file, steps, stepReports, stepReports.map((each) => this.needsList(each, asksCalls)));
+    this.addInstructionLists(file, steps, stepReports, stepReports.map((each) => this.needsInstructionList(each, asksCalls)));
     return stepReports;
   }
 
   /**
-   * Queries all instructions of some steps.
+   * Queries all executed instructions of some steps, and adds them to the reports.
    * @param {Uint8Array} file
    * @param {WalkStep[]} steps
    * @param {StepReport[]} stepReports
-   * @param {boolean[]} isListed
+   * @param {boolean[]} isListed for each step, true to query its instructions
    */
   addInstructionLists(file, steps, stepReports, isListed) {
     if (!isListed.includes(true)) return;
@@ -136,12 +139,12 @@ export class Watcher {
   }
 
   /**
-   * Returns whether all instructions of a step must be queried. This is necessary if the counter reaches a label of a property, or if no
-   * trace line shows a call or return because the return addresses stay the same.
+   * Returns whether all instructions of a step must be queried. This is necessary if the program counter reaches a label of a property. It
+   * is also necessary if a call or return does not change the return addresses, because the changes then do not show it.
    * @param {StepReport} report
    * @param {boolean} asksCalls
    */
-  needsList({ changes, counts }, asksCalls) {
+  needsInstructionList({ changes, counts }, asksCalls) {
     if (counts.some(({ address }) => this.openLabels.has(address))) return true;
     if (!asksCalls) return false;
     const { codes } = this.subject;
@@ -187,7 +190,7 @@ class Walk {
       if (event === "label" && ownLabel !== address && start !== address) continue;
       const needsConditions = event === "values" || event === "label";
       const holds = needsConditions && conditions[at].holds(values);
-      const areOpen = needsConditions || event === "down" ? conditions[at].areOpen(values) : NONE;
+      const areOpen = needsConditions || event === "down" ? conditions[at].areOpen(values) : NO_GUARDS;
       const moment = { time, changed, address, holds, areOpen, input, isDown: this.down.length };
       const violationTime = update(this.memories[at], event, moment);
       const isFirst = violationTime >= 0 && (!this.broken || violationTime < this.broken.time);
@@ -196,28 +199,30 @@ class Walk {
   }
 
   /**
+   * Reports all events of a step to the properties. Returns the first violation so far, or null.
    * @param {StepReport} report
    * @param {WalkStep} step
    */
-  step(report, step) {
+  notifyStepEvents(report, step) {
     const startTime = this.time;
     const end = Number(report.runAnswer.split(" ")[3]);
     this.values = report.values;
     this.notify("values", startTime);
-    if (report.list) this.notifyListed(report, startTime, end);
+    if (report.list) this.notifyListedInstructions(report, startTime, end);
     else for (const change of report.changes) this.notifyChange(change, startTime, end, true);
     this.time = startTime + end;
     this.notify("end", this.time);
-    this.notifyCode(report);
-    if (!this.broken) this.notifyStep(step);
+    this.notifyInvalidOpcode(report);
+    if (!this.broken) this.notifyInputChange(step);
     return this.broken;
   }
 
   /**
+   * Reports a change of values.
    * @param {Change} change
-   * @param {number} startTime
-   * @param {number} end
-   * @param {boolean} notifiesCalls
+   * @param {number} startTime the time at which the step starts
+   * @param {number} end the length of the wait in cycles
+   * @param {boolean} notifiesCalls true to report a call or return, too
    */
   notifyChange({ cycles, address, from, values }, startTime, end, notifiesCalls) {
     const { codes } = this.watcher.subject;
@@ -230,6 +235,7 @@ class Walk {
   }
 
   /**
+   * Reports a call or return, if the instruction at an address is one.
    * @param {number} address
    * @param {number} time
    */
@@ -246,7 +252,7 @@ class Walk {
    * @param {number} startTime
    * @param {number} end
    */
-  notifyListed({ list, changes }, startTime, end) {
+  notifyListedInstructions({ list, changes }, startTime, end) {
     const { openLabels: labels, subject: { codes } } = this.watcher;
     let changeIndex = 0;
     for (const { cycles, address } of list || []) {
@@ -260,15 +266,21 @@ class Walk {
     for (; changeIndex < changes.length; changeIndex++) this.notifyChange(changes[changeIndex], startTime, end, false);
   }
 
-  /** @param {StepReport} report */
-  notifyCode({ runAnswer }) {
+  /**
+   * Records a violation if the run ended at an opcode that is not an instruction.
+   * @param {StepReport} report
+   */
+  notifyInvalidOpcode({ runAnswer }) {
     if (this.broken || !/ code$/.test(runAnswer)) return;
     const codeProperty = this.watcher.campaign.properties.findIndex(({ form }) => form === "code");
     if (this.openProperties.includes(codeProperty)) this.broken = { property: codeProperty, time: this.time };
   }
 
-  /** @param {WalkStep} step */
-  notifyStep(step) {
+  /**
+   * Reports the change at the end of a step.
+   * @param {WalkStep} step
+   */
+  notifyInputChange(step) {
     const { campaign: { inputs } } = this.watcher;
     this.down = downInputsAfter(this.down, step);
     if (step.kind === "down") this.notify("down", this.time, { input: inputs[step.input].name });
@@ -279,6 +291,6 @@ class Walk {
   }
 }
 
-/** @type {boolean[]} */
-const NONE = [];
-const EMPTY_MOMENT = { time: 0, changed: 0, address: -1, holds: false, areOpen: NONE, input: "", isDown: 0 };
+/** @type {boolean[]} the values of the guard conditions of a property without guards */
+const NO_GUARDS = [];
+const EMPTY_MOMENT = { time: 0, changed: 0, address: -1, holds: false, areOpen: NO_GUARDS, input: "", isDown: 0 };

@@ -1,11 +1,12 @@
-// Walks: sequences of waits, each followed by a change.
+// Creates and checks walks. A walk is a sequence of steps; a step is a wait, followed by a change of an input or a power cycle.
 
 import { runLines } from "../engine/key_queue.js";
 
 /**
  * @typedef {import("./campaign.js").Campaign} Campaign
  *
- * A wait in cycles, followed by a change: an input goes down or up, a power cycle, or no change.
+ * A step of a walk: a wait in cycles, followed by a change. An input goes down or up, the power is cut ("reset"), or nothing changes
+ * ("none"). `input` is the index of the input, -1 for none.
  * @typedef {{ wait: number, kind: "down" | "up" | "reset" | "none", input: number }} WalkStep
  *
  * @typedef {() => number} Random returns a number from 0 up to, but not including, 1
@@ -36,14 +37,14 @@ export function randomBelow(random, limit) {
 }
 
 /**
- * Returns the numbers of the inputs that are down at power-on.
+ * Returns the indices of the inputs that are down at power-on.
  * @param {Campaign} campaign
  */
 export function initialDownInputs({ inputs }) {
   return inputs.flatMap(({ isDown }, at) => (isDown ? [at] : []));
 }
 
-/** The share of waits with the maximum length. All other waits are chosen on a logarithmic scale. */
+/** The share of waits with the maximum length. The lengths of all other waits are distributed evenly on a logarithmic scale. */
 const LONGEST_WAIT_SHARE = 0.6;
 /** The share of steps that are power cycles. */
 const RESET_SHARE = 0.02;
@@ -58,9 +59,9 @@ function chooseWait({ minWait, maxWait }, random) {
 }
 
 /**
- * Returns a random step. An input that reaches the maximum hold time goes up.
+ * Returns a random step. If an input would exceed the maximum hold time, the step releases it.
  * @param {Campaign} campaign
- * @param {number[]} down the numbers of the inputs that are down
+ * @param {number[]} down the indices of the inputs that are down
  * @param {number[]} ages the cycles since the last change of each input
  * @param {Random} random
  * @returns {WalkStep}
@@ -70,7 +71,7 @@ export function chooseStep(campaign, down, ages, random) {
   if (campaign.maxHoldTime === Infinity || down.length === 0) return chooseChange(campaign, down, ages, wait, random);
   const timesLeft = down.map((at) => campaign.maxHoldTime - ages[at]);
   const nextToRelease = timesLeft.indexOf(Math.min(...timesLeft));
-  // If another input goes down now, there must still be time to release the inputs one after another.
+  // A random change is allowed if there is still enough time afterwards to release all inputs one after another.
   if (timesLeft[nextToRelease] >= wait + campaign.minWait * down.length) return chooseChange(campaign, down, ages, wait, random);
   // Inputs that must go up at the same time go up one after another, one cycle apart.
   const releaseTimes = [...timesLeft].sort((one, other) => one - other).map((cycles, turn) => cycles - turn);
@@ -80,8 +81,8 @@ export function chooseStep(campaign, down, ages, random) {
 /**
  * Returns a step with a random change after a given wait.
  * @param {Campaign} campaign
- * @param {number[]} down
- * @param {number[]} ages
+ * @param {number[]} down the indices of the inputs that are down
+ * @param {number[]} ages the cycles since the last change of each input
  * @param {number} wait
  * @param {Random} random
  * @returns {WalkStep}
@@ -128,8 +129,8 @@ export function downInputsAfter(down, { kind, input }) {
 }
 
 /**
- * Returns whether steps are allowed from power-on: each step must change something, and must respect the limits on the number of keys, on
- * hold times and on release times.
+ * Returns whether a campaign allows steps from power-on. An input can go down only if it is up, and up only if it is down. The steps must
+ * respect the limits on the number of keys that are down, on hold times and on release times.
  * @param {Campaign} campaign
  * @param {WalkStep[]} steps
  */
