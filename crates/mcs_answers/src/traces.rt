@@ -405,7 +405,7 @@ fn add_line_if_reported(
 /// of lines appended (0 or 1). A pending second cycle (`owed` is not 0) has no line. `rows.last` becomes the
 /// row after the cycle. Fails if allocation fails. This function is not inlined because a row is seldom
 /// built.
-#[inline(absurd_if_true_is_false)]
+#[inline(never)]
 fn add_cycle_line(
     text: &mut Vec<u8>,
     rows: &mut Rows,
