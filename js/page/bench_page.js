@@ -1,4 +1,5 @@
-// The page: creates its components and connects them to the current session. Every value on the page is from the bench's answers.
+// The page: creates its components and connects them to the current session. Every value that the page shows comes from an answer of the
+// bench.
 
 import { ConfirmDialog } from "./ui/confirm_dialog.js";
 import { Face } from "../core/board/face.js";
@@ -30,7 +31,7 @@ import * as say from "../words/page.js";
  * @typedef {import("./session/store.js").SessionStore} SessionStore
  * @typedef {import("../core/bench/error_messages.js").ErrorMessages} ErrorMessages
  * @typedef {{ bench: Bench, makeBench: () => Bench, store: SessionStore, locks: Locks, words: ErrorMessages, notice: Notice, examples:
- *   Example[], manual: ManualSection[] }} PageServices the services that the page uses; `makeBench` creates another bench in a new worker
+ *   Example[], manual: ManualSection[] }} PageServices the services that the page uses; `makeBench` starts another bench, in a new worker
  */
 
 export class Page {
@@ -143,9 +144,9 @@ export class Page {
   }
 
   /**
-   * Draws a board in place of the present one, with the front panel that the board's text declares.
+   * Draws a new board in place of the current one, together with the front panel that the board's text declares.
    * @param {SessionRecord} record
-   * @param {string[]} board the answers to `board`
+   * @param {string[]} board the bench's answers to the query `board`
    */
   draw(record, board) {
     const { pendingBoardText } = this.editors;
@@ -164,7 +165,8 @@ export class Page {
   }
 
   /**
-   * Shows an edited front panel. If the text describes a board that is not in use, its front panel appears when that board is applied.
+   * Shows an edited front panel. If the text describes a different board from the one in use, the panel appears only after the user applies
+   * that board.
    * @param {string} boardText
    */
   readFace(boardText) {

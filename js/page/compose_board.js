@@ -147,7 +147,7 @@ export function makeScope(page) {
     startLive: (wanted, values) => resultOrReport(page, page.bench.call("recordLive", [textsWithValues(values), wanted])),
     endLive: () => resultOrReport(page, page.bench.call("endRecording", [])),
     record: async (cycles, isBefore, values) => {
-      // A recording continues from the present state, so time must be paused.
+      // A recording continues from the current state, so time must be paused.
       await page.runController.pause();
       try {
         return await page.workView.show(say.RECORDING_LINES,

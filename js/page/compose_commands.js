@@ -27,7 +27,7 @@ import * as say from "../words/page_commands.js";
  * @typedef {import("./bench_page.js").Page} Page
  */
 
-/** The name of the stored choice that says whether the welcome cards have been shown. */
+/** The key of the stored preference that says whether the welcome cards have been shown. */
 const SEEN_KEY = "welcome";
 
 /** @type {TextName[]} the texts in the order of the page's editors */
@@ -36,7 +36,7 @@ const EDITOR_NAMES = ["board", "program", "tests", "properties"];
 /**
  * Brings a text or a panel to the front.
  * @param {Page} page
- * @param {string} name the name of the text or panel; "" to show nothing
+ * @param {string} name the name of the text or panel; with "", nothing changes
  */
 function show({ layout }, name) {
   if (name in say.TEXTS) layout.showText(name);

@@ -1,5 +1,5 @@
-// Creates the components that run the board, execute session lines and save the session. The callbacks connect each of them to the page's
-// other components.
+// Creates the components that run the board, execute the session's commands and save the session. The callbacks connect each of them to the
+// page's other components.
 
 import { wordsOfAddress, wordsOfWhen } from "../words/stops.js";
 import { LineServer } from "./lines/line_server.js";

@@ -94,7 +94,7 @@ function makeActCalls({ layout, snapshotView, keyPresser, runController, source,
     },
     keys: () => snapshotView.front.keys,
     run: async () => {
-      // A run up to a goal must end first, so that the next run continues without that goal.
+      // If time is running toward a goal, pause it first, so that the next run has no goal.
       if (runController.goal) await runController.pause();
       runController.run();
     },

@@ -68,7 +68,7 @@ export function makeProblems(page) {
 }
 
 /**
- * Shows names at the RAM view's nibbles. The names come from the watch and from the source.
+ * Shows the names of nibbles in the RAM view. The names come from the watch and from the source.
  * @param {Page} page
  */
 export function nameCharacters({ snapshotView, watchView, source }) {
@@ -150,7 +150,7 @@ export function makeTests(page, manual) {
     faults: (texts) => bench.call("testFaults", [texts]),
     sample: (texts) => bench.call("sampleTest", [texts]),
     run: async (texts) => {
-      // The worker serves one call at a time. Without this pause, the tests would stop time without an explanation.
+      // The worker serves one call at a time, so time stands still during the tests. Pausing it here shows the user why.
       await runController.pause();
       return page.workView.show(say.RUNNING_TESTS, (signal, progress) => bench.call("runTests", [texts], { signal, progress }));
     },
@@ -197,7 +197,7 @@ async function openWithLines(page, { name, lines, message }, texts) {
   const previousSession = page.currentSession.session;
   if (!(await sessionsController.manager.openNew(makeRecord))) return;
   await page.lineServer.serveLines(lines);
-  // `serveLines` hides the notice about the previous session, because it changes the new one. Show that notice again.
+  // `serveLines` changes the new session, which hides the notice about the previous session. Show that notice again.
   if (previousSession && !previousSession.isUntouched) sessionsController.offerReturn(previousSession.record);
   page.layout.showText("program");
   page.runController.showMessage(message);

@@ -36,7 +36,7 @@ const keyPresser = new KeyPresser({
   },
 });
 /**
- * The front panel. Lamps show their perceived brightness while time is running, and their present state while time is paused.
+ * The front panel. Lamps show their perceived brightness while time is running, and their state at this instant while time is paused.
  */
 const front = new FrontView((node, key) => keyPresser.listen(node, key), () => {});
 /** The printer view. The debug adapter stores the printout since the board was drawn. */

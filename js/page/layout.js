@@ -17,7 +17,7 @@ import { Tabs } from "./ui/tabs.js";
 
 const TEXT_TABS = ["program", "board", "wiring", "tests", "properties"];
 const DOCK_TABS = ["disassembly", "waves", "console", "problems"];
-/** @type {Record<string, string>} the dock tab that shows each panel of the dock */
+/** @type {Record<string, string>} the name of the dock tab that contains each dock panel, by panel id */
 const DOCK_TAB_BY_PANEL = { listing: "disassembly", scope: "waves", talk: "console", problems: "problems" };
 
 /** @type {Border[]} */

@@ -25,8 +25,8 @@ import * as say from "../words/page.js";
  */
 
 /**
- * A WebAssembly module with one `memory.fill` instruction. A browser accepts this module only if it supports bulk memory, which the bench's
- * module needs.
+ * A WebAssembly module with one `memory.fill` instruction. A browser accepts this module only if it supports bulk memory instructions,
+ * which the bench's WebAssembly module needs.
  */
 const BULK_MEMORY_TRIAL = Uint8Array.of(0, 97, 115, 109, 1, 0, 0, 0, 1, 4, 1, 96, 0, 0, 3, 2, 1, 0, 5, 3, 1, 0, 1, 10, 13, 1, 11, 0,
   65, 0, 65, 0, 65, 0, 252, 11, 0, 11);
@@ -111,7 +111,7 @@ function listenToChoices(page) {
 }
 
 /**
- * Listens to window events: the page is hidden or left, its address changes, or an error is not caught.
+ * Listens to window events: the user hides or leaves the page, the page's address changes, or an error is not caught.
  * @param {Page} page
  */
 function listenToLeaving(page) {

@@ -1,4 +1,4 @@
-// The board's displays: seven-segment digits as drawings, and their content as text.
+// The board's displays: drawings of seven-segment digits, and the same content as a text.
 
 import { Announcer } from "../../core/board/announcer.js";
 import { Cell, Switch, block, element } from "../ui/dom.js";
@@ -30,7 +30,7 @@ class Digit {
     this.brightnessLevels = SHAPES.map(() => 0);
     /** The bit pattern of the segments that are shown as on. */
     this.litPattern = 0;
-    /** The bit pattern of a steady digit, or UNLIT_PATTERN if the segments have duty cycles. */
+    /** The bit pattern of a digit whose segments are fully on or off, or UNLIT_PATTERN if the segments are drawn with their duty cycles. */
     this.steadyPattern = 0;
     this.node = document.createElementNS(SVG, "svg");
     this.node.setAttribute("viewBox", isSign ? "2 0 32 60" : "0 0 44 60");
@@ -44,7 +44,7 @@ class Digit {
     });
   }
 
-  /** @param {number} pattern the bit pattern of the segments that are on, at this instant or steadily */
+  /** @param {number} pattern the bit pattern of the segments that are on; UNLIT_PATTERN for none */
   set(pattern) {
     const litPattern = pattern === UNLIT_PATTERN ? 0 : pattern;
     if (litPattern === this.steadyPattern) return;
@@ -55,7 +55,7 @@ class Digit {
 
   /**
    * @param {import("../../core/board/brightness.js").PerceivedDigit} seenDigit
-   * @param {number} turnCount the number of digits in the scan; each digit is on for at most one turn of the scan
+   * @param {number} turnCount the number of digits that the program scans in turn; each digit is on for at most 1 / `turnCount` of the time
    */
   showBrightness(seenDigit, turnCount) {
     if (seenDigit.steady !== UNLIT_PATTERN) {
@@ -161,7 +161,7 @@ export class DisplayView {
   }
 
   /**
-   * Shows the minus sign of the display. While the sign is steady, its brightness does not fade as a lamp's does.
+   * Shows the minus sign of the display. A sign that does not blink is drawn as fully on or off, without the gradual fading of a lamp.
    * @param {import("../../core/board/brightness.js").Brightness} brightness
    * @param {number} lamp
    */

@@ -37,8 +37,8 @@ const MAX_LARGE_LEGEND = 4;
 export class FrontView {
   /**
    * @param {(button: HTMLButtonElement, key: BoardKey) => void} connectKey connects a button to its key
-   * @param {(face: string, number: number) => void} watchLamps asks the bench to measure lamp duty cycles for a front panel (its comments
-   *   and its number)
+   * @param {(face: string, number: number) => void} watchLamps asks the bench to measure the duty cycle of each lamp; `face` is the panel's
+   *   comments and `number` the panel's number
    */
   constructor(connectKey, watchLamps) {
     this.connectKey = connectKey;
@@ -48,17 +48,17 @@ export class FrontView {
     this.keysDown = new PressedKeys();
     /** The level of the TEST pin: "0" or "1", or "" before the first answer. */
     this.testLevel = "";
-    /** The last answer to `lamps`. */
+    /** The bench's last answer to `lamps`: one character per lamp, `*` for on. */
     this.marks = "";
     /** The comments in the board's text that declare this front panel. */
     this.faceComments = "";
     this.columns = 1;
     this.lamps = new LampsView();
     this.display = new DisplayView();
-    /** The number of the current front panel: front panels are numbered from 1 in drawing order. */
+    /** The number of the current front panel. The first panel that is drawn has number 1, the next one 2. */
     this.faceNumber = 0;
     this.brightness = new Brightness(new Face(""), 0);
-    /** True if the lamps show the perceived brightness, false if they show an instant. */
+    /** True if the lamps show their perceived brightness, false if they show their state at one instant. */
     this.showsBrightness = false;
     this.brightnessStatus = new Cell(block("brightness-status"));
     this.block = block("keys");
@@ -66,7 +66,7 @@ export class FrontView {
   }
 
   /**
-   * Draws a board in place of the present one.
+   * Draws a new board in place of the current one.
    * @param {Board} board
    * @param {Face} face
    */
@@ -77,8 +77,8 @@ export class FrontView {
   }
 
   /**
-   * Draws a changed front panel of the same board. A text without front panel comments leaves the drawn front panel as it is, because the
-   * user may still be writing.
+   * Draws a changed front panel of the same board. If the text has no front panel comments, the drawn front panel stays, because the user
+   * may still be writing them.
    * @param {Board} board
    * @param {Face} face
    */

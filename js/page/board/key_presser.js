@@ -14,19 +14,20 @@ import { formatKey } from "../../core/board/key_place.js";
  * @property {(key: Key) => boolean} isDown Returns true if a key will be down after all queued presses and releases.
  * @property {(key: Key) => void} press Queues a press of a key while time is running.
  * @property {(key: Key) => void} release Queues a release of a key while time is running.
- * @property {(word: "press" | "release", key: Key) => void} change Presses or releases a key immediately while time is paused.
+ * @property {(word: "press" | "release", key: Key) => void} change Presses or releases a key at once. Called while time is paused.
  * @property {(event: KeyboardEvent) => BoardKey | undefined} keyForEvent Returns the board's key for a keyboard event. Returns undefined if
  *   there is none, or if another element handles the event.
  */
 
 /**
- * A key that a finger presses. If `staysDown` is true, the key stays down when the finger lifts. `undoPress` undoes the press.
+ * A key that a finger presses. If `staysDown` is true, the key stays down when the finger lifts. `undoPress` restores the state of the key
+ * before the press.
  * @typedef {{ key: Key, staysDown: boolean, undoPress: () => void }} HeldKey
  */
 
 /** The delay in milliseconds before a touch presses a key. Within this time the browser recognises a scroll gesture. */
 const SWIPE_TIME = 60;
-/** The time in milliseconds after a finger lifts during which every click is attributed to that finger, regardless of its pointer type. */
+/** The time in milliseconds after a finger lifts in which every click counts as a click by that finger, whatever its pointer type. */
 const TAP_TIME = 500;
 
 export class KeyPresser {
@@ -73,7 +74,7 @@ export class KeyPresser {
     button.addEventListener("contextmenu", (event) => event.preventDefault());
     button.addEventListener("keydown", (event) => this.activate(event, () => this.down(boardKey, event.shiftKey)));
     button.addEventListener("keyup", (event) => this.activate(event, () => this.up(key)));
-    // A click without a pointer or a keyboard, for example from a screen reader, is a short press.
+    // A click without a pointer or a keyboard, for example from a screen reader, presses and releases the key.
     button.addEventListener("click", (event) => {
       if (event.detail !== 0 || event.timeStamp - liftTime < TAP_TIME) return;
       if (event instanceof PointerEvent && event.pointerId > 0) return;
@@ -115,7 +116,8 @@ export class KeyPresser {
   }
 
   /**
-   * Presses a key, or releases it if it is already down. A switch stays in its new position, and so does a key pressed with Shift.
+   * Presses a key, or releases it if it is already down. A switch, or a key that is pressed with Shift, stays down until it is pressed
+   * again.
    * @param {Pick<BoardKey, "key" | "isSwitch">} boardKey
    * @param {boolean} hasShift
    */

@@ -14,14 +14,14 @@ import { printoutLines } from "../../core/board/printout_lines.js";
 /**
  * The callbacks of the printer view.
  * @typedef {object} PrinterCalls
- * @property {(printer: { strobe: string, port: string } | null) => void} setPrinter Asks the bench to report the codes sent to a printer;
- *   null for no printer.
+ * @property {(printer: { strobe: string, port: string } | null) => void} setPrinter Asks the bench to report the codes that the program
+ *   sends to a printer; null for no printer.
  * @property {() => void} clear Clears the bench's copy of the printout.
  */
 
-/** The maximum number of lines on the page: the last ones of the printout. */
+/** The maximum number of lines on the page. The page shows the last lines of a longer printout. */
 const MAX_LINES = 400;
-/** The largest scroll distance from the end, in pixels, at which new lines still scroll into view. */
+/** The distance in pixels from the end of the printout within which the view follows new lines. */
 const END_DISTANCE = 24;
 
 export class PrinterView {
@@ -36,7 +36,7 @@ export class PrinterView {
     this.lines = [];
     this.root = block("strip");
     this.printoutBlock = block("paper");
-    /** True if new lines scroll into view. */
+    /** True if the view scrolls to new lines. */
     this.followsEnd = true;
     this.printoutBlock.addEventListener("scroll", () => this.handleScroll());
     // Lines can arrive while the printout is hidden, so scroll again when its size changes.

@@ -1,4 +1,5 @@
-// The sound of the board's buzzer. In real time, Web Audio plays the edges of the buzzer's line if sound is on.
+// The sound of the board's buzzer. If sound is on and time runs at the real chip's speed, Web Audio plays the level changes of the buzzer's
+// line.
 
 import { CYCLES_PER_SECOND } from "../../core/time/mcs4_time.js";
 import { Cell, block, button, onClick, pressedSwitch } from "../ui/dom.js";
@@ -12,19 +13,19 @@ import * as say from "../../words/board.js";
 /**
  * The callbacks of Sound.
  * @typedef {object} SoundCalls
- * @property {(line: string) => void} listenToLine Asks the bench to report the edges of a line; "" for no line.
+ * @property {(line: string) => void} listenToLine Asks the bench to report the level changes of a line; "" stops the reports.
  * @property {() => boolean} isRealTime Returns true if time is running at the real chip's speed. At other speeds the buzzer is silent.
  */
 
 /** The number of cycles in one block of samples: 45 ms. */
 const BLOCK_CYCLES = 4200;
-/** The delay in seconds between a cycle and its sound. */
+/** The delay in seconds between the simulation of a cycle and its sound. */
 const DELAY = 0.09;
 /** The maximum delay in seconds. Blocks that would play even later are dropped. */
 const MAX_DELAY = 0.4;
 /** The gain of the sound, from 0 to 1. */
 const VOLUME = 0.12;
-/** The cut-off frequency of the high-pass filter in hertz. The filter silences a line that stays at 1. */
+/** The cut-off frequency of the high-pass filter in hertz. The filter makes a line that stays at 1 silent. */
 const MIN_PITCH = 30;
 
 /** Plays blocks of samples in sequence. */
@@ -69,7 +70,7 @@ export class Sound {
   }
 
   /**
-   * Sets the buzzer of another board or front panel.
+   * Selects the buzzer of a new board or front panel.
    * @param {{ place: string, name: string } | null} buzzer null if the board has no buzzer
    */
   draw(buzzer) {
@@ -100,7 +101,7 @@ export class Sound {
     this.update();
   }
 
-  /** Updates the button and the status, and asks the bench for the edges of the buzzer's line or for none. */
+  /** Updates the button and the status, and starts or stops the bench's reports about the buzzer's line. */
   update() {
     const isOn = this.player !== null;
     this.isPressed.set(isOn);

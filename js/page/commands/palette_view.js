@@ -8,10 +8,11 @@ import * as say from "../../words/page_commands.js";
 
 /**
  * @typedef {import("./palette_search.js").Entry} Entry
- * @typedef {{ commands: () => Entry[], places: (query: string) => Entry[] }} Sources return the entries of commands and of destinations
+ * @typedef {{ commands: () => Entry[], places: (query: string) => Entry[] }} Sources `commands` returns the entries of all commands,
+ *   `places` those of the destinations that match a query
  */
 
-/** The first character of a query for commands. Without it, the query is for destinations. */
+/** The first character of a query that searches commands. A query without it searches destinations. */
 export const COMMAND_SIGN = ">";
 /** The maximum number of entries that are drawn. */
 const MAX_DRAWN = 500;
@@ -51,7 +52,7 @@ export class PaletteView {
     this.field.setSelectionRange(begin.length, begin.length);
   }
 
-  /** True if the query is for commands, false if it is for destinations. */
+  /** True if the query begins with COMMAND_SIGN and therefore searches commands; false if it searches destinations. */
   get isCommands() {
     return this.field.value.startsWith(COMMAND_SIGN);
   }

@@ -5,12 +5,13 @@
  * @typedef {import("../board/wiring_view.js").WiringView} WiringView
  * @typedef {import("../../core/board/wiring.js").Point} Point
  *
- * The part or pin under the pressed pointer: its name, the point where the pointer went down, and the part's initial position.
+ * The part or pin under the pressed pointer. `downPoint` is the point where the pointer went down. `startPosition` is the part's position
+ * before the drag.
  * @typedef {{ name: string, isPart: boolean, downPoint: Point, startPosition: Point, isDragged: boolean }} HeldItem
  */
 
 /**
- * The callbacks of the picture's input. Parts and pins have the picture's names.
+ * The callbacks of the picture's input. Parts and pins are identified by their names in the picture.
  * @typedef {object} InputCalls
  * @property {(name: string) => void} pressItem Handles a click on a part or a pin.
  * @property {(from: string, to: string) => void} drawWire Draws a wire that was dragged from one pin to another.
@@ -73,7 +74,7 @@ export class PictureInput {
     const part = this.view.parts.get(name);
     const startPosition = part || { x: 0, y: 0 };
     this.heldItem = { name, isPart: part !== undefined, downPoint: this.view.toPicturePoint(event), startPosition, isDragged: false };
-    // With the capture, the picture also receives pointer events from outside of it.
+    // Pointer capture lets the picture receive the events of a drag that leaves the picture.
     if (event.pointerType !== "touch") this.view.root.setPointerCapture(event.pointerId);
     if (name) this.view.focus(name);
   }
@@ -161,8 +162,9 @@ export class PictureInput {
   }
 
   /**
-   * Handles an arrow key: moves the focus to the next part or pin. During a wire, the focus moves between the pins where the wire can end,
-   * from the last to the first. With Shift, moves the part instead. Returns true if the key has an action.
+   * Handles an arrow key: moves the focus to the next part or pin. While the user draws a wire, the focus moves only between the pins where
+   * the wire can end, and continues at the first pin after the last. With Shift, moves the part instead. Returns true if the key has an
+   * action.
    * @param {KeyboardEvent} event
    * @param {string} name
    */

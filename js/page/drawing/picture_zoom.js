@@ -2,7 +2,7 @@
 
 import { button, onClick } from "../ui/dom.js";
 
-/** The zoom factor of one click, key press or wheel step. */
+/** The zoom factor of one button click, key press or wheel step. */
 const STEP = 1.25;
 /** The minimum scale, unless the picture fits into its panel only at a smaller scale. */
 const MIN_SCALE = 0.35;
@@ -30,13 +30,13 @@ export class PictureZoom {
     return picture ? picture.getBoundingClientRect() : new DOMRect();
   }
 
-  /** The present scale: displayed width by natural width, or 0 if there is no picture. */
+  /** The current scale: displayed width by natural width, or 0 if there is no picture. */
   get scale() {
     const width = parseFloat(this.root.style.getPropertyValue("--picture-width"));
     return width > 0 ? this.box.width / width : 0;
   }
 
-  /** The minimum and maximum scale. The range always includes the present scale. */
+  /** The minimum and maximum scale. The range always includes the current scale. */
   get bounds() {
     const { root, scale, box } = this;
     const height = parseFloat(getComputedStyle(root).maxHeight) || root.clientHeight;
@@ -66,7 +66,7 @@ export class PictureZoom {
     this.showBounds();
   }
 
-  /** Marks each button as disabled at its limit with aria-disabled, so that the button keeps the focus. */
+  /** Sets `aria-disabled` on the zoom button whose limit is reached. Unlike `disabled`, this attribute lets the button keep the focus. */
   showBounds() {
     const { scale, bounds: { min, max } } = this;
     this.smallerButton.setAttribute("aria-disabled", String(scale <= min + TOLERANCE));

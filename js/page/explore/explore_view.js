@@ -14,8 +14,8 @@ import { wordsOfLine } from "../../words/stops.js";
 /**
  * The callbacks of the search results. Properties are numbered from 0.
  * @typedef {object} CounterexampleCalls
- * @property {(line: number) => void} goTo Shows a line of the properties text, from 1.
- * @property {(line: number) => void} goToSource Shows a line of the source, from 1.
+ * @property {(line: number) => void} goTo Shows a line of the properties text. Lines count from 1.
+ * @property {(line: number) => void} goToSource Shows a line of the source. Lines count from 1.
  * @property {(property: number) => void} openCounterexample Opens a counterexample as a new session.
  * @property {(property: number) => void} addTest Adds a counterexample's test to the program's tests.
  */
@@ -23,7 +23,7 @@ import { wordsOfLine } from "../../words/stops.js";
 /** The maximum number of lines listed as never executed. */
 const MAX_LINES = 60;
 
-/** A property's row. The counterexample is inserted only once, so that controls in use do not disappear. */
+/** A property's row. The counterexample is inserted only once, so that buttons that the user is about to click are not replaced. */
 class PropertyRow {
   /**
    * @param {PropertyResult} property
@@ -102,7 +102,7 @@ export class ExploreView {
       this.list.replaceChildren(...this.rows.map(({ node }) => node));
     }
     this.rows.forEach((row, index) => row.show(report.properties[index], report, isRunning));
-    // If proofs decide all properties, there is no search.
+    // If proofs have already decided all properties, the search executes no steps.
     const isSearched = isRunning || report.steps > 0;
     this.figures.set(isSearched ? wordsOfFigures(report) : say.NO_STEPS);
     this.showCoverage(report, isRunning, isSearched);

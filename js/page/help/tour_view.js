@@ -77,7 +77,7 @@ export class TourView {
     this.calls.handleTourEnd();
   }
 
-  /** True for an example's story, false for the first program. */
+  /** True if the panel shows an example's story, false if it shows the tour with the first program. */
   get isStory() {
     return this.tourWatch.steps !== TOUR;
   }
@@ -101,7 +101,7 @@ export class TourView {
   }
 
   /**
-   * Scrolls the step's target into view. A ring marks the element that the user needs next: first the button that inserts the program, then
+   * Scrolls the step's target into view. A ring marks the element that the user needs next. It is the button that inserts the program, then
    * the target, then the button that continues.
    */
   pointAtTarget() {
@@ -146,7 +146,7 @@ export class TourView {
     this.showDone();
   }
 
-  /** @param {string} end the reason why a run ended */
+  /** @param {string} end the reason why the last run ended */
   recordEnd(end) {
     if (!this.isOn || this.tourWatch.isDone) return;
     this.tourWatch.recordEnd(end);

@@ -7,10 +7,11 @@ import * as say from "../../words/page.js";
 /**
  * The callbacks of the console input.
  * @typedef {object} LinesCalls
- * @property {(lines: string) => Promise<string | null>} send Serves lines. Resolves to the first answer, or to null after a failure. A
- *   failure has already been reported.
- * @property {(answer: string) => string} formatAnswer Returns an answer. A refusal is followed by its message.
- * @property {(wanted: string) => void} openHelp Opens the help at an entry.
+ * @property {(lines: string) => Promise<string | null>} send Sends lines to the bench. Resolves to the first answer, or to null after a
+ *   failure. A failure has already been reported.
+ * @property {(answer: string) => string} formatAnswer Returns the text that the console shows for an answer. If the answer is a numbered
+ *   error, the text includes the error's message.
+ * @property {(wanted: string) => void} openHelp Opens the help at the entry `wanted`.
  */
 
 /** The maximum number of sent lines that the arrow keys can recall. */
@@ -33,7 +34,7 @@ export class LinesView {
     this.status = new Cell(block("answer-status"));
     /** @type {string[]} the sent lines, oldest first */
     this.sentLines = [];
-    /** The index of the recalled line, or the number of sent lines if none is recalled. */
+    /** The index of the recalled line in `sentLines`, or the length of `sentLines` if no line is recalled. */
     this.recallIndex = 0;
     /** The text that was in the input before a sent line was recalled. */
     this.draft = "";

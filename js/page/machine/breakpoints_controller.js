@@ -1,5 +1,5 @@
 // Controls the breakpoints of the current session: their list, their marks in the margin and in the disassembly, their panel, the form that
-// edits one of them, and the margin menu.
+// edits a breakpoint, and the margin menu.
 
 import { BreakpointManager } from "../../core/debug/breakpoint_manager.js";
 import { breakpointMarks } from "../../core/machine/breakpoint_marks.js";
@@ -29,10 +29,10 @@ import * as say from "../../words/machine.js";
  * @typedef {object} BreakpointsCalls
  * @property {() => OpenSession | null} session Returns the current session, whose record stores the breakpoints, or null if there is none.
  * @property {() => void} saveSession Saves the session after the user has changed breakpoints.
- * @property {() => { board: string, program: string }} texts Returns the current texts of board and source.
+ * @property {() => { board: string, program: string }} texts Returns the current texts of the board and the source.
  * @property {(result: LinesReply) => Promise<void>} handleResult Saves, shows and logs the result of lines that set the bench's
  *   breakpoints.
- * @property {(result: LinesReply) => void} showSession Shows the session after breakpoints were set without any lines.
+ * @property {(result: LinesReply) => void} showSession Shows the session after breakpoints were set by a call that executed no lines.
  * @property {(lines: Map<number, BreakpointMark>, addresses: Map<number, BreakpointMark>) => void} showMarks Shows marks at source lines
  *   and at addresses of the disassembly.
  * @property {(address: number) => void} goTo Shows an address in the source and in the disassembly.
@@ -44,7 +44,8 @@ import * as say from "../../words/machine.js";
  * @property {(line: number) => void} runTo Runs to a line of the source.
  * @property {() => Promise<void>} freshSource Compares the source with ROM if the source was edited since the last comparison. Resolves
  *   when the comparison is complete.
- * @property {() => Promise<void>} checkSource Compares the source with ROM in any case. Resolves when the comparison is complete.
+ * @property {() => Promise<void>} checkSource Compares the source with ROM, even if the source was not edited. Resolves when the comparison
+ *   is complete.
  * @property {(words: string) => void} showMessage Shows a message near the user's last action.
  * @property {(fault: unknown) => void} reportFailure Reports an error that a call threw.
  */
@@ -202,8 +203,8 @@ export class BreakpointsController {
   }
 
   /**
-   * Updates the breakpoints after the source was loaded into ROM. Resolves when they are at their lines.
-   * @param {boolean} isBegun true if the hit counts are reset
+   * Updates the breakpoints after the source was loaded into ROM. Resolves when each breakpoint has the address of its line.
+   * @param {boolean} isBegun true if the processor was reset, which also resets the hit counts
    */
   async handleAssembly(isBegun) {
     if (isBegun) this.keeper.resetHits();

@@ -22,8 +22,8 @@ import * as say from "../../words/machine.js";
 /**
  * The callbacks of the breakpoint list.
  * @typedef {object} BreakpointCalls
- * @property {(id: number, changes: Partial<SavedBreakpoint>) => void} change Changes a breakpoint's properties, by its id; for example,
- *   enables or disables it.
+ * @property {(id: number, changes: Partial<SavedBreakpoint>) => void} change Changes the properties of the breakpoint with an id; for
+ *   example, enables or disables the breakpoint.
  * @property {(breakpoint: Breakpoint) => void} edit Opens the form that edits a breakpoint.
  * @property {(id: number) => void} remove Removes the breakpoint with an id.
  * @property {(isOn: boolean) => void} switchAll Enables or disables all breakpoints.
@@ -33,7 +33,7 @@ import * as say from "../../words/machine.js";
  */
 
 /**
- * Returns a text with a breakpoint's location.
+ * Returns the location of a breakpoint as text.
  * @param {Breakpoint} breakpoint
  * @param {SourceMap | null} map
  */

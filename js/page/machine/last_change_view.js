@@ -1,5 +1,5 @@
-// The tooltip about a cell's last change. While time is paused, it says when the value under the pointer or with the focus last changed,
-// and which line changed it. The bench searches the recorded past for this change.
+// The tooltip about a cell's last change. While time is paused, it says when the value under the pointer, or the focused value, last
+// changed, and which line changed it. The bench searches the recorded past for this change.
 
 import { element } from "../ui/dom.js";
 import { putBelow } from "../ui/popup_message.js";
@@ -13,9 +13,9 @@ import { putBelow } from "../ui/popup_message.js";
  * @typedef {object} LastChangeCalls
  * @property {() => boolean} isRunning Returns true if time is running. The tooltip appears only while time is paused.
  * @property {(editableCell: EditableCell, signal: AbortSignal) => Promise<string>} describeLastChange Resolves to a text about the last
- *   change of a place, or to "" if `signal` is aborted or the search fails.
- * @property {(cell: HTMLElement) => EditableCell | undefined} editableCellAt Returns the place whose value a cell shows, or undefined if
- *   the cell shows none.
+ *   change of a cell, or to "" if `signal` is aborted or the search fails.
+ * @property {(cell: HTMLElement) => EditableCell | undefined} editableCellAt Returns the location whose value the element `cell` shows, or
+ *   undefined if the element shows no editable value.
  */
 
 /** The time in milliseconds for which the pointer or the focus must stay on a cell before the tooltip opens. */

@@ -1,5 +1,5 @@
-// Scrolling of the disassembly. The box is as high as all 4,096 rows, but only the visible rows exist. The browser handles the scroll bar,
-// the wheel and touch. Keys move by rows and by pages.
+// Scrolling of the disassembly. The box is as high as the rows of all 4,096 addresses together, but only the visible rows exist as
+// elements. The browser handles the scroll bar, the wheel and touch. Keys move by rows and by pages.
 
 import { ADDRESS_COUNT } from "../../core/bench/rom_bytes.js";
 import { element } from "../ui/dom.js";
@@ -27,7 +27,7 @@ export class ListingScroll {
     this.rows = element("div", { className: "rows" });
     this.length = element("div", { className: "length" }, this.rows);
     this.rowHeight = DEFAULT_HEIGHT;
-    /** The last scroll position that is already handled. */
+    /** The scroll position in pixels at the last call of `handleScroll`. */
     this.handledScrollTop = 0;
     root.append(this.length);
     root.addEventListener("scroll", () => this.handleScroll(), { passive: true });

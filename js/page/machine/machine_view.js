@@ -33,7 +33,7 @@ function cellNodes(cellList) {
   return cellList.map((cell) => cell.node);
 }
 
-/** The number of digits of each register with more than one digit. */
+/** The number of hexadecimal digits of the registers that have more than one digit. */
 const DIGITS = new Map([["pc", 3]]);
 
 export class RegistersView {
@@ -150,7 +150,8 @@ export class PortsView {
   }
 
   /**
-   * Shows the addresses that SRC has selected: `10` for the ROM chips, `0.10` for bank 0.
+   * Shows the address that the last SRC instruction has sent to the ROM chips, for example `10`, and to each RAM bank, for example `0.10`
+   * for bank 0.
    * @param {string[]} sources
    */
   showSources(sources) {

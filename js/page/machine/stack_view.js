@@ -14,7 +14,7 @@ import * as say from "../../words/machine.js";
  * @typedef {{ button: HTMLButtonElement, value: Cell, note: Cell, isLive: Switch }} Row
  */
 
-/** The columns of the first ROM byte in a line of the bench's `list` answer. */
+/** The column range of the first ROM byte in a line of the bench's answer to `list`. */
 const BYTE_START = 4;
 const BYTE_END = 6;
 
@@ -30,11 +30,11 @@ export class StackView {
     this.ask = ask;
     /** @type {number[]} the program counter, then the return addresses, newest first */
     this.addresses = [];
-    /** The addresses that the current notes describe. */
+    /** The addresses that the current notes describe, as one text. */
     this.describedAddresses = "";
     /** @type {SourceMap | null} */
     this.map = null;
-    // The number of requests. An answer for earlier addresses is discarded.
+    // The number of requests so far. The answer to a request is discarded if a later request has been sent.
     this.requestCount = 0;
     this.rows = ["pc", "ret 1", "ret 2", "ret 3"].map((name, index) => (
       this.makeRow(name, explain(name), () => goTo(this.rowAddress(index)))));
@@ -77,7 +77,7 @@ export class StackView {
     this.addresses = addressTexts.map((addressText) => parseInt(addressText, 16));
   }
 
-  /** Makes the next `explain` read ROM again, because its contents may have changed. */
+  /** Makes the next call of `explain` read ROM again, because the contents of ROM may have changed. */
   forget() {
     this.describedAddresses = "";
   }

@@ -17,7 +17,7 @@ import { wordsOfLine } from "../../words/stops.js";
  * @property {(counterexample: Counterexample) => void} addTest Adds a counterexample's test to the program's tests.
  */
 
-/** A property's row. The verdict is inserted only once, so that controls in use do not disappear. */
+/** A property's row. The verdict is inserted only once, so that buttons that the user is about to click are not replaced. */
 class VerdictRow {
   /**
    * @param {JudgedLine} judgedLine
@@ -87,7 +87,7 @@ export class ProofsView {
 
   /**
    * @param {Progress} progress
-   * @param {number} maxStates the maximum number of states for each question
+   * @param {number} maxStates the maximum number of states that the prover may visit for each property
    * @param {boolean} isRunning true if a proof is running
    * @param {(judgedLine: JudgedLine) => boolean} isCurrent returns true if a verdict is about the current texts
    */

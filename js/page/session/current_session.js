@@ -23,10 +23,11 @@ import * as say from "../../words/session.js";
 /**
  * The callbacks of CurrentSession.
  * @typedef {object} CurrentCalls
- * @property {(record: SessionRecord) => void} begin Shows the texts and the settings of another session, from its record.
+ * @property {(record: SessionRecord) => void} begin Shows the texts and the settings of another session. The session's record contains
+ *   them.
  * @property {(state: PageState) => void} show Shows the current state of the session.
- * @property {() => Promise<void>} checkSource Compares the source with ROM. Resolves when the program's names are visible.
- * @property {() => void} run Resumes time in a session that was left while time was running.
+ * @property {() => Promise<void>} checkSource Compares the source with ROM. Resolves when the page shows the program's names.
+ * @property {() => void} run Resumes time in a session that the user left while time was running.
  * @property {(words: string) => void} showPaused Shows that time is paused, and the reason.
  * @property {() => Promise<void>} stopTime Stops time. Resolves when the worker has stopped.
  * @property {() => string} describeCounter Returns a text with the program counter, its name and its source line.
@@ -57,7 +58,7 @@ export class CurrentSession {
     this.session = null;
     /** The time of the last save, in milliseconds. */
     this.lastSaveTime = 0;
-    /** True while a session is being opened in which time will run. Until then, no source line is marked as the next one. */
+    /** True while a session is being opened in which time will resume. No source line is marked as the next one during that time. */
     this.willRun = false;
   }
 
@@ -88,7 +89,10 @@ export class CurrentSession {
     await this.restoreHistory();
   }
 
-  /** Shows the elements of the page. The elements stay invisible until the source's names have arrived, because the names move them. */
+  /**
+   * Shows the elements of the page. They stay invisible until the names in the source have arrived, because showing the names changes the
+   * layout.
+   */
   async showParts() {
     const isFirst = block("bench").hidden;
     document.body.classList.toggle("settling", isFirst);
@@ -142,8 +146,8 @@ export class CurrentSession {
   }
 
   /**
-   * Shows the session's name in its field and in the window title. The address bar gets the session's address, or the example's address if
-   * the session is an unchanged example.
+   * Shows the session's name in its field and in the window title. Puts the session's address into the address bar, or the example's
+   * address if the session is an unchanged example.
    */
   showName() {
     if (!this.session) return;
@@ -154,7 +158,7 @@ export class CurrentSession {
   }
 
   /**
-   * Names the session after the title in its texts, unless the user has named it.
+   * Uses the title in the session's texts as the session's name, unless the user has named the session.
    * @param {string} title
    */
   takeTitle(title) {
@@ -190,8 +194,8 @@ export class CurrentSession {
   }
 
   /**
-   * Writes the session to the store, then logs the runs before this save. Resolves to the reason why the session could not be saved, or to
-   * "".
+   * Writes the session to the store, then logs the runs since the last save. Resolves to the reason why the session could not be saved, or
+   * to "".
    */
   async keep() {
     if (!this.session) return "";

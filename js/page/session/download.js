@@ -2,7 +2,7 @@
 
 import { element } from "../ui/dom.js";
 
-/** The time in milliseconds for which the file's bytes stay available to the browser. */
+/** The time in milliseconds for which the browser can read the file's bytes. */
 const URL_LIFETIME = 10000;
 
 /**

@@ -1,4 +1,4 @@
-// A session that is open in this tab: its record, which has the last state from the bench, and the writes of the record to the store.
+// A session that is open in this tab: its record, with the last state that the bench reported, and the writes of the record to the store.
 
 import { shortName } from "../../core/session/names.js";
 import { LeftTexts } from "./left_texts.js";
@@ -35,7 +35,7 @@ export class OpenSession {
    * @param {SessionStore} store
    * @param {SessionRecord} record
    * @param {Release} release releases the session's lock
-   * @param {string} example the example's name if the session is still unchanged, otherwise ""; an unchanged example is not saved
+   * @param {string} example the example's name if the session is an unchanged example, which is not saved; otherwise ""
    */
   constructor(store, record, release, example = "") {
     this.store = store;
@@ -51,7 +51,7 @@ export class OpenSession {
   }
 
   /**
-   * Stores the file's new bytes. Returns the buffer with the old bytes for reuse.
+   * Puts the new bytes of the session file into the record. Returns the buffer of the old bytes for reuse.
    * @param {ArrayBuffer} file
    * @returns {ArrayBuffer}
    */
@@ -83,8 +83,8 @@ export class OpenSession {
   }
 
   /**
-   * Writes the session when the user leaves the page and the page cannot wait. Nothing is written if the store must answer a read first:
-   * the answer would arrive too late, and the unfinished write would block other pages.
+   * Writes the session when the user leaves the page and the page cannot wait. Writes nothing if the store must first answer a read. That
+   * answer would arrive too late, and the unfinished write would block other pages.
    */
   keepNow() {
     if (!this.store.isAtomic || this.isUntouched) return Promise.resolve("");

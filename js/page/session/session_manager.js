@@ -28,8 +28,8 @@ import * as say from "../../words/session.js";
  * @typedef {object} ManagerCalls
  * @property {() => OpenSession | null} session Returns the current session, or null if there is none.
  * @property {() => Promise<string>} keep Saves the session. Resolves to the reason why it could not be saved, or to "".
- * @property {(words: string, ...actions: NoticeAction[]) => void} refuse Shows a message about an action that was not executed, with
- *   buttons for alternatives.
+ * @property {(words: string, ...actions: NoticeAction[]) => void} refuse Shows a message that says why an action was not executed, with
+ *   buttons for alternative actions.
  * @property {(id: string) => void} setSpeed Sets the speed that a project requests, by its id.
  * @property {(record: SessionRecord) => void} offerReturn Reports a session that the user has left for a new one, and offers to return to
  *   it.
@@ -78,7 +78,7 @@ export class SessionManager {
 
   /**
    * @param {string} words
-   * @param {NoticeAction[]} actions buttons for alternatives
+   * @param {NoticeAction[]} actions buttons for alternative actions
    * @returns {false}
    */
   rejectAction(words, ...actions) {
@@ -199,7 +199,7 @@ export class SessionManager {
   }
 
   /**
-   * Resolves to a new record for a project. The bytes of its session stay unchanged.
+   * Resolves to a new record for a project file. The record contains the bytes of the project's session unchanged.
    * @param {Uint8Array} bytes
    */
   async projectRecord(bytes) {
@@ -214,7 +214,7 @@ export class SessionManager {
    * @param {Uint8Array} bytes
    */
   async sessionFileRecord(fileName, bytes) {
-    // One byte more than a session's size is enough for the bench to detect a file that is too long.
+    // The bench needs only one byte more than the size of a session file to detect a file that is too long.
     const settledBytes = await this.bench.call("settled", [bytes.slice(0, this.bench.size + 1)]);
     const texts = await this.bench.call("texts", [settledBytes]);
     return newRecord(fileName.replace(/\.mcs$/i, ""), settledBytes, texts);

@@ -112,7 +112,10 @@ export class SessionsController {
     this.notice.show(say.sessionLeft(name, this.store.isPersistent), "left", { word: say.BACK_TO_IT, act: () => this.open(id) });
   }
 
-  /** Called when the user changes the session. The user now has data to lose, and has accepted this session. */
+  /**
+   * Called when the user changes the session. From now on, the user has data to lose, and no longer needs the offer to return to the
+   * previous session.
+   */
   handleSessionChange() {
     this.notice.hide("left");
     if (this.store.isPersistent) this.persistence.ask();
@@ -161,8 +164,8 @@ export class SessionsController {
   }
 
   /**
-   * Opens the first session of the page: the address's target, the example whose story is requested, the last used session that is not open
-   * in another tab, or the first example.
+   * Opens the first session of the page. It is the target of the address if there is one, or the example whose story is requested.
+   * Otherwise it is the last used session that is not open in another tab, or the first example.
    * @param {string} story the name of the example whose story is requested; "" for none
    */
   async openFirst(story) {
@@ -190,7 +193,7 @@ export class SessionsController {
     return kind === "example" ? this.beginNamed(value) : false;
   }
 
-  /** @param {boolean} isQuiet true if sessions that are open in other tabs are skipped without a notice */
+  /** @param {boolean} isQuiet true to skip sessions that are open in other tabs without a notice */
   async openLast(isQuiet) {
     const records = await this.manager.savedSessions();
     const unendedRecords = records.filter(({ id }) => this.openings.hasUnfinishedOpening(id));
@@ -203,8 +206,8 @@ export class SessionsController {
   }
 
   /**
-   * Reports a session that may have hung the page when it was last opened. Such a session is not opened automatically. Reports nothing if
-   * another tab holds the session's lock.
+   * Reports a session that may have made the page hang when it was last opened. Such a session is not opened automatically. Reports nothing
+   * if another tab holds the session's lock.
    * @param {SessionRecord} record
    */
   async reportUnfinishedOpening(record) {

@@ -1,6 +1,6 @@
-// The recent history of the current session, for going back after a page reload. A history segment is the session's file at one moment and
-// the commands since then. The worker reports the history. When the user leaves the page, it is written to the tab's session
-// storage.
+// The recent history of the current session, with which the user can go back in time even after a page reload. A history segment is the
+// session file at one moment and the commands since then. The worker reports the commands. When the user leaves the page, the history is
+// written to the tab's session storage.
 
 import { fromBase64, toBase64 } from "../../core/session/base64.js";
 import * as say from "../../words/session.js";
@@ -13,13 +13,13 @@ import * as say from "../../words/session.js";
  */
 
 const KEY = "fethsaim.past";
-/** A new segment begins when the last one reaches this number of cycles, of commands, or of characters in commands. */
+/** The limits of a segment: its cycles, its commands, and the characters in its commands. At each of these limits, a new segment begins. */
 const MAX_CYCLES = 4000000;
 const MAX_ENTRIES = 4000;
 const MAX_CHARACTERS = 200000;
-/** The most cycles that one report can add to the history. A longer report restarts the history at the current state. */
+/** The maximum number of cycles that one report can add to the history. A longer report restarts the history at the current state. */
 const MAX_REPORT_CYCLES = 16000000;
-/** The maximum number of stored segments. */
+/** The maximum number of history segments that are stored. */
 const SEGMENTS = 2;
 
 /** Returns the tab's session storage, or null if the page cannot use it. */
@@ -118,7 +118,7 @@ export class StoredHistory {
   }
 
   /**
-   * Continues a history that the bench has restored. The entries since the reload are appended to it.
+   * Continues a history that the bench has restored after a reload. Appends the entries since the reload to it.
    * @param {StoredSegment[]} restoredSegments
    * @param {number} count the number of restored entries in the last segment
    */
@@ -137,7 +137,7 @@ export class StoredHistory {
     try {
       if (this.store) action(this.store);
     } catch {
-      // Without a stored history, the user can go back only to the reload.
+      // If the history cannot be stored, the user can go back only to the last reload.
     }
   }
 }

@@ -31,7 +31,8 @@ export class Trash {
   }
 
   /**
-   * Deletes sessions. Resolves to the deleted ones. Does not delete a session that is open in another tab, but reports that session.
+   * Deletes sessions. Resolves to the sessions that were deleted. If a session is open in another tab, reports that to the user instead of
+   * deleting the session.
    * @param {SessionRecord[]} records
    */
   async remove(records) {
@@ -65,13 +66,13 @@ export class Trash {
   }
 
   /**
-   * Restores sessions. If the store rejects a session, reports that, and the session stays deleted.
+   * Restores sessions. If the store rejects a session, reports that to the user, and the session stays in the trash.
    * @param {SessionRecord[]} records
    */
   async restoreSessions(records) {
     for (const record of records.filter((candidate) => this.deleted.includes(candidate))) {
       try {
-        // The store has no earlier revision of the record.
+        // The store no longer has a revision of the deleted record, so its revisions begin again.
         record.revision = 0;
         await this.store.put(record);
         this.deleted = this.deleted.filter((candidate) => candidate !== record);

@@ -20,9 +20,9 @@ import { descendant } from "../ui/dom.js";
  * @typedef {import("./line_layers.js").Layer} Layer
  * @typedef {Record<string, (editor: LineEditor) => void>} KeyMap actions by key name, for example `Shift-Ctrl-[`
  *
- * The options of an editor. `label` and `description` are for screen readers. `gutters` are the names of its gutters; "numbers" is the
- * gutter of line numbers. `indent` is the indentation of a new line, by default that of the previous line. `keys` are additional key
- * bindings, and `more` are further CodeMirror extensions.
+ * The options of an editor. `label` and `description` are for screen readers. `gutters` are the names of its gutters. The gutter "numbers"
+ * shows line numbers. `indent` is the indentation of a new line, by default that of the previous line. `keys` are additional key bindings,
+ * and `more` are further CodeMirror extensions.
  * @typedef {{ container: HTMLElement, label: string, description: string, colours: import("./line_colours.js").Colours, gutters: string[],
  *   indent?: string, keys: KeyMap, more: Extension[], calls: EditorCalls }} EditorParts
  */
@@ -41,7 +41,7 @@ import { descendant } from "../ui/dom.js";
 
 const TAB_WIDTH = 8;
 const HISTORY_OPTIONS = { minDepth: 1000, newGroupDelay: 1250 };
-/** The user events that insert a whole text. The size of the resulting text is checked first. */
+/** The user events that can insert a long text. They are rejected if the resulting text would be too long. */
 const WHOLE_TEXT_EVENTS = ["input.paste", "input.drop"];
 
 keepRulesInSheet();
@@ -74,7 +74,7 @@ function transactionEdits(transaction) {
 }
 
 /**
- * Converts a key name to CodeMirror's convention, which has letters in lower case.
+ * Converts a key name to CodeMirror's form, in which letters are in lower case.
  * @param {string} name
  */
 function keyName(name) {
@@ -185,7 +185,7 @@ export class LineEditor {
   }
 
   /**
-   * Starts a new line with the given indentation, by default that of the previous line.
+   * Starts a new line with an indentation, which by default is that of the previous line.
    * @param {string} [indent]
    */
   breakLine(indent) {
@@ -266,7 +266,7 @@ export class LineEditor {
     return offsetToPosition(this.doc, Math.min(Math.max(0, offset), this.doc.length));
   }
 
-  /** @param {"head" | "from" | "to"} endName the end of the selection */
+  /** @param {"head" | "from" | "to"} endName the end of the selection to return */
   getCursor(endName = "head") {
     return this.position(this.state.selection.main[endName]);
   }
@@ -298,7 +298,7 @@ export class LineEditor {
   /**
    * Replaces the selection with a text and puts the caret after the text.
    * @param {string} text
-   * @param {string} [event] the name of the user event; with it, one undo step can include text typed before
+   * @param {string} [event] the name of the user event; if it is given, one undo step can also include text that was typed before
    */
   replaceSelection(text, event) {
     const { from, to } = this.state.selection.main;
@@ -349,7 +349,7 @@ export class LineEditor {
   }
 
   /**
-   * Returns the line numbers, from 0, that have a mark in a gutter.
+   * Returns the numbers, from 0, of the lines that have a mark in a gutter.
    * @param {string} gutter
    */
   marksIn(gutter) {
@@ -361,7 +361,7 @@ export class LineEditor {
   }
 
   /**
-   * Styles the given lines in the gutters. The style "next" also applies to the text of the line.
+   * Applies a style to lines in the gutters. The style "next" also applies to the texts of the lines.
    * @param {"next" | "lacking"} name
    * @param {number[]} lines line numbers from 0, in ascending order
    */
@@ -471,7 +471,7 @@ export class LineEditor {
     this.view.requestMeasure();
   }
 
-  /** @param {() => void} action called after the next measurement, when CodeMirror no longer restores the scroll position */
+  /** @param {() => void} action called after CodeMirror's next measurement, when it no longer changes the scroll position */
   callAfterLayout(action) {
     this.view.requestMeasure({ read: () => null, write: () => queueMicrotask(action) });
   }
@@ -482,7 +482,7 @@ export class LineEditor {
    */
   swapState(state) {
     const previousState = this.state;
-    // Without this, CodeMirror would adjust the scroll position to keep a line in place, because it measures line heights.
+    // CodeMirror measures line heights, and would otherwise change the scroll position to keep the same line in place.
     this.scrollTo(0);
     this.view.setState(state);
     this.view.dispatch({ effects: this.lineWrapping.reconfigure(this.wraps ? EditorView.lineWrapping : []) });

@@ -1,4 +1,4 @@
-// The commands for names in a text: go to the definition, find all references, rename. Also the command that goes to a line.
+// The commands for names in a text: go to the definition, find all references, and rename. The command that goes to a line is also here.
 
 import { formatQuantity } from "../../core/bench/numbers.js";
 import { element, onClick } from "../ui/dom.js";
@@ -17,7 +17,7 @@ const MAX_LENGTH = 60;
 export class NameView {
   /**
    * @param {TextEditor} text
-   * @param {HTMLElement} parent the element that receives the bar and the list
+   * @param {HTMLElement} parent the element that contains the field for typed names and the list of references
    * @param {{ isInstruction: (word: string) => boolean, showMessage: (words: string) => void }} calls
    */
   constructor(text, parent, calls) {

@@ -8,7 +8,7 @@ import * as say from "../../words/text.js";
  * @typedef {{ from: number, to: number }} Span a range of offsets in the text
  */
 
-/** The maximum number in the count of matches. */
+/** The maximum number of matches that are counted. */
 const MAX_COUNTED = 1000;
 
 export class SearchBar {
@@ -93,7 +93,7 @@ export class SearchBar {
   }
 
   /**
-   * Selects the next or previous match, ignoring case. The search wraps around at the end of the text.
+   * Selects the next or previous match, ignoring case. The search continues at the other end of the text.
    * @param {boolean} isBack
    * @param {number} startOffset the offset at which the search begins
    */

@@ -7,7 +7,7 @@ import { block, button, field, onClick } from "../ui/dom.js";
  * @typedef {import("./line_editor.js").LineEditor} LineEditor
  */
 
-/** The font sizes in pixels. */
+/** The initial, minimum and maximum font size in pixels. */
 const DEFAULT_SIZE = 13;
 const MIN_SIZE = 9;
 const MAX_SIZE = 28;

@@ -27,9 +27,8 @@ import * as say from "../../words/text.js";
  *
  * The language of a text. `mark` begins a comment. `indent` is the indentation of a new line, by default that of the previous line. `folds`
  * are its foldable parts. `isInstruction` returns true if a word in upper case is an instruction, and is missing for texts without names.
- * `isUnsent` is true for a text that is never sent to the bench. `wordsAt` describes the word at an offset in a line, both from 0.
- * `valuesAt` returns the current values of that word, and `makeEditable` makes a value editable. `complete` returns the completions for the
- * word.
+ * `isUnsent` is true if the text is never sent to the bench. `wordsAt` describes the word at an offset in a line, both from 0. `valuesAt`
+ * returns the current values of that word, and `makeEditable` makes a value editable. `complete` returns the completions for the word.
  * @typedef {{ mark: import("../../core/text/sendable_text.js").CommentMark, colours: import("./line_colours.js").Colours,
  *   gutters: string[], indent?: string,
  *   folds?: import("../../core/text/folding.js").Parts, isInstruction?: (word: string) => boolean,
@@ -84,9 +83,9 @@ export class EditorView {
     this.faults = new ErrorView(editor, this.marks, list, (fault) => this.goToFault(fault));
     this.search = new SearchBar(editor, panel, label);
     this.names = new NameView(this.editor, panel, { isInstruction, showMessage: (words) => this.status.set(words) });
-    /** The timer for the description at the resting pointer or caret. */
+    /** The timer that describes the word at the pointer or the caret once it rests. */
     this.descriptionTimer = 0;
-    /** The timer for the size of the text. */
+    /** The timer that updates the displayed size of the text. */
     this.sizeTimer = 0;
     this.listenToPointer(editor.getWrapperElement());
     editor.onScroll(() => this.meaning.hideTip());
@@ -223,7 +222,7 @@ export class EditorView {
   }
 
   /**
-   * Returns the error message at a position, or the help for the word there, or "".
+   * Returns the error message at a position. If there is none, returns the description of the word there, or "".
    * @param {Position} position
    */
   messageOrHelpAt(position) {
@@ -249,7 +248,7 @@ export class EditorView {
     return sentText(this.text, this.language.mark);
   }
 
-  /** The text in which the bench's error positions are valid. */
+  /** The text to which the error positions that the bench reports refer. */
   get alignedText() {
     return alignedText(this.text, this.language.mark);
   }

@@ -1,4 +1,4 @@
-// Runs time until it stops, by the clock or at full speed. Handles the frames that the worker reports.
+// Runs and pauses time, with the clock or at full speed. Handles the frames that the worker reports.
 
 import { isStop, readRun, parseRefusal } from "../../core/bench/answers.js";
 import { wordsOfHalt, wordsOfMove, wordsOfStop } from "../../words/stops.js";
@@ -39,8 +39,9 @@ import * as say from "../../words/time.js";
  * @property {(id: number) => string} describeCondition Returns a text with the condition of a breakpoint, by its id.
  * @property {() => number} countUnreadable Returns the number of breakpoints whose condition has an error. These breakpoints stop at every
  *   hit.
- * @property {(number: number) => string} describeRefusal Returns the message of a refusal.
- * @property {() => Promise<string | null>} step Serves a step. Resolves to its answer, or to null if the call failed.
+ * @property {(number: number) => string} describeRefusal Returns the message for a numbered error of the bench.
+ * @property {() => Promise<string | null>} step Sends the command for one step to the bench. Resolves to its answer, or to null if the call
+ *   failed.
  * @property {(fault: unknown) => void} reportFailure Reports an error that a call threw.
  */
 
@@ -102,7 +103,7 @@ export class RunController {
     if (this.status.set(words)) this.status.node.title = words;
   }
 
-  /** Starts a new measurement of the rate. */
+  /** Starts a new measurement of the simulation rate. */
   startRateMeasurement() {
     this.rate = new Rate(this.clock.now);
     this.showRate();
@@ -131,7 +132,10 @@ export class RunController {
     currentSession.keep();
   }
 
-  /** @param {Goal | null} goal the goal of a move; saved with the session, so that a reload can report that the move was interrupted */
+  /**
+   * @param {Goal | null} goal the goal of the run; saved with the session, so that the page can report after a reload that the run was
+   *   interrupted
+   */
   storeGoal(goal) {
     const { session } = this.currentSession;
     if (!session) return;
@@ -172,7 +176,7 @@ export class RunController {
     this.handleFrame(frame);
   }
 
-  /** Runs one instruction, which can take two cycles. Breakpoints and watches stop it like any other run. */
+  /** Runs one instruction, which can take two cycles. A breakpoint or a watch can stop this run like any other run. */
   async runInstruction() {
     const { bench, calls } = this;
     this.handleFrame(await bench.call("advance", [1]));
@@ -188,7 +192,7 @@ export class RunController {
   }
 
   /**
-   * Shows for MESSAGE_TIME that time stood still, and restarts the measurement of the rate.
+   * Shows a message that time stood still, for MESSAGE_TIME milliseconds. Restarts the measurement of the simulation rate.
    * @param {number} time the duration in milliseconds
    * @param {boolean} wasHidden
    */
@@ -267,11 +271,11 @@ export class RunController {
       return;
     }
     if (isNewRate || !this.clock.isRunning) this.showRate();
-    // A key press is saved immediately. A hidden page receives only one frame per second, and saves each time.
+    // A key press is saved at once. A hidden page receives only one frame per second, so it saves after each frame.
     if (frame.changesKeys || document.hidden || performance.now() - currentSession.lastSaveTime >= SAVE_INTERVAL) currentSession.keep();
   }
 
-  /** A text with the program counter, its name and its source line. */
+  /** A text with the program counter, its name in the source, and its source line. */
   get counterText() {
     return this.calls.describeCounter();
   }
@@ -312,7 +316,7 @@ export class RunController {
   }
 
   /**
-   * Returns true if a key will be down after all queued changes. If changes are not queued, returns `isDown`.
+   * Returns true if a key will be down after all queued presses and releases. If none are queued, returns `isDown`.
    * @param {Key} key
    * @param {boolean} isDown true if the bench reports the key as down
    */

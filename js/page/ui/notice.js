@@ -1,6 +1,6 @@
-// Notices about errors and about actions that can be undone. The three newest are visible regardless of the page's scroll position. Most
-// kinds have at most one notice, the newest; undoable actions and sessions that were not opened have one notice each. An error notice
-// disappears when its cause is gone, a success notice after some time. A list shows all past notices.
+// Notices about errors and about actions that can be undone. The three newest are visible regardless of the page's scroll position. For
+// most kinds, only the newest notice is visible. Undoable actions and sessions that were not opened each have their own notice. An error
+// notice disappears when its cause is gone; a success notice disappears after some time. A list shows all past notices.
 
 import { block, element } from "./dom.js";
 import { NoticeList } from "./notice_list.js";
@@ -16,8 +16,8 @@ import * as say from "../../words/page.js";
  */
 
 /**
- * The kinds of errors that are reported repeatedly while they last. After the user has dismissed such a notice, it appears again only if
- * its cause was gone in between.
+ * The kinds of errors that are reported repeatedly while their cause persists. A notice that the user has dismissed appears again only if
+ * its cause was gone in the meantime.
  */
 const LASTING_KINDS = new Set(["kept", "store"]);
 /** The kinds that have a separate notice for each event. */
@@ -30,7 +30,7 @@ const STAY_TIME = 8000;
 const MAX_VISIBLE = 3;
 
 /**
- * Returns the notices to remove so that at most MAX_SHOWN remain: first the oldest success notices, then the oldest others. The newest
+ * Returns the notices to remove so that at most MAX_VISIBLE remain: first the oldest success notices, then the oldest others. The newest
  * notice stays.
  * @template {{ kind: NoticeKind }} Each
  * @param {Each[]} rows the notices, newest first
@@ -83,7 +83,7 @@ export class Notice {
   }
 
   /**
-   * Removes a notice after STAY_TIME, but not while the pointer or the focus is on it.
+   * Removes a notice after STAY_TIME milliseconds, but not while the pointer or the focus is on the notice.
    * @param {Row} row
    */
   removeLater(row) {
@@ -109,7 +109,7 @@ export class Notice {
   }
 
   /**
-   * Executes a notice's action and removes the notice, because an action can be executed only once.
+   * Executes an action of a notice and removes the notice, because the action can be executed only once.
    * @param {import("./notice_list.js").Message} message
    * @param {NoticeAction} action
    */
@@ -145,7 +145,7 @@ export class Notice {
     const node = element("button", { type: "button", className }, word);
     node.setAttribute("aria-label", label);
     node.addEventListener("click", (event) => {
-      // After a click by pointer, the board must receive the keys again.
+      // After a click with the pointer, the board must receive the keys again.
       if (event.detail > 0) node.blur();
       act();
     });

@@ -2,9 +2,9 @@
 
 import { element } from "./dom.js";
 
-/** The time in milliseconds after a click during which messages appear at the position of that click. */
+/** The time in milliseconds after a click in which messages appear at the position of that click. */
 const PRESS_TIME = 3000;
-/** The distance in pixels between a message and the element above it, and from the edges of the window. */
+/** The distance in pixels between a message and the element above it, and between a message and the edges of the window. */
 const GAP = 4;
 
 /**

@@ -43,7 +43,7 @@ export class Preferences {
   }
 
   /**
-   * Returns the choice with this name, or "" if there is none.
+   * Returns the preference with this name, or "" if there is none.
    * @param {string} name
    */
   get(name) {
@@ -60,7 +60,7 @@ export class Preferences {
     try {
       if (this.store) this.store.setItem(KEY, JSON.stringify(this.choiceByName));
     } catch {
-      // Without storage, the choice lasts until the page is closed.
+      // Without local storage, the preference lasts only until the page is closed.
     }
   }
 }

@@ -1,5 +1,5 @@
 // Tooltips with a button's action and key. A tooltip opens when the pointer rests on the button, when the button gets the keyboard focus,
-// or on a long touch. Browsers show a `title` only for the pointer, so a button with a `title` gets a tooltip for the keyboard and for
+// or on a long touch. Browsers show a `title` only at the pointer, so a button with a `title` also gets a tooltip for the keyboard and for
 // touch.
 
 import { element } from "./dom.js";
@@ -24,7 +24,7 @@ export class Tooltips {
     this.timer = 0;
     /** @type {HTMLElement | null} the element whose tooltip is visible */
     this.describedElement = null;
-    /** True if a touch has opened the tooltip. The end of this touch does not count as a click. */
+    /** True if a touch has opened the tooltip. The click at the end of this touch is ignored. */
     this.isOpenedByTouch = false;
     addEventListener("pointerover", (event) => this.handlePointerOver(event));
     addEventListener("pointerout", (event) => event.pointerType !== "touch" && this.hide());

@@ -1,4 +1,4 @@
-// The context menus of wave rows: the menu of a line for its name, group, position and colour, and the menu of a group.
+// The context menus of wave rows. The menu of a line changes its name, group, position and colour. A group has its own menu.
 
 import { ContextMenu } from "../commands/menu_view.js";
 import { FieldBar } from "../text/field_bar.js";
@@ -15,7 +15,7 @@ import * as say from "../../words/waves.js";
 const MAX_NAME_LENGTH = 40;
 
 export class RowMenu {
-  /** @param {import("./wave_view.js").WaveView} view the wave view, which has the selected row */
+  /** @param {import("./wave_view.js").WaveView} view the wave view, whose selected row the menus change */
   constructor(view) {
     this.view = view;
     this.menu = new ContextMenu("row-menu", say.ROW);

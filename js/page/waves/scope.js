@@ -29,8 +29,8 @@ import * as say from "../../words/waves.js";
  *   (`isBefore`), or the next ones. `values` are the names of registers and nibbles to include. Resolves to null after a failure. A failure
  *   has already been reported.
  * @property {(wanted: { trigger: string } & LiveSetup, values: string[]) => Promise<{ recorded: Recording | null, fault: string } | null>}
- *   startLive Starts a recording that lasts until `endLive`. Resolves to its first part or to the error in the trigger, or to null after a
- *   failure.
+ *   startLive Starts a recording that lasts until `endLive`. Resolves to the first part of the recording or to the error in the trigger's
+ *   condition, or to null after a failure.
  * @property {() => Promise<LivePart | null>} endLive Ends the recording. Resolves to its last part, or to null if there is none.
  * @property {() => WaveLine[]} boardLines Returns all lines of the board.
  * @property {() => string} name Returns the session's name, which is used for file names.
@@ -42,7 +42,7 @@ import * as say from "../../words/waves.js";
 /** The interval in milliseconds at which the picture of a recording in progress is updated. */
 const DRAW_INTERVAL = 100;
 
-/** Keeps at most one panel below the controls open. Escape and a click outside the panel close it. */
+/** Lets at most one panel be open below the controls. Escape and a click outside the panel close it. */
 function listenToPanels() {
   const panels = [.../** @type {NodeListOf<HTMLDetailsElement>} */ (block("wave-bar").querySelectorAll(".pop"))];
   const closeOthers = (/** @type {EventTarget | null} */ target) => {
@@ -63,7 +63,7 @@ function listenToPanels() {
   }
 }
 
-/** Keeps the height of the controls in a CSS property, because panels open below them. */
+/** Keeps a CSS property equal to the height of the controls, because panels open below the controls. */
 function storeHeight() {
   const bar = block("wave-bar");
   new ResizeObserver(() => block("scope").style.setProperty("--wave-bar-height", `${bar.offsetHeight}px`)).observe(bar);
@@ -209,7 +209,7 @@ export class Scope {
   }
 
   /**
-   * Selects the register or nibble that the trigger names, so that the recording includes it.
+   * Selects the register or nibble that the trigger's condition names, so that the recording includes it.
    * @param {string} trigger
    */
   selectTriggerLine(trigger) {
@@ -223,7 +223,7 @@ export class Scope {
     if (part) this.addPart(part);
   }
 
-  /** Restarts the recording in progress, because the user has selected values that it does not include. */
+  /** Restarts the recording in progress, because the user has selected values that the recording does not include. */
   async restartLive() {
     if (!this.isLive || this.isBusy) return;
     this.isBusy = true;
@@ -235,7 +235,7 @@ export class Scope {
   }
 
   /**
-   * Adds new data to the recording; null if the recording has been lost.
+   * Adds a new part to the recording. `part` is null if the bench has lost the recording.
    * @param {LivePart | null} part
    */
   addPart(part) {
@@ -260,7 +260,7 @@ export class Scope {
     this.choice.handleGrowth();
     this.showLive(liveWaves);
     const { over: endReason } = liveWaves;
-    // After changing the program or the board, the user usually wants the same recording again.
+    // A change of the program or the board ends the recording. The user usually wants the same recording again, so restart it.
     if (endReason === "board" || endReason === "program") this.beginLive();
   }
 
@@ -316,7 +316,7 @@ export class Scope {
   }
 
   /**
-   * The recording to save. If no row is visible, shows a message and is null.
+   * The recording to save, or null if no row is visible. In that case, shows a message.
    * @returns {Waves | null}
    */
   get savedWaves() {

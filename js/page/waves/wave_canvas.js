@@ -13,10 +13,11 @@ import { tickMoments } from "../../core/waves/wave_window.js";
  * @typedef {CanvasRenderingContext2D | import("../../core/waves/svg_context.js").SvgContext} Context
  * @typedef {{ ink: string, faint: string, grid: string, sheet: string, chosen: string, first: string, second: string, measured: string }
  *   & Record<RowColour, string>} Colours
- * @typedef {{ row: number, from: number, to: number }} RowRange a row between two moments
+ * @typedef {{ row: number, from: number, to: number }} RowRange the part of a row between two moments
  * @typedef {{ waves: Waves, rows: WaveRow[], selected: number, view: WaveWindow, top: number, gutter: number, height: number, trigger:
- * number, measured: RowRange | null, colours: Colours, font: string }} Picture the drawing: `top` is the number of pixels that are
- * scrolled away above, `trigger` the moment of the trigger, -1 for none, `measured` the measurement at the pointer
+ *   number, measured: RowRange | null, colours: Colours, font: string }} Picture the picture to draw: `top` is the vertical scroll position
+ *   in pixels, `gutter` the width of the gutter in pixels, `trigger` the moment of the trigger (-1 for none), and `measured` the measured
+ *   range at the pointer
  */
 
 /** The height in pixels of the time axis. */
@@ -58,7 +59,7 @@ export function drawWaves(context, picture) {
 }
 
 /**
- * Draws with a clip rectangle.
+ * Draws with a clip rectangle, so that nothing is drawn outside `box`.
  * @param {Context} context
  * @param {[number, number, number, number]} box
  * @param {() => void} draw
@@ -157,7 +158,8 @@ function drawMeasured(context, { view, gutter, colours }, { from, to }, y) {
 }
 
 /**
- * Returns the gutter name of a line. A port includes its name in the board's text, and a decoder shows its function.
+ * Returns the name of a line for the gutter. The name of a port includes the name that the board's text gives it. The name of a decoder is
+ * its title.
  * @param {import("../../core/waves/wave_lines.js").WaveLine} line
  */
 function gutterName(line) {
@@ -167,7 +169,7 @@ function gutterName(line) {
 }
 
 /**
- * Returns the gutter value of a line at the active cursor. Labels and decoders show their values only in their rows.
+ * Returns the value of a line at the active cursor, for the gutter. Labels and decoders show their values only in their rows.
  * @param {Picture} picture
  * @param {number} line
  */
@@ -195,7 +197,7 @@ function drawLevels(context, { waves, view, gutter }, line, y) {
     const x = view.xAt(changes[changeIndex]);
     const next = countUpTo(changes, view.cyclesAt(x + 1));
     if (next > changeIndex + 1) {
-      // Several edges are in one pixel.
+      // Several edges are in the same pixel column, so draw a solid block.
       context.lineTo(gutter + x, level ? high : low);
       context.fillRect(gutter + x, high, 1, low - high);
       level ^= (next - changeIndex) & 1;
@@ -267,7 +269,7 @@ function drawCursor(context, picture, cursor, colour) {
 }
 
 /**
- * Returns the left edge of a mark's flag. The flag is centred at the mark, but does not cross the right edge of the picture.
+ * Returns the left edge of a mark's flag. The flag is centred on the mark, unless it would cross the right edge of the picture.
  * @param {number} x the x coordinate of the mark
  * @param {number} right the x coordinate of the right edge
  */

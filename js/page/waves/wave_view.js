@@ -34,11 +34,11 @@ import * as say from "../../words/waves.js";
 const ZOOM = 2;
 /** The width in pixels of the gutter with the line names. */
 const GUTTER = 150;
-/** The width in pixels of that gutter in a narrow view. */
+/** The width in pixels of the gutter in a narrow view. */
 const NARROW_GUTTER = 112;
 /** The width in pixels below which a view is narrow. */
 const NARROW_WIDTH = 600;
-/** The maximum number of rows that are visible without scrolling. */
+/** The maximum number of rows that the canvas shows without scrolling. */
 const MAX_ROWS = 20;
 
 /** The CSS property that defines each colour. */
@@ -47,7 +47,7 @@ const COLOURS = {
   second: "--wave-second", measured: "--wave-measured",
   ...Object.fromEntries(ROW_COLOURS.map((colour) => [colour, `--wave-${colour}`])),
 };
-/** The distance in pixels between the pointer and the measurement next to it. */
+/** The distance in pixels between the pointer and the text of the measurement. */
 const MEASURE_DISTANCE = 12;
 
 export class WaveView {
@@ -59,22 +59,22 @@ export class WaveView {
     this.room = block("wave-room");
     /** @type {Waves | null} */
     this.waves = null;
-    /** @type {number[]} the lines to show, in board order */
+    /** @type {number[]} the indices of the lines to show, in board order */
     this.chosenLines = [];
     this.arrangement = new WaveRows();
     /** @type {WaveRow[]} */
     this.rows = [];
-    /** @type {WaveRow | null} the row that the user drags by its name; null if there is none */
+    /** @type {WaveRow | null} the row whose name the user is dragging; null if there is none */
     this.draggedRow = null;
     /** @type {Point | null} the position of the hovering pointer; null if it has left or is pressed */
     this.pointer = null;
     this.measure = block("wave-measure");
     this.measureCell = new Cell(this.measure);
     this.menu = new RowMenu(this);
-    /** The index of the selected row, or -1 if there is none. Edges are searched in this row. */
+    /** The index of the selected row, or -1 if there is none. The buttons for the next and previous edge search this row. */
     this.selected = -1;
     this.view = new WaveWindow(0);
-    /** True if a drawing has been requested but not executed. */
+    /** True if a drawing has been requested for the next animation frame. */
     this.isDrawingRequested = false;
     /** @type {NumberBase} the number base of values */
     this.base = "hex";
@@ -123,7 +123,7 @@ export class WaveView {
     return this.scroll.clientWidth < NARROW_WIDTH ? NARROW_GUTTER : GUTTER;
   }
 
-  /** The line of the selected row, or -1 if there is none. */
+  /** The index of the selected row's line, or -1 if there is none. */
   get line() {
     return this.selected < 0 ? -1 : this.rows[this.selected].line;
   }
@@ -150,7 +150,7 @@ export class WaveView {
   }
 
   /**
-   * Handles a recording that has grown at its end or lost its beginning.
+   * Shows a recording after parts were added at its end or removed at its beginning.
    * @param {number} trigger the moment of the trigger, or -1 if there is none
    */
   grow(trigger) {
@@ -184,7 +184,7 @@ export class WaveView {
     this.requestDrawing();
   }
 
-  /** @param {number[]} lines the lines to show, in board order */
+  /** @param {number[]} lines the indices of the lines to show, in board order */
   choose(lines) {
     this.chosenLines = lines;
     this.arrange(this.rows[this.selected]);
@@ -260,7 +260,7 @@ export class WaveView {
   }
 
   /**
-   * Changes the appearance of lines, by name.
+   * Changes the name, the colour or the group of lines. `names` are the lines' names.
    * @param {string[]} names
    * @param {import("../../core/waves/wave_rows.js").RowAppearance} look
    */
@@ -277,7 +277,7 @@ export class WaveView {
   }
 
   /**
-   * Opens the menu of the row under the pointer, or of the selected row if a key has opened the menu.
+   * Opens the context menu of the row under the pointer, or of the selected row if the user pressed the menu key.
    * @param {MouseEvent} event
    */
   openMenu(event) {
@@ -301,8 +301,7 @@ export class WaveView {
   }
 
   /**
-   * Shows the measurement at the pointer in a text beside it. Returns the range of the row to underline, or null if there is no
-   * measurement.
+   * Shows the measurement at the pointer in a text beside the pointer. Returns the range to underline, or null if there is no measurement.
    * @param {Waves} waves
    * @returns {import("./wave_canvas.js").RowRange | null}
    */
@@ -325,7 +324,7 @@ export class WaveView {
 
   // --- actions of the user ---
 
-  /** @param {() => void} action changes which cycles are visible */
+  /** @param {() => void} action changes the range of cycles that is visible */
   changeView(action) {
     action();
     this.requestDrawing();
