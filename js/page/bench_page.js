@@ -4,8 +4,10 @@
 import { ConfirmDialog } from "./ui/confirm_dialog.js";
 import { Face } from "../core/board/face.js";
 import { makeCurrentSession, makeRecovery, makeRunController, makeLineServer } from "./compose_core.js";
-import { connectSound, makeDrawing, makeKeyPresser, makeScope, makeSnapshotView } from "./compose_board.js";
-import { makeBreakpoints, makeHeat, makeHistory, makeMistakes, makeTravel, makeValues, makeWatched } from "./compose_debug.js";
+import { connectSound, makeDrawingController, makeKeyPresser, makeScope, makeSnapshotView } from "./compose_board.js";
+import {
+  makeBreakpointsController, makeHeatView, makeHistoryView, makeMistakesView, makeSourceValues, makeTravel, makeWatchView,
+} from "./compose_debug.js";
 import { lampNames } from "../core/board/face_board.js";
 import { currentWiredText, describesBoard, textsToStore } from "../core/board/wired_board_text.js";
 import { cellWords } from "../core/help/manual.js";
@@ -13,8 +15,10 @@ import { Layout } from "./layout.js";
 import { LogView } from "./lines/log_view.js";
 import { sessionTitle } from "../core/session/session_summary.js";
 import { StoredHistory } from "./session/stored_history.js";
-import { makeExport, makeRomFiles, makeSessionsController, makeLinkSharing } from "./compose_session.js";
-import { makeEditors, makeExplore, makeProblems, makeSource, makeTests, makeTexts, nameCharacters } from "./compose_texts.js";
+import { makeExportView, makeRomFiles, makeSessionsController, makeLinkSharing } from "./compose_session.js";
+import {
+  makeEditors, makeExploreTab, makeProblemsView, makeSource, makeTestsTab, makeTextsController, showNibbleNames,
+} from "./compose_texts.js";
 import { CyclesView } from "./time/cycles_view.js";
 import { TextAppearance } from "./text/text_appearance.js";
 import { ProgressView } from "./ui/progress_view.js";
@@ -56,25 +60,25 @@ export class Page {
     this.layout = new Layout(() => this.printContents());
     this.workView = new ProgressView();
     this.editors = makeEditors(this, manual);
-    this.breakpoints = makeBreakpoints(this);
+    this.breakpoints = makeBreakpointsController(this);
     this.source = makeSource(this);
-    this.sourceValues = makeValues(this);
-    this.watchView = makeWatched(this);
-    this.heatView = makeHeat(this);
+    this.sourceValues = makeSourceValues(this);
+    this.watchView = makeWatchView(this);
+    this.heatView = makeHeatView(this);
     this.cyclesView = new CyclesView(() => this.currentSession.keep());
     this.travel = makeTravel(this);
-    this.historyView = makeHistory(this);
+    this.historyView = makeHistoryView(this);
     this.confirmDialog = new ConfirmDialog();
-    this.testsTab = makeTests(this, manual);
-    this.exploreTab = makeExplore(this, manual, makeBench);
+    this.testsTab = makeTestsTab(this, manual);
+    this.exploreTab = makeExploreTab(this, manual, makeBench);
     this.appearance = new TextAppearance(this.layout.preferences, this.textEditors.map(({ editor }) => editor.editor));
-    this.mistakesView = makeMistakes(this, makeProblems(this));
-    this.textsController = makeTexts(this);
+    this.mistakesView = makeMistakesView(this, makeProblemsView(this));
+    this.textsController = makeTextsController(this);
     this.romFiles = makeRomFiles(this);
-    this.exportView = makeExport(this);
+    this.exportView = makeExportView(this);
     this.sessionsController = makeSessionsController(this, services);
     this.linkSharing = makeLinkSharing(this);
-    this.drawingController = makeDrawing(this);
+    this.drawingController = makeDrawingController(this);
     this.scope = makeScope(this);
   }
 
@@ -161,7 +165,7 @@ export class Page {
     this.editors.checkTexts(board.length === 1);
     this.heatView.updateWatch();
     connectSound(this, wiredTexts.text);
-    nameCharacters(this);
+    showNibbleNames(this);
   }
 
   /**

@@ -35,7 +35,7 @@ export function makeSnapshotView(page) {
     describeRefusal: (number) => page.words.refusalMeaning(number),
     explain: (name) => describeCell(page.cellWords, name),
     showCounterLine: (counter) => page.source.showNext(counter, runController.isFast || page.currentSession.willRun),
-    takeBreakpoints: (breakpoints) => page.breakpoints.keeper.take(breakpoints),
+    receiveBreakpoints: (breakpoints) => page.breakpoints.keeper.take(breakpoints),
     toggleBreakpoint: (address) => page.breakpoints.keeper.toggleAddress(address),
     revealAddress: (address) => page.source.reveal(address),
     watchLamps: (face, number) => {
@@ -89,7 +89,7 @@ export function connectSound({ runController, snapshotView }, boardText) {
  * @param {Page} page
  * @returns {DrawingController}
  */
-export function makeDrawing(page) {
+export function makeDrawingController(page) {
   const scanKeys = (/** @type {import("../core/bench/answers.js").Board} */ board) => insertKeyScan(page, board);
   const { bench, boardEditor, currentSession, snapshotView: { wiring } } = page;
   const { editor } = boardEditor;

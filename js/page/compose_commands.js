@@ -28,7 +28,7 @@ import * as say from "../words/page_commands.js";
  */
 
 /** The key of the stored preference that says whether the welcome cards have been shown. */
-const SEEN_KEY = "welcome";
+const WELCOME_SHOWN_KEY = "welcome";
 
 /** @type {TextName[]} the texts in the order of the page's editors */
 const EDITOR_NAMES = ["board", "program", "tests", "properties"];
@@ -158,7 +158,7 @@ export class Commands {
     this.calls = this.makeCalls(guide, theme);
     this.welcome = this.makeWelcome(guide);
     this.palette = new PaletteView({
-      commands: () => [...COMMANDS, ...this.ownCommands()].map((command) => this.makeEntry(command)),
+      commands: () => [...COMMANDS, ...this.dynamicCommands()].map((command) => this.makeEntry(command)),
       places: (query) => listDestinations(query, this.createPlaceCallbacks()),
     });
     theme.onChange = () => page.scope.view.requestDrawing();
@@ -213,15 +213,15 @@ export class Commands {
     const { layout, sessionsController } = this.page;
     return new WelcomeView(this.examples, {
       beginTour: () => void guide.tour.begin(),
-      begin: (name) => sessionsController.beginNamed(name),
+      begin: (name) => sessionsController.beginExampleByName(name),
       showWiring: () => show(this.page, "wiring"),
-      storeSeen: () => layout.preferences.set(SEEN_KEY, "yes"),
+      storeSeen: () => layout.preferences.set(WELCOME_SHOWN_KEY, "yes"),
     });
   }
 
   /** Shows the welcome cards on the first visit in this browser. */
   showFirstWelcome() {
-    if (!this.page.layout.preferences.get(SEEN_KEY)) this.welcome.open();
+    if (!this.page.layout.preferences.get(WELCOME_SHOWN_KEY)) this.welcome.open();
   }
 
   /** @returns {import("./commands/palette_places.js").PlaceCalls} */
@@ -237,7 +237,7 @@ export class Commands {
         page.programEditor.editor.goTo({ line: line - 1, ch: 0 });
       },
       address: (address) => page.snapshotView.goTo.show(address),
-      example: (name) => void page.sessionsController.beginNamed(name),
+      example: (name) => void page.sessionsController.beginExampleByName(name),
       project: (id) => void page.sessionsController.open(id),
     };
   }
@@ -246,7 +246,7 @@ export class Commands {
    * Returns the commands that depend on the examples and on the board's keys.
    * @returns {Command[]}
    */
-  ownCommands() {
+  dynamicCommands() {
     const { snapshotView, keyPresser, sessionsController } = this.page;
     return [
       ...this.examples.map((example) => labelledCommand(`example.${example.name}`, say.openExample(example.name), "example",

@@ -56,7 +56,7 @@ export function makeRomFiles(page) {
 }
 
 /** @param {Page} page */
-export function makeExport(page) {
+export function makeExportView(page) {
   return new ExportView({
     name: () => page.currentSession.name,
     board: () => page.boardEditor.text,

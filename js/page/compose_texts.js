@@ -53,7 +53,7 @@ export function makeEditors(page, manual) {
  * @param {Page} page
  * @returns {ProblemsView}
  */
-export function makeProblems(page) {
+export function makeProblemsView(page) {
   /** @type {Record<string, import("./text/text_editor_view.js").EditorView>} */
   const editors = { program: page.programEditor, board: page.boardEditor, tests: page.testsTab.editor, properties: page.exploreTab.editor };
   const problems = new ProblemsView({
@@ -71,7 +71,7 @@ export function makeProblems(page) {
  * Shows the names of nibbles in the RAM view. The names come from the watch and from the source.
  * @param {Page} page
  */
-export function nameCharacters({ snapshotView, watchView, source }) {
+export function showNibbleNames({ snapshotView, watchView, source }) {
   snapshotView.ram.showNames(nibbleNames(snapshotView.board, watchView.expressions, source.map));
 }
 
@@ -86,7 +86,7 @@ export function makeSource(page) {
     changed: (map, words) => {
       page.snapshotView.nameLines(map, words);
       page.layout.status.showRom(map !== null, words);
-      nameCharacters(page);
+      showNibbleNames(page);
       page.breakpoints.keeper.setSourceMap(map, words);
     },
     describeRefusal: (number) => page.words.refusalMeaning(number),
@@ -99,7 +99,7 @@ export function makeSource(page) {
  * @param {Page} page
  * @returns {TextsController}
  */
-export function makeTexts(page) {
+export function makeTextsController(page) {
   const { currentSession } = page;
   const { boardEditor, programEditor, testsTab, exploreTab, confirmDialog, notice } = page;
   return new TextsController(boardEditor, programEditor, testsTab.editor, exploreTab.editor, confirmDialog, notice, {
@@ -142,7 +142,7 @@ export function insertKeyScan({ layout, programEditor }, board) {
  * @param {ManualSection[]} manual
  * @returns {TestsTab}
  */
-export function makeTests(page, manual) {
+export function makeTestsTab(page, manual) {
   const { bench, runController, words } = page;
   const tab = new TestsTab(manual, {
     texts: () => ({ boardText: page.boardEditor.text, programText: page.programEditor.text }),
@@ -209,7 +209,7 @@ async function openWithLines(page, { name, lines, message }, texts) {
  * @param {() => import("../core/bench/bench_client.js").Bench} makeBench
  * @returns {ExploreTab}
  */
-export function makeExplore(page, manual, makeBench) {
+export function makeExploreTab(page, manual, makeBench) {
   const { bench, words } = page;
   const [explorer, prover] = [new Explorer(makeBench), new Prover(makeBench)];
   const tab = new ExploreTab(manual, {

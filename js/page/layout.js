@@ -21,7 +21,7 @@ const DOCK_TABS = ["disassembly", "waves", "console", "problems"];
 const DOCK_TAB_BY_PANEL = { listing: "disassembly", scope: "waves", talk: "console", problems: "problems" };
 
 /** @type {Border[]} */
-const BORDERS = [
+const SPLITTERS = [
   { id: "front-splitter", panel: "front", property: "--front-width", side: "right", min: 160, max: 700 },
   { id: "dock-splitter", panel: "dock", property: "--dock-height", side: "top", min: 60, max: 1200 },
   { id: "side-splitter", panel: "side", property: "--side-width", side: "left", min: 240, max: 900 },
@@ -45,7 +45,7 @@ export class Layout {
     });
     this.status = new StatusView();
     this.print = new PrintView(readContents);
-    this.splitters = BORDERS.map((border) => new Splitter(preferences, border));
+    this.splitters = SPLITTERS.map((border) => new Splitter(preferences, border));
     this.folds = makeFolds(preferences);
     this.panels = new Panels(preferences, () => this.reset());
   }

@@ -38,8 +38,8 @@ import * as say from "../words/page.js";
  * @property {(number: number) => string} describeRefusal Returns the message for a numbered error of the bench.
  * @property {(name: string) => string} explain Returns the description of a register, a memory cell or a name in the program.
  * @property {(counter: number) => void} showCounterLine Shows the program counter's line in the source.
- * @property {(breakpoints: string[]) => void} takeBreakpoints Receives the addresses of the bench's breakpoints, each as three hexadecimal
- *   digits.
+ * @property {(breakpoints: string[]) => void} receiveBreakpoints Receives the addresses of the bench's breakpoints, each as three
+ *   hexadecimal digits.
  * @property {(address: number) => void} toggleBreakpoint Sets or removes the breakpoint at an address.
  * @property {(address: number) => void} revealAddress Shows an address in the source after the disassembly has moved to it.
  * @property {(face: string, number: number) => void} watchLamps Asks the bench to measure the duty cycle of each lamp; `face` is the
@@ -229,7 +229,7 @@ export class SnapshotView {
       this.wiring.showRam(entry);
     }
     if (watches) this.ram.showWatches(watches);
-    if (breakpoints) this.calls.takeBreakpoints(breakpoints);
+    if (breakpoints) this.calls.receiveBreakpoints(breakpoints);
     if (registers || breakpoints || this.listing.lines.length === 0) this.showListing();
   }
 

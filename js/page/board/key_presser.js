@@ -26,9 +26,9 @@ import { formatKey } from "../../core/board/key_place.js";
  */
 
 /** The delay in milliseconds before a touch presses a key. Within this time the browser recognises a scroll gesture. */
-const SWIPE_TIME = 60;
+const SWIPE_DELAY_MS = 60;
 /** The time in milliseconds after a finger lifts in which every click counts as a click by that finger, whatever its pointer type. */
-const TAP_TIME = 500;
+const TAP_CLICK_MS = 500;
 
 export class KeyPresser {
   /** @param {KeyPresserCalls} calls */
@@ -63,7 +63,7 @@ export class KeyPresser {
     });
     button.addEventListener("pointerup", (event) => {
       liftTime = event.timeStamp;
-      // A tap shorter than SWIPE_TIME has not pressed the key yet.
+      // A tap shorter than SWIPE_DELAY_MS has not pressed the key yet.
       if (this.cancelTouch(event.pointerId)) this.down(boardKey, false);
       this.up(key);
     });
@@ -76,7 +76,7 @@ export class KeyPresser {
     button.addEventListener("keyup", (event) => this.activate(event, () => this.up(key)));
     // A click without a pointer or a keyboard, for example from a screen reader, presses and releases the key.
     button.addEventListener("click", (event) => {
-      if (event.detail !== 0 || event.timeStamp - liftTime < TAP_TIME) return;
+      if (event.detail !== 0 || event.timeStamp - liftTime < TAP_CLICK_MS) return;
       if (event instanceof PointerEvent && event.pointerId > 0) return;
       this.down(boardKey, false);
       this.up(key);
@@ -95,7 +95,7 @@ export class KeyPresser {
   }
 
   /**
-   * Presses a key after SWIPE_TIME, unless the touch ends or becomes a swipe first.
+   * Presses a key after SWIPE_DELAY_MS, unless the touch ends or becomes a swipe first.
    * @param {number} pointer
    * @param {BoardKey} boardKey
    */
@@ -103,7 +103,7 @@ export class KeyPresser {
     this.touchTimers.set(pointer, window.setTimeout(() => {
       this.touchTimers.delete(pointer);
       this.down(boardKey, false);
-    }, SWIPE_TIME));
+    }, SWIPE_DELAY_MS));
   }
 
   /**

@@ -20,9 +20,9 @@ import { printoutLines } from "../../core/board/printout_lines.js";
  */
 
 /** The maximum number of lines on the page. The page shows the last lines of a longer printout. */
-const MAX_LINES = 400;
+const MAX_SHOWN_LINES = 400;
 /** The distance in pixels from the end of the printout within which the view follows new lines. */
-const END_DISTANCE = 24;
+const MAX_END_DISTANCE = 24;
 
 export class PrinterView {
   /** @param {PrinterCalls} calls */
@@ -93,7 +93,7 @@ export class PrinterView {
 
   /** Shows the lines of the printout. Reuses the elements of unchanged leading lines. */
   show() {
-    const lines = this.printer ? printoutLines(this.codes, this.printer.words).slice(-MAX_LINES) : [];
+    const lines = this.printer ? printoutLines(this.codes, this.printer.words).slice(-MAX_SHOWN_LINES) : [];
     if (lines[lines.length - 1] === "") lines.pop();
     let unchangedCount = 0;
     while (unchangedCount < lines.length && lines[unchangedCount] === this.lines[unchangedCount]) unchangedCount += 1;
@@ -107,7 +107,7 @@ export class PrinterView {
 
   handleScroll() {
     const { scrollHeight, scrollTop, clientHeight } = this.printoutBlock;
-    this.followsEnd = scrollHeight - scrollTop - clientHeight <= END_DISTANCE;
+    this.followsEnd = scrollHeight - scrollTop - clientHeight <= MAX_END_DISTANCE;
   }
 
   scrollToEnd() {

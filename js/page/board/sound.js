@@ -20,13 +20,13 @@ import * as say from "../../words/board.js";
 /** The number of cycles in one block of samples: 45 ms. */
 const BLOCK_CYCLES = 4200;
 /** The delay in seconds between the simulation of a cycle and its sound. */
-const DELAY = 0.09;
+const SOUND_DELAY_SECONDS = 0.09;
 /** The maximum delay in seconds. Blocks that would play even later are dropped. */
-const MAX_DELAY = 0.4;
+const MAX_DELAY_SECONDS = 0.4;
 /** The gain of the sound, from 0 to 1. */
-const VOLUME = 0.12;
+const GAIN = 0.12;
 /** The cut-off frequency of the high-pass filter in hertz. The filter makes a line that stays at 1 silent. */
-const MIN_PITCH = 30;
+const CUTOFF_HERTZ = 30;
 
 /** Plays blocks of samples in sequence. */
 class Player {
@@ -35,8 +35,8 @@ class Player {
     this.pieces = new SoundPieces(BLOCK_CYCLES);
     /** The end time of the last block, in seconds of the audio context. */
     this.endTime = 0;
-    const volume = new GainNode(this.context, { gain: VOLUME });
-    const filter = new BiquadFilterNode(this.context, { type: "highpass", frequency: MIN_PITCH });
+    const volume = new GainNode(this.context, { gain: GAIN });
+    const filter = new BiquadFilterNode(this.context, { type: "highpass", frequency: CUTOFF_HERTZ });
     this.input = volume;
     volume.connect(filter).connect(this.context.destination);
   }
@@ -45,9 +45,9 @@ class Player {
   play(heard) {
     const samples = this.pieces.add(heard);
     const currentTime = this.context.currentTime;
-    if (!samples || this.endTime > currentTime + MAX_DELAY) return;
+    if (!samples || this.endTime > currentTime + MAX_DELAY_SECONDS) return;
     // An audio context's time is 0 until it runs.
-    if (this.endTime <= currentTime) this.endTime = currentTime + DELAY;
+    if (this.endTime <= currentTime) this.endTime = currentTime + SOUND_DELAY_SECONDS;
     const buffer = this.context.createBuffer(1, samples.length, CYCLES_PER_SECOND);
     buffer.copyToChannel(samples, 0);
     const source = new AudioBufferSourceNode(this.context, { buffer });

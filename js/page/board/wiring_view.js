@@ -20,11 +20,11 @@ import * as say from "../../words/board.js";
  */
 
 /** The radius of a pin's clickable area, in SVG units. */
-const PIN_REACH = 9;
+const PIN_CLICK_RADIUS = 9;
 /** The length of a chip's drawn leg, in SVG units. */
-const LEG = 7;
+const LEG_LENGTH = 7;
 /** Half the width of the notch in a chip's outline, in SVG units. */
-const NOTCH = 6;
+const NOTCH_RADIUS = 6;
 /** The minimum size of the picture in SVG units. A small board leaves empty space, onto which the user can drop parts. */
 const MIN_WIDTH = 560;
 const MIN_HEIGHT = 240;
@@ -162,7 +162,7 @@ export class WiringView {
     const box = svgElement("g", { class: `part of-${kind}`, role: "button", tabindex: -1, "aria-label": description });
     const head = svgElement("text", { class: "title", x: x + width / 2, y: y + TITLE_HEIGHT - 9 }, title);
     const isChip = part.pins.some(({ number }) => number !== undefined);
-    const [middle, notch] = [x + width / 2, NOTCH];
+    const [middle, notch] = [x + width / 2, NOTCH_RADIUS];
     box.append(svgElement("rect", { x, y, width, height, rx: isChip ? 2 : 4 }), head);
     if (isChip) box.append(svgElement("path", { class: "notch", d: `M${middle - notch},${y}a${notch},${notch},0,0,0,${2 * notch},0` }));
     this.registerNode(box, id);
@@ -192,13 +192,15 @@ export class WiringView {
     const side = isLeft ? "at-left" : "at-right";
     const label = svgElement("text", { class: side, x: pin.x + (isLeft ? 10 : -10), y: pin.y + 4 }, pin.label);
     nodes.set(pin.line, [...(nodes.get(pin.line) || []), circle]);
-    const hitArea = svgElement("circle", { class: "reach", ...centre, r: PIN_REACH });
+    const hitArea = svgElement("circle", { class: "reach", ...centre, r: PIN_CLICK_RADIUS });
     const description = `${part.title}, ${pin.label}, ${this.describePin(pin)}`;
     const { number } = pin;
     const title = svgElement("title", {}, (pin.line || say.TEST_PIN) + (number === undefined ? "" : say.pinOf(number)));
     const leg = number === undefined ? [] : [
-      svgElement("rect", { class: "leg", x: isLeft ? pin.x - LEG : pin.x, y: pin.y - 3, width: LEG, height: 6 }),
-      svgElement("text", { class: `number ${isLeft ? "at-right" : ""}`, x: pin.x + (isLeft ? -LEG : LEG), y: pin.y - 5 }, String(number))];
+      svgElement("rect", { class: "leg", x: isLeft ? pin.x - LEG_LENGTH : pin.x, y: pin.y - 3, width: LEG_LENGTH, height: 6 }),
+      svgElement("text", {
+        class: `number ${isLeft ? "at-right" : ""}`, x: pin.x + (isLeft ? -LEG_LENGTH : LEG_LENGTH), y: pin.y - 5,
+      }, String(number))];
     const node = svgElement("g", { "class": "at-pin", "role": "button", "tabindex": -1, "aria-label": description },
       title, ...leg, circle, label, hitArea);
     this.registerNode(node, pin.id);
@@ -262,7 +264,7 @@ export class WiringView {
     }
     this.root.classList.toggle("wiring-on", startPin !== "");
     if (selection) this.setTabStop(selection);
-    if (startPin === "") this.drawPencil("", null);
+    if (startPin === "") this.drawNewWire("", null);
   }
 
   /**
@@ -270,7 +272,7 @@ export class WiringView {
    * @param {string} name the pin's name; "" removes the wire
    * @param {import("../../core/board/wiring.js").Point | null} to
    */
-  drawPencil(name, to) {
+  drawNewWire(name, to) {
     const pin = [...this.parts.values()].flatMap(({ pins }) => pins).find(({ id }) => id === name);
     this.newWire.setAttribute("d", pin && to ? pathText(routeWire({ from: pin, to }, [], 0)) : "");
   }

@@ -22,7 +22,7 @@ import * as say from "../../words/page_commands.js";
  * @property {(id: string) => void} project Shows the project with an id.
  */
 
-const LINE_QUERY = /^:\s*(\d+)$/;
+const LINE_NUMBER_QUERY = /^:\s*(\d+)$/;
 
 /** @type {(words: string, hint: string, action: () => void, isFound?: boolean) => Entry} */
 const makeEntry = (words, hint, action, isFound = false) => ({ words, hint, why: "", keys: [], isFound, act: action });
@@ -33,7 +33,7 @@ const makeEntry = (words, hint, action, isFound = false) => ({ words, hint, why:
  * @param {PlaceCalls} calls
  */
 function typedDestination(query, calls) {
-  const [, line = ""] = LINE_QUERY.exec(query) || [];
+  const [, line = ""] = LINE_NUMBER_QUERY.exec(query) || [];
   if (line) return [makeEntry(say.lineNamed(Number(line)), "", () => calls.line(Number(line)), true)];
   const map = calls.map();
   if (query === "" || (map && map.names.has(query))) return [];

@@ -25,9 +25,9 @@
 /** The distance that the pointer must move to start a drag, in the picture's units. */
 const DRAG_DISTANCE = 4;
 /** The distance that an arrow key moves a part, in the picture's units. */
-const STEP = 12;
+const ARROW_STEP = 12;
 /** @type {Record<string, { x: number, y: number }>} */
-const ARROWS = { ArrowLeft: { x: -1, y: 0 }, ArrowRight: { x: 1, y: 0 }, ArrowUp: { x: 0, y: -1 }, ArrowDown: { x: 0, y: 1 } };
+const ARROW_DIRECTIONS = { ArrowLeft: { x: -1, y: 0 }, ArrowRight: { x: 1, y: 0 }, ArrowUp: { x: 0, y: -1 }, ArrowDown: { x: 0, y: 1 } };
 
 export class PictureInput {
   /**
@@ -83,7 +83,7 @@ export class PictureInput {
   handlePointerMove(event) {
     const { heldItem, view } = this;
     if (!heldItem) {
-      if (this.startPin) view.drawPencil(this.startPin, view.toPicturePoint(event));
+      if (this.startPin) view.drawNewWire(this.startPin, view.toPicturePoint(event));
       return;
     }
     const point = view.toPicturePoint(event);
@@ -96,7 +96,7 @@ export class PictureInput {
     view.isDragging = heldItem.isPart;
     const { name, startPosition: { x, y }, downPoint } = heldItem;
     if (heldItem.isPart) this.calls.movePart(name, { x: x + point.x - downPoint.x, y: y + point.y - downPoint.y });
-    else view.drawPencil(heldItem.name, point);
+    else view.drawNewWire(heldItem.name, point);
   }
 
   /** @param {PointerEvent} event */
@@ -127,7 +127,7 @@ export class PictureInput {
   release() {
     this.heldItem = null;
     this.view.isDragging = false;
-    this.view.drawPencil("", null);
+    this.view.drawNewWire("", null);
   }
 
   /** @param {KeyboardEvent} event */
@@ -145,7 +145,7 @@ export class PictureInput {
     const { key } = event;
     const name = this.view.nameAt(/** @type {Element} */ (event.target));
     if (event.ctrlKey || event.metaKey) return this.handleControlKey(event);
-    if (key in ARROWS) return this.handleArrow(event, name);
+    if (key in ARROW_DIRECTIONS) return this.handleArrow(event, name);
     if (key === "Enter" || key === " ") this.press(name);
     else if (key === "Escape") this.calls.cancelAct();
     else if (key === "Delete" || key === "Backspace") this.calls.deleteItem(name);
@@ -170,10 +170,10 @@ export class PictureInput {
    */
   handleArrow({ key, shiftKey }, name) {
     const { view } = this;
-    const { x, y } = ARROWS[key];
+    const { x, y } = ARROW_DIRECTIONS[key];
     const part = view.parts.get(name);
     if (shiftKey && part) {
-      this.calls.movePart(name, { x: part.x + STEP * x, y: part.y + STEP * y });
+      this.calls.movePart(name, { x: part.x + ARROW_STEP * x, y: part.y + ARROW_STEP * y });
       this.calls.handleDrop();
     }
     if (shiftKey) return part !== undefined;

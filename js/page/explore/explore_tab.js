@@ -159,11 +159,11 @@ export class ExploreTab {
   /** Updates the tab's mark and the button that clears results. */
   showProofs() {
     this.showMark(this.faultCount);
-    this.offerClear();
+    this.updateClearButton();
   }
 
   /** Shows the button that clears results if there are results and nothing is running. */
-  offerClear() {
+  updateClearButton() {
     const { proofs } = this;
     const isRunning = this.controller !== null || proofs.controller !== null;
     button("clear-finds").hidden = isRunning || !(this.currentResults || proofs.currentResults);
@@ -174,7 +174,7 @@ export class ExploreTab {
     const { currentResults } = this;
     const isRunning = this.controller !== null;
     this.exploreButton.set(isRunning ? say.STOP : say.EXPLORE);
-    this.offerClear();
+    this.updateClearButton();
     if (currentResults && currentResults.report) this.view.show(currentResults.report, isRunning);
     this.showMark(0);
     this.showMessage(this.describeSearch(currentResults, isRunning));
@@ -212,7 +212,7 @@ export class ExploreTab {
    * Returns the duration and the seed of the search. If a field has no valid number, shows a message and returns null.
    * @returns {RunOptions | null}
    */
-  readRequest() {
+  readRunOptions() {
     const invalidFields = NUMBER_FIELDS.filter(({ id, max }) => {
       const { value } = field(id);
       const isInvalid = !/^\d{1,8}$/.test(value.trim()) || Number(value) < 1 || Number(value) > max;
@@ -225,7 +225,7 @@ export class ExploreTab {
   }
 
   async explore() {
-    const request = this.readRequest();
+    const request = this.readRunOptions();
     if (!request) return;
     const { texts, session } = this;
     /** @type {SearchResults} */

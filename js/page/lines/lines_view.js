@@ -15,9 +15,9 @@ import * as say from "../../words/page.js";
  */
 
 /** The maximum number of sent lines that the arrow keys can recall. */
-const MAX_LINES = 200;
+const MAX_RECALLED_LINES = 200;
 /** The maximum number of commands that the hint explains in full. */
-const MAX_HINTS = 4;
+const MAX_EXPLAINED_COMMANDS = 4;
 
 export class LinesView {
   /**
@@ -106,8 +106,8 @@ export class LinesView {
 
   showHint() {
     const matches = matchLines(this.lines, this.lastLine);
-    const shownForms = matches.slice(0, MAX_HINTS).map(({ form, does }) => `${form}: ${does}`);
-    if (matches.length > MAX_HINTS) shownForms.push(matches.slice(MAX_HINTS).map(({ form }) => form).join(", "));
+    const shownForms = matches.slice(0, MAX_EXPLAINED_COMMANDS).map(({ form, does }) => `${form}: ${does}`);
+    if (matches.length > MAX_EXPLAINED_COMMANDS) shownForms.push(matches.slice(MAX_EXPLAINED_COMMANDS).map(({ form }) => form).join(", "));
     this.hint.set(shownForms.length > 0 ? shownForms.join("\n") : say.LINES_HINT);
   }
 
@@ -130,7 +130,7 @@ export class LinesView {
   /** @param {string} lines */
   rememberLines(lines) {
     if (this.sentLines[this.sentLines.length - 1] !== lines) this.sentLines.push(lines);
-    if (this.sentLines.length > MAX_LINES) this.sentLines.shift();
+    if (this.sentLines.length > MAX_RECALLED_LINES) this.sentLines.shift();
     this.recallIndex = this.sentLines.length;
   }
 }

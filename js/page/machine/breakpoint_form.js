@@ -26,7 +26,7 @@ import * as say from "../../words/machine.js";
  * @property {(breakpoint: Breakpoint) => void} returnFocus Moves the focus back to the breakpoint's line or list entry.
  */
 
-const MAX_HITS = 999999999;
+const MAX_HIT_COUNT = 999999999;
 
 /**
  * @param {string} label
@@ -135,7 +135,7 @@ export class BreakpointForm {
    */
   readFields() {
     const { condition, from, note } = this.fields;
-    const hitCount = from.value.trim() === "" ? 1 : parseCount(from.value, MAX_HITS);
+    const hitCount = from.value.trim() === "" ? 1 : parseCount(from.value, MAX_HIT_COUNT);
     from.setAttribute("aria-invalid", String(hitCount < 1));
     return hitCount < 1 ? null : { condition: condition.value.trim(), from: hitCount, note: note.value.trim() };
   }

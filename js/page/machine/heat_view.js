@@ -31,7 +31,7 @@ import * as say from "../../words/machine.js";
  */
 
 /** The delay in milliseconds between the user's last input and the count of changes, while time is paused. */
-const REST_TIME = 300;
+const COUNT_DELAY_MS = 300;
 /** The maximum number of cycles over which changes are counted. */
 const MAX_CYCLES = 10000000;
 /** The interval in milliseconds at which the cells are updated while time is running. */
@@ -54,7 +54,7 @@ export class HeatView {
     this.isStale = true;
     /** @type {Heat | null} the result of the last count */
     this.heat = null;
-    this.passingHeat = new RecentHeat();
+    this.recentHeat = new RecentHeat();
     /** The time of the last update while time was running, in milliseconds. */
     this.lastDrawTime = 0;
     this.kind.value = preferences.get("heat");
@@ -110,11 +110,11 @@ export class HeatView {
     if (!warmed) this.showStatus("");
     const maxCycles = parseCount(this.cycles.value, MAX_CYCLES);
     if (!warmed || maxCycles === 0) return;
-    this.passingHeat.add(warmed, cycles, maxCycles);
+    this.recentHeat.add(warmed, cycles, maxCycles);
     if (performance.now() - this.lastDrawTime < DRAW_INTERVAL) return;
     this.lastDrawTime = performance.now();
     this.heat = null;
-    this.showCells(this.passingHeat.heat, describeSeenChanges);
+    this.showCells(this.recentHeat.heat, describeSeenChanges);
     this.showStatus(describeHeatStatus(warmed, warmed.cycles >= cycles));
   }
 
@@ -122,13 +122,13 @@ export class HeatView {
   handleSnapshot() {
     if (this.kind.value === "") return;
     this.isStale = true;
-    if (!this.calls.isRunning()) this.passingHeat.clear();
+    if (!this.calls.isRunning()) this.recentHeat.clear();
     this.restartTimer();
   }
 
   clear() {
     this.heat = null;
-    this.passingHeat.clear();
+    this.recentHeat.clear();
     this.lastDrawTime = 0;
     this.showStatus("");
     this.calls.showCells(new Map());
@@ -139,12 +139,12 @@ export class HeatView {
     if (this.status.textContent !== words) this.status.textContent = words;
   }
 
-  /** Cancels the current count. If the heat map is out of date and time is paused, starts another count after REST_TIME. */
+  /** Cancels the current count. If the heat map is out of date and time is paused, starts another count after COUNT_DELAY_MS. */
   restartTimer() {
     clearTimeout(this.countTimer);
     this.request.abort();
     if (!this.isStale || this.kind.value === "" || this.calls.isRunning()) return;
-    this.countTimer = window.setTimeout(() => this.startCount(), REST_TIME);
+    this.countTimer = window.setTimeout(() => this.startCount(), COUNT_DELAY_MS);
   }
 
   async startCount() {

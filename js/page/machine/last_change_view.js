@@ -19,9 +19,9 @@ import { putBelow } from "../ui/popup_message.js";
  */
 
 /** The time in milliseconds for which the pointer or the focus must stay on a cell before the tooltip opens. */
-const REST_TIME = 400;
+const HOVER_DELAY_MS = 400;
 /** The distance in pixels between a cell and its tooltip. */
-const BELOW_CELL = 4;
+const TIP_DISTANCE = 4;
 
 export class LastChangeView {
   /**
@@ -48,7 +48,7 @@ export class LastChangeView {
     this.hideTip();
     const editableCell = cell instanceof HTMLElement ? this.calls.editableCellAt(cell) : undefined;
     if (!editableCell) return;
-    this.tipTimer = window.setTimeout(() => this.showChange(/** @type {HTMLElement} */ (cell), editableCell), REST_TIME);
+    this.tipTimer = window.setTimeout(() => this.showChange(/** @type {HTMLElement} */ (cell), editableCell), HOVER_DELAY_MS);
   }
 
   hideTip() {
@@ -69,6 +69,6 @@ export class LastChangeView {
     if (description === "" || request.signal.aborted || !cell.isConnected || this.calls.isRunning()) return;
     this.tip.textContent = description;
     this.tip.hidden = false;
-    putBelow(this.tip, cell.getBoundingClientRect(), BELOW_CELL);
+    putBelow(this.tip, cell.getBoundingClientRect(), TIP_DISTANCE);
   }
 }

@@ -20,7 +20,7 @@ import * as say from "../../words/machine.js";
  * @param {Map<string, BreakpointMark>} breakpoints
  * @returns {BreakpointMark | undefined}
  */
-function insideMark(address, breakpoints) {
+function secondByteMark(address, breakpoints) {
   if (!breakpoints.has(address)) return undefined;
   const message = say.insideBreakpoint(address);
   return { mark: "\u25CB", words: message };
@@ -92,7 +92,7 @@ export class ListingRows {
       row.button.hidden = line === undefined;
       if (!line) return;
       const lineMark = breakpoints.get(line.first);
-      const mark = lineMark || insideMark(line.second, breakpoints);
+      const mark = lineMark || secondByteMark(line.second, breakpoints);
       const title = [mark ? mark.words : "", line.source].filter(Boolean).join("; ");
       row.address = line.address;
       row.markedAddress = mark && !lineMark ? parseInt(line.second, 16) : line.address;

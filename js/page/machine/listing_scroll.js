@@ -14,7 +14,7 @@ import { element } from "../ui/dom.js";
  */
 
 /** The assumed height of a row in pixels before a row has been laid out. */
-const DEFAULT_HEIGHT = 24;
+const DEFAULT_ROW_HEIGHT = 24;
 
 export class ListingScroll {
   /**
@@ -26,7 +26,7 @@ export class ListingScroll {
     this.calls = calls;
     this.rows = element("div", { className: "rows" });
     this.length = element("div", { className: "length" }, this.rows);
-    this.rowHeight = DEFAULT_HEIGHT;
+    this.rowHeight = DEFAULT_ROW_HEIGHT;
     /** The scroll position in pixels at the last call of `handleScroll`. */
     this.handledScrollTop = 0;
     root.append(this.length);
@@ -40,7 +40,7 @@ export class ListingScroll {
     const { clientHeight } = this.root;
     if (clientHeight === 0) return;
     const row = this.rows.firstElementChild;
-    this.rowHeight = (row instanceof HTMLElement && row.offsetHeight) || DEFAULT_HEIGHT;
+    this.rowHeight = (row instanceof HTMLElement && row.offsetHeight) || DEFAULT_ROW_HEIGHT;
     this.length.style.setProperty("height", `${ADDRESS_COUNT * this.rowHeight}px`);
     this.calls.handleResize(Math.max(1, Math.floor(clientHeight / this.rowHeight)));
   }

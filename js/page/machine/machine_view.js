@@ -34,7 +34,7 @@ function cellNodes(cellList) {
 }
 
 /** The number of hexadecimal digits of the registers that have more than one digit. */
-const DIGITS = new Map([["pc", 3]]);
+const DIGIT_COUNTS = new Map([["pc", 3]]);
 
 export class RegistersView {
   /**
@@ -63,7 +63,7 @@ export class RegistersView {
       value.setAttribute("aria-labelledby", `${title.id} ${value.id}`);
       this.cells.set(name, new Cell(value));
       if (name === "owed") this.editor.makeReadOnly(value, say.PENDING_CYCLE_IS_READ_ONLY);
-      else this.editor.makeEditable(value, { place: name.toLowerCase(), name, digits: DIGITS.get(name) || 1 });
+      else this.editor.makeEditable(value, { place: name.toLowerCase(), name, digits: DIGIT_COUNTS.get(name) || 1 });
       return element("div", {}, title, element("dd", {}, value));
     }));
     makeOneTabStop(group, () => 8);

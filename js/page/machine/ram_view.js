@@ -38,7 +38,7 @@ function nibbleLabels(register, names) {
 }
 
 /** The number of nibbles in a group, which stays on one line when the table wraps. */
-const GROUP_SIZE = CHARACTERS / 2;
+const NIBBLES_PER_GROUP = CHARACTERS / 2;
 
 /** @param {Cell[]} cells */
 function nibbleGroup(cells) {
@@ -122,7 +122,7 @@ export class RamView {
     const status = indices(STATUS_COUNT).map((character) => this.drawStatus(location, character));
     const names = element("small", { className: "cell-names", hidden: true });
     this.registers.set(`${bank}.${chip}.${register}`, { characters, status, names, shownText: "" });
-    const halves = [characters.slice(0, GROUP_SIZE), characters.slice(GROUP_SIZE), status].map(nibbleGroup);
+    const halves = [characters.slice(0, NIBBLES_PER_GROUP), characters.slice(NIBBLES_PER_GROUP), status].map(nibbleGroup);
     const cells = [element("td", {}, ...halves.slice(0, 2), names), element("td", {}, halves[2])];
     if (register === 0) cells[1].append(this.drawPort(bank, chip));
     return element("tr", {}, element("th", { scope: "row", title: describeRegister(location) }, `${chip}.${register}`), ...cells);

@@ -15,8 +15,8 @@ import * as say from "../../words/machine.js";
  */
 
 /** The column range of the first ROM byte in a line of the bench's answer to `list`. */
-const BYTE_START = 4;
-const BYTE_END = 6;
+const FIRST_BYTE_COLUMN = 4;
+const FIRST_BYTE_END_COLUMN = 6;
 
 export class StackView {
   /**
@@ -118,7 +118,7 @@ export class StackView {
   async readBytes(addresses) {
     const lines = joinLines(addresses.map((address) => `list 0x${hex(address, 3)} 1`));
     const answers = matchAnswers(readInputs(lines), await this.ask(lines));
-    return answers.map(([line = ""]) => line.slice(BYTE_START, BYTE_END));
+    return answers.map(([line = ""]) => line.slice(FIRST_BYTE_COLUMN, FIRST_BYTE_END_COLUMN));
   }
 
   /** @param {AddressNote[]} notes */

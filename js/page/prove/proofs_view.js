@@ -35,7 +35,7 @@ class VerdictRow {
     this.mark = new Cell(mark);
     this.words = new Cell(statusText);
     this.litSwitch = new Switch((isOn) => mark.classList.toggle("lit", isOn));
-    this.wrongSwitch = new Switch((isOn) => mark.classList.toggle("not-ok", isOn));
+    this.notOkSwitch = new Switch((isOn) => mark.classList.toggle("not-ok", isOn));
     if (verdict.kind === "found") this.node.append(...this.counterexampleNodes(isGoal, verdict.found, calls));
   }
 
@@ -62,7 +62,7 @@ class VerdictRow {
     this.mark.set(isCurrent ? markOf(judgedLine) : "");
     this.words.set(isCurrent ? wordsOfVerdict(judgedLine) : say.CHANGED);
     this.litSwitch.set(isCurrent && judgedLine.verdict.kind === "proved" && isRight(judgedLine));
-    this.wrongSwitch.set(isCurrent && judgedLine.verdict.kind !== "open" && !isRight(judgedLine));
+    this.notOkSwitch.set(isCurrent && judgedLine.verdict.kind !== "open" && !isRight(judgedLine));
   }
 }
 

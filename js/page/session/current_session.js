@@ -40,7 +40,7 @@ import * as say from "../../words/session.js";
  */
 
 /** The ids of the elements that stay hidden until a session is open. */
-const SHOWN_WITH_SESSION = ["bench", "session-bar", "clock", "tools", "statusbar"];
+const SESSION_ELEMENT_IDS = ["bench", "session-bar", "clock", "tools", "statusbar"];
 
 export class CurrentSession {
   /**
@@ -96,7 +96,7 @@ export class CurrentSession {
   async showParts() {
     const isFirst = block("bench").hidden;
     document.body.classList.toggle("settling", isFirst);
-    for (const part of SHOWN_WITH_SESSION) block(part).hidden = false;
+    for (const part of SESSION_ELEMENT_IDS) block(part).hidden = false;
     await this.calls.checkSource();
     document.body.classList.remove("settling");
   }

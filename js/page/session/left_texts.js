@@ -8,7 +8,7 @@ import { browserStore } from "../ui/preferences.js";
  * @typedef {Pick<Storage, "getItem" | "setItem" | "removeItem">} TextStore
  */
 
-const KEY = "fethsaim.left.";
+const KEY_PREFIX = "fethsaim.left.";
 
 /** @param {SessionRecord} record */
 function formatTexts({ boardText, programText, testText, propertiesText }) {
@@ -38,7 +38,7 @@ export class LeftTexts {
   leave(record) {
     const texts = formatTexts(record);
     if (texts === this.storedTexts) return;
-    this.change((store) => store.setItem(KEY + record.id, JSON.stringify({ revision: record.revision, texts })));
+    this.change((store) => store.setItem(KEY_PREFIX + record.id, JSON.stringify({ revision: record.revision, texts })));
   }
 
   /**
@@ -48,9 +48,9 @@ export class LeftTexts {
    */
   restore(record) {
     this.change((store) => {
-      const { revision = 0, texts = "{}" } = JSON.parse(store.getItem(KEY + record.id) || "{}");
+      const { revision = 0, texts = "{}" } = JSON.parse(store.getItem(KEY_PREFIX + record.id) || "{}");
       if (revision > record.revision) Object.assign(record, JSON.parse(texts), { revision });
-      else store.removeItem(KEY + record.id);
+      else store.removeItem(KEY_PREFIX + record.id);
     });
   }
 
@@ -59,7 +59,7 @@ export class LeftTexts {
    * @param {string} id
    */
   forget(id) {
-    this.change((store) => store.removeItem(KEY + id));
+    this.change((store) => store.removeItem(KEY_PREFIX + id));
   }
 
   /** @param {(store: TextStore) => void} action */

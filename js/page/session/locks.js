@@ -4,7 +4,7 @@ import { withTimeout } from "./store.js";
 
 /** The maximum number of attempts to acquire a lock, and the time in milliseconds between two attempts. */
 const MAX_ATTEMPTS = 6;
-const RETRY_DELAY = 150;
+const RETRY_DELAY_MS = 150;
 /**
  * The name of a lock that the page requests only to find out whether locks work. A browser that blocks site data rejects all lock requests.
  */
@@ -40,7 +40,7 @@ export class Locks {
     for (let attempt = 0; attempt < MAX_ATTEMPTS; attempt++) {
       const release = await this.requestLock(`fethsaim session ${id}`);
       if (release) return release;
-      await new Promise((resolve) => setTimeout(resolve, RETRY_DELAY));
+      await new Promise((resolve) => setTimeout(resolve, RETRY_DELAY_MS));
     }
     return null;
   }

@@ -6,14 +6,14 @@ import { browserStore } from "../ui/preferences.js";
 
 /** @typedef {Pick<Storage, "getItem" | "setItem" | "removeItem">} FlagStore */
 
-const KEY = "fethsaim.opening.";
+const KEY_PREFIX = "fethsaim.opening.";
 /** The time in milliseconds for which the page must still respond after it has opened a session. The session then counts as harmless. */
-const SETTLE_TIME = 1000;
+const HARMLESS_AFTER_MS = 1000;
 /**
  * The time in milliseconds during which an opening counts as recent. A user who leaves the page within this time has not seen it hang.
  * Another tab may still be opening the session.
  */
-const RECENT_TIME = 2000;
+const RECENT_OPENING_MS = 2000;
 /** The window events that tell the page that the user is leaving it. Every browser sends at least one of them. */
 const LEAVE_EVENTS = ["beforeunload", "pagehide"];
 
@@ -35,20 +35,20 @@ export class OpeningGuard {
   }
 
   /**
-   * Opens a session. The session's flag is set during the opening and for SETTLE_TIME afterwards.
+   * Opens a session. The session's flag is set during the opening and for HARMLESS_AFTER_MS afterwards.
    * @param {string} id
    * @param {() => Promise<void>} open opens the session; the opening has also ended if the promise is rejected
    */
   async runOpening(id, open) {
     const opening = { time: this.currentTime(), isEnded: false };
     this.pendingOpenings.set(id, opening);
-    this.accessStore((store) => store.setItem(KEY + id, String(opening.time)));
+    this.accessStore((store) => store.setItem(KEY_PREFIX + id, String(opening.time)));
     try {
       await open();
     } finally {
       opening.isEnded = true;
       // The session may have been opened again in the meantime.
-      this.callLater(() => (this.pendingOpenings.get(id) === opening ? this.forget(id) : undefined), SETTLE_TIME);
+      this.callLater(() => (this.pendingOpenings.get(id) === opening ? this.forget(id) : undefined), HARMLESS_AFTER_MS);
     }
   }
 
@@ -60,7 +60,7 @@ export class OpeningGuard {
     /** @type {string | null} */
     let flag = null;
     this.accessStore((store) => {
-      flag = store.getItem(KEY + id);
+      flag = store.getItem(KEY_PREFIX + id);
     });
     return flag !== null && !this.isRecent(Number(flag));
   }
@@ -68,13 +68,13 @@ export class OpeningGuard {
   /** @param {number} time the time at which an opening began, in milliseconds */
   isRecent(time) {
     const age = this.currentTime() - time;
-    return age >= 0 && age < RECENT_TIME;
+    return age >= 0 && age < RECENT_OPENING_MS;
   }
 
   /** @param {string} id the id of a session whose opening has ended, or which has been deleted */
   forget(id) {
     this.pendingOpenings.delete(id);
-    this.accessStore((store) => store.removeItem(KEY + id));
+    this.accessStore((store) => store.removeItem(KEY_PREFIX + id));
   }
 
   /** @param {Pick<Window, "addEventListener">} target the page's window */

@@ -139,7 +139,7 @@ export class SessionsController {
   }
 
   /** @param {string} name the name of an example */
-  async beginNamed(name) {
+  async beginExampleByName(name) {
     const example = [...this.examples, FIRST_PROGRAM].find((candidate) => candidate.name === name);
     if (example) return this.begin(example);
     this.notice.show(say.noSuchExample(shortName(name)), "session");
@@ -176,11 +176,11 @@ export class SessionsController {
     const isQuiet = kind === "" || kind === "link" || (kind === "session" && this.openings.hasUnfinishedOpening(value));
     if (isQuiet || !(await this.openFromAddress(kind, value))) await this.openLast(isQuiet);
     if (kind === "link") await this.calls.openLink(value);
-    if (kind === "") this.refuseAddress(hash);
+    if (kind === "") this.reportUnknownAddress(hash);
   }
 
   /** @param {string} hash the text after `#` in an address that names no session, example or link */
-  refuseAddress(hash) {
+  reportUnknownAddress(hash) {
     if (hash.length > 1) this.notice.show(say.namesNothing(shortName(hash)), "session");
   }
 
@@ -190,7 +190,7 @@ export class SessionsController {
    */
   async openFromAddress(kind, value) {
     if (kind === "session") return this.open(value);
-    return kind === "example" ? this.beginNamed(value) : false;
+    return kind === "example" ? this.beginExampleByName(value) : false;
   }
 
   /** @param {boolean} isQuiet true to skip sessions that are open in other tabs without a notice */
@@ -224,9 +224,9 @@ export class SessionsController {
     const { kind, value } = readAddress(location.hash);
     const session = this.calls.session();
     if (!session) return;
-    if (kind === "") this.refuseAddress(location.hash);
+    if (kind === "") this.reportUnknownAddress(location.hash);
     else if (kind === "link") await this.calls.openLink(value);
     else if (kind === "session" && !this.isShown(value)) await this.open(value);
-    else if (kind === "example" && session.example !== value) await this.beginNamed(value);
+    else if (kind === "example" && session.example !== value) await this.beginExampleByName(value);
   }
 }

@@ -42,7 +42,7 @@ function makeStream(name) {
 }
 
 /** @param {Uint8Array} bytes */
-function encodeLetters(bytes) {
+function encodeBase64(bytes) {
   return toBase64(bytes).replace(/\+/g, "-").replace(/\//g, "_").replace(/=+$/, "");
 }
 
@@ -95,7 +95,7 @@ export async function toLink({ name, boardText, programText, testText, propertie
   const body = `${projectLines({ name, boardText, programText, testText, propertiesText }).join("\n")}\n`;
   const bytes = encoder.encode(`${checksum(encoder.encode(body))}\n${body}`);
   const stream = makeStream("CompressionStream");
-  return stream ? `1.${encodeLetters(await readOutput(bytes, stream))}` : `0.${encodeLetters(bytes)}`;
+  return stream ? `1.${encodeBase64(await readOutput(bytes, stream))}` : `0.${encodeBase64(bytes)}`;
 }
 
 /** @param {Uint8Array} bytes */

@@ -26,17 +26,17 @@ import * as say from "../../words/session.js";
 export class StoreError extends Error {}
 
 /** The time in milliseconds after which a store that does not answer counts as failed. Its requests may still succeed later. */
-const STORE_TIMEOUT = 10000;
+const STORE_TIMEOUT_MS = 10000;
 
 /**
- * Resolves to the answer of a browser service, such as the store. Rejects after STORE_TIMEOUT, so that the page never waits forever.
+ * Resolves to the answer of a browser service, such as the store. Rejects after STORE_TIMEOUT_MS, so that the page never waits forever.
  * @template Result
  * @param {Promise<Result>} answer
  * @returns {Promise<Result>}
  */
 export function withTimeout(answer) {
   return new Promise((resolve, reject) => {
-    const timer = setTimeout(() => reject(new StoreError(say.STORE_SILENT)), STORE_TIMEOUT);
+    const timer = setTimeout(() => reject(new StoreError(say.STORE_SILENT)), STORE_TIMEOUT_MS);
     answer.then(resolve, reject).finally(() => clearTimeout(timer));
   });
 }

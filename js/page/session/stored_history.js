@@ -12,7 +12,7 @@ import * as say from "../../words/session.js";
  * @typedef {Pick<Storage, "getItem" | "setItem" | "removeItem">} TabStore
  */
 
-const KEY = "fethsaim.past";
+const STORAGE_KEY = "fethsaim.past";
 /** The limits of a segment: its cycles, its commands, and the characters in its commands. At each of these limits, a new segment begins. */
 const MAX_CYCLES = 4000000;
 const MAX_ENTRIES = 4000;
@@ -20,7 +20,7 @@ const MAX_CHARACTERS = 200000;
 /** The maximum number of cycles that one report can add to the history. A longer report restarts the history at the current state. */
 const MAX_REPORT_CYCLES = 16000000;
 /** The maximum number of history segments that are stored. */
-const SEGMENTS = 2;
+const MAX_SEGMENTS = 2;
 
 /** Returns the tab's session storage, or null if the page cannot use it. */
 function tabStore() {
@@ -94,7 +94,7 @@ export class StoredHistory {
 
   /** @param {{ file: Uint8Array, total: number, reset: number }} currentState */
   add({ file, total, reset }) {
-    this.segments = [...this.segments, { file: file.slice(), total, reset, entries: [] }].slice(-SEGMENTS);
+    this.segments = [...this.segments, { file: file.slice(), total, reset, entries: [] }].slice(-MAX_SEGMENTS);
     this.cycles = 0;
     this.characters = 0;
   }
@@ -102,7 +102,7 @@ export class StoredHistory {
   /** Writes the history to the storage when the user leaves the page. */
   leave() {
     const segments = this.segments.map(({ file, ...fields }) => ({ file: toBase64(file), ...fields }));
-    this.change((store) => store.setItem(KEY, JSON.stringify({ session: this.session, segments })));
+    this.change((store) => store.setItem(STORAGE_KEY, JSON.stringify({ session: this.session, segments })));
   }
 
   /** Removes the session's history from the storage and returns it. Returns an empty list if the storage has none for this session. */
@@ -110,8 +110,8 @@ export class StoredHistory {
     /** @type {StoredSegment[]} */
     let segments = [];
     this.change((store) => {
-      const stored = JSON.parse(store.getItem(KEY) || "{}");
-      store.removeItem(KEY);
+      const stored = JSON.parse(store.getItem(STORAGE_KEY) || "{}");
+      store.removeItem(STORAGE_KEY);
       if (stored.session === this.session && Array.isArray(stored.segments)) segments = stored.segments.map(parseSegment);
     });
     return segments;
@@ -126,7 +126,7 @@ export class StoredHistory {
     const [{ entries }, ...laterSegments] = this.segments;
     const lastSegment = restoredSegments[restoredSegments.length - 1];
     lastSegment.entries.splice(count, Infinity, ...entries);
-    this.segments = [...restoredSegments, ...laterSegments].slice(-SEGMENTS);
+    this.segments = [...restoredSegments, ...laterSegments].slice(-MAX_SEGMENTS);
     if (laterSegments.length > 0) return;
     this.cycles = sumCycles(lastSegment.entries);
     this.characters = lastSegment.entries.reduce((sum, { line }) => sum + line.length, 0);

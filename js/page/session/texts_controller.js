@@ -36,7 +36,7 @@ import * as say from "../../words/session.js";
  */
 
 /** The delay in milliseconds between the last edit and the save. */
-const EDIT_TIME = 600;
+const SAVE_DELAY_MS = 600;
 
 /**
  * Returns the number of lines in a text as words, for example "12 lines".
@@ -81,7 +81,7 @@ export class TextsController {
     this.properties.open(id, propertiesText);
   }
 
-  /** Saves the texts EDIT_TIME after the last edit, and updates the names that come from the board's text. */
+  /** Saves the texts SAVE_DELAY_MS after the last edit, and updates the names that come from the board's text. */
   handleEdit() {
     const session = this.calls.session();
     if (!session) return;
@@ -96,7 +96,7 @@ export class TextsController {
     this.saveTimer = setTimeout(() => {
       this.calls.updateNames(record.boardText);
       this.calls.keep();
-    }, EDIT_TIME);
+    }, SAVE_DELAY_MS);
   }
 
   /**

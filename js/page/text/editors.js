@@ -58,7 +58,7 @@ import * as say from "../../words/text.js";
  */
 
 /** The maximum number of errors in the list below a text. */
-const MAX_FAULTS = 20;
+const MAX_LISTED_ERRORS = 20;
 
 export class Editors {
   /**
@@ -180,7 +180,7 @@ export class Editors {
   showFoundFaults(name, { faults, isWhole }) {
     const shownFaults = name === "board" ? [...faults, ...findFrontPanelErrors(this.board.text)] : faults;
     const moreNote = isWhole || faults.length < 2 ? "" : say.MAY_BE_MORE;
-    this[name].showFaults(shownFaults.slice(0, MAX_FAULTS), moreErrors(shownFaults, MAX_FAULTS) || moreNote);
+    this[name].showFaults(shownFaults.slice(0, MAX_LISTED_ERRORS), moreErrors(shownFaults, MAX_LISTED_ERRORS) || moreNote);
     this.calls.showFaultCount(name, shownFaults.length);
   }
 

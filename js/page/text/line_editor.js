@@ -9,7 +9,7 @@ import { ChangeSet, Compartment, EditorState, Prec, Transaction } from "@codemir
 import { EditorView, dropCursor, highlightSpecialChars, keymap, lineNumbers } from "@codemirror/view";
 import { lineColours } from "./line_colours.js";
 import { belowLayer, elementBelow, gutterLayer, makeLayerGutter, markLayer, lineStyle, textLayer, textMark } from "./line_layers.js";
-import { keepRulesInSheet } from "./style_rules.js";
+import { insertRulesIntoSheet } from "./style_rules.js";
 import { descendant } from "../ui/dom.js";
 
 /**
@@ -42,9 +42,9 @@ import { descendant } from "../ui/dom.js";
 const TAB_WIDTH = 8;
 const HISTORY_OPTIONS = { minDepth: 1000, newGroupDelay: 1250 };
 /** The user events that can insert a long text. They are rejected if the resulting text would be too long. */
-const WHOLE_TEXT_EVENTS = ["input.paste", "input.drop"];
+const LONG_TEXT_EVENTS = ["input.paste", "input.drop"];
 
-keepRulesInSheet();
+insertRulesIntoSheet();
 
 /**
  * @param {import("@codemirror/state").Text} doc
@@ -180,7 +180,7 @@ export class LineEditor {
    * @param {Transaction} transaction
    */
   acceptsTransaction(transaction) {
-    const isWholeTextEvent = transaction.docChanged && WHOLE_TEXT_EVENTS.some((event) => transaction.isUserEvent(event));
+    const isWholeTextEvent = transaction.docChanged && LONG_TEXT_EVENTS.some((event) => transaction.isUserEvent(event));
     return !isWholeTextEvent || this.calls.acceptsSize(transaction.newDoc.length);
   }
 
@@ -389,12 +389,12 @@ export class LineEditor {
    */
   showBelow(line, node) {
     this.nodeBelow = node;
-    this.fitBelow();
+    this.fitElementBelow();
     this.layers.below.show(this.view, node ? [elementBelow(node).range(this.offset({ line, ch: Infinity }))] : []);
   }
 
   /** Limits the width of the element below a line to the visible part of the text. */
-  fitBelow() {
+  fitElementBelow() {
     if (!this.nodeBelow) return;
     const gutters = descendant(this.view.dom, ".cm-gutters", HTMLElement).offsetWidth;
     this.nodeBelow.style.setProperty("left", `${gutters}px`);
@@ -467,7 +467,7 @@ export class LineEditor {
 
   /** Measures the layout again after elements around the text have changed their sizes. */
   refresh() {
-    this.fitBelow();
+    this.fitElementBelow();
     this.view.requestMeasure();
   }
 

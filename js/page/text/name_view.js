@@ -12,7 +12,7 @@ import * as say from "../../words/text.js";
  */
 
 /** The maximum length of a line in the list of references. */
-const MAX_LENGTH = 60;
+const MAX_LINE_LENGTH = 60;
 
 export class NameView {
   /**
@@ -75,7 +75,7 @@ export class NameView {
   row(reference, text) {
     const node = element("button", { type: "button" }, say.lineOfName(reference.line, reference.isDefinition));
     onClick(node, () => this.selectReference(reference));
-    return element("li", {}, node, " ", element("code", {}, text.trim().slice(0, MAX_LENGTH)));
+    return element("li", {}, node, " ", element("code", {}, text.trim().slice(0, MAX_LINE_LENGTH)));
   }
 
   close() {

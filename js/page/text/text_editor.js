@@ -36,9 +36,9 @@ import * as say from "../../words/text.js";
  */
 
 /** The maximum number of texts whose editor state is stored. */
-const MAX_STORED = 30;
+const MAX_STORED_TEXTS = 30;
 /** The modifier keys, which have no action on their own. */
-const MODIFIERS = ["Shift", "Control", "Alt", "Meta"];
+const MODIFIER_KEYS = ["Shift", "Control", "Alt", "Meta"];
 
 export class TextEditor {
   /** @param {TextParts} parts */
@@ -55,7 +55,7 @@ export class TextEditor {
     /**
      * True if the Tab key moves the focus out of the editor. This is so after Escape, and after Tab has moved the focus into the editor.
      */
-    this.tabLeaves = true;
+    this.tabMovesFocus = true;
     /** True if the editor has had the focus since its text was loaded, so that the user may have placed the caret. */
     this.hasCaret = false;
     /** @type {Map<string, StoredText>} the stored editor states, by session name */
@@ -100,13 +100,13 @@ export class TextEditor {
   eventHandlers() {
     return EditorView.domEventHandlers({
       blur: () => {
-        this.tabLeaves = true;
+        this.tabMovesFocus = true;
       },
       focus: () => {
         this.hasCaret = true;
       },
       mousedown: ({ ctrlKey, metaKey, button }) => {
-        this.tabLeaves = false;
+        this.tabMovesFocus = false;
         if ((ctrlKey || metaKey) && button === 0) setTimeout(this.calls.handleNameClick);
       },
       keydown: (event) => this.handleKey(event),
@@ -150,9 +150,9 @@ export class TextEditor {
    * @param {KeyboardEvent} event
    */
   handleKey({ key, shiftKey, ctrlKey, altKey, metaKey }) {
-    if (key === "Tab") return !this.tabLeaves && !ctrlKey && !altKey && !metaKey && this.editor.indent(shiftKey);
-    if (key === "Escape") this.tabLeaves = true;
-    else if (!MODIFIERS.includes(key)) this.tabLeaves = false;
+    if (key === "Tab") return !this.tabMovesFocus && !ctrlKey && !altKey && !metaKey && this.editor.indent(shiftKey);
+    if (key === "Escape") this.tabMovesFocus = true;
+    else if (!MODIFIER_KEYS.includes(key)) this.tabMovesFocus = false;
     return false;
   }
 
@@ -179,7 +179,7 @@ export class TextEditor {
     this.scheduleScroll(isUnchanged ? storedText.top : 0);
     this.name = name;
     this.cachedText = null;
-    for (const oldestName of [...storedTexts.keys()].slice(0, -MAX_STORED)) storedTexts.delete(oldestName);
+    for (const oldestName of [...storedTexts.keys()].slice(0, -MAX_STORED_TEXTS)) storedTexts.delete(oldestName);
   }
 
   /**
@@ -261,6 +261,6 @@ export class TextEditor {
   goTo(position) {
     this.editor.setCursor(position);
     this.editor.focus();
-    this.tabLeaves = false;
+    this.tabMovesFocus = false;
   }
 }

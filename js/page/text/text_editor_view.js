@@ -52,7 +52,7 @@ import * as say from "../../words/text.js";
  */
 
 /** The time in milliseconds for which the pointer or the caret must rest before its word is described. */
-const REST_TIME = 150;
+const REST_DELAY_MS = 150;
 
 export class EditorView {
   /**
@@ -183,7 +183,7 @@ export class EditorView {
     wrapper.addEventListener("pointermove", (event) => {
       this.meaning.hideTip();
       clearTimeout(this.descriptionTimer);
-      this.descriptionTimer = window.setTimeout(() => this.describeAtPointer(event.clientX, event.clientY), REST_TIME);
+      this.descriptionTimer = window.setTimeout(() => this.describeAtPointer(event.clientX, event.clientY), REST_DELAY_MS);
     });
     wrapper.addEventListener("pointerleave", () => {
       this.meaning.hideTip();
@@ -229,10 +229,10 @@ export class EditorView {
     return this.faults.messageAt(position) || this.language.wordsAt(this.lines, position.line, position.ch);
   }
 
-  /** Schedules the description of the word at the caret. The delay of REST_TIME keeps typing fast. */
+  /** Schedules the description of the word at the caret. The delay of REST_DELAY_MS keeps typing fast. */
   scheduleDescription() {
     clearTimeout(this.descriptionTimer);
-    this.descriptionTimer = window.setTimeout(() => this.describeAtCaret(), REST_TIME);
+    this.descriptionTimer = window.setTimeout(() => this.describeAtCaret(), REST_DELAY_MS);
   }
 
   get text() {
@@ -344,7 +344,7 @@ export class EditorView {
     this.calls.handleEdits(edits);
   }
 
-  /** Schedules the update of the text's size. The delay of REST_TIME keeps typing fast. */
+  /** Schedules the update of the text's size. The delay of REST_DELAY_MS keeps typing fast. */
   updateSize() {
     clearTimeout(this.sizeTimer);
     this.sizeTimer = window.setTimeout(() => {
@@ -352,6 +352,6 @@ export class EditorView {
       const [{ length }, limit, unit] = isUnsent ? [this.text, STORED_LIMIT, "characters"] : [this.benchText, LONGEST_TEXT, "bytes"];
       this.counter.set(say.sizeOf(length.toLocaleString("en"), limit.toLocaleString("en"), unit));
       this.counter.node.classList.toggle("too-many", length > limit);
-    }, REST_TIME);
+    }, REST_DELAY_MS);
   }
 }

@@ -41,7 +41,7 @@ import { COLOURS } from "../../core/text/test_colours.js";
  *   complete: (lines: string[], line: number, offset: number, names: Names, forms: Forms) => Completion }} TextKind
  */
 
-const MAX_FAULTS = 20;
+const MAX_LISTED_ERRORS = 20;
 
 /** @template Forms */
 export class TextTab {
@@ -118,7 +118,7 @@ export class TextTab {
       const text = lines[line - 1] || "";
       return { number, line, from: text.length - text.trimStart().length, to: text.length, words };
     });
-    this.editor.showFaults(entries.slice(0, MAX_FAULTS), moreErrors(entries, MAX_FAULTS));
+    this.editor.showFaults(entries.slice(0, MAX_LISTED_ERRORS), moreErrors(entries, MAX_LISTED_ERRORS));
     this.tabCalls.showFaultCount(entries.length);
   }
 }

@@ -48,7 +48,7 @@ import * as say from "../../words/time.js";
 /** The interval in milliseconds between saves of the session while time is running. */
 const SAVE_INTERVAL = 1000;
 /** The time in milliseconds for which the message about a standstill stays. */
-const MESSAGE_TIME = 8000;
+const STANDSTILL_MESSAGE_MS = 8000;
 
 export class RunController {
   /**
@@ -192,7 +192,7 @@ export class RunController {
   }
 
   /**
-   * Shows a message that time stood still, for MESSAGE_TIME milliseconds. Restarts the measurement of the simulation rate.
+   * Shows a message that time stood still, for STANDSTILL_MESSAGE_MS milliseconds. Restarts the measurement of the simulation rate.
    * @param {number} time the duration in milliseconds
    * @param {boolean} wasHidden
    */
@@ -202,7 +202,7 @@ export class RunController {
     this.showMessage(message);
     setTimeout(() => {
       if (this.status.text === message) this.showMessage(say.isRunning(this.currentSession.name, this.calls.countUnreadable()));
-    }, MESSAGE_TIME);
+    }, STANDSTILL_MESSAGE_MS);
   }
 
   /**

@@ -25,13 +25,13 @@ const MULTIPLE_KINDS = new Set(["undo", "unended"]);
 /** The kinds that report a success. */
 const SUCCESS_KINDS = new Set(["undo", "file", "share", "left"]);
 /** The time in milliseconds for which a success notice stays. */
-const STAY_TIME = 8000;
+const SUCCESS_NOTICE_MS = 8000;
 /** The maximum number of visible notices. */
-const MAX_VISIBLE = 3;
+const MAX_VISIBLE_NOTICES = 3;
 
 /**
- * Returns the notices to remove so that at most MAX_VISIBLE remain: first the oldest success notices, then the oldest others. The newest
- * notice stays.
+ * Returns the notices to remove so that at most MAX_VISIBLE_NOTICES remain: first the oldest success notices, then the oldest others. The
+ * newest notice stays.
  * @template {{ kind: NoticeKind }} Each
  * @param {Each[]} rows the notices, newest first
  * @returns {Each[]}
@@ -40,7 +40,7 @@ export function noticesToRemove(rows) {
   const olderRows = rows.slice(1).reverse();
   const successes = olderRows.filter(({ kind }) => SUCCESS_KINDS.has(kind));
   const removalOrder = [...successes, ...olderRows.filter(({ kind }) => !SUCCESS_KINDS.has(kind))];
-  return removalOrder.slice(0, Math.max(0, rows.length - MAX_VISIBLE));
+  return removalOrder.slice(0, Math.max(0, rows.length - MAX_VISIBLE_NOTICES));
 }
 
 export class Notice {
@@ -83,14 +83,14 @@ export class Notice {
   }
 
   /**
-   * Removes a notice after STAY_TIME milliseconds, but not while the pointer or the focus is on the notice.
+   * Removes a notice after SUCCESS_NOTICE_MS milliseconds, but not while the pointer or the focus is on the notice.
    * @param {Row} row
    */
   removeLater(row) {
     row.timer = window.setTimeout(() => {
       if (row.node.matches(":hover, :focus-within")) this.removeLater(row);
       else this.remove(row);
-    }, STAY_TIME);
+    }, SUCCESS_NOTICE_MS);
   }
 
   /**
@@ -126,11 +126,11 @@ export class Notice {
     this.rows = this.rows.filter((candidate) => candidate !== row);
     row.node.remove();
     this.block.hidden = this.rows.length === 0;
-    if (hadFocus) this.giveFocus();
+    if (hadFocus) this.moveFocusAway();
   }
 
   /** Moves the focus to the next notice, or to the element that had the focus before the notices appeared. */
-  giveFocus() {
+  moveFocusAway() {
     const next = this.block.querySelector("button") || this.priorFocus;
     if (next) next.focus();
   }

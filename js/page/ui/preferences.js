@@ -1,7 +1,7 @@
 // The user's preferences for the page, for example folded panels and the tab in front. The preferences are in the browser's local storage
 // if the browser allows that, otherwise in memory until the page is closed.
 
-const KEY = "fethsaim.choices";
+const STORAGE_KEY = "fethsaim.choices";
 
 /** @typedef {Pick<Storage, "getItem" | "setItem">} ChoiceStore */
 
@@ -36,7 +36,7 @@ export class Preferences {
 
   read() {
     try {
-      return this.store && this.store.getItem(KEY);
+      return this.store && this.store.getItem(STORAGE_KEY);
     } catch {
       return null;
     }
@@ -58,7 +58,7 @@ export class Preferences {
     // Another tab may have stored other preferences in the meantime.
     this.choiceByName = { ...this.choiceByName, ...readChoices(this.read()), [name]: value };
     try {
-      if (this.store) this.store.setItem(KEY, JSON.stringify(this.choiceByName));
+      if (this.store) this.store.setItem(STORAGE_KEY, JSON.stringify(this.choiceByName));
     } catch {
       // Without local storage, the preference lasts only until the page is closed.
     }

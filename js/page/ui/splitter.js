@@ -13,7 +13,7 @@ import { block } from "./dom.js";
 /** The distance in pixels that an arrow key moves a splitter. */
 const KEY_STEP = 20;
 /** @type {Record<Border["side"], Record<string, number>>} the change of the panel's size in pixels for each key */
-const KEYS = {
+const SIZE_CHANGES_BY_KEY = {
   left: { ArrowLeft: KEY_STEP, ArrowRight: -KEY_STEP },
   right: { ArrowLeft: -KEY_STEP, ArrowRight: KEY_STEP },
   top: { ArrowUp: KEY_STEP, ArrowDown: -KEY_STEP },
@@ -98,7 +98,7 @@ export class Splitter {
 
   /** @param {KeyboardEvent} event */
   handleKey(event) {
-    const moves = KEYS[this.border.side];
+    const moves = SIZE_CHANGES_BY_KEY[this.border.side];
     if (event.key === "Home" || event.key === "Escape") this.reset();
     else if (event.key in moves) this.set(this.size + moves[event.key]);
     else return;

@@ -64,7 +64,7 @@ function listenToPanels() {
 }
 
 /** Keeps a CSS property equal to the height of the controls, because panels open below the controls. */
-function storeHeight() {
+function trackControlsHeight() {
   const bar = block("wave-bar");
   new ResizeObserver(() => block("scope").style.setProperty("--wave-bar-height", `${bar.offsetHeight}px`)).observe(bar);
 }
@@ -100,7 +100,7 @@ export class Scope {
     onClick(button("save-png"), () => this.savePng());
     onClick(button("save-svg"), () => this.saveSvg());
     listenToPanels();
-    storeHeight();
+    trackControlsHeight();
     for (const id of ["record-cycles", "trigger", "behind"]) {
       field(id).addEventListener("keydown", (event) => {
         if (event.key === "Enter") this.record();

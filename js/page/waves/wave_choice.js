@@ -68,7 +68,7 @@ export class WaveChoice {
     const newSelection = new Set([...names, ...values]);
     if (newSelection.size === this.selectedNames.size && [...newSelection].every((name) => this.selectedNames.has(name))) return false;
     this.selectedNames = newSelection;
-    this.showTicks();
+    this.updateCheckBoxes();
     return true;
   }
 
@@ -98,7 +98,7 @@ export class WaveChoice {
       root.append(this.makeCheckBox(line));
       groups.set(line.group, root);
     }
-    this.showTicks();
+    this.updateCheckBoxes();
     block("wave-boxes").replaceChildren(...groups.values());
     block("signals-more").textContent = moreText;
   }
@@ -111,7 +111,7 @@ export class WaveChoice {
     return element("label", {}, box, name, ...(title === "" ? [] : [element("small", {}, ` ${title}`)]));
   }
 
-  showTicks() {
+  updateCheckBoxes() {
     for (const [name, box] of this.boxes) box.checked = this.selectedNames.has(name);
   }
 
@@ -133,7 +133,7 @@ export class WaveChoice {
   setSelection(names, isUserSelection) {
     this.selectedNames = new Set(names);
     this.isUserSelection = isUserSelection;
-    this.showTicks();
+    this.updateCheckBoxes();
     this.showCount();
     if (this.missingValues.length > 0) this.calls.handleMissingValues();
   }

@@ -1,7 +1,7 @@
 // The view of the waves: the canvas, the cursors, and texts with the values at the cursors.
 
 import { Cell, block, button, byId, field, onClick, pressedSwitch } from "../ui/dom.js";
-import { AXIS, ROW, drawWaves } from "./wave_canvas.js";
+import { AXIS_HEIGHT, ROW_HEIGHT, drawWaves } from "./wave_canvas.js";
 import { measureAt, describeMeasurement } from "../../core/waves/measurement.js";
 import { RowMenu } from "./row_menu.js";
 import { WavePointers } from "./wave_pointers.js";
@@ -31,18 +31,18 @@ import * as say from "../../words/waves.js";
  */
 
 /** The zoom factor of one click or key press. */
-const ZOOM = 2;
+const ZOOM_FACTOR = 2;
 /** The width in pixels of the gutter with the line names. */
-const GUTTER = 150;
+const GUTTER_WIDTH = 150;
 /** The width in pixels of the gutter in a narrow view. */
-const NARROW_GUTTER = 112;
+const NARROW_GUTTER_WIDTH = 112;
 /** The width in pixels below which a view is narrow. */
-const NARROW_WIDTH = 600;
+const MIN_WIDE_WIDTH = 600;
 /** The maximum number of rows that the canvas shows without scrolling. */
 const MAX_ROWS = 20;
 
 /** The CSS property that defines each colour. */
-const COLOURS = {
+const COLOUR_PROPERTIES = {
   ink: "--wave-ink", faint: "--wave-faint", grid: "--wave-grid", sheet: "--wave-sheet", chosen: "--wave-chosen", first: "--wave-first",
   second: "--wave-second", measured: "--wave-measured",
   ...Object.fromEntries(ROW_COLOURS.map((colour) => [colour, `--wave-${colour}`])),
@@ -98,9 +98,9 @@ export class WaveView {
     }
     new WavePointers(this.canvas, {
       click: (point, isOtherCursor) => this.click(point, isOtherCursor),
-      holdsCursor: ({ x, y }) => y < AXIS && x >= this.gutter,
+      holdsCursor: ({ x, y }) => y < AXIS_HEIGHT && x >= this.gutter,
       drag: ({ x }) => this.move(this.view.cyclesAt(x - this.gutter)),
-      isOnRowName: ({ x, y }) => y >= AXIS && x < this.gutter,
+      isOnRowName: ({ x, y }) => y >= AXIS_HEIGHT && x < this.gutter,
       dragRow: (from, to) => this.dragRow(from, to),
       hover: (point) => this.hover(point),
       pan: (pixels) => this.changeView(() => this.view.goTo(this.view.from + (pixels / this.view.width) * this.view.span)),
@@ -109,8 +109,8 @@ export class WaveView {
   }
 
   listenToButtons() {
-    onClick(button("zoom-in"), () => this.zoom(ZOOM));
-    onClick(button("zoom-out"), () => this.zoom(1 / ZOOM));
+    onClick(button("zoom-in"), () => this.zoom(ZOOM_FACTOR));
+    onClick(button("zoom-out"), () => this.zoom(1 / ZOOM_FACTOR));
     onClick(button("zoom-all"), () => this.changeView(() => this.view.showAll()));
     onClick(button("edge-before"), () => this.moveToEdge(false));
     onClick(button("edge-after"), () => this.moveToEdge(true));
@@ -120,7 +120,7 @@ export class WaveView {
   }
 
   get gutter() {
-    return this.scroll.clientWidth < NARROW_WIDTH ? NARROW_GUTTER : GUTTER;
+    return this.scroll.clientWidth < MIN_WIDE_WIDTH ? NARROW_GUTTER_WIDTH : GUTTER_WIDTH;
   }
 
   /** The index of the selected row's line, or -1 if there is none. */
@@ -199,8 +199,8 @@ export class WaveView {
     this.rows = waves ? this.arrangement.arrange(waves.lines, this.chosenLines) : [];
     const { length } = this.rows;
     this.selected = Math.max(selectedRow ? this.indexOfRow(selectedRow) : -1, length > 0 ? 0 : -1);
-    this.room.style.setProperty("height", `${AXIS + length * ROW}px`);
-    this.scroll.style.setProperty("height", `${AXIS + Math.max(1, Math.min(MAX_ROWS, length)) * ROW}px`);
+    this.room.style.setProperty("height", `${AXIS_HEIGHT + length * ROW_HEIGHT}px`);
+    this.scroll.style.setProperty("height", `${AXIS_HEIGHT + Math.max(1, Math.min(MAX_ROWS, length)) * ROW_HEIGHT}px`);
     if (waves) this.values.draw(waves, this.rows.filter(({ line }) => line >= 0));
     this.requestDrawing();
   }
@@ -215,7 +215,7 @@ export class WaveView {
 
   /** @param {Point} point */
   rowIndexAt({ y }) {
-    return y < AXIS ? -1 : Math.floor((y - AXIS + this.scroll.scrollTop) / ROW);
+    return y < AXIS_HEIGHT ? -1 : Math.floor((y - AXIS_HEIGHT + this.scroll.scrollTop) / ROW_HEIGHT);
   }
 
   // --- the arrangement of rows ---
@@ -287,7 +287,7 @@ export class WaveView {
     const isPointed = event.button === 2 || event.ctrlKey || (event instanceof PointerEvent && event.pointerType === "touch");
     if (this.rows[index] && isPointed) this.select(index);
     const row = this.rows[this.selected];
-    const y = top + AXIS + this.selected * ROW - this.scroll.scrollTop;
+    const y = top + AXIS_HEIGHT + this.selected * ROW_HEIGHT - this.scroll.scrollTop;
     if (row) this.menu.open(row, { left: Math.max(left, event.clientX), bottom: event.clientY > top ? event.clientY : y });
   }
 
@@ -388,10 +388,10 @@ export class WaveView {
   /** @param {number} row */
   select(row) {
     this.selected = Math.min(Math.max(row, 0), this.rows.length - 1);
-    const top = this.selected * ROW;
-    const visibleHeight = this.scroll.clientHeight - AXIS;
+    const top = this.selected * ROW_HEIGHT;
+    const visibleHeight = this.scroll.clientHeight - AXIS_HEIGHT;
     if (top < this.scroll.scrollTop) this.scroll.scrollTop = top;
-    else if (top + ROW > this.scroll.scrollTop + visibleHeight) this.scroll.scrollTop = top + ROW - visibleHeight;
+    else if (top + ROW_HEIGHT > this.scroll.scrollTop + visibleHeight) this.scroll.scrollTop = top + ROW_HEIGHT - visibleHeight;
     this.requestDrawing();
   }
 
@@ -406,7 +406,7 @@ export class WaveView {
     if (this.rows[row] && this.rows[row].line < 0) this.fold(this.rows[row].group);
     if (x < this.gutter) return;
     if (isOtherCursor) this.view.active = 1 - this.view.active;
-    this.move(this.view.momentAt(x - this.gutter, this.waves, y >= AXIS ? this.line : -1));
+    this.move(this.view.momentAt(x - this.gutter, this.waves, y >= AXIS_HEIGHT ? this.line : -1));
   }
 
   /** @param {KeyboardEvent} event */
@@ -426,7 +426,7 @@ export class WaveView {
       ArrowUp: () => this.select(this.selected - 1), ArrowDown: () => this.select(this.selected + 1),
       PageUp: () => this.move(view.moment - view.span / 2), PageDown: () => this.move(view.moment + view.span / 2),
       Home: () => this.move(view.begin), End: () => this.move(view.end),
-      "+": () => this.zoom(ZOOM), "-": () => this.zoom(1 / ZOOM), 0: () => this.changeView(() => view.showAll()),
+      "+": () => this.zoom(ZOOM_FACTOR), "-": () => this.zoom(1 / ZOOM_FACTOR), 0: () => this.changeView(() => view.showAll()),
       Enter: () => this.enter(),
       "/": () => field("wave-search").focus(),
       p: () => this.moveToEdge(false), n: () => this.moveToEdge(true), a: () => this.activate(0), b: () => this.activate(1),
@@ -494,10 +494,11 @@ export class WaveView {
    */
   picture(waves) {
     const style = getComputedStyle(this.canvas);
-    const colours = Object.fromEntries(Object.entries(COLOURS).map(([name, property]) => [name, style.getPropertyValue(property).trim()]));
+    const colours = Object.fromEntries(Object.entries(COLOUR_PROPERTIES).map(([name, property]) => (
+      [name, style.getPropertyValue(property).trim()])));
     const { rows, selected, view, gutter, trigger } = this;
     return {
-      waves, rows, selected, view, top: 0, gutter, height: AXIS + rows.length * ROW, trigger, measured: null,
+      waves, rows, selected, view, top: 0, gutter, height: AXIS_HEIGHT + rows.length * ROW_HEIGHT, trigger, measured: null,
       colours: /** @type {Colours} */ (/** @type {unknown} */ (colours)), font: `12px ${style.fontFamily}`,
     };
   }
