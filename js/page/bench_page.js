@@ -65,7 +65,7 @@ export class Page {
     this.sourceValues = makeSourceValues(this);
     this.watchView = makeWatchView(this);
     this.heatView = makeHeatView(this);
-    this.cyclesView = new CyclesView(() => this.currentSession.keep());
+    this.cyclesView = new CyclesView(() => this.currentSession.save());
     this.travel = makeTravel(this);
     this.historyView = makeHistoryView(this);
     this.confirmDialog = new ConfirmDialog();
@@ -158,7 +158,7 @@ export class Page {
       : { text: pendingBoardText, board: board.join("\n") };
     record.wired = textsToStore(wiredTexts, record.wired);
     const { snapshotView } = this;
-    this.currentSession.takeTitle(sessionTitle(wiredTexts.text, this.programEditor.text) || (board.length > 1 ? say.MY_BOARD : ""));
+    this.currentSession.adoptTitle(sessionTitle(wiredTexts.text, this.programEditor.text) || (board.length > 1 ? say.MY_BOARD : ""));
     snapshotView.draw(board, wiredTexts.text);
     this.drawingController.handleBoard(board);
     this.historyView.draw(snapshotView.board, lampNames(new Face(wiredTexts.text), snapshotView.board.lamps.length));
@@ -191,9 +191,9 @@ export class Page {
   show({ snapshot, file, board, total, reset, future, past, waves, printed, waiting }, isPassing = false, litShares = null) {
     const { session } = this.currentSession;
     if (!session) return;
-    this.bench.returnBuffer(session.take(file));
+    this.bench.returnBuffer(session.replaceFile(file));
     this.runController.pendingKeys.waitingChanges = waiting;
-    this.storedHistory.take(past, { file: session.record.file, total, reset });
+    this.storedHistory.addReport(past, { file: session.record.file, total, reset });
     this.cyclesView.update({ total, reset }, this.runController.clock.isRunning);
     session.record.cycles = this.cyclesView.cycles.storedCounts;
     this.historyView.showFuture(future);

@@ -253,8 +253,8 @@ export class Commands {
         () => void sessionsController.begin(example), "examples")),
       ...snapshotView.front.keys.map((key) => labelledCommand(`key.${formatKey(key.key)}`,
         say.pressKey(key.legend || formatKey(key.key)), "key", () => {
-        keyPresser.down(key, false);
-        keyPresser.up(key.key);
+        keyPresser.pressOrRelease(key, false);
+        keyPresser.liftFinger(key.key);
       })),
     ];
   }

@@ -38,7 +38,7 @@ export function runToLine({ source, runController, travel }, line) {
 export function makeBreakpointsController(page) {
   return new BreakpointsController(page.bench, {
     session: () => page.currentSession.session,
-    saveSession: () => page.currentSession.touchAndKeep(),
+    saveSession: () => page.currentSession.markChangedAndSave(),
     texts: () => ({ board: page.boardEditor.text, program: page.programEditor.benchText }),
     handleResult: (result) => page.lineServer.handleResult(result),
     showSession: (result) => page.show(result, page.runController.clock.isRunning),
@@ -72,7 +72,7 @@ export function makeTravel(page) {
     counted: (tally) => page.breakpoints.count(tally),
     reasonOf: (stop, goal) => runController.describeStop(stop, goal),
     where: () => runController.counterText,
-    breakpoint: (id) => page.breakpoints.keeper.list.get(id),
+    breakpoint: (id) => page.breakpoints.manager.list.get(id),
     showMessage: (words) => runController.showMessage(words),
   });
 }
@@ -157,7 +157,8 @@ export function makeHeatView(page) {
  * @param {Page} page
  */
 function expressionNames({ snapshotView, source, breakpoints }) {
-  return { face: snapshotView.face, board: snapshotView.board, map: source.map, watched: collectWatchNames(breakpoints.keeper.watchTexts) };
+  const watched = collectWatchNames(breakpoints.manager.watchTexts);
+  return { face: snapshotView.face, board: snapshotView.board, map: source.map, watched };
 }
 
 /**
@@ -174,8 +175,8 @@ export function makeWatchView(page) {
     storeExpressions: (texts) => {
       if (!currentSession.session) return;
       currentSession.session.record.watched = texts;
-      page.breakpoints.keeper.setWatchExpressions(texts);
-      currentSession.keep();
+      page.breakpoints.manager.setWatchExpressions(texts);
+      currentSession.save();
     },
   });
 }

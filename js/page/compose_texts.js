@@ -28,7 +28,7 @@ export function makeEditors(page, manual) {
   const { runController } = page;
   return new Editors(page.bench, page.words, manual, {
     handleEdits: (edits) => {
-      page.breakpoints.keeper.applyTextEdits(edits);
+      page.breakpoints.manager.applyTextEdits(edits);
       page.textsController.handleEdit();
       page.drawingController.handleEdit();
     },
@@ -44,7 +44,7 @@ export function makeEditors(page, manual) {
     valuesAt: (text, at) => page.sourceValues.at(text, at),
     makeEditable: (cell, { place, name }) => page.snapshotView.editor.makeEditable(cell, { place, name, digits: 1 }),
     replaceBoard: (text, words) => page.textsController.replace("board", text, words),
-    showFaultCount: (name, count) => page.layout.tabs.mark(name, count > 0 ? formatErrorCount(count) : ""),
+    showFaultCount: (name, count) => page.layout.tabs.setMark(name, count > 0 ? formatErrorCount(count) : ""),
     reportFailure: (fault) => page.recovery.reportFailure(fault),
   });
 }
@@ -61,7 +61,7 @@ export function makeProblemsView(page) {
       page.layout.showText(name);
       editors[name].goToFault(fault);
     },
-    showCount: (count) => page.layout.dock.mark("problems", count > 0 ? String(count) : ""),
+    showCount: (count) => page.layout.dock.setMark("problems", count > 0 ? String(count) : ""),
   });
   for (const [name, editor] of Object.entries(editors)) editor.onFaultsChange = (faults) => problems.setFaults(name, faults);
   return problems;
@@ -87,7 +87,7 @@ export function makeSource(page) {
       page.snapshotView.nameLines(map, words);
       page.layout.status.showRom(map !== null, words);
       showNibbleNames(page);
-      page.breakpoints.keeper.setSourceMap(map, words);
+      page.breakpoints.manager.setSourceMap(map, words);
     },
     describeRefusal: (number) => page.words.refusalMeaning(number),
   });
@@ -104,12 +104,12 @@ export function makeTextsController(page) {
   const { boardEditor, programEditor, testsTab, exploreTab, confirmDialog, notice } = page;
   return new TextsController(boardEditor, programEditor, testsTab.editor, exploreTab.editor, confirmDialog, notice, {
     session: () => currentSession.session,
-    touch: () => currentSession.touch(),
-    keep: () => currentSession.keep(),
+    markChanged: () => currentSession.markChanged(),
+    save: () => currentSession.save(),
     handleEdit: () => page.exploreTab.proofs.handleEdit(),
     updateNames: (boardText) => {
       page.readFace(boardText);
-      currentSession.takeTitle(sessionTitle(boardText, page.programEditor.text));
+      currentSession.adoptTitle(sessionTitle(boardText, page.programEditor.text));
       page.checkSource();
     },
     source: () => page.bench.call("source", []),
@@ -161,7 +161,7 @@ export function makeTestsTab(page, manual) {
     },
     goTo: (address) => page.snapshotView.goTo.show(address),
     open: (name, file, texts) => page.sessionsController.manager.openNew(async () => newRecord(name, file, texts)),
-    showMark: (label, isGood) => page.layout.tabs.mark("tests", label, isGood),
+    showMark: (label, isGood) => page.layout.tabs.setMark("tests", label, isGood),
     handleEdit: () => page.textsController.handleEdit(),
     reportFailure: (fault) => page.recovery.reportFailure(fault),
   });
@@ -229,7 +229,7 @@ export function makeExploreTab(page, manual, makeBench) {
     prove: prover.prove.bind(prover),
     openWithLines: (name, lines, texts, message) => openWithLines(page, { name, lines, message }, texts),
     addTest: (test) => addTest(page, test),
-    showMark: (label, isGood) => page.layout.tabs.mark("properties", label, isGood),
+    showMark: (label, isGood) => page.layout.tabs.setMark("properties", label, isGood),
     handleEdit: () => page.textsController.handleEdit(),
     reportFailure: (fault) => page.recovery.reportFailure(fault),
   });

@@ -116,7 +116,7 @@ function listenToChoices(page) {
  */
 function listenToLeaving(page) {
   document.addEventListener("visibilitychange", () => page.runController.setHidden(document.hidden));
-  addEventListener("pagehide", () => page.currentSession.keepNow());
+  addEventListener("pagehide", () => page.currentSession.saveNow());
   addEventListener("beforeunload", (event) => {
     if (!page.store.isPersistent) event.preventDefault();
   });
@@ -156,7 +156,7 @@ async function start(words, notice, shell, { examples, manual }) {
   if (story) guide.showStory(story, examples);
   if (isFirst) commands.showFirstWelcome();
   // When the user leaves the page, Firefox 153 runs a function only if it has run before, so save once now.
-  page.currentSession.keepNow();
+  page.currentSession.saveNow();
   // The startup time in milliseconds.
   document.body.dataset.ready = String(Math.round(performance.now()));
 }

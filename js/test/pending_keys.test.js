@@ -47,38 +47,38 @@ async function typing() {
 
 test("a key is typed again while its release waits for its time", async () => {
   const { pressing, words, look } = await typing();
-  pressing.down(KEY, false);
+  pressing.pressOrRelease(KEY, false);
   assert.equal(look(1500), true);
-  pressing.up(KEY.key);
+  pressing.liftFinger(KEY.key);
   assert.equal(look(1500), true);
-  pressing.down(KEY, false);
-  pressing.up(KEY.key);
+  pressing.pressOrRelease(KEY, false);
+  pressing.liftFinger(KEY.key);
   assert.deepEqual(words, ["press", "release", "press", "release"]);
   assert.deepEqual([look(1001), look(2000), look(4000)], [false, true, false]);
 });
 
 test("a key is typed again while its release is on its way", async () => {
   const { pressing, words, look } = await typing();
-  pressing.down(KEY, false);
+  pressing.pressOrRelease(KEY, false);
   assert.equal(look(6000), true);
-  pressing.up(KEY.key);
-  pressing.down(KEY, false);
+  pressing.liftFinger(KEY.key);
+  pressing.pressOrRelease(KEY, false);
   assert.deepEqual(words, ["press", "release", "press"]);
 });
 
 test("a key that stays down is let go by a press, also while that press waits", async () => {
   const { pressing, words, look } = await typing();
-  pressing.down(KEY, true);
-  pressing.up(KEY.key);
-  pressing.down(KEY, false);
-  pressing.up(KEY.key);
+  pressing.pressOrRelease(KEY, true);
+  pressing.liftFinger(KEY.key);
+  pressing.pressOrRelease(KEY, false);
+  pressing.liftFinger(KEY.key);
   assert.deepEqual(words, ["press", "release"]);
   assert.equal(look(1), true);
   assert.equal(look(4000), false);
-  pressing.down(KEY, true);
-  pressing.up(KEY.key);
+  pressing.pressOrRelease(KEY, true);
+  pressing.liftFinger(KEY.key);
   assert.equal(look(8000), true);
-  pressing.down(KEY, false);
+  pressing.pressOrRelease(KEY, false);
   assert.deepEqual(words, ["press", "release", "press", "release"]);
 });
 

@@ -22,7 +22,7 @@ function storeOf(room = 5000000) {
 
 /** Handles the snapshot of a call, as the page does. */
 function seen(past, calls, shown = calls.bench.snapshotReport([], false)) {
-  past.take(shown.past, { file: calls.bench.session.file.slice(), total: shown.total, reset: shown.reset });
+  past.addReport(shown.past, { file: calls.bench.session.file.slice(), total: shown.total, reset: shown.reset });
 }
 
 /** Returns a page that did some things, and was left; with the state after each of them. */
@@ -36,7 +36,7 @@ async function left(store, lines) {
     seen(past, calls, await calls.serve(some));
     states.push(calls.ask(ALL));
   }
-  past.leave();
+  past.saveOnLeave();
   return { calls, states };
 }
 
@@ -79,7 +79,7 @@ test("also through two reloads, and by instructions and changes", async () => {
   recall(second.calls, second.storedSegments);
   second.past.continueFrom(second.storedSegments, second.storedSegments[0].entries.length);
   seen(second.past, second.calls, await second.calls.serve("run 3\n"));
-  second.past.leave();
+  second.past.saveOnLeave();
   const third = await reloaded(store, second.calls);
   assert.ok(recall(third.calls, third.storedSegments) >= 0);
   assert.equal((await third.calls.lastChange("r5")).isFound, true);
@@ -95,7 +95,7 @@ test("after going back only what is left of the past is kept", async () => {
   past.begin("one");
   seen(past, calls, await calls.goBack({ kind: "stop" }));
   seen(past, calls, await calls.serve("run 5\n"));
-  past.leave();
+  past.saveOnLeave();
   const { calls: after, storedSegments } = await reloaded(store, calls);
   assert.deepEqual(storedSegments.map(({ entries }) => entries.map(({ line }) => line)), [["run 5"]]);
   assert.ok(recall(after, storedSegments) >= 0);
@@ -122,7 +122,7 @@ test("what is of another session, another moment, damaged or has no room is not 
   const small = storeOf(1000);
   await left(small, LINES);
   assert.equal(small.kept.size, 0);
-  new StoredHistory(null).leave();
+  new StoredHistory(null).saveOnLeave();
 });
 
 test("a session that was kept before the last of it goes back as far as it was kept", async () => {

@@ -59,27 +59,27 @@ export class KeyPresser {
       event.preventDefault();
       button.setPointerCapture(event.pointerId);
       if (event.pointerType === "touch") this.pressLater(event.pointerId, boardKey);
-      else this.down(boardKey, event.shiftKey);
+      else this.pressOrRelease(boardKey, event.shiftKey);
     });
     button.addEventListener("pointerup", (event) => {
       liftTime = event.timeStamp;
       // A tap shorter than SWIPE_DELAY_MS has not pressed the key yet.
-      if (this.cancelTouch(event.pointerId)) this.down(boardKey, false);
-      this.up(key);
+      if (this.cancelTouch(event.pointerId)) this.pressOrRelease(boardKey, false);
+      this.liftFinger(key);
     });
     button.addEventListener("pointercancel", (event) => {
       if (!this.cancelTouch(event.pointerId)) this.undoPress(key);
     });
-    button.addEventListener("lostpointercapture", () => this.up(key));
+    button.addEventListener("lostpointercapture", () => this.liftFinger(key));
     button.addEventListener("contextmenu", (event) => event.preventDefault());
-    button.addEventListener("keydown", (event) => this.activate(event, () => this.down(boardKey, event.shiftKey)));
-    button.addEventListener("keyup", (event) => this.activate(event, () => this.up(key)));
+    button.addEventListener("keydown", (event) => this.activate(event, () => this.pressOrRelease(boardKey, event.shiftKey)));
+    button.addEventListener("keyup", (event) => this.activate(event, () => this.liftFinger(key)));
     // A click without a pointer or a keyboard, for example from a screen reader, presses and releases the key.
     button.addEventListener("click", (event) => {
       if (event.detail !== 0 || event.timeStamp - liftTime < TAP_CLICK_MS) return;
       if (event instanceof PointerEvent && event.pointerId > 0) return;
-      this.down(boardKey, false);
-      this.up(key);
+      this.pressOrRelease(boardKey, false);
+      this.liftFinger(key);
     });
   }
 
@@ -102,7 +102,7 @@ export class KeyPresser {
   pressLater(pointer, boardKey) {
     this.touchTimers.set(pointer, window.setTimeout(() => {
       this.touchTimers.delete(pointer);
-      this.down(boardKey, false);
+      this.pressOrRelease(boardKey, false);
     }, SWIPE_DELAY_MS));
   }
 
@@ -121,7 +121,7 @@ export class KeyPresser {
    * @param {Pick<BoardKey, "key" | "isSwitch">} boardKey
    * @param {boolean} hasShift
    */
-  down({ key, isSwitch }, hasShift) {
+  pressOrRelease({ key, isSwitch }, hasShift) {
     const name = formatKey(key);
     if (this.heldKeys.has(name)) return;
     const isDown = this.calls.isDown(key);
@@ -155,7 +155,7 @@ export class KeyPresser {
    * resumes.
    * @param {Key} key
    */
-  up(key) {
+  liftFinger(key) {
     const name = formatKey(key);
     const heldKey = this.heldKeys.get(name);
     if (heldKey === undefined) return;
@@ -164,7 +164,7 @@ export class KeyPresser {
   }
 
   releaseAll() {
-    for (const { key } of [...this.heldKeys.values()]) this.up(key);
+    for (const { key } of [...this.heldKeys.values()]) this.liftFinger(key);
   }
 
   /** Lets the computer's keyboard press the board's keys, unless another element handles the key. */
@@ -177,12 +177,12 @@ export class KeyPresser {
       event.preventDefault();
       if (event.repeat || keysByCode.has(event.code)) return;
       keysByCode.set(event.code, boardKey.key);
-      this.down(boardKey, false);
+      this.pressOrRelease(boardKey, false);
     });
     addEventListener("keyup", (event) => {
       const key = keysByCode.get(event.code);
       keysByCode.delete(event.code);
-      if (key !== undefined) this.up(key);
+      if (key !== undefined) this.liftFinger(key);
     });
     // The page does not receive key releases after it has lost the focus.
     addEventListener("blur", () => {
@@ -197,7 +197,7 @@ export class KeyPresser {
  * @param {EventTarget | null} target
  * @param {string} keyName
  */
-export function wantsKey(target, keyName) {
+export function handlesKey(target, keyName) {
   if (!(target instanceof Element)) return false;
   if (target.matches("input:not([type=checkbox]), textarea, select") || target.closest("[contenteditable]")) return true;
   return target.matches("button, summary, a, input") && (keyName === "Enter" || keyName === " ");

@@ -1,6 +1,6 @@
 // Controls the picture in the Wiring tab. The picture is drawn from the board's text in the Board tab.
 
-import { wantsKey } from "../board/key_presser.js";
+import { handlesKey } from "../board/key_presser.js";
 import { button, isDialogOpen, onClick } from "../ui/dom.js";
 import { TITLE_HEIGHT } from "../../core/board/wiring.js";
 import { Drawing } from "../../core/drawing/board_drawing.js";
@@ -93,7 +93,7 @@ export class DrawingController {
    * @param {KeyboardEvent} event
    */
   handleKey(event) {
-    const isForPicture = this.calls.isInFront() && !isDialogOpen() && !wantsKey(event.target, event.key);
+    const isForPicture = this.calls.isInFront() && !isDialogOpen() && !handlesKey(event.target, event.key);
     if (!isForPicture || event.defaultPrevented || !(event.ctrlKey || event.metaKey)) return;
     if (this.input.handleControlKey(event)) event.preventDefault();
   }

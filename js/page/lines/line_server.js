@@ -31,7 +31,7 @@ import { stoppedAt } from "../../words/stops.js";
  * @property {() => string} counter Returns the program counter on the page, as three hexadecimal digits.
  * @property {(result: LinesReply) => void} show Shows the session after the lines.
  * @property {() => void} checkSource Compares the source with ROM again.
- * @property {() => Promise<string>} keep Saves the session. Resolves to the reason why it could not be saved, or to "".
+ * @property {() => Promise<string>} save Saves the session. Resolves to the reason why it could not be saved, or to "".
  * @property {(entries: ServedInput[], fault: string) => void} log Logs lines with their answers, and the reason if the session could not be
  *   saved.
  * @property {(tally: Tally) => void} countHits Shows the hit counts and log messages of breakpoints.
@@ -118,7 +118,7 @@ export class LineServer {
     calls.show(result);
     this.showCounter(counter, result.entries);
     if (result.touchesRom) calls.checkSource();
-    const fault = await calls.keep();
+    const fault = await calls.save();
     if (result.status !== 0) this.notice.show(say.LINES_TOO_LONG);
     calls.log(result.entries, fault);
   }

@@ -68,7 +68,7 @@ export class CurrentSession {
    * @param {Release} release
    * @param {string} example the example's name if the session is still unchanged, otherwise ""
    */
-  async use(record, release, example) {
+  async replaceSession(record, release, example) {
     const { bench, store, calls } = this;
     await bench.call("settled", [record.file]);
     const oldSession = this.session;
@@ -81,8 +81,8 @@ export class CurrentSession {
     this.showName();
     const { goal, runs } = record;
     this.willRun = runs && !goal;
-    await this.showParts();
-    await this.keep();
+    await this.showElements();
+    await this.save();
     if (this.willRun) calls.run();
     else calls.showPaused(goal ? wordsOfInterrupted(goal, runs, calls.describeCounter()) : say.PAUSED);
     this.willRun = false;
@@ -93,7 +93,7 @@ export class CurrentSession {
    * Shows the elements of the page. They stay invisible until the names in the source have arrived, because showing the names changes the
    * layout.
    */
-  async showParts() {
+  async showElements() {
     const isFirst = block("bench").hidden;
     document.body.classList.toggle("settling", isFirst);
     for (const part of SESSION_ELEMENT_IDS) block(part).hidden = false;
@@ -112,7 +112,7 @@ export class CurrentSession {
   /** Stops and saves the session that the user leaves. The record says whether time was running, so that time can resume on return. */
   async leaveSession() {
     await this.calls.stopTime();
-    await this.keep();
+    await this.save();
   }
 
   /**
@@ -121,7 +121,7 @@ export class CurrentSession {
    */
   async open(record) {
     try {
-      return await this.callOpen(record);
+      return await this.requestOpening(record);
     } catch (fault) {
       if (this.session) this.calls.showPaused(say.PAUSED);
       throw fault;
@@ -132,7 +132,7 @@ export class CurrentSession {
    * @param {SessionRecord} record
    * @returns {Promise<PageState>}
    */
-  callOpen({ file, cycles = NO_CYCLES, printed }) {
+  requestOpening({ file, cycles = NO_CYCLES, printed }) {
     return this.bench.call("open", [file, cycles.total, cycles.reset, printed || null]);
   }
 
@@ -161,7 +161,7 @@ export class CurrentSession {
    * Uses the title in the session's texts as the session's name, unless the user has named the session.
    * @param {string} title
    */
-  takeTitle(title) {
+  adoptTitle(title) {
     const name = shortName(title.replace(/\.$/, ""));
     if (!this.session || !this.session.record.isTitled || name === "" || name === this.session.record.name) return;
     this.session.record.name = name;
@@ -173,36 +173,36 @@ export class CurrentSession {
     if (!this.session) return;
     this.session.record.isTitled = false;
     this.session.record.name = name.trim() || "session";
-    this.touch();
+    this.markChanged();
     this.showName();
-    await this.keep();
+    await this.save();
   }
 
   /** Records that the user has changed the session. From then on, the session is saved. */
-  touch() {
+  markChanged() {
     if (!this.session) return;
     this.calls.handleSessionChange();
-    if (!this.session.touch()) return;
+    if (!this.session.markChanged()) return;
     this.showName();
-    this.keep();
+    this.save();
   }
 
   /** Records a change and saves the session. Resolves to the reason why the session could not be saved, or to "". */
-  touchAndKeep() {
-    this.touch();
-    return this.keep();
+  markChangedAndSave() {
+    this.markChanged();
+    return this.save();
   }
 
   /**
    * Writes the session to the store, then logs the runs since the last save. Resolves to the reason why the session could not be saved, or
    * to "".
    */
-  async keep() {
+  async save() {
     if (!this.session) return "";
     const { calls } = this;
     this.lastSaveTime = performance.now();
     const runs = calls.takeRuns();
-    const fault = await this.session.keep();
+    const fault = await this.session.save();
     calls.logRuns(runs, fault);
     calls.showSaveError(fault && say.notKept(fault));
     calls.showSaveState(fault || !this.store.isPersistent ? "failed" : this.session.isUntouched ? "example" : "saved");
@@ -210,9 +210,9 @@ export class CurrentSession {
   }
 
   /** Saves the session when the user leaves the page. */
-  keepNow() {
+  saveNow() {
     if (!this.session) return;
-    this.session.keepNow();
-    this.storedHistory.leave();
+    this.session.saveNow();
+    this.storedHistory.saveOnLeave();
   }
 }

@@ -15,7 +15,7 @@ function formatTexts({ boardText, programText, testText, propertiesText }) {
   return JSON.stringify({ boardText, programText, testText, propertiesText });
 }
 
-export class LeftTexts {
+export class UnsavedTexts {
   /** @param {TextStore | null} store null if the browser has no storage */
   constructor(store = browserStore()) {
     this.store = store;
@@ -27,7 +27,7 @@ export class LeftTexts {
    * Records that the session store has the texts of a session.
    * @param {SessionRecord} record
    */
-  note(record) {
+  noteStored(record) {
     this.storedTexts = formatTexts(record);
   }
 
@@ -35,10 +35,10 @@ export class LeftTexts {
    * Saves the texts of a session in local storage when the user leaves it, unless the session store has them.
    * @param {SessionRecord} record
    */
-  leave(record) {
+  saveOnLeave(record) {
     const texts = formatTexts(record);
     if (texts === this.storedTexts) return;
-    this.change((store) => store.setItem(KEY_PREFIX + record.id, JSON.stringify({ revision: record.revision, texts })));
+    this.accessStore((store) => store.setItem(KEY_PREFIX + record.id, JSON.stringify({ revision: record.revision, texts })));
   }
 
   /**
@@ -47,7 +47,7 @@ export class LeftTexts {
    * @param {SessionRecord} record
    */
   restore(record) {
-    this.change((store) => {
+    this.accessStore((store) => {
       const { revision = 0, texts = "{}" } = JSON.parse(store.getItem(KEY_PREFIX + record.id) || "{}");
       if (revision > record.revision) Object.assign(record, JSON.parse(texts), { revision });
       else store.removeItem(KEY_PREFIX + record.id);
@@ -59,11 +59,11 @@ export class LeftTexts {
    * @param {string} id
    */
   forget(id) {
-    this.change((store) => store.removeItem(KEY_PREFIX + id));
+    this.accessStore((store) => store.removeItem(KEY_PREFIX + id));
   }
 
   /** @param {(store: TextStore) => void} action */
-  change(action) {
+  accessStore(action) {
     try {
       if (this.store) action(this.store);
     } catch {

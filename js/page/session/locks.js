@@ -36,7 +36,7 @@ export class Locks {
    * @param {string} id
    * @returns {Promise<Release | null>}
    */
-  async take(id) {
+  async acquire(id) {
     for (let attempt = 0; attempt < MAX_ATTEMPTS; attempt++) {
       const release = await this.requestLock(`fethsaim session ${id}`);
       if (release) return release;

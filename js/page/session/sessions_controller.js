@@ -25,7 +25,7 @@ import * as say from "../../words/session.js";
  * The callbacks of SessionsController.
  * @typedef {object} ControllerCalls
  * @property {() => OpenSession | null} session Returns the current session, or null if there is none.
- * @property {() => Promise<string>} keep Saves the session. Resolves to the reason why it could not be saved, or to "".
+ * @property {() => Promise<string>} save Saves the session. Resolves to the reason why it could not be saved, or to "".
  * @property {(name: string) => void} rename Renames the current session.
  * @property {(id: string) => void} setSpeed Sets the speed that a project requests, by its id.
  * @property {(name: string, texts: import("../../core/session/opened_file.js").FileTexts) => Promise<void>} loadTexts Loads the texts of a
@@ -211,7 +211,7 @@ export class SessionsController {
    * @param {SessionRecord} record
    */
   async reportUnfinishedOpening(record) {
-    const release = await this.locks.take(record.id);
+    const release = await this.locks.acquire(record.id);
     if (!release) return;
     release();
     const message = say.notOpenedAutomatically(shortName(record.name));

@@ -78,38 +78,39 @@ export class StoredHistory {
    * @param {News} news
    * @param {{ file: Uint8Array, total: number, reset: number }} currentState the session after the report's entries
    */
-  take({ isNewPast, entries }, currentState) {
+  addReport({ isNewPast, entries }, currentState) {
     const cycles = sumCycles(entries);
     const lastSegment = this.segments[this.segments.length - 1];
     if (isNewPast || !lastSegment || cycles > MAX_REPORT_CYCLES) {
       this.segments = [];
-      this.add(currentState);
+      this.addSegment(currentState);
       return;
     }
     lastSegment.entries.push(...entries);
     this.cycles += cycles;
     this.characters += entries.reduce((sum, { line }) => sum + line.length, 0);
-    if (this.cycles >= MAX_CYCLES || lastSegment.entries.length >= MAX_ENTRIES || this.characters >= MAX_CHARACTERS) this.add(currentState);
+    const isFull = this.cycles >= MAX_CYCLES || lastSegment.entries.length >= MAX_ENTRIES || this.characters >= MAX_CHARACTERS;
+    if (isFull) this.addSegment(currentState);
   }
 
   /** @param {{ file: Uint8Array, total: number, reset: number }} currentState */
-  add({ file, total, reset }) {
+  addSegment({ file, total, reset }) {
     this.segments = [...this.segments, { file: file.slice(), total, reset, entries: [] }].slice(-MAX_SEGMENTS);
     this.cycles = 0;
     this.characters = 0;
   }
 
   /** Writes the history to the storage when the user leaves the page. */
-  leave() {
+  saveOnLeave() {
     const segments = this.segments.map(({ file, ...fields }) => ({ file: toBase64(file), ...fields }));
-    this.change((store) => store.setItem(STORAGE_KEY, JSON.stringify({ session: this.session, segments })));
+    this.accessStore((store) => store.setItem(STORAGE_KEY, JSON.stringify({ session: this.session, segments })));
   }
 
   /** Removes the session's history from the storage and returns it. Returns an empty list if the storage has none for this session. */
   storedSegments() {
     /** @type {StoredSegment[]} */
     let segments = [];
-    this.change((store) => {
+    this.accessStore((store) => {
       const stored = JSON.parse(store.getItem(STORAGE_KEY) || "{}");
       store.removeItem(STORAGE_KEY);
       if (stored.session === this.session && Array.isArray(stored.segments)) segments = stored.segments.map(parseSegment);
@@ -133,7 +134,7 @@ export class StoredHistory {
   }
 
   /** @param {(store: TabStore) => void} action */
-  change(action) {
+  accessStore(action) {
     try {
       if (this.store) action(this.store);
     } catch {

@@ -15,8 +15,8 @@ import * as say from "../../words/session.js";
  * The callbacks of TextsController.
  * @typedef {object} TextsCalls
  * @property {() => OpenSession | null} session Returns the current session, or null if there is none.
- * @property {() => void} touch Records that the user has changed the session.
- * @property {() => Promise<string>} keep Saves the session. Resolves to the reason why it could not be saved, or to "".
+ * @property {() => void} markChanged Records that the user has changed the session.
+ * @property {() => Promise<string>} save Saves the session. Resolves to the reason why it could not be saved, or to "".
  * @property {() => void} handleEdit Handles an edit of a text.
  * @property {(boardText: string) => void} updateNames Updates the names that come from the board's text, which may have changed.
  * @property {() => Promise<string>} source Resolves to a source text that assembles to the contents of ROM. Rejects if the bench fails.
@@ -90,12 +90,12 @@ export class TextsController {
     record.programText = this.program.text;
     record.testText = this.tests.text;
     record.propertiesText = this.properties.text;
-    this.calls.touch();
+    this.calls.markChanged();
     this.calls.handleEdit();
     clearTimeout(this.saveTimer);
     this.saveTimer = setTimeout(() => {
       this.calls.updateNames(record.boardText);
-      this.calls.keep();
+      this.calls.save();
     }, SAVE_DELAY_MS);
   }
 

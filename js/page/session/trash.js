@@ -1,6 +1,6 @@
 // The deleted sessions, which can be restored until the page is closed.
 
-import { LeftTexts } from "./left_texts.js";
+import { UnsavedTexts } from "./left_texts.js";
 import { describeStoreError } from "./store.js";
 import * as say from "../../words/session.js";
 
@@ -25,7 +25,7 @@ export class Trash {
     this.store = store;
     this.locks = locks;
     this.refuse = refuse;
-    this.leftTexts = new LeftTexts();
+    this.unsavedTexts = new UnsavedTexts();
     /** @type {SessionRecord[]} the sessions deleted since the page was opened, most recent first */
     this.deleted = [];
   }
@@ -44,7 +44,7 @@ export class Trash {
 
   /** @param {SessionRecord} record */
   async removeSession(record) {
-    const release = await this.locks.take(record.id);
+    const release = await this.locks.acquire(record.id);
     if (!release) {
       this.refuse(say.openElsewhere(record.name));
       return false;
@@ -53,9 +53,9 @@ export class Trash {
       // Include changes that another tab has made since the session was listed.
       const newestRecord = await this.store.get(record.id);
       if (newestRecord) Object.assign(record, newestRecord);
-      this.leftTexts.restore(record);
+      this.unsavedTexts.restore(record);
       await this.store.remove(record.id);
-      this.leftTexts.forget(record.id);
+      this.unsavedTexts.forget(record.id);
       return true;
     } catch (fault) {
       this.refuse(say.notDeleted(record.name, describeStoreError(fault)));

@@ -48,7 +48,7 @@ export class Clock {
   }
 
   /** True if key presses and releases are queued until the simulation reaches their time. Otherwise, each press toggles the key. */
-  get movesKeys() {
+  get queuesKeyChanges() {
     return this.isRunning && !togglesKeys(this.speed);
   }
 
@@ -98,14 +98,14 @@ export class Clock {
   }
 
   /** Records that the page is hidden. */
-  hide() {
+  handlePageHidden() {
     this.time.hide();
   }
 
   requestFrame() {
     this.frameRequest = requestAnimationFrame((now) => {
       this.requestFrame();
-      this.frame(now);
+      this.runFrame(now);
     });
   }
 
@@ -114,10 +114,10 @@ export class Clock {
    * otherwise the caller must send the key. If a call is in progress, more cycles run as soon as that call ends.
    * @param {Key} key
    */
-  pressNow(key) {
+  simulateKeyPress(key) {
     if (!this.isRunning || this.isFull || this.speed.isByInstruction) return false;
     this.mustRunAgain = this.isBusy;
-    return this.frame(performance.now(), this.maxEarlyTime, key);
+    return this.runFrame(performance.now(), this.maxEarlyTime, key);
   }
 
   /** The number of milliseconds by which a key press can be simulated early. */
@@ -131,7 +131,7 @@ export class Clock {
    * @param {number} [earlyTime] the number of milliseconds to simulate early
    * @param {Key | null} [key] the key to press before the cycles
    */
-  frame(now, earlyTime = 0, key = null) {
+  runFrame(now, earlyTime = 0, key = null) {
     // Some browsers still send animation frames to a hidden page. Cycles that become due during a call run in the next frame.
     if (document.hidden || this.isBusy) return false;
     const skippedGap = this.time.skipGap(now, Date.now());
@@ -156,6 +156,6 @@ export class Clock {
     } finally {
       this.isBusy = false;
     }
-    if (this.mustRunAgain && this.isRunning && !this.isFull) this.frame(performance.now(), this.maxEarlyTime);
+    if (this.mustRunAgain && this.isRunning && !this.isFull) this.runFrame(performance.now(), this.maxEarlyTime);
   }
 }

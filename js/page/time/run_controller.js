@@ -129,7 +129,7 @@ export class RunController {
     this.clock.start();
     this.startRateMeasurement();
     bench.isRunning = this.clock.isFull;
-    currentSession.keep();
+    currentSession.save();
   }
 
   /**
@@ -150,7 +150,7 @@ export class RunController {
 
   /** Resumes or pauses time at the user's request. */
   runOrStop() {
-    this.currentSession.touch();
+    this.currentSession.markChanged();
     if (this.clock.isRunning) this.stop();
     else this.run();
   }
@@ -186,9 +186,9 @@ export class RunController {
   /** @param {boolean} isHidden */
   setHidden(isHidden) {
     const { bench, currentSession, calls } = this;
-    if (isHidden) this.clock.hide();
+    if (isHidden) this.clock.handlePageHidden();
     if (this.clock.isFull && this.clock.isRunning) bench.call("pace", [isHidden]).catch(calls.reportFailure);
-    if (isHidden) currentSession.keepNow();
+    if (isHidden) currentSession.saveNow();
   }
 
   /**
@@ -246,7 +246,7 @@ export class RunController {
       calls.drawSlowViews();
       this.endRun(wordsOfHalt(this.goal, calls.cycles() - this.startCycles, this.counterText));
     }
-    await currentSession.keep();
+    await currentSession.save();
   }
 
   /** Pauses time if it is running. */
@@ -267,12 +267,12 @@ export class RunController {
     if (frame.stop) {
       this.endRun(this.describeStop(frame.stop));
       this.onRunEnd(frame.stop.why);
-      currentSession.keep();
+      currentSession.save();
       return;
     }
     if (isNewRate || !this.clock.isRunning) this.showRate();
     // A key press is saved at once. A hidden page receives only one frame per second, so it saves after each frame.
-    if (frame.changesKeys || document.hidden || performance.now() - currentSession.lastSaveTime >= SAVE_INTERVAL) currentSession.keep();
+    if (frame.changesKeys || document.hidden || performance.now() - currentSession.lastSaveTime >= SAVE_INTERVAL) currentSession.save();
   }
 
   /** A text with the program counter, its name in the source, and its source line. */
@@ -307,8 +307,8 @@ export class RunController {
    */
   queueKeyChange(word, key) {
     const { bench, currentSession, calls } = this;
-    currentSession.touch();
-    if (word === "press" && this.clock.pressNow(key)) return;
+    currentSession.markChanged();
+    if (word === "press" && this.clock.simulateKeyPress(key)) return;
     const removePending = this.pendingKeys.send({ word, key });
     bench.call(word, [key]).finally(removePending).then((waiting) => {
       this.pendingKeys.waitingChanges = waiting;
@@ -321,6 +321,6 @@ export class RunController {
    * @param {boolean} isDown true if the bench reports the key as down
    */
   willBeDown(key, isDown) {
-    return this.clock.movesKeys ? this.pendingKeys.willBeDown(key, isDown) : isDown;
+    return this.clock.queuesKeyChanges ? this.pendingKeys.willBeDown(key, isDown) : isDown;
   }
 }

@@ -90,7 +90,7 @@ export class Tabs {
    * @param {string} words
    * @param {boolean} isGood true if the text reports a success
    */
-  mark(name, words, isGood = false) {
+  setMark(name, words, isGood = false) {
     const { mark } = this.find(name);
     if (mark.textContent !== words) mark.textContent = words;
     mark.classList.toggle("good", isGood);

@@ -82,7 +82,7 @@ export class Scope {
     this.view = new WaveView({ goTo: calls.goTo, hide: (name) => this.choice.select(name, false), storeRows: calls.storeRows });
     /** @type {WaveChoice} */
     this.choice = new WaveChoice({
-      boardLines: calls.boardLines, showLines: (lines) => this.view.choose(lines), handleMissingValues: () => this.restartLive(),
+      boardLines: calls.boardLines, showLines: (lines) => this.view.setChosenLines(lines), handleMissingValues: () => this.restartLive(),
     });
     this.isBusy = false;
     /** @type {LiveWaves | null} the last recording of running time; null if there is none */
@@ -254,7 +254,7 @@ export class Scope {
   drawLive(liveWaves) {
     this.isUpToDate = true;
     if (this.liveWaves !== liveWaves) return;
-    this.view.grow(liveWaves.triggerMoment);
+    this.view.handleGrowth(liveWaves.triggerMoment);
     if (liveWaves.over === "trigger") this.view.showAround(liveWaves.triggerMoment);
     else if (!liveWaves.isOn) this.view.fit();
     this.choice.handleGrowth();
@@ -297,9 +297,9 @@ export class Scope {
     }
     const { name } = waves.lines[search.line];
     if (!this.choice.selectedNames.has(name)) this.choice.select(name, true);
-    this.view.mark(search.line);
+    this.view.selectRowOfLine(search.line);
     const moment = find(waves, search, view.moment, isForward);
-    if (moment >= 0) this.view.move(moment);
+    if (moment >= 0) this.view.moveCursor(moment);
     else this.searchStatus.set(say.notFound(text.trim(), isForward, formatNumber(view.moment)));
   }
 

@@ -99,7 +99,7 @@ export class WaveView {
     new WavePointers(this.canvas, {
       click: (point, isOtherCursor) => this.click(point, isOtherCursor),
       holdsCursor: ({ x, y }) => y < AXIS_HEIGHT && x >= this.gutter,
-      drag: ({ x }) => this.move(this.view.cyclesAt(x - this.gutter)),
+      drag: ({ x }) => this.moveCursor(this.view.cyclesAt(x - this.gutter)),
       isOnRowName: ({ x, y }) => y >= AXIS_HEIGHT && x < this.gutter,
       dragRow: (from, to) => this.dragRow(from, to),
       hover: (point) => this.hover(point),
@@ -115,8 +115,8 @@ export class WaveView {
     onClick(button("edge-before"), () => this.moveToEdge(false));
     onClick(button("edge-after"), () => this.moveToEdge(true));
     onClick(button("wave-go-to"), () => this.showInstruction());
-    onClick(button("cursor-a"), () => this.activate(0));
-    onClick(button("cursor-b"), () => this.activate(1));
+    onClick(button("cursor-a"), () => this.activateCursor(0));
+    onClick(button("cursor-b"), () => this.activateCursor(1));
   }
 
   get gutter() {
@@ -153,7 +153,7 @@ export class WaveView {
    * Shows a recording after parts were added at its end or removed at its beginning.
    * @param {number} trigger the moment of the trigger, or -1 if there is none
    */
-  grow(trigger) {
+  handleGrowth(trigger) {
     if (!this.waves) return;
     this.trigger = trigger;
     this.view.stretch(this.waves.from, this.waves.cycles);
@@ -185,7 +185,7 @@ export class WaveView {
   }
 
   /** @param {number[]} lines the indices of the lines to show, in board order */
-  choose(lines) {
+  setChosenLines(lines) {
     this.chosenLines = lines;
     this.arrange(this.rows[this.selected]);
   }
@@ -244,9 +244,9 @@ export class WaveView {
   moveRow(index, to) {
     const { names, rows } = this;
     if (!rows[index] || !rows[to]) return;
-    this.select(index);
+    this.selectRow(index);
     this.rearrange(() => this.arrangement.move(rows, names, index, to));
-    this.select(this.selected);
+    this.selectRow(this.selected);
   }
 
   /**
@@ -264,7 +264,7 @@ export class WaveView {
    * @param {string[]} names
    * @param {import("../../core/waves/wave_rows.js").RowAppearance} look
    */
-  change(names, look) {
+  changeLines(names, look) {
     this.rearrange(() => names.forEach((name) => this.arrangement.change(name, look)));
   }
 
@@ -272,7 +272,7 @@ export class WaveView {
    * Folds or unfolds a group.
    * @param {string} group
    */
-  fold(group) {
+  toggleFold(group) {
     this.rearrange(() => this.arrangement.fold(group));
   }
 
@@ -285,7 +285,7 @@ export class WaveView {
     const { left, top } = this.canvas.getBoundingClientRect();
     const index = this.rowIndexAt({ x: event.clientX - left, y: event.clientY - top });
     const isPointed = event.button === 2 || event.ctrlKey || (event instanceof PointerEvent && event.pointerType === "touch");
-    if (this.rows[index] && isPointed) this.select(index);
+    if (this.rows[index] && isPointed) this.selectRow(index);
     const row = this.rows[this.selected];
     const y = top + AXIS_HEIGHT + this.selected * ROW_HEIGHT - this.scroll.scrollTop;
     if (row) this.menu.open(row, { left: Math.max(left, event.clientX), bottom: event.clientY > top ? event.clientY : y });
@@ -331,12 +331,12 @@ export class WaveView {
   }
 
   /** @param {number} moment */
-  move(moment) {
+  moveCursor(moment) {
     this.changeView(() => this.view.move(moment));
   }
 
   /** @param {number} cursor 0 for cursor A, 1 for cursor B */
-  activate(cursor) {
+  activateCursor(cursor) {
     this.changeView(() => {
       this.view.active = cursor;
       this.view.move(this.view.moment);
@@ -361,7 +361,7 @@ export class WaveView {
     if (!this.waves || this.line < 0) return;
     const { moment } = this.view;
     const edge = isForward ? this.waves.changeAfter(this.line, moment) : this.waves.changeBefore(this.line, moment);
-    if (edge !== undefined) this.move(edge);
+    if (edge !== undefined) this.moveCursor(edge);
   }
 
   /** Shows the instruction at the active cursor in the source and the disassembly. */
@@ -370,9 +370,9 @@ export class WaveView {
   }
 
   /** Handles Enter: folds the selected group, or shows the instruction at the cursor. */
-  enter() {
+  handleEnter() {
     const row = this.rows[this.selected];
-    if (row && row.line < 0) this.fold(row.group);
+    if (row && row.line < 0) this.toggleFold(row.group);
     else this.showInstruction();
   }
 
@@ -380,13 +380,13 @@ export class WaveView {
    * Selects the row of a line if it is visible.
    * @param {number} line
    */
-  mark(line) {
+  selectRowOfLine(line) {
     const row = this.rows.findIndex((candidate) => candidate.line === line);
-    if (row >= 0) this.select(row);
+    if (row >= 0) this.selectRow(row);
   }
 
   /** @param {number} row */
-  select(row) {
+  selectRow(row) {
     this.selected = Math.min(Math.max(row, 0), this.rows.length - 1);
     const top = this.selected * ROW_HEIGHT;
     const visibleHeight = this.scroll.clientHeight - AXIS_HEIGHT;
@@ -402,11 +402,11 @@ export class WaveView {
   click({ x, y }, isOtherCursor) {
     if (!this.waves) return;
     const row = this.rowIndexAt({ x, y });
-    if (this.rows[row]) this.select(row);
-    if (this.rows[row] && this.rows[row].line < 0) this.fold(this.rows[row].group);
+    if (this.rows[row]) this.selectRow(row);
+    if (this.rows[row] && this.rows[row].line < 0) this.toggleFold(this.rows[row].group);
     if (x < this.gutter) return;
     if (isOtherCursor) this.view.active = 1 - this.view.active;
-    this.move(this.view.momentAt(x - this.gutter, this.waves, y >= AXIS_HEIGHT ? this.line : -1));
+    this.moveCursor(this.view.momentAt(x - this.gutter, this.waves, y >= AXIS_HEIGHT ? this.line : -1));
   }
 
   /** @param {KeyboardEvent} event */
@@ -422,14 +422,14 @@ export class WaveView {
     if (event.altKey) return;
     /** @type {Record<string, (() => void) | undefined>} */
     const actions = {
-      ArrowLeft: () => this.move(view.moment - stepSize), ArrowRight: () => this.move(view.moment + stepSize),
-      ArrowUp: () => this.select(this.selected - 1), ArrowDown: () => this.select(this.selected + 1),
-      PageUp: () => this.move(view.moment - view.span / 2), PageDown: () => this.move(view.moment + view.span / 2),
-      Home: () => this.move(view.begin), End: () => this.move(view.end),
+      ArrowLeft: () => this.moveCursor(view.moment - stepSize), ArrowRight: () => this.moveCursor(view.moment + stepSize),
+      ArrowUp: () => this.selectRow(this.selected - 1), ArrowDown: () => this.selectRow(this.selected + 1),
+      PageUp: () => this.moveCursor(view.moment - view.span / 2), PageDown: () => this.moveCursor(view.moment + view.span / 2),
+      Home: () => this.moveCursor(view.begin), End: () => this.moveCursor(view.end),
       "+": () => this.zoom(ZOOM_FACTOR), "-": () => this.zoom(1 / ZOOM_FACTOR), 0: () => this.changeView(() => view.showAll()),
-      Enter: () => this.enter(),
+      Enter: () => this.handleEnter(),
       "/": () => field("wave-search").focus(),
-      p: () => this.moveToEdge(false), n: () => this.moveToEdge(true), a: () => this.activate(0), b: () => this.activate(1),
+      p: () => this.moveToEdge(false), n: () => this.moveToEdge(true), a: () => this.activateCursor(0), b: () => this.activateCursor(1),
     };
     const action = actions[event.key] || actions[event.key.toLowerCase()];
     // Keys that are pressed on the canvas must not press the board's keys.
