@@ -1,4 +1,4 @@
-// Tests the clock with stand-ins for the frames and the bench, whose answers the test sets.
+// Tests the clock, with stand-ins for the animation frames and the bench. The test sets their answers.
 import assert from "node:assert/strict";
 import { mock, test } from "node:test";
 import { Clock } from "../page/time/clock.js";
@@ -6,7 +6,7 @@ import { matrixKey } from "../core/board/key_place.js";
 import { CYCLES_PER_SECOND } from "../core/time/mcs4_time.js";
 import { SPEEDS, findSpeed } from "../core/time/speeds.js";
 
-/** Returns a clock that runs from 0 on, and its calls; `to` moves to a time, with a frame there. */
+/** Returns a clock that was started at time 0, and its calls. `wait` sets the time. `to` sets the time and delivers an animation frame. */
 function begin(speed = "real") {
   let now = 0;
   let frame = null;
@@ -128,7 +128,7 @@ test("a page that was hidden owes nothing back, and lends nothing while it is hi
   clock.simulateKeyPress(matrixKey(0, 1));
   await settled();
   globalThis.document.hidden = true;
-  clock.hide();
+  clock.handlePageHidden();
   wait(5000);
   assert.equal(clock.simulateKeyPress(matrixKey(0, 2)), false);
   globalThis.document.hidden = false;

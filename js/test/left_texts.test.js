@@ -1,10 +1,11 @@
-// The texts that the user typed just before leaving the page, in a browser that does not complete the last write to the store.
+// Tests the saving of texts that the user typed just before leaving the page, in a browser that does not complete the last write to the
+// store.
 import assert from "node:assert/strict";
 import { test } from "node:test";
 import { newRecord } from "../page/session/open_session.js";
 import { UnsavedTexts } from "../page/session/left_texts.js";
 
-/** A storage over a map. */
+/** Returns a stand-in for the browser's local storage that uses a map. */
 const storage = (items = new Map()) => ({
   items,
   getItem: (key) => items.get(key) ?? null,

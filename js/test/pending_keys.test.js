@@ -1,4 +1,5 @@
-// A key that is typed again before the page knows that it went up: it is pressed again, and no press counts as a release.
+// Tests a key that the user presses again before the page knows of its release. The second press must press the key and must not release
+// it.
 
 import assert from "node:assert/strict";
 import test from "node:test";
@@ -9,7 +10,10 @@ import { begin } from "./page_session.js";
 
 const KEY = { key: matrixKey(0, 0), isSwitch: false };
 
-/** Fingers on a key while time runs: the worker has the requests once `arrive` is called, and reports them by `look`. */
+/**
+ * Returns a KeyPresser for a key while time is running. `arrive` delivers the requests to the worker, and `look` delivers the worker's
+ * report to the page.
+ */
 async function typing() {
   const calls = await begin("calculator");
   const pendingKeys = new PendingKeys();
@@ -34,7 +38,7 @@ async function typing() {
     }
     onTheWay = [];
   };
-  /** This many cycles later the page gets the present state. */
+  /** Runs `cycles` cycles, then delivers the current state to the page. */
   const look = (cycles) => {
     arrive();
     const frame = structuredClone(calls.advance(cycles));

@@ -1,4 +1,4 @@
-// Sessions that are begun, deleted and restored, and the words about them.
+// Tests the creation, deletion and restoration of sessions, and the messages about them.
 import assert from "node:assert/strict";
 import { test } from "node:test";
 import { formatAddress, readAddress } from "../page/session/address.js";
@@ -91,7 +91,7 @@ test("lines in words", () => {
   assert.deepEqual(["", "a", "a\n", "a\nb", "\n"].map(formatLineCount), ["0 lines", "1 line", "1 line", "2 lines", "1 line"]);
 });
 
-/** Returns a controller of texts over plain objects; `answers` answers its questions. */
+/** Returns a texts controller with stand-ins for its editors. `answers` are the user's answers to its questions. */
 function controller(answers, programText, found) {
   const seen = { asked: 0, notices: [], kept: 0 };
   const session = { record: { id: "1", name: "one", boardText: "", programText } };

@@ -1,10 +1,10 @@
-// Saving, over a fake of the browser's store that answers when the test says so.
+// Tests saving with a stand-in for IndexedDB that answers when the test requests it.
 import assert from "node:assert/strict";
 import { test } from "node:test";
 import { OpenSession, newRecord } from "../page/session/open_session.js";
 import { MemoryStore, StoreError, Store, describeStoreError } from "../page/session/store.js";
 
-/** The part of IndexedDB that the store uses: one transaction after the other, in tasks of their own. */
+/** A stand-in for the part of IndexedDB that the store uses. It executes one transaction after another, each in its own task. */
 class FakeBase {
   constructor() {
     this.records = new Map();
