@@ -1,11 +1,11 @@
-// Starts the bench's commands. A setting of the user can name a command. By default, the commands in the extension run, on the editor's Node, so
-// that the user needs no other software.
+// Starts the bench's commands. A user setting can name the program that runs them. By default, the extension's own program runs them with the
+// editor's Node, so that the user needs no other software.
 "use strict";
 const { spawn } = require("node:child_process");
 const { join } = require("node:path");
 
 /** The environment that makes the editor's executable run as Node. */
-const AS_NODE = { ELECTRON_RUN_AS_NODE: "1" };
+const RUN_AS_NODE_ENVIRONMENT = { ELECTRON_RUN_AS_NODE: "1" };
 
 class BenchCommand {
   /**
@@ -15,11 +15,11 @@ class BenchCommand {
   constructor(vscode, folder) {
     this.vscode = vscode;
     this.ownScript = join(folder, "bench", "js", "node", "mcs4.cjs");
-    /** True if the command in the setting did not start. The commands in the extension then replace it. */
+    /** True if the program in the user setting did not start. The extension's own program is then used instead. */
     this.hasSettingFailed = false;
   }
 
-  /** The command that the user's setting names; "" for none. */
+  /** The program that the user setting names; "" for none. */
   get configuredCommand() {
     return this.hasSettingFailed ? "" : this.vscode.workspace.getConfiguration("mcs4").get("command") || "";
   }
@@ -28,13 +28,13 @@ class BenchCommand {
   get launchForm() {
     const { configuredCommand, ownScript } = this;
     if (configuredCommand !== "") return { program: configuredCommand, words: [], env: {} };
-    return { program: process.execPath, words: [ownScript], env: AS_NODE };
+    return { program: process.execPath, words: [ownScript], env: RUN_AS_NODE_ENVIRONMENT };
   }
 
   /**
    * Starts a command. Returns the process.
    * @param {string[]} words the name of the command and its arguments
-   * @param {"pipe" | "ignore"} errors the treatment of the command's standard error
+   * @param {"pipe" | "ignore"} errors whether the command's standard error is read or ignored
    */
   start(words, errors) {
     const { program, words: before, env } = this.launchForm;

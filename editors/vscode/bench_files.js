@@ -1,5 +1,5 @@
-// Determines which files belong to the bench, and which arguments run a test file. A file belongs to the bench if its folder contains board.toml, or
-// if its folder or a parent folder contains mcs4.toml.
+// Finds out which files belong to the bench, and with which arguments mcs4 runs a test file. A file belongs to the bench if its folder contains
+// board.toml, or if its folder or a parent folder contains mcs4.toml.
 "use strict";
 const { existsSync, readFileSync } = require("node:fs");
 const { dirname, join } = require("node:path");
@@ -23,7 +23,7 @@ function belongsToBench(file) {
 }
 
 /**
- * Returns the test files that a project lists, in their order. Does not check mcs4.toml, because the bench does.
+ * Returns the test files that a project's mcs4.toml lists, in their order. Does not check mcs4.toml for errors, because the bench does that.
  * @param {string} folder
  */
 function listProjectTests(folder) {

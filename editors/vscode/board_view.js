@@ -1,6 +1,6 @@
 // The view "Lamps and keys". It draws the front panel of the board while a program is debugged, and the user can press the keys. The view can be in
-// the side bar of the debugger or in a separate panel. The page of the view is board_view.html. editors/vsix builds its script and style sheet from
-// the page of the bench.
+// the side bar of the debugger or in a separate panel. The HTML of the view is in board_view.html. editors/vsix builds the view's script and style
+// sheet from the bench's web page.
 "use strict";
 const { readFileSync } = require("node:fs");
 const { join } = require("node:path");
@@ -36,7 +36,10 @@ class BoardView {
     return { enableScripts: true, localResourceRoots: [this.vscode.Uri.file(this.folder)] };
   }
 
-  /** Opens a panel. If no program is debugged, starts the program in the active editor, or the first project of the workspace, in real time. */
+  /**
+   * Opens a panel. If no program is being debugged, starts to debug the program in the active editor, or the first project of the workspace, in real
+   * time.
+   */
   async open() {
     const { window, debug, ViewColumn } = this.vscode;
     const panel = window.createWebviewPanel("mcs4.panel", TITLE, { viewColumn: ViewColumn.Beside, preserveFocus: true },
@@ -48,7 +51,7 @@ class BoardView {
     else window.showInformationMessage("There is no MCS-4 program here: open one, or a folder with mcs4.toml.");
   }
 
-  /** Resolves to the launch configuration for a new panel; null if there is no program. */
+  /** Resolves to the launch configuration with which a new panel starts debugging; null if there is no program. */
   async launchConfiguration() {
     const { window, workspace } = this.vscode;
     const form = { type: "mcs4", request: "launch", name: TITLE, realTime: true, stopOnEntry: false };
@@ -61,7 +64,7 @@ class BoardView {
     return first ? { ...form, project: first.fsPath } : null;
   }
 
-  /** Handles a message of the page: the page is ready, or the user pressed or released a key or cleared the printout. */
+  /** Handles a message of a web view: the view is ready, or the user has pressed or released a key or cleared the printout. */
   async handleMessage(message, webview) {
     if (message.isReady) {
       webview.postMessage({ kind: "boardShown", news: this.shown });
@@ -92,7 +95,7 @@ class BoardView {
     }
   }
 
-  /** Sends the changes of the board, which the debug session has reported, to the pages. */
+  /** Sends the changes of the board that the debug session has reported to the web views. */
   news({ session, event, body }) {
     if (event !== "boardShown" || session !== this.session) return;
     this.shown = { ...this.shown, ...body };

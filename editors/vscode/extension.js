@@ -10,7 +10,10 @@ const { TestExplorer } = require("./test_explorer.js");
 
 const LANGUAGES = ["mcs4", "mcs4-board", "mcs4-test", "mcs4-props"];
 
-/** Returns the debug configuration. If there is no launch configuration (F5), returns one for the program in the active editor. */
+/**
+ * Returns a complete debug configuration. If the user has no launch configuration and presses F5, returns a configuration for the program in the
+ * active editor.
+ */
 function resolveConfiguration(folder, configuration) {
   if (configuration.type) return configuration;
   const editor = vscode.window.activeTextEditor;

@@ -8,7 +8,7 @@ const CAPABILITIES = {
   textDocument: { hover: { contentFormat: ["markdown", "plaintext"] } },
   experimental: { commands: { commands: ["editor.action.showReferences"] } },
 };
-/** The server's ids of the languages that have another id in the editor, by the editor's id. */
+/** The server's language ids, by the editor's ids. Contains only the languages whose ids differ. */
 const SERVER_LANGUAGE_IDS = { "mcs4": "asm", "mcs4-board": "toml" };
 
 class LanguageClient {
@@ -43,20 +43,20 @@ class LanguageClient {
     this.provide(capabilities);
   }
 
-  /** Starts the server. If the command in the setting does not start, starts the command in the extension instead. */
+  /** Starts the server. If the program in the user setting does not start, starts the extension's own program instead. */
   async start() {
     const { bench } = this;
     const { configuredCommand } = bench;
-    if (await this.isStarted()) return;
+    if (await this.tryToStart()) return;
     if (configuredCommand === "") throw new Error("The language server was not started.");
     bench.hasSettingFailed = true;
     const message = `The command ${configuredCommand} was not started; the setting mcs4.command names it. The extension's own commands take its place.`;
     this.vscode.window.showErrorMessage(message);
-    if (!(await this.isStarted())) throw new Error("The language server was not started.");
+    if (!(await this.tryToStart())) throw new Error("The language server was not started.");
   }
 
-  /** Tries to start the server. Resolves to whether the program has started. */
-  async isStarted() {
+  /** Tries to start the server. Resolves to true if the program has started. */
+  async tryToStart() {
     const child = this.bench.start(["lsp"], "ignore");
     const hasStarted = await new Promise((settle) => {
       child.on("spawn", () => settle(true));

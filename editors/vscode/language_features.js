@@ -1,5 +1,6 @@
-// The language features beyond hover, names, completion and diagnostics: formatting, inlay hints, folding, workspace symbols, call hierarchy, code
-// lenses, links, selection ranges and signature help. Sends the editor's requests to `mcs4 lsp`, and converts the answers to the editor's classes.
+// The language features other than hover, names, completion and diagnostics: formatting, inlay hints, folding, workspace symbols, call hierarchy,
+// code lenses, links, selection ranges and signature help. Sends the editor's requests to `mcs4 lsp`, and converts the answers to the editor's
+// classes.
 "use strict";
 
 class LanguageFeatures {
@@ -91,7 +92,7 @@ class LanguageFeatures {
       new this.vscode.CodeLens(this.client.toEditorRange(range), this.command(command))));
   }
 
-  /** Converts a command to the editor's form. Commands of the editor need arguments of the editor's classes. */
+  /** Converts a command of the server to a command of the editor. The arguments of the editor's own commands must have the editor's classes. */
   command({ title, command, arguments: serverArguments = [] }) {
     if (command !== "editor.action.showReferences") return { title, command, arguments: serverArguments };
     const [uri, position, places] = serverArguments;

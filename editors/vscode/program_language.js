@@ -1,5 +1,5 @@
-// Detects programs, tests and properties of the bench. Other software also uses the file extensions .asm, .test and .props, so such files belong to
-// the bench only in the folder of a project or a board. Only the bench uses .4004, so package.json assigns a language to this extension.
+// Recognises programs, tests and properties of the bench. Other software also uses the file extensions .asm, .test and .props, so such files belong
+// to the bench only in the folder of a project or a board. Only the bench uses .4004, so package.json itself assigns a language to that extension.
 "use strict";
 const { extname } = require("node:path");
 const { belongsToBench } = require("./bench_files.js");
@@ -7,7 +7,7 @@ const { belongsToBench } = require("./bench_files.js");
 /** The language ids, by file extension. */
 const LANGUAGES = { ".asm": "mcs4", ".test": "mcs4-test", ".props": "mcs4-props" };
 
-/** Assigns a language to each file of the bench, once, so that the user can then choose another language. */
+/** Assigns a language to each file of the bench when it is first opened. Later, the user can choose another language. */
 class ProgramLanguage {
   /** @param vscode the editor's API module */
   constructor(vscode) {

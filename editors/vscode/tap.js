@@ -1,4 +1,4 @@
-// Parses the test results that `mcs4 test` prints: TAP version 13, with the error details below each `not ok`.
+// Parses the test results that `mcs4 test` prints in TAP version 13. The details of an error follow its `not ok` line.
 "use strict";
 
 const RESULT_LINE = /^(not )?ok \d+ - (.*)$/;

@@ -3,10 +3,10 @@
 const { basename, dirname } = require("node:path");
 const { PROJECT } = require("./bench_files.js");
 
-const TYPE = "mcs4";
-const COMMANDS = ["test", "cover", "profile", "explore", "prove"];
+const TASK_TYPE = "mcs4";
+const TASK_COMMANDS = ["test", "cover", "profile", "explore", "prove"];
 /** The problem matchers for the output of tasks, which package.json defines. */
-const MATCHERS = ["$mcs4", "$mcs4-line", "$mcs4-test"];
+const PROBLEM_MATCHERS = ["$mcs4", "$mcs4-line", "$mcs4-test"];
 
 class Tasks {
   /**
@@ -19,12 +19,12 @@ class Tasks {
   }
 
   register() {
-    return this.vscode.tasks.registerTaskProvider(TYPE, { provideTasks: () => this.listTasks(), resolveTask: (task) => this.completeTask(task) });
+    return this.vscode.tasks.registerTaskProvider(TASK_TYPE, { provideTasks: () => this.listTasks(), resolveTask: (task) => this.completeTask(task) });
   }
 
   async listTasks() {
     const files = await this.vscode.workspace.findFiles(`**/${PROJECT}`, "**/node_modules/**");
-    return files.flatMap((uri) => COMMANDS.map((command) => this.task({ type: TYPE, command, folder: dirname(uri.fsPath) }, uri)));
+    return files.flatMap((uri) => TASK_COMMANDS.map((command) => this.task({ type: TASK_TYPE, command, folder: dirname(uri.fsPath) }, uri)));
   }
 
   task(definition, uri) {
@@ -32,20 +32,20 @@ class Tasks {
     const { command, folder } = definition;
     const scope = vscode.workspace.getWorkspaceFolder(uri) || vscode.TaskScope.Workspace;
     const name = `${command} ${basename(folder)}`;
-    const task = new vscode.Task(definition, scope, name, "MCS-4", bench.execution([command, "-C", folder], folder), MATCHERS);
+    const task = new vscode.Task(definition, scope, name, "MCS-4", bench.execution([command, "-C", folder], folder), PROBLEM_MATCHERS);
     if (command === "test") task.group = vscode.TaskGroup.Test;
     return task;
   }
 
-  /** Returns a task of tasks.json in runnable form. If the task has no folder, uses the workspace folder. */
+  /** Returns a task of tasks.json that the editor can run. If the task names no folder, the task runs in the workspace folder. */
   completeTask({ definition, scope }) {
     const { vscode } = this;
     const [first] = vscode.workspace.workspaceFolders || [];
     const { uri } = scope && scope.uri ? scope : first || { uri: null };
     const folder = definition.folder || (uri ? uri.fsPath : "");
-    if (!COMMANDS.includes(definition.command) || folder === "") return undefined;
+    if (!TASK_COMMANDS.includes(definition.command) || folder === "") return undefined;
     const task = this.task({ ...definition, folder }, uri || vscode.Uri.file(folder));
-    // The editor identifies a task by its definition object, so the task must have the original object.
+    // The editor recognises a task by its definition object, so the new task must have the original object.
     task.definition = definition;
     return task;
   }

@@ -6,8 +6,8 @@ const { basename } = require("node:path");
 const { belongsToBench, testArguments } = require("./bench_files.js");
 const { parseResults } = require("./tap.js");
 
-const PATTERN = "**/*.test";
-const HEAD = /^([ \t]*test[ \t]+)(\S.*?)[ \t]*$/;
+const TEST_FILE_PATTERN = "**/*.test";
+const TEST_HEADING = /^([ \t]*test[ \t]+)(\S.*?)[ \t]*$/;
 
 /**
  * Returns the tests in a text, with their locations.
@@ -15,7 +15,7 @@ const HEAD = /^([ \t]*test[ \t]+)(\S.*?)[ \t]*$/;
  */
 function findTests(text) {
   return text.split(/\r?\n/).flatMap((line, at) => {
-    const [, before, name] = HEAD.exec(line) || [];
+    const [, before, name] = TEST_HEADING.exec(line) || [];
     return name ? [{ name, line: at, from: before.length, to: before.length + name.length }] : [];
   });
 }
@@ -38,7 +38,7 @@ class TestExplorer {
     this.controller.createRunProfile("Debug", TestRunProfileKind.Debug, (request) => this.debug(request), true);
     this.controller.resolveHandler = (item) => (item ? this.read(item.uri) : this.findAll());
     this.controller.refreshHandler = () => this.findAll();
-    const watcher = workspace.createFileSystemWatcher(PATTERN);
+    const watcher = workspace.createFileSystemWatcher(TEST_FILE_PATTERN);
     const showDocument = ({ uri, getText }) => {
       if (uri.scheme === "file" && uri.fsPath.endsWith(".test")) this.show(uri, getText());
     };
@@ -54,7 +54,7 @@ class TestExplorer {
   // --- finding tests
 
   async findAll() {
-    const found = await this.vscode.workspace.findFiles(PATTERN, "**/node_modules/**");
+    const found = await this.vscode.workspace.findFiles(TEST_FILE_PATTERN, "**/node_modules/**");
     for (const uri of found) this.read(uri);
   }
 
@@ -83,7 +83,7 @@ class TestExplorer {
 
   // --- runs
 
-  /** Returns the tests that a request selects, as a map from the item of a test file to its selected tests. */
+  /** Returns the tests that a request selects: a map from the item of each test file to the items of its selected tests. */
   selectedTests({ include, exclude = [] }) {
     const wanted = new Map();
     const add = (file, tests) => {
@@ -138,7 +138,7 @@ class TestExplorer {
     return message;
   }
 
-  /** Debugs the first test of a request. Time pauses at the failure or at the end of the test, and the user can go back in time from there. */
+  /** Debugs the first test that a request selects. Time pauses at the failure or at the end of the test. From there, the user can go back in time. */
   async debug(request) {
     const { workspace, debug } = this.vscode;
     const run = this.controller.createTestRun(request);

@@ -1,10 +1,13 @@
-// The page: creates its components and connects them to the current session. Every value on the page is from the bench's answers.
+// The page: creates its components and connects them to the current session. Every value that the page shows comes from an answer of the
+// bench.
 
 import { ConfirmDialog } from "./ui/confirm_dialog.js";
 import { Face } from "../core/board/face.js";
 import { makeCurrentSession, makeRecovery, makeRunController, makeLineServer } from "./compose_core.js";
-import { connectSound, makeDrawing, makeKeyPresser, makeScope, makeSnapshotView } from "./compose_board.js";
-import { makeBreakpoints, makeHeat, makeHistory, makeMistakes, makeTravel, makeValues, makeWatched } from "./compose_debug.js";
+import { connectSound, makeDrawingController, makeKeyPresser, makeScope, makeSnapshotView } from "./compose_board.js";
+import {
+  makeBreakpointsController, makeHeatView, makeHistoryView, makeMistakesView, makeSourceValues, makeTravel, makeWatchView,
+} from "./compose_debug.js";
 import { lampNames } from "../core/board/face_board.js";
 import { currentWiredText, describesBoard, textsToStore } from "../core/board/wired_board_text.js";
 import { cellWords } from "../core/help/manual.js";
@@ -12,8 +15,10 @@ import { Layout } from "./layout.js";
 import { LogView } from "./lines/log_view.js";
 import { sessionTitle } from "../core/session/session_summary.js";
 import { StoredHistory } from "./session/stored_history.js";
-import { makeExport, makeRomFiles, makeSessionsController, makeLinkSharing } from "./compose_session.js";
-import { makeEditors, makeExplore, makeProblems, makeSource, makeTests, makeTexts, nameCharacters } from "./compose_texts.js";
+import { makeExportView, makeRomFiles, makeSessionsController, makeLinkSharing } from "./compose_session.js";
+import {
+  makeEditors, makeExploreTab, makeProblemsView, makeSource, makeTestsTab, makeTextsController, showNibbleNames,
+} from "./compose_texts.js";
 import { CyclesView } from "./time/cycles_view.js";
 import { TextAppearance } from "./text/text_appearance.js";
 import { ProgressView } from "./ui/progress_view.js";
@@ -30,7 +35,7 @@ import * as say from "../words/page.js";
  * @typedef {import("./session/store.js").SessionStore} SessionStore
  * @typedef {import("../core/bench/error_messages.js").ErrorMessages} ErrorMessages
  * @typedef {{ bench: Bench, makeBench: () => Bench, store: SessionStore, locks: Locks, words: ErrorMessages, notice: Notice, examples:
- *   Example[], manual: ManualSection[] }} PageServices the services that the page uses; `makeBench` creates another bench in a new worker
+ *   Example[], manual: ManualSection[] }} PageServices the services that the page uses; `makeBench` starts another bench, in a new worker
  */
 
 export class Page {
@@ -55,25 +60,25 @@ export class Page {
     this.layout = new Layout(() => this.printContents());
     this.workView = new ProgressView();
     this.editors = makeEditors(this, manual);
-    this.breakpoints = makeBreakpoints(this);
+    this.breakpoints = makeBreakpointsController(this);
     this.source = makeSource(this);
-    this.sourceValues = makeValues(this);
-    this.watchView = makeWatched(this);
-    this.heatView = makeHeat(this);
-    this.cyclesView = new CyclesView(() => this.currentSession.keep());
+    this.sourceValues = makeSourceValues(this);
+    this.watchView = makeWatchView(this);
+    this.heatView = makeHeatView(this);
+    this.cyclesView = new CyclesView(() => this.currentSession.save());
     this.travel = makeTravel(this);
-    this.historyView = makeHistory(this);
+    this.historyView = makeHistoryView(this);
     this.confirmDialog = new ConfirmDialog();
-    this.testsTab = makeTests(this, manual);
-    this.exploreTab = makeExplore(this, manual, makeBench);
+    this.testsTab = makeTestsTab(this, manual);
+    this.exploreTab = makeExploreTab(this, manual, makeBench);
     this.appearance = new TextAppearance(this.layout.preferences, this.textEditors.map(({ editor }) => editor.editor));
-    this.mistakesView = makeMistakes(this, makeProblems(this));
-    this.textsController = makeTexts(this);
+    this.mistakesView = makeMistakesView(this, makeProblemsView(this));
+    this.textsController = makeTextsController(this);
     this.romFiles = makeRomFiles(this);
-    this.exportView = makeExport(this);
+    this.exportView = makeExportView(this);
     this.sessionsController = makeSessionsController(this, services);
     this.linkSharing = makeLinkSharing(this);
-    this.drawingController = makeDrawing(this);
+    this.drawingController = makeDrawingController(this);
     this.scope = makeScope(this);
   }
 
@@ -143,9 +148,9 @@ export class Page {
   }
 
   /**
-   * Draws a board in place of the present one, with the front panel that the board's text declares.
+   * Draws a new board in place of the current one, together with the front panel that the board's text declares.
    * @param {SessionRecord} record
-   * @param {string[]} board the answers to `board`
+   * @param {string[]} board the bench's answers to the query `board`
    */
   draw(record, board) {
     const { pendingBoardText } = this.editors;
@@ -153,18 +158,19 @@ export class Page {
       : { text: pendingBoardText, board: board.join("\n") };
     record.wired = textsToStore(wiredTexts, record.wired);
     const { snapshotView } = this;
-    this.currentSession.takeTitle(sessionTitle(wiredTexts.text, this.programEditor.text) || (board.length > 1 ? say.MY_BOARD : ""));
+    this.currentSession.adoptTitle(sessionTitle(wiredTexts.text, this.programEditor.text) || (board.length > 1 ? say.MY_BOARD : ""));
     snapshotView.draw(board, wiredTexts.text);
     this.drawingController.handleBoard(board);
     this.historyView.draw(snapshotView.board, lampNames(new Face(wiredTexts.text), snapshotView.board.lamps.length));
     this.editors.checkTexts(board.length === 1);
     this.heatView.updateWatch();
     connectSound(this, wiredTexts.text);
-    nameCharacters(this);
+    showNibbleNames(this);
   }
 
   /**
-   * Shows an edited front panel. If the text describes a board that is not in use, its front panel appears when that board is applied.
+   * Shows an edited front panel. If the text describes a different board from the one in use, the panel appears only after the user applies
+   * that board.
    * @param {string} boardText
    */
   readFace(boardText) {
@@ -185,9 +191,9 @@ export class Page {
   show({ snapshot, file, board, total, reset, future, past, waves, printed, waiting }, isPassing = false, litShares = null) {
     const { session } = this.currentSession;
     if (!session) return;
-    this.bench.returnBuffer(session.take(file));
+    this.bench.returnBuffer(session.replaceFile(file));
     this.runController.pendingKeys.waitingChanges = waiting;
-    this.storedHistory.take(past, { file: session.record.file, total, reset });
+    this.storedHistory.addReport(past, { file: session.record.file, total, reset });
     this.cyclesView.update({ total, reset }, this.runController.clock.isRunning);
     session.record.cycles = this.cyclesView.cycles.storedCounts;
     this.historyView.showFuture(future);

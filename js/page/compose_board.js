@@ -5,7 +5,7 @@ import { CancelledError } from "../core/bench/bench_errors.js";
 import { findBoardKey } from "../core/board/board_keys.js";
 import { Face } from "../core/board/face.js";
 import { findBuzzer } from "../core/board/face_board.js";
-import { KeyPresser, wantsKey } from "./board/key_presser.js";
+import { KeyPresser, handlesKey } from "./board/key_presser.js";
 import { DrawingController } from "./drawing/drawing_controller.js";
 import { insertKeyScan } from "./compose_texts.js";
 import { drawnPartLines } from "../core/drawing/drawn_part_lines.js";
@@ -35,8 +35,8 @@ export function makeSnapshotView(page) {
     describeRefusal: (number) => page.words.refusalMeaning(number),
     explain: (name) => describeCell(page.cellWords, name),
     showCounterLine: (counter) => page.source.showNext(counter, runController.isFast || page.currentSession.willRun),
-    takeBreakpoints: (breakpoints) => page.breakpoints.keeper.take(breakpoints),
-    toggleBreakpoint: (address) => page.breakpoints.keeper.toggleAddress(address),
+    receiveBreakpoints: (breakpoints) => page.breakpoints.manager.take(breakpoints),
+    toggleBreakpoint: (address) => page.breakpoints.manager.toggleAddress(address),
     revealAddress: (address) => page.source.reveal(address),
     watchLamps: (face, number) => {
       page.bench.call("watchLamps", [face, number]).catch((fault) => page.recovery.reportFailure(fault));
@@ -45,7 +45,7 @@ export function makeSnapshotView(page) {
       page.bench.call("printOn", [printer]).catch((fault) => page.recovery.reportFailure(fault));
     },
     clear: () => {
-      page.currentSession.touch();
+      page.currentSession.markChanged();
       page.bench.call("clearPrintout", []).catch((fault) => page.recovery.reportFailure(fault));
     },
     timeOf: (cycles) => runController.clock.displayDuration(cycles),
@@ -60,7 +60,7 @@ export function makeSnapshotView(page) {
 export function makeKeyPresser(page) {
   const { runController } = page;
   return new KeyPresser({
-    isRunning: () => runController.clock.movesKeys,
+    isRunning: () => runController.clock.queuesKeyChanges,
     isDown: (key) => runController.willBeDown(key, page.snapshotView.front.isDown(key)),
     press: (key) => runController.queueKeyChange("press", key),
     release: (key) => runController.queueKeyChange("release", key),
@@ -70,7 +70,7 @@ export function makeKeyPresser(page) {
     },
     keyForEvent: (event) => {
       if (event.ctrlKey || event.metaKey || event.altKey || !page.isTyping || isDialogOpen()) return undefined;
-      return wantsKey(event.target, event.key) ? undefined : findBoardKey(page.snapshotView.front.keys, event.key);
+      return handlesKey(event.target, event.key) ? undefined : findBoardKey(page.snapshotView.front.keys, event.key);
     },
   });
 }
@@ -89,7 +89,7 @@ export function connectSound({ runController, snapshotView }, boardText) {
  * @param {Page} page
  * @returns {DrawingController}
  */
-export function makeDrawing(page) {
+export function makeDrawingController(page) {
   const scanKeys = (/** @type {import("../core/bench/answers.js").Board} */ board) => insertKeyScan(page, board);
   const { bench, boardEditor, currentSession, snapshotView: { wiring } } = page;
   const { editor } = boardEditor;
@@ -115,7 +115,7 @@ export function makeDrawing(page) {
     },
     scanKeys,
     session: () => currentSession.session,
-    saveSession: () => currentSession.touchAndKeep(),
+    saveSession: () => currentSession.markChangedAndSave(),
     reportFailure: (fault) => page.recovery.reportFailure(fault),
   });
   tabs.onShown("wiring", () => {
@@ -133,21 +133,21 @@ export function makeDrawing(page) {
 export function makeScope(page) {
   /** @type {(values: string[]) => { board: string, program: string, values: string[], watched: string[] }} */
   const textsWithValues = (values) => ({ board: page.boardEditor.text, program: page.programEditor.text, values,
-    watched: page.breakpoints.keeper.watchTexts });
+    watched: page.breakpoints.manager.watchTexts });
   const scope = new Scope({
     goTo: (address) => page.snapshotView.goTo.show(address),
     storeRows: (rows) => {
       if (!page.currentSession.session) return;
       page.currentSession.session.record.rows = rows;
-      page.currentSession.keep();
+      page.currentSession.save();
     },
     name: () => page.currentSession.name,
     boardLines: () => listRecordableLines(page.snapshotView.board, page.boardEditor.text),
-    showRecording: (isOn) => page.layout.dock.mark("waves", isOn ? "records" : ""),
+    showRecording: (isOn) => page.layout.dock.setMark("waves", isOn ? "records" : ""),
     startLive: (wanted, values) => resultOrReport(page, page.bench.call("recordLive", [textsWithValues(values), wanted])),
     endLive: () => resultOrReport(page, page.bench.call("endRecording", [])),
     record: async (cycles, isBefore, values) => {
-      // A recording continues from the present state, so time must be paused.
+      // A recording continues from the current state, so time must be paused.
       await page.runController.pause();
       try {
         return await page.workView.show(say.RECORDING_LINES,

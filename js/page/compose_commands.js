@@ -27,8 +27,8 @@ import * as say from "../words/page_commands.js";
  * @typedef {import("./bench_page.js").Page} Page
  */
 
-/** The name of the stored choice that says whether the welcome cards have been shown. */
-const SEEN_KEY = "welcome";
+/** The key of the stored preference that says whether the welcome cards have been shown. */
+const WELCOME_SHOWN_KEY = "welcome";
 
 /** @type {TextName[]} the texts in the order of the page's editors */
 const EDITOR_NAMES = ["board", "program", "tests", "properties"];
@@ -36,7 +36,7 @@ const EDITOR_NAMES = ["board", "program", "tests", "properties"];
 /**
  * Brings a text or a panel to the front.
  * @param {Page} page
- * @param {string} name the name of the text or panel; "" to show nothing
+ * @param {string} name the name of the text or panel; with "", nothing changes
  */
 function show({ layout }, name) {
   if (name in say.TEXTS) layout.showText(name);
@@ -158,7 +158,7 @@ export class Commands {
     this.calls = this.makeCalls(guide, theme);
     this.welcome = this.makeWelcome(guide);
     this.palette = new PaletteView({
-      commands: () => [...COMMANDS, ...this.ownCommands()].map((command) => this.makeEntry(command)),
+      commands: () => [...COMMANDS, ...this.dynamicCommands()].map((command) => this.makeEntry(command)),
       places: (query) => listDestinations(query, this.createPlaceCallbacks()),
     });
     theme.onChange = () => page.scope.view.requestDrawing();
@@ -213,15 +213,15 @@ export class Commands {
     const { layout, sessionsController } = this.page;
     return new WelcomeView(this.examples, {
       beginTour: () => void guide.tour.begin(),
-      begin: (name) => sessionsController.beginNamed(name),
+      begin: (name) => sessionsController.beginExampleByName(name),
       showWiring: () => show(this.page, "wiring"),
-      storeSeen: () => layout.preferences.set(SEEN_KEY, "yes"),
+      storeSeen: () => layout.preferences.set(WELCOME_SHOWN_KEY, "yes"),
     });
   }
 
   /** Shows the welcome cards on the first visit in this browser. */
   showFirstWelcome() {
-    if (!this.page.layout.preferences.get(SEEN_KEY)) this.welcome.open();
+    if (!this.page.layout.preferences.get(WELCOME_SHOWN_KEY)) this.welcome.open();
   }
 
   /** @returns {import("./commands/palette_places.js").PlaceCalls} */
@@ -237,7 +237,7 @@ export class Commands {
         page.programEditor.editor.goTo({ line: line - 1, ch: 0 });
       },
       address: (address) => page.snapshotView.goTo.show(address),
-      example: (name) => void page.sessionsController.beginNamed(name),
+      example: (name) => void page.sessionsController.beginExampleByName(name),
       project: (id) => void page.sessionsController.open(id),
     };
   }
@@ -246,15 +246,15 @@ export class Commands {
    * Returns the commands that depend on the examples and on the board's keys.
    * @returns {Command[]}
    */
-  ownCommands() {
+  dynamicCommands() {
     const { snapshotView, keyPresser, sessionsController } = this.page;
     return [
       ...this.examples.map((example) => labelledCommand(`example.${example.name}`, say.openExample(example.name), "example",
         () => void sessionsController.begin(example), "examples")),
       ...snapshotView.front.keys.map((key) => labelledCommand(`key.${formatKey(key.key)}`,
         say.pressKey(key.legend || formatKey(key.key)), "key", () => {
-        keyPresser.down(key, false);
-        keyPresser.up(key.key);
+        keyPresser.pressOrRelease(key, false);
+        keyPresser.liftFinger(key.key);
       })),
     ];
   }

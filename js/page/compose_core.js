@@ -1,5 +1,5 @@
-// Creates the components that run the board, execute session lines and save the session. The callbacks connect each of them to the page's
-// other components.
+// Creates the components that run the board, execute the session's commands and save the session. The callbacks connect each of them to the
+// page's other components.
 
 import { wordsOfAddress, wordsOfWhen } from "../words/stops.js";
 import { LineServer } from "./lines/line_server.js";
@@ -42,8 +42,8 @@ export function makeRecovery(page) {
     showPaused: (words) => page.runController.endRun(words),
     showLastFrame: (frame) => page.runController.handleFrame(frame),
     reopenSession: async (record) => {
-      page.show(await page.currentSession.callOpen(record));
-      page.breakpoints.keeper.again();
+      page.show(await page.currentSession.requestOpening(record));
+      page.breakpoints.manager.again();
     },
   });
 }
@@ -72,8 +72,8 @@ export function makeRunController(page) {
     },
     cycles: () => page.cyclesView.cycles.total,
     describeCounter: () => wordsOfAddress(page.snapshotView.counter, page.source.map),
-    describeCondition: (id) => wordsOfWhen(page.breakpoints.keeper.list.get(id), page.breakpoints.keeper.faults.get(id)),
-    countUnreadable: () => page.breakpoints.keeper.faults.size,
+    describeCondition: (id) => wordsOfWhen(page.breakpoints.manager.list.get(id), page.breakpoints.manager.faults.get(id)),
+    countUnreadable: () => page.breakpoints.manager.faults.size,
     describeRefusal: (number) => page.words.refusalMeaning(number),
     step: () => page.lineServer.serveLines("step\n"),
     reportFailure: (fault) => page.recovery.reportFailure(fault),
@@ -95,7 +95,7 @@ export function makeLineServer(page) {
       page.show(result);
     },
     checkSource: () => page.checkSource(),
-    keep: () => currentSession.touchAndKeep(),
+    save: () => currentSession.markChangedAndSave(),
     log: (entries, fault) => page.logView.show(entries, fault),
     countHits: (tally) => page.breakpoints.count(tally),
     isRunning: () => runController.clock.isRunning,

@@ -1,5 +1,5 @@
-// Creates the debugger's components: breakpoints, steps back and forward, and values. The callbacks connect each of them to the page's
-// other components.
+// Creates the debugger's components: breakpoints, steps back and forward, and the views of values. The callbacks connect each of them to
+// the page's other components.
 
 import { CancelledError, WorkerDiedError } from "../core/bench/bench_errors.js";
 import { hex } from "../core/bench/numbers.js";
@@ -13,7 +13,7 @@ import { SourceValues } from "../core/machine/source_values.js";
 import { collectWatchNames } from "../core/debug/watch_expressions.js";
 import { MistakesView } from "./machine/mistakes_view.js";
 import { WatchView } from "./machine/watch_view.js";
-import { nameCharacters } from "./compose_texts.js";
+import { showNibbleNames } from "./compose_texts.js";
 import { HistoryView } from "./time/history_view.js";
 import { Travel } from "../core/time/travel.js";
 import { block } from "./ui/dom.js";
@@ -35,10 +35,10 @@ export function runToLine({ source, runController, travel }, line) {
  * @param {Page} page
  * @returns {BreakpointsController}
  */
-export function makeBreakpoints(page) {
+export function makeBreakpointsController(page) {
   return new BreakpointsController(page.bench, {
     session: () => page.currentSession.session,
-    saveSession: () => page.currentSession.touchAndKeep(),
+    saveSession: () => page.currentSession.markChangedAndSave(),
     texts: () => ({ board: page.boardEditor.text, program: page.programEditor.benchText }),
     handleResult: (result) => page.lineServer.handleResult(result),
     showSession: (result) => page.show(result, page.runController.clock.isRunning),
@@ -72,30 +72,30 @@ export function makeTravel(page) {
     counted: (tally) => page.breakpoints.count(tally),
     reasonOf: (stop, goal) => runController.describeStop(stop, goal),
     where: () => runController.counterText,
-    breakpoint: (id) => page.breakpoints.keeper.list.get(id),
+    breakpoint: (id) => page.breakpoints.manager.list.get(id),
     showMessage: (words) => runController.showMessage(words),
   });
 }
 
 /** @param {Page} page */
-export function makeHistory(page) {
+export function makeHistoryView(page) {
   const { travel, snapshotView, programEditor, runController } = page;
   listenForRunToLine(snapshotView.listing.block, (node) => snapshotView.listing.rows.addressAt(node), (address) => {
     travel.goOn({ kind: "here", address });
   });
   listenForRunToCaret(block("program-editor"), () => runToLine(page, programEditor.editor.editor.getCursor().line + 1));
-  makeLastChanges(page);
+  makeLastChangeView(page);
   return new HistoryView({
     goOn: (goal) => travel.goOn(goal),
     goBack: (goal) => travel.goBack(goal),
     goForward: () => travel.goForward(),
-    names: () => pageNames(page),
+    names: () => expressionNames(page),
     showMessage: (words) => runController.showMessage(words),
   });
 }
 
 /** @param {Page} page */
-function makeLastChanges({ bench, snapshotView, source, runController, recovery }) {
+function makeLastChangeView({ bench, snapshotView, source, runController, recovery }) {
   return new LastChangeView([block("processor"), block("watched"), block("memory")], {
     isRunning: () => runController.clock.isRunning,
     editableCellAt: (cell) => snapshotView.editor.editableCells.get(cell),
@@ -114,7 +114,7 @@ function makeLastChanges({ bench, snapshotView, source, runController, recovery 
  * @param {Page} page
  * @returns {SourceValues}
  */
-export function makeValues(page) {
+export function makeSourceValues(page) {
   const { snapshotView, runController, source, editors } = page;
   return new SourceValues({
     snapshot: () => snapshotView.reader.snapshot,
@@ -135,7 +135,7 @@ export function makeValues(page) {
  * @param {Page} page
  * @returns {HeatView}
  */
-export function makeHeat(page) {
+export function makeHeatView(page) {
   const { bench, snapshotView, runController, recovery } = page;
   return new HeatView(page.layout.preferences, {
     isRunning: () => runController.clock.isRunning,
@@ -156,26 +156,27 @@ export function makeHeat(page) {
  * Returns the names that expressions can use: names from the board in use, from the program in ROM, and from the watch.
  * @param {Page} page
  */
-function pageNames({ snapshotView, source, breakpoints }) {
-  return { face: snapshotView.face, board: snapshotView.board, map: source.map, watched: collectWatchNames(breakpoints.keeper.watchTexts) };
+function expressionNames({ snapshotView, source, breakpoints }) {
+  const watched = collectWatchNames(breakpoints.manager.watchTexts);
+  return { face: snapshotView.face, board: snapshotView.board, map: source.map, watched };
 }
 
 /**
  * @param {Page} page
  * @returns {WatchView}
  */
-export function makeWatched(page) {
+export function makeWatchView(page) {
   const { currentSession, snapshotView } = page;
   return new WatchView({
     makeEditable: (cell, { place, name }) => snapshotView.editor.makeEditable(cell, { place, name, digits: 1 }),
     pausedState: () => page.sourceValues.machineState,
-    names: () => pageNames(page),
-    handleListChange: () => nameCharacters(page),
+    names: () => expressionNames(page),
+    handleListChange: () => showNibbleNames(page),
     storeExpressions: (texts) => {
       if (!currentSession.session) return;
       currentSession.session.record.watched = texts;
-      page.breakpoints.keeper.setWatchExpressions(texts);
-      currentSession.keep();
+      page.breakpoints.manager.setWatchExpressions(texts);
+      currentSession.save();
     },
   });
 }
@@ -185,7 +186,7 @@ export function makeWatched(page) {
  * @param {import("./text/problems_view.js").ProblemsView} problems
  * @returns {MistakesView}
  */
-export function makeMistakes(page, problems) {
+export function makeMistakesView(page, problems) {
   const { preferences } = page.layout;
   return new MistakesView({
     describeAddress: (address) => wordsOfAddress(hex(address, 3), page.source.map),

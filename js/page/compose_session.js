@@ -24,8 +24,8 @@ export function makeSessionsController(page, services) {
   const { currentSession } = page;
   return new SessionsController(services, {
     session: () => currentSession.session,
-    keep: () => currentSession.keep(),
-    useSession: (record, release, example) => currentSession.use(record, release, example),
+    save: () => currentSession.save(),
+    useSession: (record, release, example) => currentSession.replaceSession(record, release, example),
     rename: (name) => currentSession.rename(name),
     showLines: () => page.layout.dock.show("console"),
     openLink: (link) => page.linkSharing.open(link),
@@ -56,7 +56,7 @@ export function makeRomFiles(page) {
 }
 
 /** @param {Page} page */
-export function makeExport(page) {
+export function makeExportView(page) {
   return new ExportView({
     name: () => page.currentSession.name,
     board: () => page.boardEditor.text,
@@ -94,7 +94,7 @@ function makeActCalls({ layout, snapshotView, keyPresser, runController, source,
     },
     keys: () => snapshotView.front.keys,
     run: async () => {
-      // A run up to a goal must end first, so that the next run continues without that goal.
+      // If time is running toward a goal, pause it first, so that the next run has no goal.
       if (runController.goal) await runController.pause();
       runController.run();
     },
@@ -106,11 +106,11 @@ function makeActCalls({ layout, snapshotView, keyPresser, runController, source,
       layout.showText("program");
       snapshotView.goTo.show(address);
     },
-    isRunning: () => runController.clock.movesKeys,
+    isRunning: () => runController.clock.queuesKeyChanges,
     isDown: ({ key }) => runController.willBeDown(key, snapshotView.front.isDown(key)),
     press: (boardKey) => {
-      keyPresser.down(boardKey, false);
-      keyPresser.up(boardKey.key);
+      keyPresser.pressOrRelease(boardKey, false);
+      keyPresser.liftFinger(boardKey.key);
     },
     showText: (name) => layout.showText(name),
     showPanel: (name) => layout.showPanel(name),

@@ -28,7 +28,7 @@ export function makeEditors(page, manual) {
   const { runController } = page;
   return new Editors(page.bench, page.words, manual, {
     handleEdits: (edits) => {
-      page.breakpoints.keeper.applyTextEdits(edits);
+      page.breakpoints.manager.applyTextEdits(edits);
       page.textsController.handleEdit();
       page.drawingController.handleEdit();
     },
@@ -44,7 +44,7 @@ export function makeEditors(page, manual) {
     valuesAt: (text, at) => page.sourceValues.at(text, at),
     makeEditable: (cell, { place, name }) => page.snapshotView.editor.makeEditable(cell, { place, name, digits: 1 }),
     replaceBoard: (text, words) => page.textsController.replace("board", text, words),
-    showFaultCount: (name, count) => page.layout.tabs.mark(name, count > 0 ? formatErrorCount(count) : ""),
+    showFaultCount: (name, count) => page.layout.tabs.setMark(name, count > 0 ? formatErrorCount(count) : ""),
     reportFailure: (fault) => page.recovery.reportFailure(fault),
   });
 }
@@ -53,7 +53,7 @@ export function makeEditors(page, manual) {
  * @param {Page} page
  * @returns {ProblemsView}
  */
-export function makeProblems(page) {
+export function makeProblemsView(page) {
   /** @type {Record<string, import("./text/text_editor_view.js").EditorView>} */
   const editors = { program: page.programEditor, board: page.boardEditor, tests: page.testsTab.editor, properties: page.exploreTab.editor };
   const problems = new ProblemsView({
@@ -61,17 +61,17 @@ export function makeProblems(page) {
       page.layout.showText(name);
       editors[name].goToFault(fault);
     },
-    showCount: (count) => page.layout.dock.mark("problems", count > 0 ? String(count) : ""),
+    showCount: (count) => page.layout.dock.setMark("problems", count > 0 ? String(count) : ""),
   });
   for (const [name, editor] of Object.entries(editors)) editor.onFaultsChange = (faults) => problems.setFaults(name, faults);
   return problems;
 }
 
 /**
- * Shows names at the RAM view's nibbles. The names come from the watch and from the source.
+ * Shows the names of nibbles in the RAM view. The names come from the watch and from the source.
  * @param {Page} page
  */
-export function nameCharacters({ snapshotView, watchView, source }) {
+export function showNibbleNames({ snapshotView, watchView, source }) {
   snapshotView.ram.showNames(nibbleNames(snapshotView.board, watchView.expressions, source.map));
 }
 
@@ -86,8 +86,8 @@ export function makeSource(page) {
     changed: (map, words) => {
       page.snapshotView.nameLines(map, words);
       page.layout.status.showRom(map !== null, words);
-      nameCharacters(page);
-      page.breakpoints.keeper.setSourceMap(map, words);
+      showNibbleNames(page);
+      page.breakpoints.manager.setSourceMap(map, words);
     },
     describeRefusal: (number) => page.words.refusalMeaning(number),
   });
@@ -99,17 +99,17 @@ export function makeSource(page) {
  * @param {Page} page
  * @returns {TextsController}
  */
-export function makeTexts(page) {
+export function makeTextsController(page) {
   const { currentSession } = page;
   const { boardEditor, programEditor, testsTab, exploreTab, confirmDialog, notice } = page;
   return new TextsController(boardEditor, programEditor, testsTab.editor, exploreTab.editor, confirmDialog, notice, {
     session: () => currentSession.session,
-    touch: () => currentSession.touch(),
-    keep: () => currentSession.keep(),
+    markChanged: () => currentSession.markChanged(),
+    save: () => currentSession.save(),
     handleEdit: () => page.exploreTab.proofs.handleEdit(),
     updateNames: (boardText) => {
       page.readFace(boardText);
-      currentSession.takeTitle(sessionTitle(boardText, page.programEditor.text));
+      currentSession.adoptTitle(sessionTitle(boardText, page.programEditor.text));
       page.checkSource();
     },
     source: () => page.bench.call("source", []),
@@ -142,7 +142,7 @@ export function insertKeyScan({ layout, programEditor }, board) {
  * @param {ManualSection[]} manual
  * @returns {TestsTab}
  */
-export function makeTests(page, manual) {
+export function makeTestsTab(page, manual) {
   const { bench, runController, words } = page;
   const tab = new TestsTab(manual, {
     texts: () => ({ boardText: page.boardEditor.text, programText: page.programEditor.text }),
@@ -150,7 +150,7 @@ export function makeTests(page, manual) {
     faults: (texts) => bench.call("testFaults", [texts]),
     sample: (texts) => bench.call("sampleTest", [texts]),
     run: async (texts) => {
-      // The worker serves one call at a time. Without this pause, the tests would stop time without an explanation.
+      // The worker serves one call at a time, so time stands still during the tests. Pausing it here shows the user why.
       await runController.pause();
       return page.workView.show(say.RUNNING_TESTS, (signal, progress) => bench.call("runTests", [texts], { signal, progress }));
     },
@@ -161,7 +161,7 @@ export function makeTests(page, manual) {
     },
     goTo: (address) => page.snapshotView.goTo.show(address),
     open: (name, file, texts) => page.sessionsController.manager.openNew(async () => newRecord(name, file, texts)),
-    showMark: (label, isGood) => page.layout.tabs.mark("tests", label, isGood),
+    showMark: (label, isGood) => page.layout.tabs.setMark("tests", label, isGood),
     handleEdit: () => page.textsController.handleEdit(),
     reportFailure: (fault) => page.recovery.reportFailure(fault),
   });
@@ -197,7 +197,7 @@ async function openWithLines(page, { name, lines, message }, texts) {
   const previousSession = page.currentSession.session;
   if (!(await sessionsController.manager.openNew(makeRecord))) return;
   await page.lineServer.serveLines(lines);
-  // `serveLines` hides the notice about the previous session, because it changes the new one. Show that notice again.
+  // `serveLines` changes the new session, which hides the notice about the previous session. Show that notice again.
   if (previousSession && !previousSession.isUntouched) sessionsController.offerReturn(previousSession.record);
   page.layout.showText("program");
   page.runController.showMessage(message);
@@ -209,7 +209,7 @@ async function openWithLines(page, { name, lines, message }, texts) {
  * @param {() => import("../core/bench/bench_client.js").Bench} makeBench
  * @returns {ExploreTab}
  */
-export function makeExplore(page, manual, makeBench) {
+export function makeExploreTab(page, manual, makeBench) {
   const { bench, words } = page;
   const [explorer, prover] = [new Explorer(makeBench), new Prover(makeBench)];
   const tab = new ExploreTab(manual, {
@@ -229,7 +229,7 @@ export function makeExplore(page, manual, makeBench) {
     prove: prover.prove.bind(prover),
     openWithLines: (name, lines, texts, message) => openWithLines(page, { name, lines, message }, texts),
     addTest: (test) => addTest(page, test),
-    showMark: (label, isGood) => page.layout.tabs.mark("properties", label, isGood),
+    showMark: (label, isGood) => page.layout.tabs.setMark("properties", label, isGood),
     handleEdit: () => page.textsController.handleEdit(),
     reportFailure: (fault) => page.recovery.reportFailure(fault),
   });

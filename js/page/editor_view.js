@@ -7,7 +7,7 @@ import { findBoardKey } from "../core/board/board_keys.js";
 import { Face } from "../core/board/face.js";
 import { pinKey, formatKey } from "../core/board/key_place.js";
 import { FrontView } from "./board/front_view.js";
-import { KeyPresser, wantsKey } from "./board/key_presser.js";
+import { KeyPresser, handlesKey } from "./board/key_presser.js";
 import { PrinterView } from "./board/printer_view.js";
 import { block, button, field } from "./ui/dom.js";
 
@@ -31,12 +31,12 @@ const keyPresser = new KeyPresser({
   release: (key) => sendKey(key, false),
   change: (word, key) => sendKey(key, word === "press"),
   keyForEvent: (event) => {
-    if (event.ctrlKey || event.metaKey || event.altKey || !field("typing").checked || wantsKey(event.target, event.key)) return undefined;
+    if (event.ctrlKey || event.metaKey || event.altKey || !field("typing").checked || handlesKey(event.target, event.key)) return undefined;
     return findBoardKey(front.keys, event.key);
   },
 });
 /**
- * The front panel. Lamps show their perceived brightness while time is running, and their present state while time is paused.
+ * The front panel. Lamps show their perceived brightness while time is running, and their state at this instant while time is paused.
  */
 const front = new FrontView((node, key) => keyPresser.listen(node, key), () => {});
 /** The printer view. The debug adapter stores the printout since the board was drawn. */

@@ -17,11 +17,11 @@ import { Tabs } from "./ui/tabs.js";
 
 const TEXT_TABS = ["program", "board", "wiring", "tests", "properties"];
 const DOCK_TABS = ["disassembly", "waves", "console", "problems"];
-/** @type {Record<string, string>} the dock tab that shows each panel of the dock */
+/** @type {Record<string, string>} the name of the dock tab that contains each dock panel, by panel id */
 const DOCK_TAB_BY_PANEL = { listing: "disassembly", scope: "waves", talk: "console", problems: "problems" };
 
 /** @type {Border[]} */
-const BORDERS = [
+const SPLITTERS = [
   { id: "front-splitter", panel: "front", property: "--front-width", side: "right", min: 160, max: 700 },
   { id: "dock-splitter", panel: "dock", property: "--dock-height", side: "top", min: 60, max: 1200 },
   { id: "side-splitter", panel: "side", property: "--side-width", side: "left", min: 240, max: 900 },
@@ -45,7 +45,7 @@ export class Layout {
     });
     this.status = new StatusView();
     this.print = new PrintView(readContents);
-    this.splitters = BORDERS.map((border) => new Splitter(preferences, border));
+    this.splitters = SPLITTERS.map((border) => new Splitter(preferences, border));
     this.folds = makeFolds(preferences);
     this.panels = new Panels(preferences, () => this.reset());
   }

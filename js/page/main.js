@@ -25,15 +25,15 @@ import * as say from "../words/page.js";
  */
 
 /**
- * A WebAssembly module with one `memory.fill` instruction. A browser accepts this module only if it supports bulk memory, which the bench's
- * module needs.
+ * A WebAssembly module with one `memory.fill` instruction. A browser accepts this module only if it supports bulk memory instructions,
+ * which the bench's WebAssembly module needs.
  */
-const BULK_MEMORY_TRIAL = Uint8Array.of(0, 97, 115, 109, 1, 0, 0, 0, 1, 4, 1, 96, 0, 0, 3, 2, 1, 0, 5, 3, 1, 0, 1, 10, 13, 1, 11, 0,
+const BULK_MEMORY_MODULE = Uint8Array.of(0, 97, 115, 109, 1, 0, 0, 0, 1, 4, 1, 96, 0, 0, 3, 2, 1, 0, 5, 3, 1, 0, 1, 10, 13, 1, 11, 0,
   65, 0, 65, 0, 65, 0, 252, 11, 0, 11);
 
 /** Returns the name of a feature that the bench needs and this browser lacks, or "" if the browser has all of them. */
 function missingFeature() {
-  if (typeof WebAssembly !== "object" || !WebAssembly.validate(BULK_MEMORY_TRIAL)) return say.BULK_MEMORY;
+  if (typeof WebAssembly !== "object" || !WebAssembly.validate(BULK_MEMORY_MODULE)) return say.BULK_MEMORY;
   if (typeof BigInt !== "function") return say.BIG_INTEGERS;
   if (typeof Worker !== "function") return "workers";
   if (typeof HTMLDialogElement !== "function") return "dialogs";
@@ -57,7 +57,7 @@ async function openStore(hasLocks) {
  * Returns the text of an embedded script element of the page.
  * @param {string} id
  */
-function partText(id) {
+function embeddedText(id) {
   return (block(id).textContent || "").trim();
 }
 
@@ -65,17 +65,17 @@ function partText(id) {
  * Returns the decompressed bytes of an embedded script element of the page.
  * @param {string} id
  */
-function unpackedPart(id) {
-  return inflateRaw(fromBase64(partText(id)));
+function unpackEmbedded(id) {
+  return inflateRaw(fromBase64(embeddedText(id)));
 }
 
 /**
  * Returns a function that creates a bench in a new worker. The worker's script is embedded in the page.
  * @param {Example[]} examples
  */
-function benchMaker(examples) {
-  const address = URL.createObjectURL(new Blob([unpackedPart("worker")], { type: "text/javascript" }));
-  const module = unpackedPart("module").buffer;
+function makeBenchFactory(examples) {
+  const address = URL.createObjectURL(new Blob([unpackEmbedded("worker")], { type: "text/javascript" }));
+  const module = unpackEmbedded("module").buffer;
   return () => new Bench(() => startWorker(address), module, examples);
 }
 
@@ -111,12 +111,12 @@ function listenToChoices(page) {
 }
 
 /**
- * Listens to window events: the page is hidden or left, its address changes, or an error is not caught.
+ * Listens to window events: the user hides or leaves the page, the page's address changes, or an error is not caught.
  * @param {Page} page
  */
 function listenToLeaving(page) {
   document.addEventListener("visibilitychange", () => page.runController.setHidden(document.hidden));
-  addEventListener("pagehide", () => page.currentSession.keepNow());
+  addEventListener("pagehide", () => page.currentSession.saveNow());
   addEventListener("beforeunload", (event) => {
     if (!page.store.isPersistent) event.preventDefault();
   });
@@ -139,7 +139,7 @@ function listenToLeaving(page) {
  */
 async function start(words, notice, shell, { examples, manual }) {
   const locks = await Locks.find();
-  const makeBench = benchMaker(examples);
+  const makeBench = makeBenchFactory(examples);
   const bench = makeBench();
   const [store] = await Promise.all([openStore(locks.areAvailable), bench.start()]);
   const page = new Page({ bench, makeBench, store, locks, words, notice, examples, manual });
@@ -156,7 +156,7 @@ async function start(words, notice, shell, { examples, manual }) {
   if (story) guide.showStory(story, examples);
   if (isFirst) commands.showFirstWelcome();
   // When the user leaves the page, Firefox 153 runs a function only if it has run before, so save once now.
-  page.currentSession.keepNow();
+  page.currentSession.saveNow();
   // The startup time in milliseconds.
   document.body.dataset.ready = String(Math.round(performance.now()));
 }
@@ -168,16 +168,16 @@ async function main() {
   block("needs").hidden = true;
   const missingName = missingFeature();
   if (missingName) {
-    notice.show(say.hasNo(missingName, partText("needs")));
+    notice.show(say.hasNo(missingName, embeddedText("needs")));
     return;
   }
   /** @type {Data} */
-  const data = JSON.parse(new TextDecoder().decode(unpackedPart("data")));
+  const data = JSON.parse(new TextDecoder().decode(unpackEmbedded("data")));
   const errorMessages = new ErrorMessages(data.refusals);
   try {
     await start(errorMessages, notice, shell, data);
   } catch (fault) {
-    notice.show(say.cannotStart(errorMessages.errorMessage(fault), partText("needs")));
+    notice.show(say.cannotStart(errorMessages.errorMessage(fault), embeddedText("needs")));
   }
 }
 

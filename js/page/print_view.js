@@ -1,4 +1,5 @@
-// The printed page: the present state of the lamps, and both texts in full. An editor would print only its visible lines.
+// The printed page: the current state of the lamps, and both texts in full. The editors themselves cannot be printed, because they contain
+// only their visible lines.
 
 import { block, element } from "./ui/dom.js";
 import * as say from "../words/page.js";

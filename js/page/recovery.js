@@ -1,4 +1,4 @@
-// Recovery from errors: a failed call, or the death of the bench's worker.
+// Recovers from errors: from a failed call to the bench, and from the termination of the bench's worker.
 
 import * as say from "../words/page.js";
 
@@ -20,7 +20,7 @@ import * as say from "../words/page.js";
  * @property {(words: string) => void} showPaused Shows that time is paused, and the reason.
  * @property {(frame: Frame) => void} showLastFrame Shows the last frame of a run before the error.
  * @property {(record: SessionRecord) => Promise<void>} reopenSession Opens a session in a new worker and shows the session. Rejects if the
- *   new worker fails, too.
+ *   new worker also fails.
  */
 
 export class Recovery {
@@ -35,7 +35,7 @@ export class Recovery {
     this.words = words;
     this.notice = notice;
     this.calls = calls;
-    /** True while a new worker starts as the replacement for a dead one. */
+    /** True while a new worker starts in place of a terminated one. */
     this.isRestarting = false;
   }
 
@@ -46,7 +46,7 @@ export class Recovery {
   reportFailure(fault) {
     const { bench, notice, words, calls } = this;
     console.error(fault);
-    // While a new worker starts, calls to the dead one still fail. `restart` reports the death of the worker.
+    // While a new worker starts, pending calls to the old worker still fail. `restart` reports the termination to the user.
     if (this.isRestarting) return;
     notice.show(words.failureMessage(fault));
     if (!calls.session()) return;
@@ -56,7 +56,7 @@ export class Recovery {
     if (isRunning) bench.call("halt", []).then(calls.showLastFrame).catch(() => {});
   }
 
-  /** Starts a new worker after the old one has died. The session continues from the page's copy of its last record. */
+  /** Starts a new worker after the old one has terminated. The session continues from the last record that the page has. */
   async restart() {
     const { bench, notice, words, calls } = this;
     this.isRestarting = true;

@@ -33,17 +33,17 @@ import * as say from "../words/page.js";
  * @property {() => boolean} isFast Returns true if the speed is too high for the disassembly to follow each instruction.
  * @property {() => boolean} isWiringShown Returns true if the Wiring tab's picture is in front.
  * @property {(lines: string) => Promise<string[]>} ask Resolves to the bench's answers to queries.
- * @property {(line: string) => Promise<string | null>} serveLine Serves a line. Resolves to its answer, or to null after a failure. A
- *   failure has already been reported.
- * @property {(number: number) => string} describeRefusal Returns the message of a refusal.
- * @property {(name: string) => string} explain Returns the description of a place, or of a name in the program.
+ * @property {(line: string) => Promise<string | null>} serveLine Sends a line to the bench. Resolves to its answer, or to null after a
+ *   failure. A failure has already been reported.
+ * @property {(number: number) => string} describeRefusal Returns the message for a numbered error of the bench.
+ * @property {(name: string) => string} explain Returns the description of a register, a memory cell or a name in the program.
  * @property {(counter: number) => void} showCounterLine Shows the program counter's line in the source.
- * @property {(breakpoints: string[]) => void} takeBreakpoints Passes on the addresses of the bench's breakpoints, each as three hexadecimal
- *   digits.
+ * @property {(breakpoints: string[]) => void} receiveBreakpoints Receives the addresses of the bench's breakpoints, each as three
+ *   hexadecimal digits.
  * @property {(address: number) => void} toggleBreakpoint Sets or removes the breakpoint at an address.
  * @property {(address: number) => void} revealAddress Shows an address in the source after the disassembly has moved to it.
- * @property {(face: string, number: number) => void} watchLamps Asks the bench to measure lamp duty cycles for a front panel, by its text
- *   and number.
+ * @property {(face: string, number: number) => void} watchLamps Asks the bench to measure the duty cycle of each lamp; `face` is the
+ *   panel's comments and `number` the panel's number.
  * @property {(cycles: number) => number} timeOf Returns the duration of a number of cycles in milliseconds at the current speed; Infinity
  *   at full speed.
  * @property {(fault: unknown) => void} reportFailure Reports an error that a call threw.
@@ -53,7 +53,7 @@ import * as say from "../words/page.js";
 
 /** @typedef {{ handleLamps: (lamps: string) => void, handleKeyCount: (keysDown: number) => void }} Watcher */
 
-/** The update interval in milliseconds, while time is running fast, of the views whose values change too quickly to read. */
+/** While time is running fast, the interval in milliseconds between updates of the views whose values change too quickly to read. */
 const DRAW_INTERVAL = 100;
 
 export class SnapshotView {
@@ -78,7 +78,7 @@ export class SnapshotView {
       this.toggleWatch(isSet, `${bank} 0x${hex(source, 2)}`, cell)));
     this.ports = new PortsView(this.changes, this.editor, calls.explain);
     this.wiring = new WiringView(calls.isWiringShown);
-    /** @type {Watcher | null} the listener for changes of lamps and keys */
+    /** @type {Watcher | null} the tour's listener for changes of lamps and keys, or null if no tour is open */
     this.watcher = null;
     this.listing = new ListingView(calls.ask, calls.toggleBreakpoint, () => this.showListing());
     this.goTo = new GoToView(this.listing, calls.toggleBreakpoint, (address) => {
@@ -104,7 +104,7 @@ export class SnapshotView {
   }
 
   /**
-   * Returns the message of an answer that rejects a command, or "" for any other answer.
+   * Returns the error message for an answer that rejects a command, or "" for any other answer.
    * @param {string | null} answer
    */
   refusalMessage(answer) {
@@ -119,8 +119,8 @@ export class SnapshotView {
   }
 
   /**
-   * Draws a board in place of the present one.
-   * @param {string[]} answers the answers to `board`
+   * Draws a new board in place of the current one.
+   * @param {string[]} answers the bench's answers to the query `board`
    * @param {string} boardText the board's text, which declares its front panel
    */
   draw(answers, boardText) {
@@ -155,7 +155,7 @@ export class SnapshotView {
   /**
    * Shows the names of the program in ROM.
    * @param {SourceMap | null} map null if the source is not the program in ROM
-   * @param {string} words the reason for null
+   * @param {string} words the reason why `map` is null; "" otherwise
    */
   nameLines(map, words) {
     this.sourceStatus.set(words);
@@ -229,7 +229,7 @@ export class SnapshotView {
       this.wiring.showRam(entry);
     }
     if (watches) this.ram.showWatches(watches);
-    if (breakpoints) this.calls.takeBreakpoints(breakpoints);
+    if (breakpoints) this.calls.receiveBreakpoints(breakpoints);
     if (registers || breakpoints || this.listing.lines.length === 0) this.showListing();
   }
 

@@ -1,4 +1,4 @@
-// The debug adapter, without a process: its messages, and its answers on the page's module.
+// Tests the debug adapter's messages and its answers. The adapter runs in this process, on the page's WebAssembly module.
 import assert from "node:assert/strict";
 import { test } from "node:test";
 import { readFileSync } from "node:fs";
@@ -73,7 +73,7 @@ test("breakpoints at lines, labels and addresses, with conditions, hits and note
   assert.deepEqual([here.reason, here.hitBreakpointIds], ["instruction breakpoint", [address.id]]);
   assert.match(output(), /acc 1\n/);
   await ask("setInstructionBreakpoints", { breakpoints: [] });
-  // The lock waits for a key once all are up.
+  // The lock waits for a key after all keys have been released.
   assert.match(await evaluate("run 5000", "repl"), /^ok \d+ ran 5000 end$/);
   assert.equal(await evaluate("keys #", "repl"), "1 key waits until the machine runs (continue)");
   const second = await move("continue");
@@ -298,7 +298,7 @@ test("in real time a cycle takes as long as on a real board", async () => {
   await until(() => stops().length > before);
   const time = performance.now() - from;
   const { total } = adapter.current.launchResult.session.debugger.session.count;
-  // A sixtieth of a second is done at once.
+  // The first 1/60 s is simulated at once.
   assert.ok(total > 1000 && total * 0.0108 < time + 17, `${total} cycles in ${time} ms`);
 });
 

@@ -1,4 +1,4 @@
-// A debug adapter for tests, without a process, with its client.
+// A debug adapter that runs in the test's own process, and a client that sends requests to it.
 import assert from "node:assert/strict";
 import { afterEach } from "node:test";
 import { readFileSync } from "node:fs";
@@ -20,11 +20,11 @@ const PATIENCE = 20000;
 /** @type {DebugAdapter[]} */
 const begun = [];
 afterEach(async () => {
-  // Time that still runs would never end.
+  // A run of time that a test has not ended would never end.
   for (const adapter of begun.splice(0)) await adapter.leave();
 });
 
-/** A program that serves a session file, as a list of the lines that it was sent and the bytes that it has. */
+/** A stand-in for the program that serves a session file. It stores the file's bytes and the lines that it has received. */
 export class FakeFile {
   constructor(bytes) {
     this.bytes = bytes.slice();
@@ -51,7 +51,7 @@ export class FakeFile {
   }
 }
 
-/** An adapter with its client; `files` are texts and session files. */
+/** Returns an adapter and its client. `files` are the texts by path, and `sessions` the session files. */
 export function served(files = FILES, sessions = {}) {
   const reader = new MessageReader();
   const messages = [];

@@ -1,5 +1,5 @@
-// Answers of a debug adapter other than stops: attach, cancelled requests, progress, number formats, memory, completion, frames and
-// targets.
+// Tests the debug adapter's requests other than stops: attaching, cancelled requests, progress, number formats, memory, completion, stack
+// frames and targets.
 import assert from "node:assert/strict";
 import { test } from "node:test";
 import { frameMessage } from "../core/server/framing.js";
@@ -7,7 +7,7 @@ import { FILES, FakeFile, LOCK, engine, served } from "./adapter_client.js";
 
 const SHOW = 0x71;
 
-/** The session file of the lock, with some lines served. */
+/** Returns the session file of the example "lock" after the bench has served some lines. */
 function sessionOfLock(lines = "") {
   const file = new FakeFile(engine.begin());
   const program = FILES["/lock/lock.asm"].replace(/[ \t]*;.*/g, "");
@@ -98,7 +98,7 @@ test("progress of a long run and of a search in the past is reported, and stoppe
     const last = events().pop();
     assert.deepEqual([last.event, last.body], ["progressEnd", { progressId: body.progressId }]);
     const before = events().length;
-    // The display of the lock has no change of r14 in all of this.
+    // The program has not changed r14 in the whole recorded past.
     await evaluate("back r14", "repl");
     await until(() => stops().length === 3);
     const [start, ...more] = events().slice(before);
@@ -266,7 +266,7 @@ test("what is asked while a stop is written to the session file is answered", as
   const write = file.ask.bind(file);
   let requestNumber = 0;
   file.ask = async (lines) => {
-    // The request arrives while the stop is being written.
+    // Send the request while the adapter is writing the stop event.
     requestNumber = requestNumber || send("setExceptionBreakpoints", { filters: ["calls"] });
     for (let turn = 0; turn < 20; turn++) await new Promise(setImmediate);
     return write(lines);

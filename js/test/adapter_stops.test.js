@@ -1,14 +1,18 @@
-// Stops of a debug adapter other than breakpoints: changes of places, and common mistakes, both also with conditions.
+// Tests the debug adapter's stops other than breakpoints: changes of a register or memory cell, and common mistakes, each with and without
+// a condition.
 import assert from "node:assert/strict";
 import { test } from "node:test";
 import { FILES, LOCK, engine, served } from "./adapter_client.js";
 
-/** Returns the bench's own trace of the first changes of a place: its value before and after, and the address of the next instruction. */
+/**
+ * Returns the first changes of a place, as the bench's `trace` reports them: the value before and after, and the address of the next
+ * instruction.
+ */
 function changesOf(place, count) {
   const file = engine.begin();
   const program = FILES["/lock/lock.asm"].replace(/[ \t]*;.*/g, "");
   engine.serve(file, `wire\n${FILES["/lock/board.toml"].replace(/^#.*$/gm, "")}.\nasm\n${program}.\n`, file);
-  // The counter changes with each instruction, so there is a line for each.
+  // The program counter changes with each instruction, so the trace has a line for each instruction.
   const [head, ...lines] = engine.ask(file, `trace 20000 ${place} pc\n`).answers;
   let before = head.split(" ").slice(-2)[0];
   const changes = [];
@@ -145,7 +149,10 @@ test("characters of RAM beyond those that the bench watches stop time, too", asy
   assert.equal(await server.evaluate("watches", "repl"), "watches -");
 });
 
-/** A loop that makes a mistake in each turn, RDR at a port without inputs, with a count in R0; and one after some 200,000 cycles. */
+/**
+ * MISTAKES is a loop that makes a mistake in each turn: RDR reads a port without inputs. R0 counts the turns. FAR is the same loop after a
+ * delay of about 200,000 cycles.
+ */
 const MISTAKES = " FIM P1, 0\n SRC P1\nturn: INC R0\n RDR\n JUN turn\n";
 const FAR = ` FIM P2, 0\n FIM P3, 0\nwait: ISZ R4, wait\n ISZ R5, wait\n ISZ R6, wait\n ISZ R7, wait\n${MISTAKES}`;
 

@@ -1,4 +1,4 @@
-// Answers as docs/MANUAL.md shows them.
+// Tests the parsing of the bench's answers, in the form that docs/MANUAL.md shows.
 import assert from "node:assert/strict";
 import { test } from "node:test";
 import {

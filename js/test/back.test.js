@@ -1,4 +1,4 @@
-// Going back and forward, on the module of the page itself.
+// Tests going back and forward in time, on the page's WebAssembly module.
 import assert from "node:assert/strict";
 import { test } from "node:test";
 import { matrixKey } from "../core/board/key_place.js";
@@ -69,7 +69,7 @@ test("an instruction back is where the trace has it, through stops and frames", 
     await calls.serve("step\n");
   }
   const other = await begin("three lamps");
-  // The frames end in the middle of instructions.
+  // Some frames end between the two cycles of an instruction.
   while (other.bench.session.count.total < calls.bench.session.count.total) {
     other.advance(Math.min(7, calls.bench.session.count.total - other.bench.session.count.total));
   }

@@ -1,10 +1,10 @@
-// The page's side of the worker, over a worker that is none.
+// Tests the page's client of the bench's worker, with a stand-in for the worker.
 import assert from "node:assert/strict";
 import { mock, test } from "node:test";
 import { Bench } from "../core/bench/bench_client.js";
 import { CancelledError, WorkerDiedError } from "../core/bench/bench_errors.js";
 
-/** Returns a bench with stand-ins for its workers, whose answers the test sets. */
+/** Returns a bench client and the stand-ins for its workers. The test sets the answers of the stand-ins. */
 function begin() {
   mock.timers.enable({ apis: ["setInterval", "setTimeout"] });
   const workers = [];
@@ -115,7 +115,7 @@ test("a script fault in the worker ends it, and another one can be started", asy
   const start = bench.start();
   workers[1].reply(5);
   await start;
-  // A late report of the old one is ignored.
+  // The client ignores a late report of the old worker.
   worker.deliver({ kind: "frame", frame: {} });
   const again = bench.call("ask", ["seq\n"]);
   workers[1].reply(["seq 0"]);

@@ -1,4 +1,4 @@
-// The page's messages about boards that the bench rejects; the numbers are those of tools/lib/refusals.txt.
+// Tests the page's messages about boards that the bench rejects. The error numbers are those of tools/lib/refusals.txt.
 import assert from "node:assert/strict";
 import { readFileSync } from "node:fs";
 import { test } from "node:test";
@@ -15,7 +15,7 @@ import { readProjectToml } from "../core/project/project_toml.js";
 import { begin, pageModule } from "./page_session.js";
 import { boardTables, helpForBoard, tableAt } from "../core/text/text_help.js";
 
-// The table of the manual, as page/build reads it.
+// The manual's tables, as page/build reads them.
 const manual = readFileSync(new URL("../../docs/MANUAL.md", import.meta.url), "utf8");
 const rows = manual.split("### The keys of the text")[1].split("###")[0].split("\n").filter((line) => /^\| [`|]/.test(line))
   .map((line) => line.slice(1, -1).split("|").map((cell) => cell.trim()));
@@ -108,7 +108,7 @@ test("what is not TOML", () => {
   assert.equal(wordsOf("port = 0000\n"), '1: 20 a number has no leading zero; write a text in quotes: "0000"');
   assert.equal(wordsOf("[[rom]]\nport = iiii\n"), '2: 20 iiii is a text: write it in quotes: "iiii"');
   assert.equal(wordsOf('[[rom]]\nchip = 0\nchip = 1\nport = "0000"\n'), "3: 20 chip is already in line 2");
-  // A text that the reader accepts and the bench rejects has the message of the refusal.
+  // If the page's reader accepts a text but the bench rejects it, the message is that of the bench's error number.
   assert.equal(wordsOf("[[rom]]\n[rom]\n"), "2: 20 words of 20");
 });
 
@@ -187,7 +187,7 @@ test("values are completed by the lines that the board has so far, and an empty 
   assert.equal(first.text, '[[rom]]\nchip = 0\nport = "0000"');
 });
 
-/** The number of times that a reader reads a word of a text. */
+/** Returns the number of reads of a text's words while the text is checked. */
 function looksAt(text) {
   const reader = new BoardReader(text);
   let looks = 0;

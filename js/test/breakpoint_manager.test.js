@@ -1,4 +1,4 @@
-// The list of breakpoints with a bench that reports what it has: setting, adopting, moving and reporting.
+// Tests the breakpoint manager with a stand-in for the bench: setting and moving breakpoints, and adopting those that the bench reports.
 import assert from "node:assert/strict";
 import { test } from "node:test";
 import { BreakpointManager } from "../core/debug/breakpoint_manager.js";
@@ -11,7 +11,7 @@ const TEXT = "on = 12\ngo: JMS put\n\nput: BBL 0\n";
 const MAP = new SourceMap(["map lines 4 names 3", "line 1 000 0", "line 2 000 2", "line 3 002 0", "line 4 002 1", "name on 00C",
   "name go 000", "name put 002"], TEXT);
 
-/** Returns a keeper over a bench that does as it is asked, and reports its breakpoints after each call. */
+/** Returns a breakpoint manager and a stand-in for the bench, which accepts every call and then reports its breakpoints. */
 function begin(kept, breaks = []) {
   const seen = { messages: [], touched: 0, set: [], failed: [] };
   const bench = { breaks };
@@ -34,7 +34,7 @@ function begin(kept, breaks = []) {
   keeper.take(bench.breaks);
   return { keeper, seen, bench };
 }
-/** Returns the edit that replaces one text by another. */
+/** Returns the edit that replaces one text with another. */
 function replacing(old, text) {
   const removed = old.split("\n");
   const to = { line: removed.length - 1, ch: removed[removed.length - 1].length };
@@ -100,7 +100,7 @@ test("lines break and unbreak that were typed are followed", async () => {
 test("a line break that is typed while the bench is yet to have the list is followed, too", async () => {
   const { keeper, bench } = begin([]);
   keeper.setSourceMap(MAP, "");
-  // The bench has served the line after it was asked, and reports it before the request is done.
+  // The bench serves a line after it has received the request, and reports the line before the request has ended.
   const { calls } = keeper;
   const { set } = calls;
   calls.set = async (placed) => {
@@ -121,7 +121,7 @@ test("a change is sent before the bench has answered the one before, and the ans
   keeper.setSourceMap(MAP, "");
   await keeper.allSent;
   const [{ id }] = keeper.list.all;
-  /** The requests sent to the bench, and the answer to each. */
+  /** The requests that were sent to the bench, each with a function that answers it. */
   const sent = [];
   keeper.calls.set = ([{ condition }]) => new Promise((answer) => {
     sent.push({ condition, answer: () => answer([[id, condition]]) });
@@ -231,12 +231,12 @@ for (const [what, other] of Object.entries(OTHERS)) {
     keeper.setSourceMap(MAP, "");
     keeper.applyTextEdits(replacing(TEXT, other));
     keeper.setSourceMap(null, "assemble it");
-    // The other text is assembled: its lines are elsewhere.
+    // Load the other text into ROM. Its lines have other numbers.
     keeper.setSourceMap(new SourceMap(["map lines 2 names 0", "line 1 000 0", "line 2 000 1"], OTHERS.short), "");
     await keeper.allSent;
     keeper.applyTextEdits(replacing(other, TEXT));
     assert.deepEqual(keeper.list.savedBreakpoints, KEPT);
-    // The same when it continues from one to the other.
+    // The same must hold when the user edits one text into the other.
     keeper.removeAll();
     keeper.toggleLine(1);
     keeper.applyTextEdits(replacing(TEXT, `${other}\n`));

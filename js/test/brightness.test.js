@@ -1,4 +1,5 @@
-// How long lamps are on, and how they are perceived, compared with the module itself: by `trace`, and by snapshots after each cycle.
+// Tests the duty cycles and the perceived brightness of lamps. The expected values come from the bench's `trace` and from snapshots after
+// each cycle.
 import assert from "node:assert/strict";
 import { readFileSync } from "node:fs";
 import { test } from "node:test";
@@ -13,17 +14,20 @@ import { BenchCalls } from "../core/engine/bench_calls.js";
 import { PerceivedText } from "../core/engine/perceived_text.js";
 import { examplesOfPage, pageModule } from "./page_session.js";
 
-/** A frame of a screen that shows 60 a second, in cycles and in milliseconds. */
+/** The length of a frame at 60 frames per second, in cycles and in milliseconds. */
 const FRAME = 1543;
 const FRAME_TIME = 1000 / 60;
 
-/** Lamp 0 is on for 3 cycles in each turn, lamp 1 for the rest of them; lamp 2 always, lamp 3 never. */
+/** In each turn of the loop, lamp 0 is on for 3 cycles and lamp 1 for the other cycles. Lamp 2 is always on, lamp 3 never. */
 const PULSES = {
   board: `[[rom]]\nchip = 0\nport = "0000"\n${[0, 1, 2, 3].map((line) => `[[lamp]]\nline = "rom0.${line}"\n`).join("")}`,
   program: "FIM P0, 0\nSRC P0\nloop: LDM 5\nWRR\nNOP\nLDM 6\nWRR\nFIM P1, 0\nwait: ISZ R2, wait\nJUN loop\n",
 };
 
-/** Two rows of three lamps: row 0 is on for 5 cycles in a turn with columns 0 and 2, row 1 for 10 with column 1; then all is dark. */
+/**
+ * Two rows of three lamps. In each turn, columns 0 and 2 of row 0 are on for 5 cycles, then column 1 of row 1 for 10 cycles. Then all lamps
+ * are off.
+ */
 const SCANNED = {
   board: `# matrix 0: 2 rows of 3 scanned by 4\n[[rom]]\nchip = 0\nport = "0000"\n[[ram]]\nbank = 0\nchips = 2\n${
     ["ram0.0.0", "ram0.0.1", "ram0.0.2", "ram0.0.3", "ram0.1.0", "ram0.1.1"].map((line) => `[[lamp]]\nline = "${line}"\n`).join("")}`,
@@ -37,7 +41,7 @@ loop:   LDM 5\nSRC P0\nWMP\nLDM 1\nSRC P1\nWMP
 
 const textOf = (name) => readFileSync(new URL(name, import.meta.url), "utf8");
 
-/** A display of two digits that is rewritten in each turn of the main loop, lamp by lamp. */
+/** A display of two digits. In each turn of its main loop, the program rewrites the display lamp by lamp. */
 const REFRESHED = { board: textOf("two_digits.toml"), program: textOf("two_digits.asm") };
 
 async function begin({ board, program }) {
@@ -48,19 +52,19 @@ async function begin({ board, program }) {
   return calls;
 }
 
-/** Returns the lamps before each cycle and after the last one, by `lamps`. */
+/** Returns the bench's answers to `lamps` before each cycle and after the last cycle. */
 function marksOf(calls, cycles) {
   const answers = calls.ask(`lamps\n${"run 1\nlamps\n".repeat(cycles)}`).filter((line) => line.startsWith("lamps"));
   return answers.map((line) => line.slice("lamps ".length));
 }
 
-/** Returns how long each lamp is on, by `lamps` after each cycle. */
+/** Returns the number of cycles for which each lamp is on, counted from the answers to `lamps`. */
 function lookedAt(calls, cycles) {
   const marks = marksOf(calls, cycles).slice(0, cycles);
   return [...marks[0]].map((_, lamp) => marks.filter((each) => each[lamp] === "*").length);
 }
 
-/** When each lamp changes, by the same. */
+/** Returns when each lamp changes, found from the answers to `lamps`; null for a lamp that does not change. */
 function movedIn(calls, cycles) {
   const marks = marksOf(calls, cycles);
   return [...marks[0]].map((_, lamp) => {
@@ -118,7 +122,7 @@ test("digits that are lit by turns show what they show longest while they are li
     const { number, names } = new PerceivedText(face, 12).read(trace(...rows));
     return [number, names];
   };
-  // 4, with a ghost of the digit before; 2 with its point; and the third one is never on.
+  // The first digit is a 4 with faint segments of the previous digit. The second is a 2 with its point. The third is never on.
   const four = marks(".**..**", "*..", "*");
   const two = marks("**.**.**", ".*.", ".");
   const ghost = marks(".**..**", ".*.", "*");
@@ -152,7 +156,8 @@ test("the edges of a line are reported to the cycle, and its samples have its pi
 });
 
 /**
- * A board of one lamp: its perceived state, and a function that runs time with the lamp on for a part of it, with the time of its change.
+ * Returns the perceived state of a board with one lamp, and the function `pass`. `pass` lets `time` milliseconds pass, with the lamp on for
+ * the fraction `lit` of that time.
  */
 function oneLamp() {
   const seen = new Brightness(new Face(""), 1);
@@ -192,7 +197,7 @@ test("a lamp that stands still is full at once, and fades when it goes out; one 
 
 test("a lamp that rested within a frame stands still once it rests for twice as long", () => {
   const { seen, pass } = oneLamp();
-  // 2 ms, 8 ms and 10 ms of 20 ms.
+  // In 20 ms, the lamp stays unchanged for 2 ms, then 8 ms, then 10 ms.
   pass(0.5, 20, { first: 10, longest: 40, rest: 50 });
   assert.ok(Math.abs(seen.lamps[0] - 0.5 * (1 - Math.exp(-20 / EYE_MS))) < 1e-9, String(seen.lamps[0]));
   pass(1, 5);
@@ -203,7 +208,7 @@ test("a lamp that rested within a frame stands still once it rests for twice as 
 
 test("what comes and goes more often than an eye follows never stands still", () => {
   const { seen, pass } = oneLamp();
-  // 12 ms off and 8 ms on, sampled each 4 ms.
+  // The lamp is off for 12 ms and on for 8 ms. It is sampled every 4 ms.
   for (let turn = 0; turn < 50; turn++) {
     pass(0, 4, { first: 0, longest: 0, rest: 100 });
     pass(0, 4);
@@ -227,7 +232,7 @@ test("digits that are shifted in are shown at once when they stand, and nothing 
   [[2, 0, "1"], [2, 1, "12"], [2, 2, "123"], [1, 0, "1234"], [1, 1, "12345"], [1, 2, "123456"]].forEach(([row, column, number], at) => {
     const key = matrixKey(row, column);
     const before = pass(FRAME + 137 * at);
-    // Cycles simulated early for a key, and cycles due.
+    // First the cycles that are simulated early for a key press, then the cycles that are due.
     isAtOnce += Number(pass(2 * FRAME - 100 * at, key) === number);
     calls.release(key);
     const numbers = new Set();

@@ -1,10 +1,10 @@
-// The marks at a stop, and none while time runs.
+// Tests the marks of changed values: shown while time is paused, none while it is running.
 
 import assert from "node:assert/strict";
 import test from "node:test";
 import { Changes } from "../page/machine/changes.js";
 
-/** A cell of the page, as far as changes need it. */
+/** Returns a stand-in for a cell of the page, with the members that Changes uses. */
 function fakeCell() {
   const classes = new Set();
   const cell = { text: "", node: { classList: classes }, set: (text) => cell.text !== text && ((cell.text = text), true) };

@@ -1,4 +1,4 @@
-// Tests the clock with stand-ins for the frames and the bench, whose answers the test sets.
+// Tests the clock, with stand-ins for the animation frames and the bench. The test sets their answers.
 import assert from "node:assert/strict";
 import { mock, test } from "node:test";
 import { Clock } from "../page/time/clock.js";
@@ -6,7 +6,7 @@ import { matrixKey } from "../core/board/key_place.js";
 import { CYCLES_PER_SECOND } from "../core/time/mcs4_time.js";
 import { SPEEDS, findSpeed } from "../core/time/speeds.js";
 
-/** Returns a clock that runs from 0 on, and its calls; `to` moves to a time, with a frame there. */
+/** Returns a clock that was started at time 0, and its calls. `wait` sets the time. `to` sets the time and delivers an animation frame. */
 function begin(speed = "real") {
   let now = 0;
   let frame = null;
@@ -47,7 +47,7 @@ test("a key goes along with the cycles that are due and those of a frame, and th
   const { clock, calls, wait, to } = begin();
   await to(10);
   wait(15);
-  assert.equal(clock.pressNow(matrixKey(0, 1)), true);
+  assert.equal(clock.simulateKeyPress(matrixKey(0, 1)), true);
   assert.deepEqual(calls, [[925], [464 + 1543, matrixKey(0, 1)]]);
   await settled();
   await to(30);
@@ -60,7 +60,7 @@ test("a key goes along with the cycles that are due and those of a frame, and th
 test("the time that counts is ahead for as long as cycles are lent", async () => {
   const { clock, wait } = begin();
   wait(10);
-  clock.pressNow(matrixKey(0, 1));
+  clock.simulateKeyPress(matrixKey(0, 1));
   assert.ok(Math.abs(clock.now - 10 - 1000 / 60) < 0.01, `${clock.now}`);
 });
 
@@ -71,7 +71,7 @@ test("while a call is under way a key is reported separately, and cycles follow 
   await to(10);
   seen.waiting = null;
   wait(12);
-  assert.equal(clock.pressNow(matrixKey(0, 1)), false);
+  assert.equal(clock.simulateKeyPress(matrixKey(0, 1)), false);
   assert.deepEqual(calls, [[925]]);
   done();
   await settled();
@@ -83,20 +83,20 @@ test("while a call is under way a key is reported separately, and cycles follow 
 test("where that call ends the time nothing follows, and nothing is owed when it goes on", async () => {
   const { clock, seen, calls, wait, to } = begin();
   wait(5);
-  clock.pressNow(matrixKey(0, 1));
+  clock.simulateKeyPress(matrixKey(0, 1));
   await settled();
   wait(6);
   let done = () => {};
   seen.waiting = new Promise((keep) => { done = keep; });
   await to(40);
   seen.waiting = null;
-  assert.equal(clock.pressNow(matrixKey(0, 2)), false);
+  assert.equal(clock.simulateKeyPress(matrixKey(0, 2)), false);
   clock.stop();
   done();
   await settled();
   const before = calls.length;
   wait(50);
-  assert.equal(clock.pressNow(matrixKey(0, 3)), false);
+  assert.equal(clock.simulateKeyPress(matrixKey(0, 3)), false);
   clock.start();
   await to(60);
   assert.deepEqual(calls.slice(before), [[925]]);
@@ -107,30 +107,30 @@ test("nothing is lent while time stands still, at full speed, and in slow motion
     const { clock, calls, wait } = begin(id);
     calls.length = 0;
     wait(500);
-    const isReported = clock.pressNow(matrixKey(0, 1));
+    const isReported = clock.simulateKeyPress(matrixKey(0, 1));
     const slow = { tenth: [[4629, matrixKey(0, 1)]], hundredth: [[462, matrixKey(0, 1)]], thousandth: [[46, matrixKey(0, 1)]] };
     assert.deepEqual(calls, slow[id] || [], id);
     assert.equal(isReported, id in slow, id);
     await settled();
     clock.stop();
     wait(900);
-    assert.equal(clock.pressNow(matrixKey(0, 1)), false);
+    assert.equal(clock.simulateKeyPress(matrixKey(0, 1)), false);
     mock.restoreAll();
   }
   const { clock, calls } = begin();
   clock.stop();
-  assert.equal(clock.pressNow(matrixKey(0, 1)), false);
+  assert.equal(clock.simulateKeyPress(matrixKey(0, 1)), false);
   assert.deepEqual(calls, []);
 });
 
 test("a page that was hidden owes nothing back, and lends nothing while it is hidden", async () => {
   const { clock, calls, seen, wait, to } = begin();
-  clock.pressNow(matrixKey(0, 1));
+  clock.simulateKeyPress(matrixKey(0, 1));
   await settled();
   globalThis.document.hidden = true;
-  clock.hide();
+  clock.handlePageHidden();
   wait(5000);
-  assert.equal(clock.pressNow(matrixKey(0, 2)), false);
+  assert.equal(clock.simulateKeyPress(matrixKey(0, 2)), false);
   globalThis.document.hidden = false;
   await to(9000);
   assert.equal(seen.gaps, 1);

@@ -1,4 +1,4 @@
-// Colours of texts, each line by itself.
+// Tests the syntax colouring of single lines.
 
 import assert from "node:assert/strict";
 import { test } from "node:test";
@@ -6,7 +6,7 @@ import { assemblyColours } from "../page/text/assembly_colours.js";
 import { boardColours } from "../page/text/board_colours.js";
 import { COLOURS } from "../core/text/test_colours.js";
 
-/** The words of a line with their colours. */
+/** Returns the words of a line with their style classes. */
 function textOf(line, colours) {
   return colours(line).map(({ from, to, style }) => `${line.slice(from, to)} ${style}`).join("|");
 }

@@ -1,4 +1,4 @@
-// The table of commands, its words, and the parsing of arguments.
+// Tests the table of mcs4's commands, its texts, and the parsing of arguments.
 
 import assert from "node:assert/strict";
 import { spawnSync } from "node:child_process";
@@ -9,7 +9,7 @@ import { COMMAND_WORDS } from "../words/commands.js";
 
 const MAIN = fileURLToPath(new URL("../node/mcs4.cjs", import.meta.url));
 
-/** Runs mcs4; returns the exit status and the output. */
+/** Runs mcs4. Returns the exit status and the output. */
 function run(...words) {
   const { status, stdout, stderr } = spawnSync(process.execPath, [MAIN, ...words], { encoding: "utf8", cwd: "/" });
   return { status, stdout, stderr };

@@ -1,4 +1,4 @@
-// Common mistakes, on the page's module.
+// Tests the detection of common mistakes, on the page's WebAssembly module.
 import assert from "node:assert/strict";
 import { before, test } from "node:test";
 import { matrixKey, pinKey } from "../core/board/key_place.js";
@@ -21,7 +21,7 @@ before(async () => {
   engine = await Engine.load(pageModule);
 });
 
-/** A session with a program, whose lines are known. */
+/** Returns a debug session with a program and its source map. */
 function open(program) {
   const session = new DebugSession(engine, { board: BOARD, program });
   assert.deepEqual(session.rejectedTexts, []);
@@ -32,7 +32,7 @@ function open(program) {
   return debug;
 }
 
-/** Returns the reports on a program in some frames of real time, with the line. */
+/** Returns the mistakes that are reported during some frames of a program, each with its source line. */
 function mistakesOf(program, frames = 3, debug = open(program)) {
   const faults = Array.from({ length: frames }, () => debug.advance(1543).tally.usual).flat();
   return faults.map(({ address, words }) => `${debug.commonMistakes.map.lineOf(address)}: ${words}`);

@@ -1,5 +1,5 @@
-// The language of conditions: a user's text has the intended meaning wherever a condition is allowed; old texts keep their meaning; no text
-// makes the reader throw or hang.
+// Tests the language of conditions. A condition has the same meaning in every place that allows conditions. Old texts keep their meaning.
+// No text makes the parser throw or hang.
 import assert from "node:assert/strict";
 import { readFileSync, readdirSync } from "node:fs";
 import { before, test } from "node:test";
@@ -55,7 +55,7 @@ turn:   LD R5
         INC R5
         JUN turn
 `;
-/** Each of the conditions becomes true in it, and false. */
+/** A program in which each of the conditions becomes true and becomes false. */
 const SEARCHED = `limit = 9
 start:  FIM P0, 0x12
         SRC P0
@@ -73,11 +73,12 @@ turn:   LD R5
         JUN turn
 `;
 const WATCHED = ["count = R5", "digit = ram 0 0x12", "P2"];
-/** Cells of the machine that are poked at random; the judges use `regs` and `lamps` by themselves. */
+/** The registers and memory cells that the test sets to random values, each with the number of its values. */
 const POKED = [["acc", 16], ["cy", 2], ["r5", 16], ["r4", 16], ["ram.0.0x12", 16], ["pc", 12]];
 
 /**
- * The lines that a debugger's user types, and their meaning: by the bench's answers to `regs`, `lamps`, `state` and `ram 0`.
+ * Conditions that a user of the debugger can type. Each has a function that computes the expected result from the bench's answers to
+ * `regs`, `lamps`, `state` and `ram 0`.
  * @typedef {{ acc: number, cy: number, pc: number, r: number[], lamps: string, keys: string[], test: string, digit: number }} Is
  * @type {[string, (is: Is) => boolean][]}
  */
@@ -95,7 +96,7 @@ const MEANT = [
   ["lamp or = 1 and lamp 1 off", ({ lamps }) => lamps[4] === "*" && lamps[0] === "."],
   ["lamps & 6 = 4", ({ lamps }) => lamps[1] === "." && lamps[2] === "*"],
 ];
-/** The places that only commands change: for breakpoints, and while time is paused. */
+/** Conditions about keys and the TEST pin, which only commands change. They are allowed for breakpoints and while time is paused. */
 const MEANT_THERE = [
   ["key = down", ({ keys }) => keys.includes("0.1")],
   ["key # up and key A down", ({ keys }) => !keys.includes("0.3") && keys.includes("0.0")],
@@ -114,7 +115,7 @@ before(() => {
 
 const upTo = (random, most) => Math.floor(random() * most);
 
-/** Puts the machine into another state, and returns the bench's answers about it. */
+/** Sets the machine to a random state, and returns the bench's answers about that state. */
 async function changed(random) {
   const pokes = POKED.map(([place, most]) => `poke ${place} ${upTo(random, most)}\n`).join("");
   const ports = `asm\n FIM P0, 0\n SRC P0\n LDM ${upTo(random, 16)}\n WMP\n FIM P0, 0x40\n SRC P0\n LDM ${upTo(random, 2)}\n WMP\n.\n`;
@@ -128,13 +129,13 @@ async function changed(random) {
   };
 }
 
-/** The context of expressions, with the names of Watch. */
+/** Returns the names that conditions can use, including those in the watch list. */
 function known() {
   Object.defineProperty(session, "names", { configurable: true, value: names });
   return { session, face: names.face, instructions: new Map(), frontPanelText: () => "" };
 }
 
-/** Returns the result of a call, or the words of its error. */
+/** Resolves to the result of a call, or to the message of its error. */
 async function orFault(call) {
   try {
     return await call();
@@ -145,7 +146,7 @@ async function orFault(call) {
 
 const now = ({ places }) => session.debugger.readPlaces(places);
 
-/** A prompt of `mcs4 debug` on the session, and its last output. */
+/** The prompt of `mcs4 debug` for the session, and the prompt's last output. */
 let prompt;
 let printed = "";
 before(() => {
@@ -157,7 +158,10 @@ before(() => {
   prompt = new Prompt(launched, readPageData(), calls);
 });
 
-/** By the place of use: whether a condition is accepted there, and holds now; otherwise the error. */
+/**
+ * For each use of conditions, a function that evaluates a condition now. It returns true or false, or the error message if that use does
+ * not accept the condition.
+ */
 const USES = {
   test: (text) => {
     const { tests: [{ steps: [{ action }] }], faults } = readTests(`test t\n expect ${text}\n`, names);
@@ -208,7 +212,7 @@ for (const [use, holds] of Object.entries(USES)) {
         seen.set(text, (seen.get(text) || new Set()).add(held));
       }
     }
-    // Each one was seen to hold and not to hold.
+    // Each condition was true in some state and false in another.
     for (const [text, held] of seen) if (text !== "lamps = 9") assert.equal(held.size, 2, text);
   });
 }
@@ -230,7 +234,7 @@ test("an error in a condition is the same in each place of use; a breakpoint wit
   assert.equal(soft.holds([]), true);
 });
 
-/** The machine as the judges know it. */
+/** Returns the state of the machine as the functions in MEANT use it. */
 function isNow() {
   const [regs, lamps, ...ram] = session.debugger.session.ask("regs\nlamps\nram 0\n");
   const [, acc, cy, pc, owed, tested, registers] = /^acc (.) cy (.) pc (...) owed (.) dcl . test (.) r (\w{16})/.exec(regs);
@@ -257,7 +261,7 @@ test("searches of the past, and on: a condition is found where it became true, i
     for (const [text, meant] of MEANT) {
       const rises = all.flatMap(({ is }, at) => (at > 0 && meant(is) && !meant(all[at - 1].is) ? [at] : []));
       const went = await own.back({ kind: "when", condition: text });
-      // It is at the instruction that makes it true.
+      // The session is now at the instruction that makes the condition true.
       const want = rises.length === 0 ? all[last] : all[rises[rises.length - 1] - 1];
       assert.deepEqual([went.isDone, bench.count.total], [rises.length > 0, want.total], `back ${text}: ${went.words}`);
       if (rises.length > 0) assert.match(went.words, /: this instruction makes .* true\.$/);
@@ -267,7 +271,7 @@ test("searches of the past, and on: a condition is found where it became true, i
       compared += rises.length > 0 ? 1 : 0;
     }
     assert.ok(compared > 12, String(compared));
-    // On, from power-on.
+    // Run forward from power-on.
     const begun = new DebugSession(engine, { board: BOARD, program: SEARCHED });
     Object.defineProperty(begun, "names", { configurable: true, value: { ...begun.names, watched: collectWatchNames(WATCHED) } });
     for (const [text, meant] of MEANT) {
@@ -275,7 +279,7 @@ test("searches of the past, and on: a condition is found where it became true, i
       if (first === undefined) continue;
       const stop = await begun.go({ kind: "when", condition: text });
       assert.equal(stop.why, "goal", `${text}: ${stop.words}`);
-      // Within an instruction of two cycles it stops after the first one.
+      // If the condition becomes true in a two-cycle instruction, time stops after the first cycle.
       const { total } = begun.debugger.session.count;
       assert.ok(total === first || total === first - 1, `${text}: ${total}, ${first}`);
       await begun.back({ kind: "stop" });
@@ -332,7 +336,7 @@ test("a text of any kind is read in time, and an error is in a column of it", ()
     }
   }
   assert.ok(taken > 200, String(taken));
-  // Other beginnings and ends are read by the same parser, and its errors name a column in words.
+  // The same parser also reads other contexts of conditions. Its error messages name the column.
   for (let each = 0; each < 1500; each++) {
     const text = Array.from({ length: upTo(random, 12) }, () => pieces[upTo(random, pieces.length)]).join(" ");
     const heads = ["while ", "once ", "after press A, ", "after press A within 5 ms, ", "never ", "always ", ""];
@@ -345,7 +349,7 @@ test("a text of any kind is read in time, and an error is in a column of it", ()
       assert.ok(fault === "" || column === null || Number(column[1]) <= text.length + 8, `${text}: ${fault}`);
     }
   }
-  // In microseconds of processor time.
+  // The limit is in microseconds of processor time.
   assert.ok(process.cpuUsage(began).user < 60e6);
 });
 
@@ -360,7 +364,7 @@ test("`set PLACE = VALUE` in a console stands for the lines that do so", () => {
   assert.equal(put("asm\nset r4 = 1\n.\n").lines, "asm\nset r4 = 1\n.\n");
 });
 
-/** The conditions of the tests of all examples, with their boards and programs. */
+/** Returns the conditions in the tests of all examples, with the boards and programs of the examples. */
 function conditionsOfExamples() {
   const folder = new URL("../../examples/", import.meta.url);
   return readdirSync(folder, { withFileTypes: true }).filter((each) => each.isDirectory()).flatMap(({ name }) => {
@@ -381,7 +385,7 @@ test("the conditions of the examples' tests mean the same here", () => {
     for (const text of conditions) {
       const [old, read] = [compileTestCondition(text, own), compileCondition(text, own)];
       assert.equal(old.fault, "", text);
-      // Forms for the lines of a test only are rejected, as before.
+      // Forms that are valid only in the lines of a test are still rejected.
       if (old.condition.needs.some((need) => need !== "test")) {
         assert.match(read.fault, /^(the digits are multiplexed|printed text|no run changes)/, text);
         continue;

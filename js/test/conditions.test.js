@@ -1,4 +1,4 @@
-// Conditions, read and judged; the page's module reports their places by `trace`.
+// Tests the parsing and the evaluation of conditions, on the page's WebAssembly module. The bench reports the values with `trace`.
 import assert from "node:assert/strict";
 import { before, test } from "node:test";
 import { readBoard } from "../core/bench/answers.js";
@@ -18,7 +18,7 @@ const WIRED = [
 const TEXT = `# lamp 0: _ _ locked open alarm\n# display 0: 1 digit\n${WIRED}\n`;
 const PROGRAM = "limit = 5\nstart: FIM P0, 0\nSRC P0\nLDM 4\nWMP\nWRM\nFIM P1, 0x40\nSRC P1\nLDM 1\nWMP\nend: JUN end\n";
 
-/** A session with that board and program after some lines, and the names of both. */
+/** Returns a session with that board and program after some lines, and the names that the board and the program define. */
 async function bench(lines = "") {
   const calls = await begin("empty bench", `wire\n${TEXT}.\nasm\n${PROGRAM}.\n${lines}`);
   const board = readBoard(calls.ask("board\n"));
@@ -31,7 +31,7 @@ before(async () => {
   ({ names } = await bench());
 });
 
-/** Returns the current values of a condition's places. */
+/** Returns the current values of the places that a condition reads. */
 function valuesNow(calls, { places }) {
   return places.length === 0 ? [] : rowValues(new ForecastAnswers(calls.ask(`trace 1 ${places.join(" ")}\n`)).takeTrace().row);
 }

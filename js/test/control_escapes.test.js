@@ -1,4 +1,4 @@
-// Control characters of texts of others, at a terminal.
+// Tests that control characters in files from other people never reach the terminal.
 import assert from "node:assert/strict";
 import { spawnSync } from "node:child_process";
 import { mkdtempSync, rmSync, writeFileSync } from "node:fs";

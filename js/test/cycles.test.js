@@ -52,7 +52,7 @@ test("marks: from one to here, between two, and then anew", () => {
 test("places by their names", () => {
   const board = readBoard(["board", "[[rom]]", "chip = 1", 'port = "iiii"', "[[ram]]", "bank = 0", "chips = 1", "[[chain]]",
     'clock = "ram0.0.0"', 'data = "ram0.0.1"', "chips = 2", "[[lamp]]", 'line = "ram0.0.3"', "[[lamp]]", 'line = "chain0.5"']);
-  /** Returns the words by which `trace` reports a place, and its value if it reports one. */
+  /** Returns the line in which `trace` reports a place, with the place's value if one is given. */
   const linesOf = (name, ...values) => {
     const place = parsePlace(name);
     return [place.name, place.probesOn(board).join(" "), place.value(values)];

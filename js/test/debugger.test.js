@@ -1,4 +1,5 @@
-// The debugger over the module of the page itself: breakpoints with conditions, counts and notes, moves, and the past.
+// Tests the debugger on the page's WebAssembly module: breakpoints with conditions, hit counts and log messages, steps, and going back in
+// time.
 import assert from "node:assert/strict";
 import { before, test } from "node:test";
 import { Face } from "../core/board/face.js";
@@ -24,7 +25,7 @@ line = "ram0.0.0"
 [[lamp]]
 line = "ram0.0.1"
 `;
-// R4 counts from 0 on; a turn calls `show`, which writes it to the lamps, and waits 34 cycles.
+// R4 counts up from 0. Each turn of the loop calls `show`, which writes R4 to the lamps and waits 34 cycles.
 const PROGRAM = `; counts
 start:  FIM P0, 0
         SRC P0
@@ -72,7 +73,7 @@ test("a session in memory: breakpoints at lines, moves, values, back and forward
   assert.equal(session.line, LINE.increment);
 });
 
-/** Runs to a stop, several times; returns the values of a place each time. */
+/** Runs until a stop `count` times. Returns the values of a place at each stop. */
 async function stopsOf(session, count, place) {
   const seen = [];
   for (let stop = 0; stop < count; stop++) {
@@ -177,7 +178,7 @@ test("breakpoints are no part of the past: going back leaves them, and what come
   assert.deepEqual([bench.count.total, session.values(["r4", "pc"])], end);
 });
 
-/** Returns the totals of cycles at the arrivals at a breakpoint, one stop of the bench after the other; the session is at the last one. */
+/** Runs until a breakpoint stops time, `count` times. Returns the total cycle count and the value of r4 at each stop. */
 async function arrivalsOf(session, count) {
   const seen = [];
   for (let stop = 0; stop < count; stop++) {
@@ -255,7 +256,7 @@ test("back to an arrival meets what is watched, by the bench or beside it, and s
 });
 
 test("back to an arrival is found in what is kept of a long run, at once", async () => {
-  // R0 to R3 count; `hit` is reached once in 16 ** 4 turns.
+  // R0 to R3 count the turns. The program reaches `hit` once in 16 ** 4 turns.
   const turns = [0, 1, 2, 3].map((each) => ` ISZ R${each}, turn\n`).join("");
   const session = open(`start: FIM P0, 0\n FIM P1, 0\nturn: NOP\n${turns}hit: NOP\n JUN turn\n`);
   const { session: bench } = session.debugger;
@@ -315,14 +316,14 @@ const at = (line, ch = 0) => ({ line, ch });
 test("breakpoints move with the lines of the text", () => {
   const typed = { from: at(3, 5), to: at(3, 5), text: ["x"], removed: [""] };
   assert.deepEqual(edited([2, 4, 6], typed), [2, 4, 6]);
-  // A line's end before line 4, at its beginning, in it, at its end.
+  // Insert a line break before line 4, at its beginning, in its middle, and at its end.
   assert.deepEqual(edited([3, 4, 5], { from: at(2, 9), to: at(2, 9), text: ["", ""], removed: [""] }), [3, 5, 6]);
   assert.deepEqual(edited([3, 4, 5], { from: at(3), to: at(3), text: ["", ""], removed: [""] }), [3, 5, 6]);
   assert.deepEqual(edited([3, 4, 5], { from: at(3, 4), to: at(3, 4), text: ["", ""], removed: [""] }), [3, 4, 6]);
   // Lines 3 and 4 are deleted whole; line 4 is joined to line 3.
   assert.deepEqual(edited([2, 3, 4, 5], { from: at(2), to: at(4), text: ["", ""].slice(1), removed: ["a", "b", ""] }), [2, 3]);
   assert.deepEqual(edited([3, 4, 5], { from: at(2, 3), to: at(3, 0), text: [""], removed: ["", ""] }), [3, 4]);
-  // All is replaced by a text with another line at its beginning.
+  // Replace the whole text with a text that has one more line at its beginning.
   const removed = ["a", "b", "c", "d"];
   assert.deepEqual(edited([2, 4], { from: at(0), to: at(3, 1), text: ["new", ...removed], removed }), [3, 5]);
   assert.deepEqual(edited([2, 4], { from: at(0), to: at(3, 1), text: ["a", "new", "b", "c", "d"], removed }), [3, 5]);
@@ -338,7 +339,7 @@ test("a line that is taken out takes its breakpoint along, and brings it back wh
 
 test("where all of the text is another one, breakpoints are where their addresses are", () => {
   const [removed, text] = [["a", "b", "c", "d"], ["new", "lines", "here", "x"]];
-  // Both end with a line feed, or neither; but if the lines below stay it is not the whole text.
+  // Either both texts end with a line feed, or neither does. If the lines below stay, the edit does not replace the whole text.
   for (const [end, isWhole, lines] of [[[], true, [[3, -1], [0, 4]]], [[""], true, [[3, -1], [0, 4]]], [[], false, [[2, 4], [3, -1]]]]) {
     const list = new BreakpointList([{ line: 2, address: 4 }, { line: 3 }]);
     list.edit({ from: at(0), to: at(3 + end.length), text: [...text, ...end], removed: [...removed, ...end], isWhole });

@@ -1,4 +1,4 @@
-// Decoders of waves: with manual traces, and compared with the bench's reports on a calculator.
+// Tests the decoders of the logic analyser, with hand-written traces and with the bench's recording of a calculator.
 import assert from "node:assert/strict";
 import { test } from "node:test";
 import { readBoard } from "../core/bench/answers.js";
@@ -18,7 +18,7 @@ const BOARD = readBoard([
 const LINES = createBoardLines(BOARD, "# row 0: 7 CE\n", false);
 const numberOf = (waves, name) => waves.lines.findIndex((line) => line.name === name);
 
-/** A recording: the moments at which each line changes, from 0 on, by their names. */
+/** Returns a recording. `changes` has the moments at which each line changes, by line name. Each line begins at 0. */
 function wavesOf(changes, cycles) {
   const tracks = LINES.map(({ name, width }) => (
     { first: 0, moments: Uint32Array.from(changes[name] || []), values: width > 1 ? new Float64Array(0) : null }));
@@ -26,13 +26,13 @@ function wavesOf(changes, cycles) {
     moments: Uint32Array.of(0), counters: Uint16Array.of(0), listing: [], program: null });
 }
 
-/** Returns the content of a row: each value with its first moment. */
+/** Returns the values of a row, each with its first moment. */
 function rowOf(waves, name) {
   const line = numberOf(waves, name);
   return [waves.from, ...waves.changesOf(line)].map((moment) => `${moment} ${waves.valueAt(line, moment)}`);
 }
 
-// 1, 0, 0, then a rest; 1, and after 16 cycles 1 again; after 17 cycles 0.
+// The program shifts in 1, 0 and 0, and then pauses. It shifts in 1, another 1 after 16 cycles, and 0 after 17 more cycles.
 const TRACE = {
   "rom0.0": [10, 15, 20, 25, 30, 35, 100, 105, 116, 117, 133, 140],
   "rom0.1": [8, 18, 90, 120],
@@ -63,7 +63,8 @@ test("its bits are written as numbers are", () => {
   assert.equal(rowOf(waves, "shift.chain0")[7], "132 = 19");
 });
 
-// Row 0 is bit 1 of the chain, column 0 is line 2 of ROM 1: a key of row 0, another one, both; a key while two rows are driven; one alone.
+// Row 0 is bit 1 of the chain, and column 0 is line 2 of ROM 1. The user presses a key of row 0, another one, and both. A key is also
+// pressed while the program drives two rows.
 const SCAN = {
   "chain0.1": [10, 60], "chain0.2": [50, 90],
   "rom1.2": [20, 40, 70, 80], "rom1.0": [30, 45, 55, 65],
@@ -139,6 +140,6 @@ test("of a calculator: each bit is that of the first stage after the clock, and 
   }
   const scan = numberOf(waves, "scan.keys");
   const seen = new Set([...waves.changesOf(scan)].map((moment) => waves.valueAt(scan, moment)));
-  // Key 2.0 is 1.
+  // Key 2.0 is the key "1".
   assert.deepEqual([...seen].sort(), ["row 0", "row 1", "row 2: 1", "row 3", "row 4"]);
 });

@@ -1,4 +1,4 @@
-// Drawn boards: each action on the boards of the examples, with the module's judgement of the resulting text.
+// Tests drawn boards: each drawing action on the boards of the examples. The bench must accept the resulting text.
 import assert from "node:assert/strict";
 import { test } from "node:test";
 import { readBoard } from "../core/bench/answers.js";
@@ -20,7 +20,7 @@ let engine;
 /** A session without a board. */
 let empty;
 
-/** Requests to the bench wait until it is there. */
+/** Defines a test that runs after the bench has been loaded. */
 const onBench = (name, act) => test(name, async () => {
   engine = await loading;
   empty = empty || engine.begin();
@@ -28,7 +28,7 @@ const onBench = (name, act) => test(name, async () => {
 });
 const examples = examplesOfPage.map(({ name, board }) => ({ name, text: board })).filter(({ text }) => text);
 
-/** Boards as people write them otherwise. */
+/** Boards in other styles of writing. */
 const OTHERS = [
   { name: "nothing", text: "" },
   { name: "a comment alone", text: "# A board to come" },
@@ -42,7 +42,7 @@ const OTHERS = [
 ];
 const BOARDS = [...examples, ...OTHERS];
 
-/** Returns the bench's answer to each text: the board, or its refusal. */
+/** Returns the bench's answer to each text: the board, or an error number. */
 function ask(texts) {
   const { answers } = engine.ask(empty, texts.map((text) => `wire\n${sentText(text, "#")}.\nboard\n`).join(""));
   const replies = [];
@@ -62,7 +62,7 @@ const textOf = (board) => [
   ...board.lamps.map((line) => `[[lamp]]\nline = "${line}"\n`),
 ].join("");
 
-/** Returns the board with one more wire, by the words of the manual and nothing of the page. */
+/** Returns the board with one more wire, as the manual defines it. Uses no code of the page. */
 function wired(board, line, target) {
   const next = structuredClone(board);
   const [kind, number] = [target.split(" ")[0], Number(target.split(" ")[1])];
@@ -82,7 +82,7 @@ const comments = (text) => text.split("\n").flatMap((line) => {
   return found && !parseFaceLine(line) ? [found[0]] : [];
 });
 
-/** An action is right: the bench accepts the text and reports the intended board, the comments stay, and the edits can be undone. */
+/** Checks an action: the bench accepts the new text and reports the intended board, all comments stay, and the edits can be undone. */
 function check(name, text, act, wanted) {
   const done = applyAction(text, act);
   const said = `${name}: ${JSON.stringify(act)}`;
@@ -135,7 +135,7 @@ onBench("a buzzer comes from the shelf, is wired, named and deleted, and goes wi
   assert.equal(added.text, '# buzzer rom0.0: buzzer\n\n[[rom]]\nchip = 0\nport = "0000"\n');
   assert.equal(added.words, "The buzzer was added, with ROM 0.");
   assert.match(applyAction(added.text, { kind: "add", part: "buzzer" }).refusal, /^A board has one buzzer/);
-  // Its line is in use.
+  // The default line of this part is in use.
   assert.match(check("buzzer", added.text, { kind: "add", part: "chain" }).text, /clock = "rom0.1"/);
   const moved = check("buzzer", added.text, { kind: "wire", line: "rom0.2", target: "buzzer 0" });
   assert.deepEqual([first(moved), moved.words], ["# buzzer rom0.2: buzzer", "Line rom0.2 is wired to the buzzer."]);
@@ -207,7 +207,7 @@ for (const { name, text } of BOARDS) {
       const done = check(name, text, { kind: "delete", part });
       const left = comments(done.text);
       const missing = comments(text).filter((comment) => !left.includes(comment));
-      // A comment in a line of the part is deleted with it.
+      // A comment in one of the part's lines is deleted with the part.
       if (examples.some((each) => each.name === name)) assert.deepEqual(missing, [], `${name}: ${part}`);
       checkLeft(board, new Face(text), done, part);
     }
@@ -256,7 +256,7 @@ for (const { name, text } of BOARDS) {
       assert.deepEqual([...coloured.colours].filter(([at]) => at !== lamp).map(([at, faceText]) => [at, faceText.text]).sort(), others);
       assert.equal(new Face(check(name, text, { kind: "colour", lamp, colour: "" }, board).text).colours.has(lamp), false);
       const unnamed = { kind: "name", part: `lamp ${lamp}`, name: "" };
-      // A lamp may have the name that is the number of this one on the grid.
+      // The name of another lamp can be equal to the number of this lamp on the grid.
       const { grid, lamps } = new Face(text);
       const isTaken = grid.length > 0 && [...lamps].some(([at, faceText]) => at !== lamp && faceText.text === `${lamp}`);
       if (isTaken) assert.match(applyAction(text, unnamed).refusal, /Another lamp would then be/);
@@ -278,7 +278,10 @@ for (const { name, text } of BOARDS) {
   });
 }
 
-/** The rest is unchanged, lamps and chains renumbered; each lamp has its name and its colour. */
+/**
+ * Checks that all other parts are unchanged after a part was deleted. Lamps and chains are renumbered, and each lamp still has its name and
+ * its colour.
+ */
 function checkLeft(old, oldFace, { board, text }, part) {
   const face = new Face(text);
   const number = Number(part.split(" ")[1]);
@@ -320,7 +323,7 @@ onBench("what may be wired is what the bench takes, and all of it is offered", (
   }
 });
 
-/** Pseudo-random numbers, the same in each run. */
+/** Returns a generator of pseudo-random numbers that are the same in each run. */
 function chances(seed) {
   let state = seed;
   return (list) => {
@@ -329,7 +332,7 @@ function chances(seed) {
   };
 }
 
-/** Returns a possible action of a user on a board: what the shelf, a pin, a field or a button offers. */
+/** Returns a random action that a user can perform on a board with the shelf, a pin, a field or a button. */
 function anyAct(pick, board, face) {
   const lines = boardLines(board).map((line) => line.name);
   const parts = ["", ...board.roms.map(({ chip }) => `rom ${chip}`), ...board.banks.map(({ bank }) => `ram ${bank}.0`),

@@ -1,4 +1,4 @@
-// The selection and the begun wire on a drawn board, and the resulting text, with the module of the bench and a text that can be undone.
+// Tests the selection, the wire in progress and the resulting text of a drawn board, with the bench's module and a text that can be undone.
 import assert from "node:assert/strict";
 import { test } from "node:test";
 import { readBoard } from "../core/bench/answers.js";
@@ -18,7 +18,7 @@ const loading = Engine.load(pageModule);
 const examples = examplesOfPage;
 const boardOf = (wanted) => examples.find(({ name }) => name === wanted).board;
 
-/** A drawn board with a text, as the page has it. */
+/** Returns a drawn board for a text, as the page creates it. */
 async function drawn(text = "") {
   const engine = await loading;
   const file = engine.begin();

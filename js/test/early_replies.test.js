@@ -1,9 +1,9 @@
-// The second way for a reply, in a browser that has it, lacks it or rejects it.
+// Tests early replies in browsers that have broadcast channels, lack them or forbid them.
 import assert from "node:assert/strict";
 import { test } from "node:test";
 import { earlySender } from "../page/bench/early_replies.js";
 
-/** The stand-in for a reply. */
+/** A sample early reply. */
 const EARLY = { kind: /** @type {"early"} */ ("early"), number: 7, result: "lamps" };
 
 test.afterEach(() => Reflect.deleteProperty(globalThis, "BroadcastChannel"));

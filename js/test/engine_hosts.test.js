@@ -1,5 +1,6 @@
-// Both hosts of an engine, the module and the native program: the same lines have the same answers. MCS4 names the program, if it is not
-// the shipped one; without a program that starts here only the module is tried.
+// Tests the two hosts of the engine, the WebAssembly module and the native program. Both must give the same answers to the same lines. The
+// environment variable MCS4 can name another native program than the shipped one. If no native program starts on this system, only the
+// module is tested.
 import { test } from "node:test";
 import assert from "node:assert/strict";
 import { spawnSync } from "node:child_process";
@@ -33,7 +34,7 @@ const example = (name) => readFileSync(join(top, "examples", name), "utf8");
 
 const IMPORT = `import { NativeEngine } from ${JSON.stringify(new URL("../node/native_engine.mjs", import.meta.url).href)};`;
 
-/** Runs a module by a node of its own, whose temporary files are in a folder. */
+/** Runs a JavaScript module in a separate Node process whose temporary files are in a folder. */
 function runNode(text, folder) {
   return spawnSync(process.execPath, ["--input-type=module", "-e", text], { encoding: "utf8", env: { ...process.env, TMPDIR: folder } });
 }
@@ -41,7 +42,7 @@ function runNode(text, folder) {
 const BOARD = 'wire\n[[rom]]\nchip = 0\nport = "0000"\n[[ram]]\nbank = 0\nchips = 1\n[[lamp]]\nline = "ram0.0.0"\n.\n';
 const PROGRAM = "asm\nloop: IAC\n      WMP\n      JUN loop\n.\n";
 
-/** Runs a test on each host; the results must be the same. */
+/** Runs a test on both hosts. The results must be equal. */
 function onBoth(name, act) {
   test(name, async () => {
     const found = [];
@@ -50,7 +51,7 @@ function onBoth(name, act) {
   });
 }
 
-/** The state after lines on a new session. */
+/** Returns the state of a new session after some lines. */
 function stateAfter(engine, lines) {
   const state = engine.begin();
   engine.serve(state, lines, state);
@@ -230,7 +231,7 @@ if (!native) {
     failure(written("echo session 0"), "the session has ended; the program said: nothing");
     const late = written("echo session 0; read -r line; echo seq; echo bad luck >&2");
     failure(late, "the session has ended; the program said: bad luck; bad luck");
-    // Its lines must not reach the next program at the same pipe, which a child of this one holds open for a moment.
+    // A child process of this program holds the pipe open for a moment. Lines in that pipe must not reach the next program.
     const holding = written("echo session 0; read -r line; echo \"$line\" >&2; exec 3<&0; sleep 1 > /dev/null 2>&1 &");
     failure(holding, "the session has ended; the program said: test 0; test 0", "test 0\n");
     rmSync(folder, { recursive: true });
@@ -249,7 +250,7 @@ if (!native) {
       `process.kill(process.pid, "SIG${name}"); setTimeout(() => {}, 10000);`))]) {
       const { stdout } = runNode(script(end), folder);
       assert.equal(stdout, "700", end);
-      // After a signal the shell removes it, as soon as it sees that node has ended.
+      // After a signal, the shell removes the folder as soon as it detects that Node has ended.
       for (let tries = 0; tries < 500 && readdirSync(folder).length > 0; tries++) await new Promise((resume) => setTimeout(resume, 10));
       assert.deepEqual(readdirSync(folder), [], end);
     }

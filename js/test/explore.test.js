@@ -1,4 +1,4 @@
-// The search for keys that break properties, on the module of the page itself.
+// Tests the search for key presses that violate properties, on the page's WebAssembly module.
 import assert from "node:assert/strict";
 import { test } from "node:test";
 import { isDeepStrictEqual } from "node:util";
@@ -23,7 +23,8 @@ import { pageModule } from "./page_session.js";
 
 const engine = new Engine(new globalThis.WebAssembly.Module(pageModule));
 
-// Key A switches the lamp `on` on, if it is down for 20 cycles; B switches it off. C at TEST: a fourth call; D: a BBL without one.
+// Key A switches the lamp `on` on if it is down for 20 cycles. Key B switches the lamp off. Key C, at TEST, makes a fourth nested call. Key
+// D executes a BBL without a call.
 const BOARD = `# row 0: A B C D
 # lamp 0: on
 # test: button WALK
@@ -40,7 +41,7 @@ first = 0
 rows = 1
 columns = ["rom1.0", "rom1.1", "rom1.2", "rom1.3"]
 `;
-// The row of the keys is driven.
+// The code that drives the row of the keys.
 const DRIVE = `        FIM P1, 0
         FIM P2, 0x10
         SRC P1
@@ -82,10 +83,10 @@ const subject = createSubject(engine, BOARD, PROGRAM);
 const campaignOf = (text) => readCampaign(text, subject);
 const faultsOf = (text) => campaignOf(text).faults.map(({ line, words }) => `${line}: ${words}`);
 
-/** The cycles for minimising a counterexample. */
+/** The maximum number of cycles for minimising a counterexample. */
 const PATIENCE = 5e6;
 
-/** Returns what is found within some seconds. */
+/** Resolves to the results of a search of some seconds. */
 async function explore(text, seconds = 20, confirm = () => true, seed = 1) {
   const { campaign, faults } = campaignOf(text);
   assert.deepEqual(faults, []);
@@ -163,7 +164,7 @@ test("what holds for all inputs is proved first, and is not searched for", async
   const run = new CampaignRun(small, campaign, 1, () => true, PATIENCE, null, undefined, 30000);
   const reported = () => run.report({ names: { board: "", program: "", properties: "" }, sums: "", seconds: 1, isStopped: false })
     .properties.map(({ states, found }) => `${states} ${found !== null}`);
-  // At the snapshots, accumulator and lamp are both 0, or both 1.
+  // At the snapshots, the accumulator and the lamp are both 0 or both 1.
   const expected = ["2 false", "0 true", "2 false", "0 true", "0 false", "2 false", "2 false", "2 false"];
   const end = performance.now() + 60000;
   do await run.runFor(20); while (performance.now() < end && !isDeepStrictEqual(reported(), expected));
@@ -178,7 +179,7 @@ test("a program that runs for long without a read does not hold up the search", 
   const run = new CampaignRun(slow, campaign, 1, () => true, PATIENCE, null, undefined, 100);
   const before = process.cpuUsage();
   await run.runFor(20);
-  // In microseconds; a thousand stretches of a million cycles take minutes.
+  // The limit is in microseconds. A thousand runs of a million cycles would take minutes.
   assert.ok(process.cpuUsage(before).user < 10000000);
 });
 
@@ -190,7 +191,7 @@ test("a model says what the display has to show, and what is wrong with it is re
   const { campaign, faults } = readCampaign("press A B\npace 300 200\nmodel ./says\n", shown);
   assert.deepEqual(faults, []);
   const askedKeys = [];
-  // The lamp stays on until B is pressed; this model forgets B.
+  // The lamp stays on until the user presses B. This wrong model ignores B.
   const says = (chains) => {
     askedKeys.push(...chains);
     return { shown: chains.map((keys) => (keys.includes("A") ? "1" : "0")), fault: "" };
@@ -269,7 +270,7 @@ test("keys that are down together at first go up in time, one after the other", 
   assert.ok(steps.every(({ wait }) => wait >= 1));
 });
 
-// After A it counts for 99,940 cycles, and then B lights the lamp `on`.
+// After a press of A, the program counts for 99,940 cycles. After that, key B switches the lamp `on` on.
 const LATE = `${DRIVE}first:  SRC P2
         RDR
         RAR
@@ -311,7 +312,7 @@ test("what stands at places is what trace reports of them", () => {
   const looks = new PlaceReader(names, two.names.board);
   const places = new PlaceQueries(looks.names);
   assert.deepEqual([...looks.names].sort(), [...names].sort());
-  // Only trace reports what a chip or a bank lacks, and lines that are inputs.
+  // Only `trace` reports cells of chips and banks that the board lacks, and lines that are inputs.
   assert.deepEqual(looks.remainingPlaces.names, ["ram.5.200", "ram5.2", "ram3.0", "rom1", "chain0", "src", "ret"]);
   const random = createRandom(3);
   const file = two.file.slice();
@@ -355,7 +356,7 @@ test("a walk that is counted leaves what one that is watched does", () => {
     const counted = countWalk({ subject: three, campaign, coverage: new Coverage() }, start, steps);
     counted.forEach(({ time, down: isDown, memories }, at) => {
       assert.deepEqual({ time, down: isDown }, { time: after[at].time, down: after[at].down });
-      // Only watching shows since when the lamp is on.
+      // The search must store how long the lamp has been on, because the state of the machine does not contain it.
       const isLit = after[at].memories[0][0] !== -1;
       lit += Number(isLit);
       assert.deepEqual(memories.slice(Number(isLit)), after[at].memories.slice(Number(isLit)));
@@ -423,7 +424,7 @@ test("a campaign can begin from a state of tests, with its lines before each fin
   const [property] = progress.report.properties;
   assert.match(property.found.test, /^test never lamp on on\n {2}press A\n {2}run 400\n {2}press B\n {2}run 200\n/);
   assert.match(property.found.test, /\n {2}expect not lamp on on\n$/);
-  // The session is the one that the counterexample describes.
+  // The session file contains the run that the counterexample describes.
   assert.deepEqual(engine.ask(progress.found[0].file, "lamps\n").answers, ["lamps *."]);
 });
 
@@ -475,7 +476,7 @@ test("what came of it is described in words", () => {
 });
 
 test("a search ends with its time, where it is stopped, and where its worker dies; texts with faults are reported", async () => {
-  /** A bench whose calls are answered so. */
+  /** Returns an explorer whose bench gives these answers. */
   const explorerOf = (answers, ends = []) => new Explorer(() => ({
     start: async () => {},
     call: async (name) => answers[name](),
@@ -504,7 +505,7 @@ test("before a find stand shared steps in the place of `do`, and what is repeate
   const { searchSetup, faults } = await prepareSearch(engine, { ...texts, testText, propertiesText });
   assert.deepEqual(faults, []);
   assert.deepEqual(searchSetup.campaign.before, ["  repeat 2", "  run 5", "  press A", "  reset", "  end"]);
-  // After a power cycle it is not known how many calls are open.
+  // After a power cycle, the number of open calls is unknown.
   assert.equal(searchSetup.campaign.calls.least, 0);
   assert.ok(searchSetup.campaign.calls.most > 0);
 });

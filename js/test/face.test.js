@@ -6,7 +6,7 @@ import { DisplayText } from "../core/board/display_text.js";
 import { Face, findFaceErrors, moreErrors } from "../core/board/face.js";
 import { missingParts } from "../core/board/face_board.js";
 
-/** The samples: comments of a board, and their meaning. */
+/** Returns the contents of a sample file: the comments of a board, or their meaning. */
 const sample = (name) => readFileSync(new URL(`../../checks/faces/${name}`, import.meta.url), "utf8");
 const board = readBoard(["board", ...sample("board.toml").trim().split("\n")]);
 
@@ -15,7 +15,7 @@ const textOf = (face) => new DisplayText(
   [...face.lamps].map(([at, { text }]) => ({ at, text })),
 );
 
-/** A face, a fact a line. */
+/** Returns the description of a front panel, with one fact per line. */
 function wordsOf(face, faults, patterns) {
   const list = (word, map) => [...map].map(([place, { text }]) => `${word} ${place} ${text}`);
   const { title, test: pin } = face;
@@ -51,7 +51,7 @@ test("a face takes no more time than its text has letters", () => {
     [`# lamp 0: ${words(500, "n")}\n# grid 0: ${words(500, "-")}\n${"# grid 1: n0\n".repeat(100000)}`, 501],
     ["# title: x\n# colour 0 to 9999: red\n".repeat(50000), 1001],
   ]) {
-    // Processor time: other work on the machine does not count.
+    // Measure processor time, so that other work on the machine does not count.
     const begun = process.cpuUsage();
     assert.ok(new Face(text).faults.length >= faults);
     assert.ok(process.cpuUsage(begun).user < 1000000);
@@ -62,7 +62,10 @@ test("of many faults the first ones are reported", () => {
   assert.deepEqual([moreErrors([1, 2], 2), moreErrors([1, 2], 1), moreErrors(new Array(1020), 20)], ["", "And 1 more.", "And 1,000 more."]);
 });
 
-/** Lamps of digits, four each, the highest bit first; `width` 5 has a point after each. */
+/**
+ * Returns the marks of the lamps of digits. Each digit has four lamps, the highest bit first. With `width` 5, a fifth lamp is the decimal
+ * point.
+ */
 const lampsOf = (digits, width, point = -1) => digits.map((digit, at) => (
   digit.toString(2).padStart(4, "0").replace(/0/g, ".").replace(/1/g, "*") + (width === 5 ? (at === point ? "*" : ".") : ""))).join("");
 

@@ -1,5 +1,5 @@
-// A stand-in for the module: a session of one byte, the count of its commands. Lines: `run N` answers `ok C ran N end`, or stops early if
-// the count reaches `stopAt`; `trap` fails; any other command is `ok C`. After `memory` calls it answers 90.
+// A stand-in for the bench's module. Its session is one byte: the number of commands so far. Lines: `run N` answers `ok C ran N end`, or
+// stops early if the count reaches `stopAt`; `trap` fails; any other command is `ok C`. After `memory` calls, it answers with error 90.
 
 import { BenchRefusal, BenchTrap } from "../core/bench/bench_errors.js";
 import { readInputs } from "../core/bench/inputs.js";

@@ -1,4 +1,4 @@
-// A folder with a project file, as it is dropped on the page: its texts, or why it has none.
+// Tests project folders that the user drops on the page: their texts, or the reason why they are rejected.
 import assert from "node:assert/strict";
 import { test } from "node:test";
 import { folderFromFiles, droppedFolders, readFolder } from "../page/session/folder_files.js";
@@ -11,7 +11,7 @@ const TEXTS = {
   "c.test": "test two\n  run 5\n", "holiday.jpg": "\u0000",
 };
 
-/** A file of a browser. */
+/** Returns a stand-in for a browser's File object. */
 function file(name, text) {
   return Object.assign(new globalThis.Blob([text]), { name });
 }
@@ -25,7 +25,7 @@ test("the texts of a folder", async () => {
   assert.deepEqual([texts.name, texts.board, texts.program, texts.tests, texts.properties], ["lights", TEXTS["b/wires.toml"], "NOP\n",
     TEXTS["a.test"], ""]);
   assert.deepEqual([speed, words], ["tenth", "The page has one text of each kind: c.test is left out."]);
-  // Boards and programs may be in a script.
+  // A project can have its board and its program in one script.
   const script = "wire\n[[rom]]\nchip = 0\nport = \"0000\"\n.\nasm\nNOP\n.\n";
   const both = await readFolderTexts(folder({ "mcs4.toml": "board = \"s.txt\"\nprogram = \"s.txt\"\n", "s.txt": script }, ""));
   assert.deepEqual([both.texts.name, both.texts.program, both.speed, both.words], ["s", "NOP\n", "", ""]);

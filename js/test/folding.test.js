@@ -1,10 +1,10 @@
-// Which lines fold away.
+// Tests which lines can be folded.
 import assert from "node:assert/strict";
 import { readFileSync } from "node:fs";
 import { test } from "node:test";
 import { PARTS, findFoldStart, findFoldEnd } from "../core/text/folding.js";
 
-/** Returns each line below which something folds away, with the last one of that, from 1. */
+/** Returns the first and last line of each foldable range. Lines count from 1. */
 function findFolds(text, parts) {
   const lines = text.split("\n");
   const lineAt = (line) => lines[line];

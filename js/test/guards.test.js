@@ -1,5 +1,5 @@
-// Guards of properties: `while C, ..`, `once C, ..`, `after press K [within TIME], ..`. Their meaning is implemented a second time here,
-// cycle by cycle, as the manual describes it; and they find the errors of a program.
+// Guards of properties: `while C, ..`, `once C, ..`, `after press K [within TIME], ..`. This file implements their meaning a second time,
+// cycle by cycle, as the manual describes it. The tests also check that guards find the errors of a program.
 import assert from "node:assert/strict";
 import { test } from "node:test";
 import { CampaignRun } from "../core/explore/campaign_run.js";
@@ -12,7 +12,8 @@ import { pageModule } from "./page_session.js";
 
 const engine = new Engine(new globalThis.WebAssembly.Module(pageModule));
 
-// The reaction timer: START begins to wait, the lamp `go` comes on, and PRESS, at TEST, stops it. PRESS while it waits is a foul.
+// A reaction timer. After START, it waits and then switches the lamp `go` on. PRESS, a key at TEST, stops it. A press of PRESS during the
+// wait is a foul.
 const BOARD = `# row 0: START
 # lamp 0: waiting go foul
 # test: button PRESS
@@ -51,14 +52,14 @@ foul:   LDM 4
         WMP
 end:    JUN end
 `;
-/** It reads PRESS once in sixteen turns: a short press is lost. */
+/** A faulty program that reads PRESS only once in sixteen turns, so that it misses a short press. */
 const LATE = PROGRAM.replace("wait:   JCN pressed, foul\n        ISZ R4, wait", "wait:   ISZ R4, wait\n        JCN pressed, foul");
 const INPUTS = "press START PRESS\nwait 20 to 200\nnote lamps\nheld at most 30\n";
 
 const campaignOf = (text, program = PROGRAM) => readCampaign(INPUTS + text, createSubject(engine, BOARD, program));
 const faultOf = (text) => campaignOf(text).faults.map(({ words }) => words).join();
 
-/** Returns the counterexample of the first property within some seconds, null for none. */
+/** Searches for some seconds. Resolves to the counterexample of the first property, or to null if the search finds none. */
 async function found(text, program, seconds) {
   const subject = createSubject(engine, BOARD, program);
   const { campaign, faults } = readCampaign(INPUTS + text, subject);
@@ -69,7 +70,7 @@ async function found(text, program, seconds) {
   return run.counterexamples[0];
 }
 
-/** Resolves to whether a test fails on a program. */
+/** Resolves to true if a test fails on a program. */
 async function fails(text, program) {
   const { faults, outcomes } = await runTests(engine, { boardText: BOARD, programText: program, testText: text }, async () => true);
   assert.deepEqual(faults, []);
@@ -77,7 +78,7 @@ async function fails(text, program) {
 }
 
 test("if PRESS comes while it waits, the foul lamp comes on: the program that is late is found, the other one is not", async () => {
-  // A press in the last cycles of the wait may be read only after `go`.
+  // If PRESS is pressed in the last cycles of the wait, the program may read it only after `go`.
   const text = "while lamp waiting on, after press PRESS within 20 lamp foul on or lamp go on\n";
   const find = await found(text, LATE, 30);
   assert.ok(find);
@@ -85,7 +86,7 @@ test("if PRESS comes while it waits, the foul lamp comes on: the program that is
   assert.match(find.test, /\n {2}until lamp foul on or lamp go on within 20\n$/);
   assert.deepEqual([await fails(find.test, LATE), await fails(find.test, PROGRAM)], [true, false]);
   assert.equal(await found(text, PROGRAM, 1), null);
-  // Without the guard PRESS is no foul.
+  // Without the guard, the property is violated, because PRESS after the wait is not a foul.
   assert.ok(await found("after press PRESS within 20 lamp foul on\n", PROGRAM, 30));
 });
 
@@ -117,7 +118,7 @@ test("what is no guard is reported", () => {
   assert.equal(faultOf("after press PRESS within 20 lamp foul on"), "");
 });
 
-// --- the second implementation: a world of some cycles, in which conditions C and G change, and K and J are pressed ---
+// --- the second implementation: random runs in which the conditions C and G change, and the keys K and J are pressed ---
 
 const LENGTH = 90;
 const upTo = (random, most) => Math.floor(random() * most);
@@ -138,7 +139,10 @@ function worldOf(random) {
   return { c: signal(), g: signal(), acts: acts.filter(({ act }) => act !== "reset" || random() < 0.3) };
 }
 
-/** Reports the world to a property, in its order; returns the time of the violation, -1 for never. */
+/**
+ * Reports the events of a random run to a property in order. Returns the time at which the property is violated, or -1 if it is not
+ * violated.
+ */
 function brokenBy(property, { c, g, acts }) {
   const memory = property.from(0, 0);
   const opensAt = (time) => property.guards.map(({ condition }) => condition !== null && g[time]);
@@ -190,7 +194,7 @@ function instantsOf({ c, g, acts }, guards) {
   return instants;
 }
 
-/** Returns the times at which a property is violated, by the words of the manual. */
+/** For each form of property, a function that returns the times at which the property is violated, as the manual defines it. */
 const READ = {
   never: (instants) => (instants.find(({ c, isOpen }) => isOpen && c) || { time: -1 }).time,
   always: (instants) => (instants.find(({ c, isOpen, isReset }) => isOpen && !isReset && !c) || { time: -1 }).time,

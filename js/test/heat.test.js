@@ -1,4 +1,4 @@
-// How often and how lately characters of RAM change, on the module of the page itself.
+// Tests how often and how recently RAM nibbles changed, on the page's WebAssembly module.
 import assert from "node:assert/strict";
 import { test } from "node:test";
 import { CancelledError } from "../core/bench/bench_errors.js";
@@ -36,13 +36,13 @@ turn:   SRC P0
         WR2
         JUN turn
 `;
-// Calculated: 7 cycles precede the first SRC, and a turn has 8. In each turn ram.0.0x12 gets another value by the first WRM, at 009; the
-// second WRM writes the same value, and WR2 to a chip that the board lacks.
+// The expected values are calculated. 7 cycles precede the first SRC, and a turn takes 8 cycles. In each turn, the first WRM, at 009,
+// changes ram.0.0x12. The second WRM writes the same value. WR2 writes to a chip that the board lacks.
 const SETUP = 7;
 const TURN = 8;
 const ALL = "seq\nstate\nram 0\nram 2\n";
 
-/** Returns a session in which the program has done this many cycles, 30 at a time. */
+/** Returns a session in which the program has run for `cycles` cycles, 30 at a time. */
 async function ran(cycles) {
   const calls = await begin("three lamps");
   await calls.serve(`wire\n${BOARD}.\nasm\n${PROGRAM}.\nreset\n`);

@@ -1,4 +1,5 @@
-// Programs in the spelling of Intel and of AS. (checks/tools import has whole programs, with manually assembled bytes.)
+// Tests the import of programs in the syntax of Intel's assembler and of the assembler AS. (`checks/tools import` tests whole programs,
+// whose bytes were assembled by hand.)
 import assert from "node:assert/strict";
 import { test } from "node:test";
 import { evaluate } from "../core/import/expressions.js";

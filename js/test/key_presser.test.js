@@ -1,4 +1,4 @@
-// Fingers on keys: taps, presses, swipes and several fingers, while time runs and while it is paused.
+// Tests key presses by touch: taps, long presses, swipes and several fingers, while time is running and while it is paused.
 
 import assert from "node:assert/strict";
 import test from "node:test";
@@ -7,7 +7,7 @@ import { KeyPresser } from "../page/board/key_presser.js";
 
 global.window = global;
 
-/** A button of a key, as far as pressing needs it. */
+/** A stand-in for a key's button, with the members that KeyPresser uses. */
 class FakeButton extends EventTarget {
   setPointerCapture() {}
 
@@ -17,7 +17,7 @@ class FakeButton extends EventTarget {
   }
 }
 
-/** Returns a bench with two keys, and its log. */
+/** Returns a KeyPresser with two keys, and the log of its calls. */
 function bench(isRunning) {
   const down = new Set();
   const done = [];

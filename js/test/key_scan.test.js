@@ -1,4 +1,4 @@
-// The routine that scans keys, on boards of many kinds: it assembles, and finds the pressed key.
+// Tests the generated key scan routine on many kinds of boards. The routine must assemble and find the pressed key.
 import assert from "node:assert/strict";
 import { test } from "node:test";
 import { readBoard } from "../core/bench/answers.js";
@@ -9,7 +9,10 @@ import { examplesOfPage, pageModule } from "./page_session.js";
 
 const loading = Engine.load(pageModule);
 
-/** A board with these keys; the chain's lines, and how many chips it has. */
+/**
+ * Returns the text of a board with a key matrix. `clock` and `data` are the lines of its shift-register chain, and `chips` the number of
+ * 4003s.
+ */
 const boardOf = ({ clock = "rom0.0", data = "rom0.1", chips = 1, first = 0, rows = 4, columns }) => `
 [[rom]]
 chip = 0
@@ -47,10 +50,10 @@ const BOARDS = {
   "clock of a RAM chip, data of another one": boardOf({ clock: "ram2.0.1", data: "ram2.1.2", first: 2, columns: FOUR }),
   "the calculator's": examplesOfPage.find(({ name }) => name === "calculator").board,
 };
-/** More cycles than two scans take. */
+/** A number of cycles in which the routine completes at least two scans. */
 const TWO_SCANS = 30000;
 
-/** The last answers of some lines. */
+/** Returns the answers to the last of some lines. */
 function answersOf(engine, session, lines) {
   const { answers } = engine.serve(session, lines, session);
   return answers;

@@ -1,4 +1,5 @@
-// The forms of lines: they reject a line with the number with which the bench rejects it; the words name the wrong word.
+// Tests the syntax forms of lines. They must reject a line with the same error number as the bench, and the message must name the wrong
+// word.
 import assert from "node:assert/strict";
 import { test } from "node:test";
 import { ANSWER_FORMS } from "../core/bench/answer_table.js";
@@ -16,7 +17,7 @@ const WORDS = [...ANSWER_FORMS.keys(), ...`acc cy pc dcl r0 r15 r16 rx
   chain0.80 lamps ret src ret0 bogus 0 1 2 7 8 15 16 255 256 4095 4096 100000 100001 4294967295 4294967296 0x0F
   0X0F 0x -1 1.0 00012 0xfff 0x1000 99999999999999999999 r0x1 r01`.split(/\s+/)];
 
-/** A generator of numbers below 2^31, by its seed. */
+/** Returns a generator of pseudo-random numbers below 2^31 for a seed. */
 function seeded(seed) {
   let state = seed;
   return (count) => {
@@ -25,7 +26,7 @@ function seeded(seed) {
   };
 }
 
-/** Returns the number by which the bench rejects a line because of its form, 0 for none. */
+/** Returns the error number with which the bench rejects the form of a line, or 0 if the bench accepts the form. */
 function refused(line) {
   const refusal = parseRefusal(engine.ask(engine.begin(), `${line}\n`).answers[0] || "");
   return refusal && OF_LINES.includes(refusal.number) ? refusal.number : 0;
@@ -40,7 +41,7 @@ test("each line of words is rejected as the bench does", () => {
     const first = next(8) === 0 ? WORDS[next(WORDS.length)] : firsts[next(firsts.length)];
     const more = next(10) === 0 ? next(20) : next(4);
     const line = [first, ...Array.from({ length: more }, () => WORDS[next(WORDS.length)])].join(next(5) === 0 ? "\t " : " ");
-    // A text that is opened is not answered.
+    // These commands open a text, so the bench does not answer them yet.
     if (/^(wire|asm|map|wiring|errors)$/.test(line)) continue;
     assert.equal(numberOf(line), refused(line), line);
   }

@@ -1,11 +1,11 @@
-// The stretch of a listing that is shown: in step with what is known, over all 4,096 bytes, up to the last one.
+// Tests which part of the disassembly is shown. Its instruction boundaries must be consistent over all 4,096 bytes, up to the last one.
 
 import assert from "node:assert/strict";
 import test from "node:test";
 import { ListingReader } from "../core/machine/listing_reader.js";
 import { isInsideLine, visibleLines } from "../core/machine/listing_range.js";
 
-/** A small generator of numbers that are the same at each run. */
+/** Returns a generator of pseudo-random numbers that are the same in each run. */
 function seeded(seed) {
   let state = seed;
   return (below) => {
@@ -14,12 +14,12 @@ function seeded(seed) {
   };
 }
 
-/** Codes whose instruction has two words: JCN, FIM, JUN, JMS and ISZ. */
+/** Returns true if an opcode begins a two-byte instruction: JCN, FIM, JUN, JMS or ISZ. */
 const hasTwoWords = (code) => [1, 4, 5, 7].includes(code >> 4) || ((code >> 4) === 2 && code % 2 === 0);
 
 const hex = (number, digits) => number.toString(16).toUpperCase().padStart(digits, "0");
 
-/** Answers `list A N` over some bytes, and counts the lines that were asked for. */
+/** Returns a stand-in for the bench that answers `list A N` from some bytes and counts the requested lines. */
 function lister(bytes) {
   const asked = { lists: 0, lines: 0 };
   const ask = async (lines) => {
@@ -46,7 +46,7 @@ function programs() {
   return made;
 }
 
-/** Returns the addresses at which the instructions of a program begin that is run from 000 on. */
+/** Returns the addresses of the instructions of a program that begins at 000. */
 function beginnings(bytes) {
   const found = [];
   for (let at = 0; at < 4096; at += hasTwoWords(bytes[at]) && at < 4095 ? 2 : 1) found.push(at);

@@ -1,4 +1,4 @@
-// The module of the page itself, by the calls of the page.
+// Tests the page's WebAssembly module through the calls that the page makes.
 import assert from "node:assert/strict";
 import { test } from "node:test";
 import { matrixKey } from "../core/board/key_place.js";

@@ -1,17 +1,18 @@
-// Goals, on the page's module. The expected values were counted by mcs4 trace and mcs4 cycles, as docs/MANUAL.md shows it.
+// Tests runs to goals, on the page's WebAssembly module. The expected values come from `mcs4 trace` and `mcs4 cycles`, as docs/MANUAL.md
+// shows.
 import assert from "node:assert/strict";
 import { test } from "node:test";
 import { begin, counterOf } from "./page_session.js";
 import { matrixKey } from "../core/board/key_place.js";
 
-/** How a goal was reached. */
+/** Runs until a goal is reached. Resolves to the number of cycles, whether the goal was reached, and how the run ended. */
 async function goOn(calls, goal, most) {
   const { cycles, isReached, end } = (await calls.goOn(goal, most)).found;
   return { cycles, isReached, end };
 }
 
 test("over a JMS: as many cycles as a breakpoint behind it takes, and nothing stays", async () => {
-  // Up to the JMS at 007: FIM, SRC, LDM, XCH, LD, WMP are 7 cycles.
+  // Run up to the JMS at 007. FIM, SRC, LDM, XCH, LD and WMP take 7 cycles.
   const calls = await begin("three lamps", "run 7\n");
   assert.equal(counterOf(calls), "007");
   const travelled = await calls.goOn({ kind: "over" });
@@ -69,19 +70,19 @@ test("to an address that is far away, also where all breakpoints are taken", asy
   assert.deepEqual(other, await goOn(calls, { kind: "here", address: 4 }, 1000000));
 });
 
-/** A bench with one ROM and a program. */
+/** Returns a bench with one ROM and a program. */
 function bench(program) {
   return begin("empty bench", `wire\n[[rom]]\nchip = 0\nport = "0000"\n.\nasm\n${program}.\n`);
 }
 
-/** Nested loops: an ISZ takes two cycles, and each loop ends 16 times. */
+/** Returns the source of nested delay loops. An ISZ takes two cycles, and each loop has 16 turns. */
 function delay(loops) {
   const all = [0, 1, 2, 3, 4].slice(0, loops);
   const lines = `FIM P0, 0\nFIM P1, 0\nFIM P2, 0\nloop: ${all.map((each) => `ISZ R${each}, loop\n`).join("")}`;
   return { lines, cycles: 6 + all.reduce((cycles) => 16 * (cycles + 2), 0) };
 }
 
-/** Lets time run in frames up to a stop; returns the last frame. */
+/** Runs time in frames until it stops. Returns the last frame. */
 function runOn(calls, frame) {
   for (;;) {
     const travelled = calls.advance(frame);
@@ -99,7 +100,7 @@ test("over a delay of 24 seconds, and out of it: time that runs, by frames and a
   assert.deepEqual([travelled.stop, counterOf(calls)], [{ why: "goal", id: 0, cycles: cycles + 3, returns: true }, "002"]);
   assert.ok(travelled.ran.every(({ line }) => /^run \d+$/.test(line)));
   assert.deepEqual(calls.ask("breaks\nwatches\n"), ["breaks -", "watches -"]);
-  // It is reached at once if this many cycles are tried, and running time beyond it has no goal any more.
+  // If the limit is this number of cycles, the goal is reached at once. Time that runs after that has no goal.
   assert.equal(calls.advance(1543).stop, null);
   await calls.goBack({ kind: "stop" });
   await calls.serve("reset\nrun 1000\n");
@@ -161,7 +162,7 @@ test("a goal among presses of keys comes at the cycle at which it is reached", a
   for (let frame = 0; !travelled.stop && frame < 100; frame++) travelled = calls.advance(1543);
   assert.deepEqual([travelled.stop.why, travelled.stop.cycles], ["goal", calls.bench.session.count.total - begun]);
   assert.notEqual(calls.ask("lamps\n")[0], before);
-  // A cycle before it they were as before.
+  // One cycle before the change, the lamps were unchanged.
   const again = await begin("calculator");
   again.advance(100000);
   again.press(matrixKey(2, 1));

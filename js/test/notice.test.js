@@ -1,9 +1,9 @@
-// Which notices make room for a new one.
+// Tests which notices are removed when a new one appears.
 import assert from "node:assert/strict";
 import { test } from "node:test";
 import { noticesToRemove } from "../page/ui/notice.js";
 
-/** Returns the kinds of the notices that make room; the newest is first. */
+/** Returns the kinds of the notices that are removed from a list of notices, given by their kinds, newest first. */
 const outOf = (...kinds) => noticesToRemove(kinds.map((kind) => ({ kind }))).map(({ kind }) => kind);
 
 test("three notices are shown, the newest ones", () => {

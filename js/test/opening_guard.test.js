@@ -1,9 +1,9 @@
-// Sessions whose last opening did not end.
+// Tests the detection of sessions whose last opening did not end.
 import assert from "node:assert/strict";
 import { test } from "node:test";
 import { OpeningGuard } from "../page/session/opening_guard.js";
 
-/** A browser's store of words, a clock, and timers that fire when the test says so. */
+/** Returns stand-ins for the browser's local storage, clock and timers. The timers fire when the test requests it. */
 function browser() {
   const words = new Map();
   const timers = [];

@@ -1,4 +1,4 @@
-// The table of the page's commands, its search by the palette, and its keys.
+// Tests the table of the page's commands, its search in the palette, and its keys.
 import assert from "node:assert/strict";
 import { readFileSync } from "node:fs";
 import { test } from "node:test";
@@ -12,7 +12,7 @@ import * as say from "../words/page_commands.js";
 const NONE_HELD = { ctrlKey: false, metaKey: false, altKey: false, shiftKey: false, defaultPrevented: false };
 const typed = (key, held = {}) => ({ ...NONE_HELD, key, ...held });
 
-/** Records the calls of a command. */
+/** Returns an object that records the calls that a command makes. */
 function recorder() {
   const seen = [];
   const calls = new Proxy({}, { get: (_none, name) => (...words) => {

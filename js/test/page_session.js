@@ -1,4 +1,4 @@
-// Sessions over the module of the page itself, for tests.
+// Sessions on the page's WebAssembly module, for tests.
 import * as page from "../node/page_parts.mjs";
 import { BenchCalls } from "../core/engine/bench_calls.js";
 
@@ -6,7 +6,7 @@ export const pageModule = page.readPageModule();
 const { examples } = page.readPageData();
 export const examplesOfPage = examples;
 
-/** A session from an example, after some lines. */
+/** Resolves to a session from an example after some lines. */
 export async function begin(name, lines = "") {
   const calls = new BenchCalls(async () => true);
   await calls.load(pageModule, examples);

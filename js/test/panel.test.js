@@ -1,4 +1,5 @@
-// The panel of the terminal, without one: time, keys, the picture and the rows of its screen, compared with the module itself.
+// Tests the front panel that mcs4 shows at a terminal, without a terminal: time, keys, the picture and the rows of the screen. The expected
+// values come from the bench's module.
 import assert from "node:assert/strict";
 import { readFileSync } from "node:fs";
 import { test } from "node:test";
@@ -24,7 +25,7 @@ const PRINTING = { board: read("printing_calculator/board.toml"), program: read(
 const SIZE = { rows: 24, columns: 80 };
 const SECOND = 1000;
 
-/** A counter in R0 to R3, with two keys, a lamp and RAM of one chip. */
+/** A program that counts in R0 to R3, and a board with two keys, a lamp and one RAM chip. */
 const COUNTER = {
   board: `# title: Own\n# row 0: a CE\n# row 1: _ _
 rom = [{ chip = 0, port = "00ii" }]\nram = [{ bank = 2, chips = 1 }]\nlamp = [{ line = "ram2.0.1" }]
@@ -33,7 +34,10 @@ rom = [{ chip = 0, port = "00ii" }]\nram = [{ bank = 2, chips = 1 }]\nlamp = [{ 
   program: "count: ISZ R3, count ; low\n\tISZ R2, count\n ISZ R1, count\n ISZ R0, count\n JUN count\n",
 };
 
-/** A panel of a session with these texts; `ask` asks its session, `typed` types characters, `text` is the text of the screen's rows. */
+/**
+ * Resolves to a panel for a session with these texts. `ask` sends a query to its session, `typed` types characters, and `text` returns the
+ * text of the screen's rows.
+ */
 async function begun({ board, program }, { lines = "", isPaused = false, hasSource = false } = {}) {
   const state = engine.begin();
   const ask = async (asked) => engine.serve(state, asked, state).answers;
@@ -55,7 +59,7 @@ async function begun({ board, program }, { lines = "", isPaused = false, hasSour
       await panel.snapshot.take(middleRows(SIZE));
     }
   };
-  /** Time passes, frame by frame. */
+  /** Lets time pass, frame by frame. */
   const pass = async (milliseconds) => {
     for (const end = now + milliseconds; now < end;) {
       now += 100;

@@ -1,4 +1,5 @@
-// A key that is typed again before the page knows that it went up: it is pressed again, and no press counts as a release.
+// Tests a key that the user presses again before the page knows of its release. The second press must press the key and must not release
+// it.
 
 import assert from "node:assert/strict";
 import test from "node:test";
@@ -9,7 +10,10 @@ import { begin } from "./page_session.js";
 
 const KEY = { key: matrixKey(0, 0), isSwitch: false };
 
-/** Fingers on a key while time runs: the worker has the requests once `arrive` is called, and reports them by `look`. */
+/**
+ * Returns a KeyPresser for a key while time is running. `arrive` delivers the requests to the worker, and `look` delivers the worker's
+ * report to the page.
+ */
 async function typing() {
   const calls = await begin("calculator");
   const pendingKeys = new PendingKeys();
@@ -34,7 +38,7 @@ async function typing() {
     }
     onTheWay = [];
   };
-  /** This many cycles later the page gets the present state. */
+  /** Runs `cycles` cycles, then delivers the current state to the page. */
   const look = (cycles) => {
     arrive();
     const frame = structuredClone(calls.advance(cycles));
@@ -47,38 +51,38 @@ async function typing() {
 
 test("a key is typed again while its release waits for its time", async () => {
   const { pressing, words, look } = await typing();
-  pressing.down(KEY, false);
+  pressing.pressOrRelease(KEY, false);
   assert.equal(look(1500), true);
-  pressing.up(KEY.key);
+  pressing.liftFinger(KEY.key);
   assert.equal(look(1500), true);
-  pressing.down(KEY, false);
-  pressing.up(KEY.key);
+  pressing.pressOrRelease(KEY, false);
+  pressing.liftFinger(KEY.key);
   assert.deepEqual(words, ["press", "release", "press", "release"]);
   assert.deepEqual([look(1001), look(2000), look(4000)], [false, true, false]);
 });
 
 test("a key is typed again while its release is on its way", async () => {
   const { pressing, words, look } = await typing();
-  pressing.down(KEY, false);
+  pressing.pressOrRelease(KEY, false);
   assert.equal(look(6000), true);
-  pressing.up(KEY.key);
-  pressing.down(KEY, false);
+  pressing.liftFinger(KEY.key);
+  pressing.pressOrRelease(KEY, false);
   assert.deepEqual(words, ["press", "release", "press"]);
 });
 
 test("a key that stays down is let go by a press, also while that press waits", async () => {
   const { pressing, words, look } = await typing();
-  pressing.down(KEY, true);
-  pressing.up(KEY.key);
-  pressing.down(KEY, false);
-  pressing.up(KEY.key);
+  pressing.pressOrRelease(KEY, true);
+  pressing.liftFinger(KEY.key);
+  pressing.pressOrRelease(KEY, false);
+  pressing.liftFinger(KEY.key);
   assert.deepEqual(words, ["press", "release"]);
   assert.equal(look(1), true);
   assert.equal(look(4000), false);
-  pressing.down(KEY, true);
-  pressing.up(KEY.key);
+  pressing.pressOrRelease(KEY, true);
+  pressing.liftFinger(KEY.key);
   assert.equal(look(8000), true);
-  pressing.down(KEY, false);
+  pressing.pressOrRelease(KEY, false);
   assert.deepEqual(words, ["press", "release", "press", "release"]);
 });
 

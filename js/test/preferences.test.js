@@ -1,10 +1,10 @@
-// A user's preferences, in a store that keeps them, and in ones that do not.
+// Tests the user's preferences with a working store and with stores that fail.
 
 import assert from "node:assert/strict";
 import test from "node:test";
 import { Preferences } from "../page/ui/preferences.js";
 
-/** A store like the browser's own, in memory. */
+/** Returns a stand-in for the browser's local storage, in memory. */
 function fakeStore(text = null) {
   const store = { text, getItem: () => store.text, setItem: (key, value) => { store.text = value; } };
   return store;

@@ -1,5 +1,5 @@
-// The printout of the printing calculator, compared with the module itself: the results of seeded chains of keys are compared with
-// arithmetic that is done here; going back, clearing and a reload.
+// Tests the printout of the printing calculator, also after going back, clearing and a reload. The results of random key sequences are
+// compared with calculations in this file.
 import assert from "node:assert/strict";
 import { readFileSync } from "node:fs";
 import { test } from "node:test";
@@ -16,7 +16,7 @@ const KEYS = new Map([...keys.values()].map(({ text, key }) => [text, key]));
 const DOWN = 2000;
 const UP = 14000;
 
-/** Returns a session with the calculator; `codes` is the last report. */
+/** Returns a session with the calculator. `codes` are the printed codes in the last report. */
 async function begin(file = null, kept = {}) {
   const calls = new BenchCalls(async () => true);
   await calls.load(pageModule, []);
@@ -31,7 +31,7 @@ function take(strip, shown) {
   return Object.assign(strip, { shown });
 }
 
-/** Keys with blanks between them: by time that runs, or by lines. */
+/** Presses the keys whose names are separated by blanks, while time is running or with console lines. */
 async function press(strip, names, byLines = false) {
   for (const name of names.split(" ")) {
     if (byLines) take(strip, await strip.calls.serve(`press ${PLACES.get(name)}\nrun ${DOWN}\nrelease ${PLACES.get(name)}\nrun ${UP}\n`));
@@ -107,7 +107,7 @@ test("a reload keeps the strip, tearing off and another printer empty it", async
   assert.deepEqual(stripOf(again), []);
 });
 
-/** Returns the expected printout of the calculator, by whole numbers of any size. */
+/** Returns the expected printout of the calculator, calculated with integers of any size. */
 function wanted(names) {
   const lines = [];
   let [shown, before, waits, isNew, isDead] = [0n, 0n, "", false, false];

@@ -1,4 +1,4 @@
-// The page's messages about programs: words of a line, errors, completion, help, and the texts that load only a program into ROM.
+// Tests the page's texts about programs: the words of a line, errors, completion, help, and the texts that load only a program into ROM.
 import assert from "node:assert/strict";
 import { readFileSync } from "node:fs";
 import { test } from "node:test";
@@ -13,7 +13,7 @@ import { explainProgramLine } from "../core/text/program_words.js";
 import { LONGEST_TEXT, findLineFaults, sentText } from "../core/text/sendable_text.js";
 import { helpForProgram } from "../core/text/text_help.js";
 
-// The table of the manual, as page/build reads it.
+// The manual's tables, as page/build reads them.
 const page = readFileSync(new URL("../../docs/MANUAL.md", import.meta.url), "utf8");
 const rows = page.split("### The 45 instructions")[1].split("### What SRC")[0].split("\n").filter((line) => /^\| `[A-Z]/.test(line))
   .map((line) => line.slice(1, -1).split("|").map((cell) => cell.trim()));
@@ -87,7 +87,7 @@ test("names, values and addresses", () => {
   assert.match(wordsOf("JCN 4, far", 34), /^far is on another page; JCN reaches/);
 });
 
-/** Returns the questions to a bench that has these errors, and rejects the program by this number. */
+/** Returns a stand-in for a bench that reports these errors and rejects the program with the error number `number`. */
 const asking = (errors, number = 0) => {
   const asked = { sent: [], refused: 0 };
   return {
@@ -190,7 +190,7 @@ test("a text with an error in each line of code is hardly a program", () => {
   const at = (...lines) => lines.map((line) => ({ number: 30, line, from: 0, to: 1, words: "" }));
   assert.equal(isNoProgram("hello there\n\n; a remark\nand more\n", { faults: at(1, 4), isWhole: true, rest: null }), true);
   assert.equal(isNoProgram("hello there\n NOP\n", { faults: at(1), isWhole: true, rest: null }), false);
-  // At most this many are searched.
+  // At most this number of errors is searched for.
   const long = "prose\n".repeat(500);
   assert.equal(isNoProgram(long, { faults: at(...Array.from({ length: 20 }, (_, line) => line + 1)), isWhole: false, rest: null }), true);
   assert.equal(isNoProgram(`NOP\n${long}`, { faults: at(2, 3), isWhole: false, rest: null }), false);

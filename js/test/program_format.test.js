@@ -1,4 +1,4 @@
-// The layout of a program: its columns, what stays as it is, and that the words of each line stay.
+// Tests the formatting of programs: the columns, the parts that stay unchanged, and that no line loses or changes a word.
 import assert from "node:assert/strict";
 import { test } from "node:test";
 import { readFileSync, readdirSync } from "node:fs";
@@ -71,6 +71,6 @@ test("long lines of blanks are read in a time that grows with their length alone
   const begun = process.cpuUsage();
   const blanks = " ".repeat(60000);
   for (const line of [`${blanks}\u00e9`, `a${blanks}b`, `a:${blanks}=`, `DB 1${" ,".repeat(30000)}`, "1".repeat(60000)]) formatted(line);
-  // In microseconds of processor time.
+  // The limit is in microseconds of processor time.
   assert.ok(process.cpuUsage(begun).user < 2e6);
 });

@@ -19,7 +19,7 @@ function read(text) {
 }
 
 test("the checksum is the one of cksum", () => {
-  // The output of the command for these bytes, with its count of them.
+  // The output of the command `cksum` for no bytes.
   assert.equal(checksum(encode("")), 4294967295);
   assert.equal(checksum(encode("hello\n")), 3015617425);
   assert.equal(checksum(encode("123456789")), 930766865);

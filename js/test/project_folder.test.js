@@ -1,4 +1,4 @@
-// The project file: its contents, and each of its errors with its line.
+// Tests the reader of project files: the contents of a file, and each error with its line.
 import assert from "node:assert/strict";
 import { mkdirSync, mkdtempSync, rmSync, symlinkSync, writeFileSync } from "node:fs";
 import { tmpdir } from "node:os";

@@ -1,4 +1,4 @@
-// The debugger at the prompt, without a terminal: its commands, their output, their errors, and the completions of a line.
+// Tests the debugger's prompt without a terminal: commands, their output, their errors, and the completion of lines.
 import assert from "node:assert/strict";
 import { readFileSync } from "node:fs";
 import { test } from "node:test";
@@ -18,7 +18,7 @@ const BOARD = read("three_lamps/board.toml");
 const PROGRAM = read("three_lamps/three_lamps.asm");
 const LOCK = { board: read("lock/board.toml"), program: read("lock/lock.asm") };
 
-/** Returns a prompt, with files, and its output and errors since the last query. */
+/** Returns a prompt with files, and a function that returns its output and errors since the last call. */
 async function prompted({ board, program } = { board: BOARD, program: PROGRAM }, isInteractive = false, files = {}) {
   let printed = [];
   const session = new DebugSession(engine, { board, program });
@@ -270,7 +270,7 @@ test("commands that run at a stop", async () => {
   assert.equal(prompt.label, "> ");
   assert.deepEqual(await ask("silent", "", "print pc", "end", "info b"), ["1  line 125 at 0x0A7", "       silent", "       print pc"]);
   assert.deepEqual((await ask("continue")).filter((line) => !line.startsWith("lamps")), ["0x0A7, line 125"]);
-  // After one that moves the others are skipped; the next stop has its own.
+  // After a command that runs time, the remaining commands are skipped. The next stop executes its own commands.
   await ask("commands 1", "print acc", "step", "print never", "end");
   assert.equal((await ask("continue")).filter((line) => /never/.test(line)).length, 0);
   await ask("commands 1", "print pc", "bogus", "print acc", "end");
@@ -279,7 +279,7 @@ test("commands that run at a stop", async () => {
   assert.deepEqual(await ask("info b"), [(await ask("info breakpoints"))[0]]);
   await ask("commands 1");
   assert.deepEqual([prompt.drop(), prompt.drop()], ["the commands of breakpoint 1 are dropped", ""]);
-  // The user stops an endless run.
+  // The user interrupts an endless run.
   let turns = 0;
   prompt.calls.pause = async () => {
     turns += 1;

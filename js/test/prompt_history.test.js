@@ -1,4 +1,4 @@
-// The history of prompts: one private file of the user, which several prompts write at the same time.
+// Tests the history of prompts: a private file of the user, which several prompts can write at the same time.
 import assert from "node:assert/strict";
 import { spawn } from "node:child_process";
 import { chmodSync, existsSync, mkdtempSync, readFileSync, rmSync, statSync, symlinkSync, writeFileSync } from "node:fs";
@@ -9,7 +9,7 @@ import { PromptHistory } from "../node/prompt_history.mjs";
 
 const MODULE = new URL("../node/prompt_history.mjs", import.meta.url).href;
 
-/** Runs an action with a folder of its own. */
+/** Runs an action with a new temporary folder. */
 async function withFolder(act) {
   const folder = mkdtempSync(join(tmpdir(), "history."));
   try {
@@ -49,7 +49,7 @@ test("without a place of the user's own there is none", () => withFolder((folder
   const history = new PromptHistory({ HOME: folder });
   history.add("seq");
   assert.ok(existsSync(join(folder, ".local/state/mcs4/history")));
-  // A device, or a folder, in its place.
+  // A device or a folder is where the history file should be.
   for (const other of ["/dev/null", folder]) {
     rmSync(join(folder, ".local/state/mcs4/history"));
     symlinkSync(other, join(folder, ".local/state/mcs4/history"));

@@ -1,4 +1,4 @@
-// Proofs on the page: the bound that doubles, combined questions, verdicts that remain valid, the worker, and the words about all of them.
+// Tests proofs on the page: the increasing bound, combined questions, verdicts that remain valid, the worker, and the texts about them.
 import assert from "node:assert/strict";
 import { test } from "node:test";
 import { Bench } from "../core/bench/bench_client.js";
@@ -11,7 +11,7 @@ import { findPropertyLine, isStillValid } from "../core/prove/verdict_validity.j
 import { markOf, markOfTab, wordsOfEnd, wordsOfVerdict, wordsSoFar } from "../words/prove_results.js";
 import { pageModule } from "./page_session.js";
 
-// The lamp is on while TEST is 0; R1 counts how often that was read.
+// The lamp is on while TEST is 0. R1 counts how often the program has read 0.
 const texts = {
   boardText: '# lamp 0: lit\n# test: button WALK\nlamp = [{ line = "ram0.0.0" }, { line = "ram0.0.1" }]\n'
     + 'rom = [{ chip = 0, port = "0000" }]\nram = [{ bank = 0, chips = 1 }]\n',
@@ -19,16 +19,16 @@ const texts = {
   testText: "",
   propertiesText: "test\nnever lamp 1 on\nreach lamp lit on\nnever lamp lit on\n",
 };
-/** The values of TEST by which the lamp is on, one for each read. */
+/** The prover's answer with the value of TEST at each read, for a run in which the lamp is on. */
 const LIGHTS = "may fail 0\n";
 
-/** The answer to a question about mistakes, unless a test has its own. */
+/** The prover's answer to a question about common mistakes, unless a test gives another one. */
 const NO_MISTAKE = "holds 9\n";
 
 /**
- * The module, with a prover of the test's own; `asked` has the questions about properties, as their bounds and the number of their
- * conditions; `times` those about a stopwatch, as their limits; `mistakes` those about mistakes, as their words; `bySets` the questions by
- * sets of states.
+ * The bench's module with a stand-in for the prover, which records its questions. `asked`: the bound and the number of conditions of each
+ * question about properties. `times`: the limit of each question about a stopwatch. `mistakes`: the words of each question about common
+ * mistakes. `bySets`: the questions that use sets of states.
  */
 class Asked extends Engine {
   /**
@@ -97,7 +97,7 @@ test("each question goes on only while there are more states, and says how many 
   const { all, engine, seen } = await judged((bound) => (bound < 40000 ? "too many\n" : "holds 23456\n"),
     { propertiesText: "test\nnever lamp 1 on\n" });
   assert.deepEqual(engine.asked, [[10000, 1], [20000, 1], [40000, 1]]);
-  // The questions about mistakes come last, the one by sets of states first.
+  // The question that uses sets of states comes first, the questions about mistakes last.
   assert.deepEqual(seen, [0, 10000, 20000, 0, 0]);
   const verdict = { kind: "proved", states: 23456, bySets: false, leftOut: "" };
   assert.deepEqual(all, [{ text: "never lamp 1 on", line: 2, isGoal: false, verdict }]);
@@ -141,7 +141,7 @@ test("sets of states prove that no mistake is made, and what the search does not
   assert.deepEqual(all.engine.mistakes, []);
   assert.deepEqual(all.made.map(({ verdict }) => verdict), Array.from({ length: 7 }, () => proved));
   assert.deepEqual(all.all.map(({ verdict }) => verdict), Array.from({ length: 3 }, () => proved));
-  // Together they are not decided, but one of them is.
+  // The combined question is not decided, but one of the single questions is.
   const some = await judged(() => "", { propertiesText: "", answerMistakes: () => "too many\n",
     answerSets: (asked) => (asked === "call" ? "holds 5\n" : "gave up\n") });
   assert.deepEqual(some.engine.bySets, [words, ...words.split(" ")]);
@@ -190,7 +190,8 @@ test("a verdict stands while its property, the program and the board are the sam
   assert.ok(!isStillValid(proved, texts, now({ boardText: `${texts.boardText}#` })));
   assert.ok(!isStillValid(proved, texts, properties(texts.propertiesText.replace("lamp 1 on", "lamp 1 off"))));
   assert.ok(isStillValid(proved, texts, properties(`# more\n\n  never  lamp 1 on\nnever lamp lit off\ntest`)));
-  // A proof is about all inputs, and begins at power-on; why a verdict is open may depend on the inputs in the text.
+  // A proof covers all inputs from power-on, whatever inputs the text lists. The reason why a verdict is open can depend on the listed
+  // inputs.
   assert.ok(isStillValid(proved, texts, properties("never lamp 1 on")));
   assert.ok(!isStillValid(open, texts, properties("never lamp 1 on")));
   assert.ok(!isStillValid(proved, texts, properties(`from dark\n${texts.propertiesText}`)));
@@ -201,7 +202,7 @@ test("a verdict stands while its property, the program and the board are the sam
   assert.equal(findPropertyLine("never lamp 1 on", "never lamp 1 off\n"), 0);
 });
 
-/** A worker that is not one: it does its work in this thread, and can be ended. */
+/** Returns a stand-in for a worker. It works in this thread and can be terminated. */
 function fakeWorker(engine) {
   const listeners = [];
   const addEventListener = (kind, listen) => kind === "message" && listeners.push(listen);
@@ -226,7 +227,10 @@ function fakeWorker(engine) {
   return worker;
 }
 
-/** Returns a prover over such a worker. The bench checks its worker by a timer, which must not keep the test. */
+/**
+ * Returns a prover that uses a stand-in for its worker. The timer with which the bench checks the worker must not keep the test process
+ * alive.
+ */
 function proverOver(engine) {
   const { setInterval } = globalThis;
   globalThis.setInterval = () => 0;

@@ -1,4 +1,5 @@
-// Questions to the prover: conditions become comparisons that mean the same on every machine; the values read become keys, and a test.
+// Tests the questions to the prover and its answers. Conditions become comparisons with the same meaning in every state. The values that
+// the prover reports become key presses and a test.
 import assert from "node:assert/strict";
 import { test } from "node:test";
 import { matrixKey } from "../core/board/key_place.js";
@@ -18,7 +19,8 @@ import { pageModule } from "./page_session.js";
 
 const engine = new Engine(new globalThis.WebAssembly.Module(pageModule));
 
-// Key A switches the lamp `on` on, if it is down at 16 reads. The program counts in R5, and shows that at the port of the second RAM chip.
+// Key A switches the lamp `on` on if it is down at 16 successive reads. The program counts these reads in R5 and writes the count to the
+// port of the second RAM chip.
 const BOARD = `# row 0: A B C
 # lamp 0: on
 # test: button WALK
@@ -59,7 +61,7 @@ lit:    WMP
 const subject = createSubject(engine, BOARD, PROGRAM);
 const { board } = subject.names;
 
-/** Reads a cell of a question from the bench's answers about its places. */
+/** For each kind of cell in a question, a function that reads its value from the bench's answers. */
 const CELLS = {
   register: (index) => [`r${index}`],
   character: (index) => [`ram.${Math.floor(index / 256)}.${index % 256}`],
@@ -78,13 +80,13 @@ function isMet(state, comparison) {
   if (place === "owed") value = Number(engine.ask(state, "regs\n").answers[0].split(" ")[7]);
   else value = parseInt(engine.ask(state, `trace 1 ${place}\n`).answers[0].split(" ").pop(), 16);
   if (place === "pc") value = index === "4" ? value >> 8 : value & 255;
-  // Lines 1 to 3 of ROM 1 are inputs, for which its latch has 0.
+  // Lines 1 to 3 of ROM 1 are inputs, so their bits in the port's latch are 0.
   if (place === "rom1") value &= 1;
   if (part !== "whole") value = (value >> Number(part.slice(4))) & 1;
   return (Number(low) <= value && value <= Number(high)) === (way === "in");
 }
 
-/** States of the bench, with all places of conditions set at random. */
+/** Yields states of the bench in which every place that a condition can read has a random value. */
 function* states() {
   const random = createRandom(5);
   const upTo = (most) => Math.floor(random() * (most + 1));
@@ -192,7 +194,8 @@ test("presses are a question about the keys of the matrix, by their rows and col
   const [a, c] = [{ kind: "matrix", row: 0, column: 0 }, { kind: "matrix", row: 0, column: 2 }];
   assert.deepEqual(presses("lamp on on only after press A, press C, press A"), { opens: on, keys: [a, c, a] });
   assert.deepEqual(presses("@lit only after press C"), { opens: [AT_LIT], keys: [c] });
-  // A condition counts between the two cycles of an instruction as after them, but a label alone is reached by an instruction.
+  // A condition is evaluated between the two cycles of an instruction as well as after them. A label is reached only when an instruction
+  // begins.
   assert.deepEqual(presses("@lit or @look only after press C").opens, [AT_LOOK.slice(1), AT_LIT.slice(1)]);
   assert.deepEqual(presses("r5 > 15 only after press C").opens, [["in register 0 whole 1 0"]]);
   assert.equal(presses("never lamp on on"), null);
@@ -205,7 +208,7 @@ test("presses that the prover cannot count are refused with the reason", () => {
   const presses = (count) => questionOf(`lamp on on only after ${Array(count).fill("press A").join(", ")}`);
   assert.equal(presses(MAX_PRESSES).question.presses.keys.length, 100);
   assert.match(presses(MAX_PRESSES + 1).words, /^it names more than 100 presses/);
-  // At `same`, one instruction of one cycle leads to the next one that begins there.
+  // A one-cycle instruction at `same` is followed by another instruction that begins at `same`.
   for (const [code, isAsked] of [["JIN P0", false], ["BBL 0", false], ["FIN P0", true], ["JUN same", true]]) {
     const own = createSubject(engine, BOARD, `        FIM P0, 2\nsame:   ${code}\n        NOP\n`);
     assert.equal(questionOf("@same only after press A", own).question !== null, isAsked, code);
@@ -264,7 +267,7 @@ test("answers", () => {
   for (const other of others) assert.equal(readAnswer(other), null);
 });
 
-/** The reads of the program until its lamp is on: the value of A, 16 times. */
+/** The values that the program reads until the lamp is on: A down, 16 times. */
 const LIGHTS = [0, ...Array(16).fill(3)];
 
 async function counterexample(properties, values, at = 0) {
@@ -293,7 +296,7 @@ test("inputs that the text of properties excludes are known as such", async () =
   assert.equal((await counterexample("press A\nbegin after 1 s\nnever lamp on on", LIGHTS)).found.isAllowed, false);
 });
 
-/** Resolves to whether the test of a counterexample fails. */
+/** Resolves to true if the test of a counterexample fails. */
 async function fails({ text }, programText = PROGRAM) {
   const { outcomes } = await runTests(engine, { boardText: BOARD, programText, sources: [{ name: "found", text }] }, async () => true,
     { Counting: NullRecorder });
@@ -301,7 +304,7 @@ async function fails({ text }, programText = PROGRAM) {
 }
 
 test("what takes too long becomes a test that fails, and nothing that is in time does", async () => {
-  // From `look` to `look` it takes 10 cycles as long as A is up.
+  // While A is up, the program takes 10 cycles from one arrival at `look` to the next.
   const up = [0, ...Array(30).fill(1)];
   const late = [["never lamp on on for 1 ms", LIGHTS, /press A\n {2}run \d+\n {2}until not lamp on on within 93\n$/],
     ["every 9 @look", up, /\n {2}run 9\n {2}until @look within 9\n$/], ["@look to @look within 9", up, /\n {2}until @look within 9\n$/],
@@ -318,7 +321,8 @@ test("what takes too long becomes a test that fails, and nothing that is in time
   }
 });
 
-// A condition is met by one instruction and ended by another one; in between are two cycles more than the first one takes.
+// One instruction makes a condition true and a later one makes it false. The cycles between them are two more than the first instruction
+// takes.
 const SPANS = [["r5 > 0", "FIM P2, 0x05", "FIM P2, 0", 4], ["r5 > 0", "INC R5", "FIM P2, 0", 3], ["r5 > 0", "FIM P2, 0x0F", "INC R5", 4],
   ["cy = 1", "STC", "CLB", 3]];
 
@@ -338,13 +342,13 @@ test("a press that comes too early, or not at all, becomes a test that fails", a
   const { found } = await counterexample("press A B\nlamp on on only after press B", LIGHTS);
   assert.ok(found.isAllowed && await fails(found));
   assert.match(found.text, /^test lamp on on only after press B\n {2}run \d+\n {2}press A\n {2}run \d+\n {2}expect not lamp on on\n$/);
-  // B comes too early or late.
+  // Key B is pressed too early or too late.
   const withB = [0, 5, ...LIGHTS.slice(1)];
   const keys = "press A B C\ntogether 3\n";
   assert.ok(await fails((await counterexample(`${keys}lamp on on only after press A, press B`, withB)).found));
   assert.equal((await counterexample(`${keys}lamp on on only after press B, press A`, withB)).found, null);
   assert.ok((await counterexample(`${keys}@lit only after press A, press B`, withB)).found);
-  // Two keys can go down at one moment.
+  // Two keys can be pressed at the same moment.
   const together = [0, 13, ...LIGHTS.slice(1)];
   assert.equal((await counterexample(`${keys}lamp on on only after press B, press C, press A`, together)).found, null);
   assert.ok((await counterexample(`${keys}lamp on on only after press C, press A, press B`, together)).found);
@@ -355,7 +359,8 @@ test("keys that change together are on the way to what takes too long", async ()
   assert.ok(found && await fails(found));
 });
 
-// Programs on the board above: after how many cycles the next instruction makes a mistake, by its word; the cycles are those of the table.
+// Programs for the board above. `made` has the common mistakes of each program: the number of cycles before the mistake, by the mistake's
+// word. The cycles follow from the instruction table.
 const MAKES = [
   { program: "FIM P1, 0x80\nSRC P1\nWR2", made: { ram: 3 } }, { program: "LDM 1\nDCL\nRDM", made: { ram: 2 } },
   { program: "LDM 1\nDCL\nFIM P1, 0x40\nSRC P1\nLDM 0\nDCL\nRDM", made: {} },

@@ -1,5 +1,5 @@
-// Guards in proofs: a property is proved without those that depend on the past, and a counterexample must break it with them. And presses
-// that a property names: what the bench makes of a way that the prover found.
+// Tests guards in proofs. The prover ignores guards that depend on the past, so a counterexample must also violate the property with them.
+// Also tests properties that name key presses: how the bench uses a run that the prover has found.
 import assert from "node:assert/strict";
 import { test } from "node:test";
 import { Engine } from "../core/engine/engine.js";
@@ -10,7 +10,8 @@ import { beginProving } from "../core/prove/bounded_proof.js";
 import { createQuestion, omittedGuards } from "../core/prove/question.js";
 import { pageModule } from "./page_session.js";
 
-// START begins to wait, the lamp `go` comes on, and PRESS, at TEST, stops it. PRESS while it waits is a foul.
+// A reaction timer. After START, it waits and then switches the lamp `go` on. PRESS, a key at TEST, stops it. A press of PRESS during the
+// wait is a foul.
 const BOARD = `# row 0: START
 # lamp 0: waiting go foul
 # test: button PRESS
@@ -51,7 +52,7 @@ end:    JUN end
 `;
 const engine = new Engine(new globalThis.WebAssembly.Module(pageModule));
 
-/** The module, with the answer of a test to questions about presses. */
+/** The bench's module with a fixed answer of the prover to questions about key presses. */
 class Answering extends Engine {
   /** @param {string} answer */
   constructor(answer) {
@@ -74,9 +75,9 @@ async function verdictsOn(propertiesText, own = engine, programText = PROGRAM) {
 
 const WITHOUT_ONCE = 'without "once", which a proof leaves out';
 const WITHOUT_PRESS = 'without "after press", which a proof leaves out';
-// Each form with guards, and the verdict. The prover is asked about the property without the guard. `proved`: that holds, so the property
-// holds; of a goal, there is no way without the guard, and so none with it. `found`: a way breaks it (reaches it), and the guard is open
-// there. A reason: the guard is closed there.
+// Each form of property with guards, and its verdict. The prover examines the property without its guards. `proved`: the property holds
+// without the guards, so it also holds with them; for a goal, no run reaches it. `found`: a run violates the property (or reaches the goal)
+// while the guards are open. Any other text is the reason why the verdict is open: the guard is closed in that run.
 const TABLE = [
   ["once lamp go on, never lamp waiting on and lamp go on", "proved"],
   ["once lamp go on, never lamp foul on", `it can fail ${WITHOUT_ONCE}`],
@@ -114,7 +115,7 @@ test("a property is asked without guards that depend on the past", () => {
   }
   assert.equal(omittedGuards(propertyOf("once r0 = 1, after press START within 9, once r0 = 2, never r1 = 1")), '"once" and "after press"');
   assert.equal(omittedGuards(propertyOf("while r0 = 1, never r1 = 1")), "");
-  // Not what the text of a guard looks at.
+  // The cells that a guard reads do not matter, because the prover ignores the guard.
   assert.notEqual(askedAs("once rom1 in 8, never r1 = 1").question, null);
   assert.equal(askedAs("while rom1 in 8, never r1 = 1").question, null);
 });
@@ -138,7 +139,7 @@ test("a property with such a guard is asked alone, also before a search", () => 
 });
 
 test("presses that no read sees are no counterexample", async () => {
-  // The first stretch ends at the first read, which sees START down: a press before it, of which no read sees the beginning.
+  // The first read already finds START down. The key was pressed before that read, so no read sees it go down.
   const text = "lamp waiting on only after press START\n";
   const [open] = await verdictsOn(text, new Answering("may fail 0 8\n"));
   assert.deepEqual(open, { kind: "open", words: "it can become true before the program has read each key up and then down" });

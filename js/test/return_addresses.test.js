@@ -3,7 +3,8 @@ import { test } from "node:test";
 import { findLiveReturns, callAddress, describeCounter, describeReturn } from "../core/machine/return_addresses.js";
 import { SourceMap } from "../core/machine/source_map.js";
 
-// docs/MANUAL.md: JMS keeps the address after its two words as the newest return address; BBL makes the address after it the oldest one.
+// docs/MANUAL.md: JMS stores the address after its two bytes as the newest return address. After BBL, the address that follows BBL is the
+// oldest one.
 const TEXT = "go: JMS one\n\tJUN go\none: FIM P0, 0x50\n\tBBL 0\n\tNOP\n";
 const MAP = new SourceMap(["map lines 5 names 2", "line 1 000 2", "line 2 002 2", "line 3 004 2", "line 4 006 1", "line 5 007 1",
   "name go 000", "name one 004"], TEXT);
@@ -15,11 +16,11 @@ test("an address that no call left is left over, and so is all below it", () => 
 });
 
 test("a byte that looks like a JMS, but is none in the program", () => {
-  // After BBL at 006 follows 007; the byte at 005 is the 50 of FIM.
+  // The address after the BBL at 006 is 007. The byte at 005 is the second byte of FIM, 50.
   assert.deepEqual(findLiveReturns([7, 0, 0], ["50", "00", "00"], null), [true, false, false]);
   assert.deepEqual(findLiveReturns([7, 0, 0], ["50", "00", "00"], MAP), [false, false, false]);
   assert.deepEqual(findLiveReturns([2, 0, 0], ["50", "00", "00"], MAP), [true, false, false]);
-  // An address outside the program is judged by its byte.
+  // For an address outside the program, only the byte in ROM decides.
   assert.deepEqual(findLiveReturns([0x102, 0, 0], ["5F", "00", "00"], MAP), [true, false, false]);
 });
 

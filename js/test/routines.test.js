@@ -1,4 +1,4 @@
-// The routines of a program: what each one reaches, what it calls, and its callers.
+// Tests the analysis of a program's routines: the lines that each one reaches, the routines that it calls, and its callers.
 import assert from "node:assert/strict";
 import { test } from "node:test";
 import { Routines } from "../core/text/routines.js";

@@ -1,4 +1,4 @@
-// The language server, without a process: its messages, its texts, and its answers on the page's module.
+// Tests the language server's messages, texts and answers. The server runs in this process, on the page's WebAssembly module.
 import assert from "node:assert/strict";
 import { test } from "node:test";
 import { readFileSync } from "node:fs";

@@ -1,4 +1,4 @@
-// A language server without a process, and its client, for tests.
+// A language server that runs in the test's own process, and its client.
 import { Connection } from "../core/server/connection.js";
 import { MessageReader, frameMessage } from "../core/server/framing.js";
 import { LanguageServer } from "../core/server/language_server.js";
@@ -9,13 +9,13 @@ import { pageModule } from "./page_session.js";
 const engine = new Engine(new globalThis.WebAssembly.Module(pageModule));
 export const bytesOf = (text) => new TextEncoder().encode(text);
 
-/** A server with a client; `files` are its files, and `pause` is called between pieces of work. */
+/** Returns a server with a client. `files` are the files that the server can read, and the server calls `pause` between pieces of work. */
 export function served(files = {}, pause = async () => {}) {
   const reader = new MessageReader();
   const messages = [];
   let status = null;
   const connection = new Connection((bytes) => {
-    // Output after the end is lost.
+    // Output after the server's end is ignored.
     if (status === null) messages.push(...[...reader.take(bytes)].map(({ text }) => JSON.parse(text)));
   }, (ended) => {
     status = ended;

@@ -1,5 +1,5 @@
-// Answers of the language server other than errors: layout, hints, folds, names of the workspace, calls, lenses, links, selections, colours
-// by range and by changes, signatures, completion, Markdown, and diagnostics on request.
+// Tests the language server's features other than errors: formatting, inlay hints, folding, workspace symbols, call hierarchy, code lenses,
+// links and selection ranges. Also tests semantic tokens, signature help, completion, Markdown, and diagnostics on request.
 import assert from "node:assert/strict";
 import { test } from "node:test";
 import { readFileSync } from "node:fs";
@@ -15,7 +15,7 @@ const uri = `${PROJECT}lock.asm`;
 const document = { textDocument: { uri } };
 const range = (...at) => ({ start: { line: at[0], character: at[1] }, end: { line: at[2], character: at[3] } });
 
-/** A server with a text open. */
+/** Returns a server in which a text is open. */
 async function with_(text, params, name = uri) {
   const server = served(FILES);
   await server.begin(params);
@@ -23,7 +23,7 @@ async function with_(text, params, name = uri) {
   return server;
 }
 
-/** A text after edits of the protocol. */
+/** Returns a text after edits in the form of the language server protocol. */
 function edited(text, edits) {
   const lines = text.split("\n");
   for (const { range: { start, end }, newText } of [...edits].reverse()) {

@@ -1,4 +1,5 @@
-// Invalid texts for the language server: binary ones, very long lines, and very many; each request is answered, and soon.
+// Tests the language server with invalid texts: binary data, very long lines, and very many lines. The server must answer each request
+// quickly.
 import assert from "node:assert/strict";
 import { test } from "node:test";
 import { readFileSync } from "node:fs";
@@ -26,11 +27,11 @@ const PLACES = [
   "hover", "definition", "references", "documentHighlight", "prepareRename", "completion", "signatureHelp", "prepareCallHierarchy",
 ];
 const WHOLES = ["documentSymbol", "codeLens", "documentLink", "foldingRange", "semanticTokens/full", "diagnostic"];
-/** In milliseconds of processor time, which other processes do not lengthen. */
+/** The time limit for an answer, in milliseconds of processor time, so that other processes do not matter. */
 const SOON = 2000;
 const spent = () => process.cpuUsage().user / 1000;
 
-/** Sends every request about a text; returns the method that took longest. */
+/** Sends every kind of request about a text. Returns the method that took longest. */
 async function askAll({ answer, at }, uri, lines) {
   const last = lines.length - 1;
   const middle = Math.floor(lines[0].length / 2);

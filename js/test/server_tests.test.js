@@ -1,4 +1,5 @@
-// Texts of tests and of properties in the language server: errors with their places, completion, help, names, links, and tests that run.
+// Tests the language server with texts of tests and properties: errors and their locations, completion, help, names, links, and running
+// tests.
 import assert from "node:assert/strict";
 import { test } from "node:test";
 import { readFileSync } from "node:fs";

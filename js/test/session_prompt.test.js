@@ -1,4 +1,5 @@
-// The prompt of sessions, on the module: lines, texts, files, why a line is rejected, help, and the completions of a line.
+// Tests the session prompt on the bench's module: lines, texts, files, the reasons why lines are rejected, help, and the completion of
+// lines.
 import assert from "node:assert/strict";
 import { test } from "node:test";
 import { SessionPrompt } from "../core/prompt/bench_prompt.js";
@@ -28,7 +29,10 @@ rows = 2
 columns = ["rom0.0", "rom0.1"]
 `;
 
-/** Returns a prompt on a new session, with files, and its output since the last query: answers, and words in parentheses. */
+/**
+ * Returns a prompt for a new session with files, and a function that returns its output since the last call. Messages other than answers
+ * are in parentheses.
+ */
 function prompted(files = {}) {
   const state = engine.begin();
   let out = [];

@@ -1,4 +1,4 @@
-// Sessions that are begun, deleted and restored, and the words about them.
+// Tests the creation, deletion and restoration of sessions, and the messages about them.
 import assert from "node:assert/strict";
 import { test } from "node:test";
 import { formatAddress, readAddress } from "../page/session/address.js";
@@ -9,7 +9,7 @@ import { MemoryStore } from "../page/session/store.js";
 import { TextsController, formatLineCount } from "../page/session/texts_controller.js";
 
 const record = (name = "die") => newRecord(name, Uint8Array.of(1, 2), { boardText: "# b", programText: "; p" });
-const freeLocks = { take: async () => () => {} };
+const freeLocks = { acquire: async () => () => {} };
 
 test("what an address names", () => {
   for (const [kind, value] of [["session", "m1-2-x"], ["example", "traffic light"], ["link", "1.abc-_"], ["example", "50 % \u00fc"]]) {
@@ -34,11 +34,11 @@ test("breakpoints and values go into a new session, where there are some", () =>
 test("a session of an example is not kept before something is done in it", async () => {
   const store = new MemoryStore();
   const session = new OpenSession(store, record(), () => {}, "die");
-  assert.equal(await session.keep(), "");
-  assert.equal(await session.keepNow(), "");
+  assert.equal(await session.save(), "");
+  assert.equal(await session.saveNow(), "");
   assert.deepEqual(await store.all(), []);
-  assert.deepEqual([session.touch(), session.touch()], [true, false]);
-  await session.keep();
+  assert.deepEqual([session.markChanged(), session.markChanged()], [true, false]);
+  await session.save();
   assert.equal((await store.all()).length, 1);
 });
 
@@ -65,7 +65,7 @@ test("what another tab has open is not deleted, and what the store refuses can b
   await store.put(one);
   await store.put(two);
   const refused = [];
-  const bin = new Trash(store, { take: async (id) => (id === two.id ? null : () => {}) }, (words) => refused.push(words));
+  const bin = new Trash(store, { acquire: async (id) => (id === two.id ? null : () => {}) }, (words) => refused.push(words));
   assert.deepEqual(await bin.remove([one, two]), [one]);
   store.put = async () => { throw new DOMException("", "QuotaExceededError"); };
   await bin.restoreSessions([one]);
@@ -91,7 +91,7 @@ test("lines in words", () => {
   assert.deepEqual(["", "a", "a\n", "a\nb", "\n"].map(formatLineCount), ["0 lines", "1 line", "1 line", "2 lines", "1 line"]);
 });
 
-/** Returns a controller of texts over plain objects; `answers` answers its questions. */
+/** Returns a texts controller with stand-ins for its editors. `answers` are the user's answers to its questions. */
 function controller(answers, programText, found) {
   const seen = { asked: 0, notices: [], kept: 0 };
   const session = { record: { id: "1", name: "one", boardText: "", programText } };
@@ -111,7 +111,7 @@ function controller(answers, programText, found) {
   });
   const made = new TextsController(editor("# b"), editor(programText), editor(""), editor(""), ask, notice, {
     handleEdit: () => {},
-    session: () => shown.session, touch: () => {}, keep: async () => "", updateNames: () => {}, source: async () => found,
+    session: () => shown.session, markChanged: () => {}, save: async () => "", updateNames: () => {}, source: async () => found,
     reportFailure: (fault) => { throw fault; },
     isNoProgram: async (text) => text.includes("prose"), handleLoadedTexts: () => {},
   });

@@ -11,7 +11,7 @@ const calculator = {
   propertiesText: "",
 };
 
-/** A browser without streams that compress. */
+/** Runs an action as in a browser that lacks the given stream classes. */
 async function without(names, act) {
   const kept = names.map((name) => globalThis[name]);
   names.forEach((name) => { globalThis[name] = undefined; });

@@ -4,7 +4,7 @@ import { readInputs, joinLines } from "../core/bench/inputs.js";
 import { SnapshotReader, buildSnapshot, snapshotQueries } from "../core/bench/snapshot.js";
 import { parseItems, parseState, parsePorts, parseRegisters, stateValue, stripSeq } from "../core/bench/state_line.js";
 
-// The line that docs/MANUAL.md shows.
+// The answer to `state` that docs/MANUAL.md shows.
 const STATE = "state seq 8 acc 6 cy 0 pc 00A owed 0 dcl 0 test 1 r 1000000000000000 ret 000,001,000 src 10 banks 0.10,1.00 "
   + "roms 0.3.0,1.0.6,2.0.0 rams 0.0.0,1.0.0 chains 1100000000 keys 0.1,1.2 lamps **. breaks 003,00F watches 0.3F";
 const EMPTY = "state seq 0 acc 0 cy 0 pc 000 owed 0 dcl 0 test 1 r 0000000000000000 ret 000,000,000 src 00 banks - roms - rams - chains - "

@@ -1,4 +1,4 @@
-// Answers to `map` as docs/MANUAL.md describes them.
+// Tests the parsing of answers to `map`, as docs/MANUAL.md describes them.
 import assert from "node:assert/strict";
 import { test } from "node:test";
 import { SourceMap } from "../core/machine/source_map.js";

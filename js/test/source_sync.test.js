@@ -7,7 +7,7 @@ const MAP = ["map lines 4 names 3", "line 1 000 0", "line 2 000 2", "line 3 002 
   "name put 002"];
 const FITS = { map: MAP, refusal: null, difference: null };
 
-/** Returns a `SourceSync` with a stand-in for the editor and the bench, whose answers the test sets. */
+/** Returns a `SourceSync` with stand-ins for the editor and the bench. The test sets the bench's answers. */
 function begin(text, checked) {
   const seen = { next: [], addresses: [], revealed: [], changed: [], checks: 0 };
   const now = { text, checked };

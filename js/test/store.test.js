@@ -1,10 +1,10 @@
-// Saving, over a fake of the browser's store that answers when the test says so.
+// Tests saving with a stand-in for IndexedDB that answers when the test requests it.
 import assert from "node:assert/strict";
 import { test } from "node:test";
 import { OpenSession, newRecord } from "../page/session/open_session.js";
 import { MemoryStore, StoreError, Store, describeStoreError } from "../page/session/store.js";
 
-/** The part of IndexedDB that the store uses: one transaction after the other, in tasks of their own. */
+/** A stand-in for the part of IndexedDB that the store uses. It executes one transaction after another, each in its own task. */
 class FakeBase {
   constructor() {
     this.records = new Map();
@@ -82,10 +82,10 @@ test("without locks a record that is not the successor of what is there is refus
 test("writes of a session: calls that come while one is under way share the next", async () => {
   const base = new FakeBase();
   const session = new OpenSession(new Store(base, true), record(), () => {});
-  const first = session.keep();
+  const first = session.save();
   await Promise.resolve();
   await Promise.resolve();
-  const all = [first, session.keep(), session.keep(), session.keep()];
+  const all = [first, session.save(), session.save(), session.save()];
   assert.deepEqual(await Promise.all(all), ["", "", "", ""]);
   assert.equal(base.log.length, 2);
 });
@@ -94,11 +94,11 @@ test("a store that refuses: in words, and the session is as it was", async () =>
   const base = new FakeBase();
   const session = new OpenSession(new Store(base, true), record(), () => {});
   base.fault = new DOMException("", "QuotaExceededError");
-  assert.equal(await session.keep(), "the browser has no more space for this page");
+  assert.equal(await session.save(), "the browser has no more space for this page");
   base.fault = new DOMException("", "UnknownError");
-  assert.equal(await session.keep(), "the browser's store failed (UnknownError)");
+  assert.equal(await session.save(), "the browser's store failed (UnknownError)");
   base.fault = null;
-  assert.equal(await session.keep(), "");
+  assert.equal(await session.save(), "");
   assert.deepEqual([...base.records.get(session.record.id).file], [1, 2]);
 });
 
@@ -108,7 +108,7 @@ test("a store that does not answer is reported after a while, and no page waits 
   base.transaction = () => ({ objectStore: () => ({ put: () => {}, getAll: () => ({}), get: () => ({}) }), commit: () => {} });
   const store = new Store(base, true);
   const session = new OpenSession(store, newRecord("one", Uint8Array.of(1), { boardText: "", programText: "" }), () => {});
-  const results = [session.keep(), session.keep(), store.all().catch(describeStoreError), store.get("one").catch(describeStoreError)];
+  const results = [session.save(), session.save(), store.all().catch(describeStoreError), store.get("one").catch(describeStoreError)];
   for (let turns = 0; turns < 5; turns++) await Promise.resolve();
   context.mock.timers.tick(10000);
   assert.deepEqual(new Set(await Promise.all(results)), new Set(["the browser's store does not answer"]));
@@ -117,14 +117,14 @@ test("a store that does not answer is reported after a while, and no page waits 
 test("a page that goes away writes at once, but where a write needs an answer in between: there it begins none", async () => {
   const base = new FakeBase();
   const session = new OpenSession(new Store(base, true), record(), () => {});
-  session.keep();
-  session.keepNow();
+  session.save();
+  session.saveNow();
   assert.equal(base.log.length, 1);
   const shared = new FakeBase();
   const careful = new OpenSession(new Store(shared, false), record(), () => {});
-  assert.equal(await careful.keep(), "");
+  assert.equal(await careful.save(), "");
   const written = shared.log.length;
-  assert.equal(await careful.keepNow(), "");
+  assert.equal(await careful.saveNow(), "");
   assert.equal(shared.log.length, written);
 });
 
@@ -132,7 +132,7 @@ test("the file of a session goes in, and the array of the old one comes out", ()
   const session = new OpenSession(new MemoryStore(), record(), () => {});
   const old = session.record.file.buffer;
   const next = Uint8Array.of(7).buffer;
-  assert.equal(session.take(next), old);
+  assert.equal(session.replaceFile(next), old);
   assert.equal(session.record.file.buffer, next);
 });
 

@@ -1,4 +1,4 @@
-// The past before a reload, given back to another worker, on the page's module.
+// Tests the history from before a page reload, which a new worker receives, on the page's WebAssembly module.
 import assert from "node:assert/strict";
 import { test } from "node:test";
 import { StoredHistory } from "../page/session/stored_history.js";
@@ -6,7 +6,7 @@ import { begin } from "./page_session.js";
 
 const ALL = "state\nram 0\nlist 0 256\n";
 
-/** The part of a browser's store of words that is used, with this much room. */
+/** Returns a stand-in for the browser's session storage that holds at most `room` characters. */
 function storeOf(room = 5000000) {
   const kept = new Map();
   return {
@@ -20,12 +20,12 @@ function storeOf(room = 5000000) {
   };
 }
 
-/** Handles the snapshot of a call, as the page does. */
+/** Adds the report of a call to the history, as the page does. */
 function seen(past, calls, shown = calls.bench.snapshotReport([], false)) {
-  past.take(shown.past, { file: calls.bench.session.file.slice(), total: shown.total, reset: shown.reset });
+  past.addReport(shown.past, { file: calls.bench.session.file.slice(), total: shown.total, reset: shown.reset });
 }
 
-/** Returns a page that did some things, and was left; with the state after each of them. */
+/** Executes lines as a page that the user then leaves. Resolves to that page, with the state after each line. */
 async function left(store, lines) {
   const calls = await begin("three lamps");
   const past = new StoredHistory(store);
@@ -36,11 +36,11 @@ async function left(store, lines) {
     seen(past, calls, await calls.serve(some));
     states.push(calls.ask(ALL));
   }
-  past.leave();
+  past.saveOnLeave();
   return { calls, states };
 }
 
-/** Returns another page, in which the session was reopened. */
+/** Resolves to another page that has reopened the session. */
 async function reloaded(store, { bench: { session: { file, count } } }, name = "one") {
   const calls = await begin("three lamps");
   const past = new StoredHistory(store);
@@ -49,7 +49,7 @@ async function reloaded(store, { bench: { session: { file, count } } }, name = "
   return { calls, past, storedSegments: past.storedSegments() };
 }
 
-/** The past is sent to the worker as a copy. */
+/** Sends a copy of the history to the worker, as postMessage does. */
 function recall(calls, storedSegments) {
   return calls.recall(structuredClone(storedSegments));
 }
@@ -79,7 +79,7 @@ test("also through two reloads, and by instructions and changes", async () => {
   recall(second.calls, second.storedSegments);
   second.past.continueFrom(second.storedSegments, second.storedSegments[0].entries.length);
   seen(second.past, second.calls, await second.calls.serve("run 3\n"));
-  second.past.leave();
+  second.past.saveOnLeave();
   const third = await reloaded(store, second.calls);
   assert.ok(recall(third.calls, third.storedSegments) >= 0);
   assert.equal((await third.calls.lastChange("r5")).isFound, true);
@@ -95,7 +95,7 @@ test("after going back only what is left of the past is kept", async () => {
   past.begin("one");
   seen(past, calls, await calls.goBack({ kind: "stop" }));
   seen(past, calls, await calls.serve("run 5\n"));
-  past.leave();
+  past.saveOnLeave();
   const { calls: after, storedSegments } = await reloaded(store, calls);
   assert.deepEqual(storedSegments.map(({ entries }) => entries.map(({ line }) => line)), [["run 5"]]);
   assert.ok(recall(after, storedSegments) >= 0);
@@ -122,7 +122,7 @@ test("what is of another session, another moment, damaged or has no room is not 
   const small = storeOf(1000);
   await left(small, LINES);
   assert.equal(small.kept.size, 0);
-  new StoredHistory(null).leave();
+  new StoredHistory(null).saveOnLeave();
 });
 
 test("a session that was kept before the last of it goes back as far as it was kept", async () => {

@@ -1,4 +1,4 @@
-// Stories of examples: their links can be read, and each names a part of the example.
+// Tests the stories of the examples. Each link must be valid and must name a part of the example.
 import assert from "node:assert/strict";
 import { readFileSync, readdirSync } from "node:fs";
 import { test } from "node:test";
@@ -37,7 +37,7 @@ for (const name of stories) {
     const program = read(name.replace(/story$/, "asm"));
     const keys = [...new Face(read(`${folder}board.toml`)).keys.values()].map((each) => each.text);
     const acts = actsOf(parseStory(text));
-    // Each `[` begins a valid link.
+    // Each `](` belongs to a valid link.
     assert.equal(acts.length, text.split("](").length - 1);
     for (const { name: act, argument } of acts) {
       if (act === "go to" || act === "run to") assert.match(program, new RegExp(`^${argument}:`, "m"));
@@ -73,7 +73,7 @@ test("an act calls the page, and says why it cannot", async () => {
   assert.match(await runAction({ name: "run to", argument: "nowhere" }, calls), /no label nowhere/);
   assert.match(await runAction({ name: "press", argument: "8" }, calls), /no key 8/);
   assert.match(await runAction({ name: "release", argument: "8" }, calls), /no key 8/);
-  // A key that is up is not released; one that stays down is not pressed again, and is released.
+  // A key that is up is not released. A key that is already down is not pressed again, but can be released.
   await runAction({ name: "release", argument: "7" }, calls);
   isDown = true;
   await runAction({ name: "press", argument: "7" }, calls);

@@ -1,4 +1,5 @@
-// Tests of programs, run on the module of the page itself. checks/testing compares them with mcs4 test, cover and profile.
+// Tests the runner for program tests, on the page's WebAssembly module. checks/testing compares the results with those of `mcs4 test`,
+// `cover` and `profile`.
 import assert from "node:assert/strict";
 import { readFileSync } from "node:fs";
 import { before, test } from "node:test";
@@ -115,7 +116,7 @@ test("long work is cancelled between pieces", async () => {
 });
 
 test("bytes of ROM that a test sets are in the counts of its own run alone", async () => {
-  // NOP in place of ISZ R3 takes one cycle.
+  // With NOP instead of ISZ R3, the instruction takes one cycle.
   const text = "test a\n set rom.0x016 0\n set rom.0x017 0\n run 20\n save s\ntest b\n from s\n run 20\ntest c\n run 20\n";
   const { outcomes, profile } = await runTests(engine, texts(text), always);
   assert.deepEqual(outcomes.map(({ failure }) => failure), [null, null, null]);

@@ -49,7 +49,10 @@ test("a page that was held up or asleep stood still, though the clock of the fra
   assert.equal(time.takeDueCycles(1000), 0);
 });
 
-/** Returns the cycles of a second of frames, and of keys at some times, each with the cycles that it runs early. */
+/**
+ * Returns the number of cycles that run in one second of frames, with key presses at some times. At each key press, some cycles are
+ * simulated early.
+ */
 function cyclesOf(frame, keys) {
   const time = new RealTime(0, 0);
   const events = keys.map((now) => ({ now, ahead: MAX_AHEAD }));

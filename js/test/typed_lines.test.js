@@ -1,4 +1,4 @@
-// Lines that were typed: their runs end at breakpoints with conditions. On the module of the page itself.
+// Tests typed lines, whose runs stop at breakpoints with conditions, on the page's WebAssembly module.
 import assert from "node:assert/strict";
 import { test } from "node:test";
 import { CancelledError } from "../core/bench/bench_errors.js";
@@ -6,10 +6,10 @@ import { begin } from "./page_session.js";
 
 const BOARD = "[[rom]]\nchip = 0\nport = \"0000\"\n";
 const PROGRAM = "loop:   INC R9\n        NOP\n        JUN loop\n";
-// Calculated: a turn has 4 cycles, and NOP at 001 is reached after 1, 5, 9, .. of them, with 1, 2, 3, .. in R9.
+// A turn takes 4 cycles. The program reaches the NOP at 001 after 1, 5, 9, .. cycles, with 1, 2, 3, .. in R9.
 const NOP = 1;
 
-/** @param {object} more of the breakpoint at NOP */
+/** @param {object} more further properties of the breakpoint at NOP */
 async function ready(more) {
   const calls = await begin("three lamps");
   await calls.serve(`wire\n${BOARD}.\nasm\n${PROGRAM}.\nreset\n`);
@@ -18,7 +18,7 @@ async function ready(more) {
   return calls;
 }
 
-/** Returns the lines that were served with their first answers, and the work of breakpoints. */
+/** Resolves to the lines that the bench served, with their first answers, and to the effects of breakpoints. */
 async function typed(calls, lines) {
   const { entries, typed: { id, cut, cycles, tally } } = await calls.serveTyped(lines);
   return { lines: entries.map(({ line, answers }) => `${line}: ${answers[0].replace(/^ok \d+ ?/, "")}`), id, cut, cycles, hits: tally.hits,

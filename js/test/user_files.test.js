@@ -1,4 +1,4 @@
-// The files of users, as the Node tools read and write them, compared with what the system reports.
+// Tests how the Node tools read and write the user's files. The expected results come from the operating system.
 import assert from "node:assert/strict";
 import { execFileSync, spawnSync } from "node:child_process";
 import {
@@ -25,8 +25,8 @@ function folder(name) {
 const modeOf = (name) => (statSync(name).mode & 0o7777).toString(8);
 
 /**
- * Runs a line of JavaScript with the functions of the module, in a process of its own, whose files have a maximum number of blocks; returns
- * its output.
+ * Runs a line of JavaScript with the functions of the module in a separate process that limits the size of files to a number of blocks.
+ * Returns the output.
  */
 function alone(line, file, blocks = "unlimited") {
   const script = `import * as files from "${MODULE}"; ${line}`;
@@ -42,7 +42,7 @@ test("regular files are read, up to a size", () => {
   assert.throws(() => readUserText(join(place, "text"), 7), /^Error: cannot read .*text: it has more than 7 bytes$/);
   assert.throws(() => readUserText(join(place, "none")), /: there is no such file$/);
   assert.throws(() => readUserText(place), /: it is a folder$/);
-  // A file without a size is read, too, and no more than allowed.
+  // A file without a size can also be read, but not beyond the limit.
   assert.match(readUserText("/proc/self/status"), /^Name:/);
 });
 
@@ -124,7 +124,7 @@ test("a file that waits to be put into its place is new, and goes with its proce
   assert.deepEqual([readFileSync(file, "utf8"), readdirSync(place)], ["old", ["file"]]);
 });
 
-/** A folder with a program, and `name`, which is a FIFO, a device or a link out of the folder. */
+/** Returns a folder with a program and the file `name`, which is a FIFO, a device or a link to a file outside the folder. */
 function hostile(name, kind) {
   const place = mkdtempSync(join(top, `${kind}.`));
   writeFileSync(join(place, "p.asm"), "start:  LDM 1\n        JUN start\n");

@@ -1,4 +1,4 @@
-// The current values of the words of a program, on the page's module.
+// Tests the current values of the words in a program, on the page's WebAssembly module.
 import assert from "node:assert/strict";
 import { before, test } from "node:test";
 import { readBoard } from "../core/bench/answers.js";
@@ -18,7 +18,7 @@ const BOARD = `rom = [{ chip = 0, port = "0000" }, { chip = 1, port = "ii00" }]
 ram = [{ bank = 0, chips = 1 }, { bank = 2, chips = 2 }]
 `;
 const POKES = "poke r4 6\npoke r5 0\npoke ram.0.0x12 7\npoke st.0.1.2 9\npoke acc 5\npoke cy 1\n";
-// Calculated: FIM and SRC select chip 0, register 1, character 2, and ROM 1; WRR and WMP put 5 out.
+// FIM and SRC select RAM chip 0, register 1, nibble 2, and ROM 1. WRR and WMP write 5 to the ports.
 const PROGRAM = "k = 0x12\n        FIM P0, k\n        SRC P0\n        WRR\n        WMP\nend:    JUN end\n";
 const DOES = new Map([["SRC", "sends"], ["WRM", "writes ACC"], ["RDM", "ACC"], ["WMP", "ACC"], ["RDR", "ACC"],
   ["RD2", "ACC"], ["FIM", "puts"], ["JUN", "goes"], ["ADD", "ACC and CY"]]);
@@ -29,7 +29,7 @@ before(async () => {
   engine = await Engine.load(pageModule);
 });
 
-/** Its session after the program's first four instructions, and the pokes. */
+/** Resolves to a session after the program's first four instructions and the lines in POKES. */
 async function open(lines = POKES) {
   const opened = new DebugSession(engine, { board: BOARD, program: PROGRAM });
   assert.deepEqual(opened.rejectedTexts, []);
@@ -43,13 +43,13 @@ function standingOf(session, banks = [0, 2]) {
   return new MachineState(["state", ...banks.map((bank) => `ram ${bank}`)].map((line) => session.ask(`${line}\n`).join("\n")));
 }
 
-/** The names that expressions may have. */
+/** Returns the names that expressions can use. */
 function namesIn(session, map) {
   const watched = collectWatchNames(["count = R4", "digit = ram 0 0x12", "total = count + digit", "loop = loop + 1"]);
   return { face: new Face(BOARD), board: readBoard(session.ask("board\n")), map, watched };
 }
 
-/** Returns the report on a word of a line. */
+/** Returns the displayed values of a word in a line. */
 function piecesOf(line, word, { session, map }) {
   const nameOf = (name) => {
     const found = map.names.get(name);
@@ -194,7 +194,7 @@ test("watched expressions have names of the user's own, and what cannot be read 
     const read = parseWatch(text, names);
     assert.ok(read.fault.startsWith(fault), `${text}: ${read.fault}`);
   }
-  // Expressions with names are judged where there are some.
+  // An expression with names is checked only when the names are known.
   assert.equal(parseWatch("r16").fault, "");
   assert.equal(joinPieces(parseWatch("r16").watched.pieces(machineState, names)), "r16: no such place; the registers are r0 to r15");
   assert.match(parseWatch("1a = R5").fault, /^A name has letters/);

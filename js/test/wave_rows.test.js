@@ -1,4 +1,4 @@
-// The arrangement of rows of waves, their measurements, and their picture as a file.
+// Tests the arrangement of the rows in the logic analyser, their measurements, and the saved picture.
 import assert from "node:assert/strict";
 import { test } from "node:test";
 import { measureAt, describeMeasurement } from "../core/waves/measurement.js";
@@ -10,10 +10,10 @@ import { toSvg } from "../page/waves/wave_pictures.js";
 const NAMES = ["a", "b", "c", "d", "e"];
 const LINES = NAMES.map((name) => ({ name, title: "", group: "", kind: "level", places: [], members: [], width: 1 }));
 const ALL = NAMES.map((_, line) => line);
-/** Returns the rows in short: a heading as `[group`, a folded one as `]group`. */
+/** Returns a short form of the rows. A group heading is `[group`, a folded group heading is `]group`. */
 const rowsOf = (rows, chosen = ALL) => rows.arrange(LINES, chosen).map(({ line, name, group, isFolded }) => (
   line < 0 ? `${isFolded ? "]" : "["}${group}` : name)).join(" ");
-/** Moves a row to the place of another one. */
+/** Moves a row to the position of another row. */
 function move(rows, at, to, chosen = ALL) {
   rows.move(rows.arrange(LINES, chosen), rows.sortNames(chosen.map((line) => NAMES[line])), at, to);
   return rowsOf(rows, chosen);
@@ -69,7 +69,7 @@ test("names and colours are kept by the names of lines", () => {
     { line: 1, name: "b", title: "clock", colour: "red", group: "", isFolded: false }]);
 });
 
-/** Lines that change at some moments. */
+/** Returns a recording of lines that change at the given moments. */
 function wavesWith(changes, kind = "test", width = 1) {
   return new Waves({
     from: 0, cycles: 1000, isStuck: false, lines: [{ ...LINES[0], name: "<a & b>", kind, width }],

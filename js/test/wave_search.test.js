@@ -1,4 +1,4 @@
-// Searching a recording for values and edges: calculated, and compared with the bench's reports.
+// Tests the search for values and edges in a recording. The expected results are calculated by hand or come from the bench's reports.
 import assert from "node:assert/strict";
 import { test } from "node:test";
 import { Waves } from "../core/waves/wave_recording.js";

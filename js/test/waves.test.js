@@ -1,4 +1,5 @@
-// Recordings: lines, their values in answers, edges, VCD. The board and the answers are those of the manual's first hour.
+// Tests recordings: lines, their values in the bench's answers, edges, and VCD files. The board and the answers are those of the tutorial
+// in the manual.
 import assert from "node:assert/strict";
 import { test } from "node:test";
 import { readBoard } from "../core/bench/answers.js";
@@ -21,7 +22,7 @@ const STATE = "state seq 8 acc 6 cy 0 pc 00A owed 0 dcl 0 test 1 r 1000000000000
   + "roms 0.3.0,1.0.6,2.0.0 rams 0.0.0,1.0.0 chains 1100000000 keys 0.1,1.2 lamps **. breaks 003,00F watches 0.3F";
 const TEXT = "# row 0: 7 CE =\n# lamp 1: minus over.flow\n";
 
-/** Other values in a state. */
+/** Returns STATE with some values changed. */
 function stateWith(changes) {
   return Object.entries(changes).reduce((state, [key, value]) => state.replace(new RegExp(` ${key} \\S+`), ` ${key} ${value}`), STATE);
 }
@@ -102,11 +103,12 @@ test("what is offered, by words", () => {
   assert.deepEqual(chosenValueNames(offered, new Set(["r5", "lamp2", "st.1.3.0", "gone"])), ["r5", "st.1.3.0"]);
 });
 
-/** The values of places at the beginning; all others are 0. */
+/** The initial values of places. All other places are 0. */
 const LEVELS = { "rom0.0": 1, "rom0.1": 1, "rom1.1": 1, "rom1.2": 1, "chain0.0": 1, "chain0.1": 1 };
 
 /**
- * Returns the answers to the queries of a recording: each instruction by the cycles before it, its address, and its changes.
+ * Returns the bench's answers to the queries of a recording. Each instruction is given by the number of cycles before it, its address, and
+ * its changes.
  */
 function answersOf({ groups }, levels, instructions = []) {
   const now = { ...levels };
@@ -129,14 +131,14 @@ function answersOf({ groups }, levels, instructions = []) {
     ...groups.flatMap((group) => head(changed(group), rowOf(group, levels)))];
 }
 
-/** A recording that begins with a state. */
+/** Returns a recording that begins with a state. */
 function begin(state = STATE, values = []) {
   const taking = new WaveBuilder(linesWith(false, values));
   taking.begin(new ForecastAnswers([state, ...answersOf(taking, LEVELS)]));
   return taking;
 }
 
-/** A run, and the state after it. */
+/** Adds a run and the state after it to a recording. */
 function run(taking, levels, instructions, answer, changes) {
   taking.takeRun(new ForecastAnswers([...answersOf(taking, levels, instructions), answer]));
   taking.takeState(stateWith(changes));
@@ -147,7 +149,7 @@ const textOf = (waves, chosen) => [...vcdParts(waves, chosen)].join("");
 
 const PROGRAM = [[0, "00A", { "rom0.1": 0 }], [1, "00B", { "ram0.0.3": 1 }], [2, "00C", {}], [4, "00A", { "rom0.1": 1 }]];
 
-/** Four instructions, the third of two cycles; then a code that is not one. */
+/** Records four instructions, of which the third takes two cycles, and then an invalid opcode. */
 function record(cycles) {
   const instructions = PROGRAM.filter(([before]) => before < cycles);
   if (cycles > 5) return run(begin(), LEVELS, instructions, "ok 9 ran 5 code", { pc: "00B" });

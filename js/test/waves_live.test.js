@@ -1,4 +1,4 @@
-// Recordings of running time, on the page's module: they contain what a recording at once contains.
+// Tests recordings of running time, on the page's WebAssembly module. They must equal a recording that is made at once.
 import assert from "node:assert/strict";
 import { test } from "node:test";
 import { matrixKey } from "../core/board/key_place.js";
@@ -15,7 +15,7 @@ async function beginWith(name, lines = "") {
 const numberOf = (waves, name) => waves.lines.findIndex((line) => line.name === name);
 const wholeText = (waves) => [...vcdParts(waves, waves.lines.map((_, line) => line))].join("");
 
-/** Returns a recording from now on; `did` are the answers of calls, which contain its parts. */
+/** Returns a recording that begins now. `did` receives the answers of calls, which contain the parts of the recording. */
 function record(calls, texts, { most = 1000000, behind = 0, trigger = "", stopsTime = false } = {}) {
   const { recorded, fault } = calls.recordLive(texts, { trigger, behind, stopsTime });
   assert.equal(fault, "");

@@ -1,4 +1,4 @@
-// Recordings with the module of the page itself.
+// Tests recordings on the page's WebAssembly module.
 import assert from "node:assert/strict";
 import { test } from "node:test";
 import { BenchCalls } from "../core/engine/bench_calls.js";

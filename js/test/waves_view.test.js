@@ -1,4 +1,4 @@
-// The visible part of a recording, and the reports about it.
+// Tests the visible part of a recording, and the texts about it.
 import assert from "node:assert/strict";
 import { test } from "node:test";
 import { flagLeft } from "../page/waves/wave_canvas.js";
@@ -8,7 +8,7 @@ import {
 } from "../core/waves/wave_words.js";
 import { Waves } from "../core/waves/wave_recording.js";
 
-/** A line that changes at some moments. */
+/** Returns a recording of one line that changes at the given moments. */
 function wavesWith(changes, cycles) {
   return new Waves({
     from: 0, cycles, isStuck: false,

@@ -1,11 +1,11 @@
-// Wires of the picture run below no part.
+// Tests that no wire in the picture of a board crosses a part.
 import assert from "node:assert/strict";
 import { test } from "node:test";
 import { readBoard } from "../core/bench/answers.js";
 import { isCurveCovered, pathText, routeWire } from "../core/board/wire_routes.js";
 import { drawBoard } from "../core/board/wiring.js";
 
-/** A board with as many chips, chains, keys and lamps as there can be. */
+/** Returns a board with the maximum number of chips, chains, keys and lamps. */
 function largest() {
   const lines = ["board"];
   for (let chip = 0; chip < 16; chip++) lines.push("[[rom]]", `chip = ${chip}`, `port = "${chip % 2 ? "iiii" : "0000"}"`);
@@ -35,7 +35,7 @@ for (const [name, board] of Object.entries({ "a small board": SMALL, "the larges
   });
 }
 
-/** Pseudo-random numbers, the same in each run. */
+/** Returns a generator of pseudo-random numbers that are the same in each run. */
 function chances(seed) {
   let state = seed;
   return (most) => {
@@ -63,7 +63,7 @@ test("where parts were dragged to and fro, with room between them, hardly a wire
       wouldBe += Number(isHidden(routeWire(wire, [], at)));
     });
   }
-  // A part may be where a wire would need to turn twice.
+  // A wire may cross a part if it would otherwise need two more turns.
   assert.ok(below <= 3 && wouldBe > 150, `${below} of ${wouldBe}`);
 });
 

@@ -1,4 +1,4 @@
-// The text whose face is shown is that of the board that is wired.
+// Tests that the front panel comes from the text of the board in use.
 import assert from "node:assert/strict";
 import { test } from "node:test";
 import { currentWiredText, describesBoard, textsToStore } from "../core/board/wired_board_text.js";

@@ -1,4 +1,4 @@
-// The board's displays: seven-segment digits as drawings, and their content as text.
+// The board's displays: drawings of seven-segment digits, and the same content as a text.
 
 import { Announcer } from "../../core/board/announcer.js";
 import { Cell, Switch, block, element } from "../ui/dom.js";
@@ -15,7 +15,7 @@ import { indices } from "../../core/bench/numbers.js";
 
 const SVG = "http://www.w3.org/2000/svg";
 /** The SVG paths of segments a to g and of the decimal point. */
-const SHAPES = [
+const SEGMENT_PATHS = [
   "M5 3 8 1h20l3 2-4 4H9z", "M32 4l2 3v20l-2 2-3-3V8z", "M32 31l2 2v20l-2 3-3-4V34z", "M5 57l4-4h18l4 4-3 2H8z",
   "M4 31l3 3v18l-3 4-2-3V33z", "M4 4l3 4v18l-3 3-2-2V7z", "M5 30l4-3h18l4 3-4 3H9z", "M38 54h5v5h-5z",
 ];
@@ -27,15 +27,15 @@ class Digit {
    */
   constructor(isSign, hasPoint) {
     /** The brightness of each segment, from 0 to 1. */
-    this.brightnessLevels = SHAPES.map(() => 0);
+    this.brightnessLevels = SEGMENT_PATHS.map(() => 0);
     /** The bit pattern of the segments that are shown as on. */
     this.litPattern = 0;
-    /** The bit pattern of a steady digit, or UNLIT_PATTERN if the segments have duty cycles. */
+    /** The bit pattern of a digit whose segments are fully on or off, or UNLIT_PATTERN if the segments are drawn with their duty cycles. */
     this.steadyPattern = 0;
     this.node = document.createElementNS(SVG, "svg");
     this.node.setAttribute("viewBox", isSign ? "2 0 32 60" : "0 0 44 60");
     this.isSmeared = new Switch((isOn) => this.node.classList.toggle("smeared", isOn));
-    this.segments = SHAPES.map((shape, bit) => {
+    this.segments = SEGMENT_PATHS.map((shape, bit) => {
       const segment = document.createElementNS(SVG, "path");
       segment.setAttribute("d", shape);
       const isPresent = isSign ? 1 << bit === MINUS_PATTERN : hasPoint || 1 << bit !== POINT_BIT;
@@ -44,7 +44,7 @@ class Digit {
     });
   }
 
-  /** @param {number} pattern the bit pattern of the segments that are on, at this instant or steadily */
+  /** @param {number} pattern the bit pattern of the segments that are on; UNLIT_PATTERN for none */
   set(pattern) {
     const litPattern = pattern === UNLIT_PATTERN ? 0 : pattern;
     if (litPattern === this.steadyPattern) return;
@@ -55,7 +55,7 @@ class Digit {
 
   /**
    * @param {import("../../core/board/brightness.js").PerceivedDigit} seenDigit
-   * @param {number} turnCount the number of digits in the scan; each digit is on for at most one turn of the scan
+   * @param {number} turnCount the number of digits that the program scans in turn; each digit is on for at most 1 / `turnCount` of the time
    */
   showBrightness(seenDigit, turnCount) {
     if (seenDigit.steady !== UNLIT_PATTERN) {
@@ -161,14 +161,14 @@ export class DisplayView {
   }
 
   /**
-   * Shows the minus sign of the display. While the sign is steady, its brightness does not fade as a lamp's does.
+   * Shows the minus sign of the display. A sign that does not blink is drawn as fully on or off, without the gradual fading of a lamp.
    * @param {import("../../core/board/brightness.js").Brightness} brightness
    * @param {number} lamp
    */
   showSignBrightness({ lamps, isOn, stillness }, lamp) {
     const litPattern = isOn[lamp] ? MINUS_PATTERN : 0;
     if (stillness[lamp].isStill) this.signDigit.set(litPattern);
-    else this.signDigit.showDutyCycles(litPattern, SHAPES.map((_, index) => (1 << index === MINUS_PATTERN ? lamps[lamp] : 0)));
+    else this.signDigit.showDutyCycles(litPattern, SEGMENT_PATHS.map((_, index) => (1 << index === MINUS_PATTERN ? lamps[lamp] : 0)));
   }
 
   /** @param {{ number: string, names: string }} words */

@@ -19,7 +19,7 @@ import * as say from "../../words/board.js";
  */
 
 /** The maximum number of error messages in the list. */
-const MAX_FAULTS = 20;
+const MAX_LISTED_ERRORS = 20;
 
 /**
  * Returns true if a board has neither chips nor lamps.
@@ -29,16 +29,16 @@ function isEmptyBoard({ roms, banks, chains, lamps }) {
   return [roms, banks, chains, lamps].every((components) => components.length === 0);
 }
 
-const AVERAGED_BRIGHTNESS = say.averagedBrightness(EYE_MS);
+const AVERAGED_BRIGHTNESS_TEXT = say.averagedBrightness(EYE_MS);
 
 /** The maximum length of a key legend in large letters. */
-const MAX_LARGE_LEGEND = 4;
+const MAX_LARGE_LEGEND_LENGTH = 4;
 
 export class FrontView {
   /**
    * @param {(button: HTMLButtonElement, key: BoardKey) => void} connectKey connects a button to its key
-   * @param {(face: string, number: number) => void} watchLamps asks the bench to measure lamp duty cycles for a front panel (its comments
-   *   and its number)
+   * @param {(face: string, number: number) => void} watchLamps asks the bench to measure the duty cycle of each lamp; `face` is the panel's
+   *   comments and `number` the panel's number
    */
   constructor(connectKey, watchLamps) {
     this.connectKey = connectKey;
@@ -48,17 +48,17 @@ export class FrontView {
     this.keysDown = new PressedKeys();
     /** The level of the TEST pin: "0" or "1", or "" before the first answer. */
     this.testLevel = "";
-    /** The last answer to `lamps`. */
+    /** The bench's last answer to `lamps`: one character per lamp, `*` for on. */
     this.marks = "";
     /** The comments in the board's text that declare this front panel. */
     this.faceComments = "";
     this.columns = 1;
     this.lamps = new LampsView();
     this.display = new DisplayView();
-    /** The number of the current front panel: front panels are numbered from 1 in drawing order. */
+    /** The number of the current front panel. The first panel that is drawn has number 1, the next one 2. */
     this.faceNumber = 0;
     this.brightness = new Brightness(new Face(""), 0);
-    /** True if the lamps show the perceived brightness, false if they show an instant. */
+    /** True if the lamps show their perceived brightness, false if they show their state at one instant. */
     this.showsBrightness = false;
     this.brightnessStatus = new Cell(block("brightness-status"));
     this.block = block("keys");
@@ -66,7 +66,7 @@ export class FrontView {
   }
 
   /**
-   * Draws a board in place of the present one.
+   * Draws a new board in place of the current one.
    * @param {Board} board
    * @param {Face} face
    */
@@ -77,13 +77,13 @@ export class FrontView {
   }
 
   /**
-   * Draws a changed front panel of the same board. A text without front panel comments leaves the drawn front panel as it is, because the
-   * user may still be writing.
+   * Draws a changed front panel of the same board. If the text has no front panel comments, the drawn front panel stays, because the user
+   * may still be writing them.
    * @param {Board} board
    * @param {Face} face
    */
   changeFace(board, face) {
-    this.drawFaults(board, face);
+    this.drawErrors(board, face);
     if (this.faceComments === face.comments || face.comments === "") return;
     this.faceComments = face.comments;
     this.drawFace(board, face);
@@ -105,7 +105,7 @@ export class FrontView {
     block("brightness-status").hidden = board.lamps.length === 0;
     this.watchLamps(face.comments, this.faceNumber);
     this.drawKeys(board, face);
-    this.drawFaults(board, face);
+    this.drawErrors(board, face);
   }
 
   /**
@@ -113,11 +113,11 @@ export class FrontView {
    * @param {Board} board
    * @param {Face} face
    */
-  drawFaults(board, face) {
+  drawErrors(board, face) {
     const faults = sortByLine([...face.faults, ...missingParts(face, board)]);
     const root = block("face-faults");
-    const messages = faults.slice(0, MAX_FAULTS).map(({ line, words }) => say.lineOfBoard(line, words));
-    root.replaceChildren(...[...messages, moreErrors(faults, MAX_FAULTS)].filter(Boolean).map((words) => element("li", {}, words)));
+    const messages = faults.slice(0, MAX_LISTED_ERRORS).map(({ line, words }) => say.lineOfBoard(line, words));
+    root.replaceChildren(...[...messages, moreErrors(faults, MAX_LISTED_ERRORS)].filter(Boolean).map((words) => element("li", {}, words)));
     root.hidden = faults.length === 0;
   }
 
@@ -148,8 +148,8 @@ export class FrontView {
     const keyButton = element("button", { type: "button", className: "key", disabled: boardKey.legend === "" },
       element("b", {}, boardKey.legend));
     keyButton.classList.toggle("unnamed", !boardKey.isNamed);
-    keyButton.classList.toggle("long", boardKey.legend.length > MAX_LARGE_LEGEND);
-    keyButton.title = boardKey.legend.length > MAX_LARGE_LEGEND ? boardKey.legend : "";
+    keyButton.classList.toggle("long", boardKey.legend.length > MAX_LARGE_LEGEND_LENGTH);
+    keyButton.title = boardKey.legend.length > MAX_LARGE_LEGEND_LENGTH ? boardKey.legend : "";
     keyButton.classList.toggle("at-test", boardKey.key.kind === "pin");
     keyButton.classList.toggle("switch", boardKey.isSwitch);
     if (boardKey.letter && boardKey.letter !== boardKey.legend) keyButton.append(element("kbd", {}, boardKey.letter));
@@ -177,7 +177,7 @@ export class FrontView {
     if (!this.showsBrightness) this.brightness.begin(this.marks);
     this.showsBrightness = true;
     this.marks = marks;
-    this.brightnessStatus.set(AVERAGED_BRIGHTNESS);
+    this.brightnessStatus.set(AVERAGED_BRIGHTNESS_TEXT);
     this.brightness.add(litShares, time);
     this.lamps.showBrightness(this.brightness);
     this.display.showBrightness(this.brightness);

@@ -14,20 +14,21 @@ import { formatKey } from "../../core/board/key_place.js";
  * @property {(key: Key) => boolean} isDown Returns true if a key will be down after all queued presses and releases.
  * @property {(key: Key) => void} press Queues a press of a key while time is running.
  * @property {(key: Key) => void} release Queues a release of a key while time is running.
- * @property {(word: "press" | "release", key: Key) => void} change Presses or releases a key immediately while time is paused.
+ * @property {(word: "press" | "release", key: Key) => void} change Presses or releases a key at once. Called while time is paused.
  * @property {(event: KeyboardEvent) => BoardKey | undefined} keyForEvent Returns the board's key for a keyboard event. Returns undefined if
  *   there is none, or if another element handles the event.
  */
 
 /**
- * A key that a finger presses. If `staysDown` is true, the key stays down when the finger lifts. `undoPress` undoes the press.
+ * A key that a finger presses. If `staysDown` is true, the key stays down when the finger lifts. `undoPress` restores the state of the key
+ * before the press.
  * @typedef {{ key: Key, staysDown: boolean, undoPress: () => void }} HeldKey
  */
 
 /** The delay in milliseconds before a touch presses a key. Within this time the browser recognises a scroll gesture. */
-const SWIPE_TIME = 60;
-/** The time in milliseconds after a finger lifts during which every click is attributed to that finger, regardless of its pointer type. */
-const TAP_TIME = 500;
+const SWIPE_DELAY_MS = 60;
+/** The time in milliseconds after a finger lifts in which every click counts as a click by that finger, whatever its pointer type. */
+const TAP_CLICK_MS = 500;
 
 export class KeyPresser {
   /** @param {KeyPresserCalls} calls */
@@ -58,27 +59,27 @@ export class KeyPresser {
       event.preventDefault();
       button.setPointerCapture(event.pointerId);
       if (event.pointerType === "touch") this.pressLater(event.pointerId, boardKey);
-      else this.down(boardKey, event.shiftKey);
+      else this.pressOrRelease(boardKey, event.shiftKey);
     });
     button.addEventListener("pointerup", (event) => {
       liftTime = event.timeStamp;
-      // A tap shorter than SWIPE_TIME has not pressed the key yet.
-      if (this.cancelTouch(event.pointerId)) this.down(boardKey, false);
-      this.up(key);
+      // A tap shorter than SWIPE_DELAY_MS has not pressed the key yet.
+      if (this.cancelTouch(event.pointerId)) this.pressOrRelease(boardKey, false);
+      this.liftFinger(key);
     });
     button.addEventListener("pointercancel", (event) => {
       if (!this.cancelTouch(event.pointerId)) this.undoPress(key);
     });
-    button.addEventListener("lostpointercapture", () => this.up(key));
+    button.addEventListener("lostpointercapture", () => this.liftFinger(key));
     button.addEventListener("contextmenu", (event) => event.preventDefault());
-    button.addEventListener("keydown", (event) => this.activate(event, () => this.down(boardKey, event.shiftKey)));
-    button.addEventListener("keyup", (event) => this.activate(event, () => this.up(key)));
-    // A click without a pointer or a keyboard, for example from a screen reader, is a short press.
+    button.addEventListener("keydown", (event) => this.activate(event, () => this.pressOrRelease(boardKey, event.shiftKey)));
+    button.addEventListener("keyup", (event) => this.activate(event, () => this.liftFinger(key)));
+    // A click without a pointer or a keyboard, for example from a screen reader, presses and releases the key.
     button.addEventListener("click", (event) => {
-      if (event.detail !== 0 || event.timeStamp - liftTime < TAP_TIME) return;
+      if (event.detail !== 0 || event.timeStamp - liftTime < TAP_CLICK_MS) return;
       if (event instanceof PointerEvent && event.pointerId > 0) return;
-      this.down(boardKey, false);
-      this.up(key);
+      this.pressOrRelease(boardKey, false);
+      this.liftFinger(key);
     });
   }
 
@@ -94,15 +95,15 @@ export class KeyPresser {
   }
 
   /**
-   * Presses a key after SWIPE_TIME, unless the touch ends or becomes a swipe first.
+   * Presses a key after SWIPE_DELAY_MS, unless the touch ends or becomes a swipe first.
    * @param {number} pointer
    * @param {BoardKey} boardKey
    */
   pressLater(pointer, boardKey) {
     this.touchTimers.set(pointer, window.setTimeout(() => {
       this.touchTimers.delete(pointer);
-      this.down(boardKey, false);
-    }, SWIPE_TIME));
+      this.pressOrRelease(boardKey, false);
+    }, SWIPE_DELAY_MS));
   }
 
   /**
@@ -115,11 +116,12 @@ export class KeyPresser {
   }
 
   /**
-   * Presses a key, or releases it if it is already down. A switch stays in its new position, and so does a key pressed with Shift.
+   * Presses a key, or releases it if it is already down. A switch, or a key that is pressed with Shift, stays down until it is pressed
+   * again.
    * @param {Pick<BoardKey, "key" | "isSwitch">} boardKey
    * @param {boolean} hasShift
    */
-  down({ key, isSwitch }, hasShift) {
+  pressOrRelease({ key, isSwitch }, hasShift) {
     const name = formatKey(key);
     if (this.heldKeys.has(name)) return;
     const isDown = this.calls.isDown(key);
@@ -153,7 +155,7 @@ export class KeyPresser {
    * resumes.
    * @param {Key} key
    */
-  up(key) {
+  liftFinger(key) {
     const name = formatKey(key);
     const heldKey = this.heldKeys.get(name);
     if (heldKey === undefined) return;
@@ -162,7 +164,7 @@ export class KeyPresser {
   }
 
   releaseAll() {
-    for (const { key } of [...this.heldKeys.values()]) this.up(key);
+    for (const { key } of [...this.heldKeys.values()]) this.liftFinger(key);
   }
 
   /** Lets the computer's keyboard press the board's keys, unless another element handles the key. */
@@ -175,12 +177,12 @@ export class KeyPresser {
       event.preventDefault();
       if (event.repeat || keysByCode.has(event.code)) return;
       keysByCode.set(event.code, boardKey.key);
-      this.down(boardKey, false);
+      this.pressOrRelease(boardKey, false);
     });
     addEventListener("keyup", (event) => {
       const key = keysByCode.get(event.code);
       keysByCode.delete(event.code);
-      if (key !== undefined) this.up(key);
+      if (key !== undefined) this.liftFinger(key);
     });
     // The page does not receive key releases after it has lost the focus.
     addEventListener("blur", () => {
@@ -195,7 +197,7 @@ export class KeyPresser {
  * @param {EventTarget | null} target
  * @param {string} keyName
  */
-export function wantsKey(target, keyName) {
+export function handlesKey(target, keyName) {
   if (!(target instanceof Element)) return false;
   if (target.matches("input:not([type=checkbox]), textarea, select") || target.closest("[contenteditable]")) return true;
   return target.matches("button, summary, a, input") && (keyName === "Enter" || keyName === " ");

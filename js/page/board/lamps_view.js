@@ -120,7 +120,7 @@ export class LampsView {
   }
 
   /**
-   * @param {number} index the lamp that determines the colour
+   * @param {number} index the index of the lamp whose colour is used
    * @param {LampReader} seenLamp
    * @param {string} name
    * @param {string} line
@@ -143,7 +143,7 @@ export class LampsView {
   /**
    * Returns the HTML list for a multiplexed group, whose lamps are on only while their row is scanned.
    * @param {Group} group
-   * @param {number} number the index of the group among the scanned groups
+   * @param {number} number the index of the group among the multiplexed groups
    */
   drawScanned(group, number) {
     return lampList(group, (index, words) => {

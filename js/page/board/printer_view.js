@@ -14,15 +14,15 @@ import { printoutLines } from "../../core/board/printout_lines.js";
 /**
  * The callbacks of the printer view.
  * @typedef {object} PrinterCalls
- * @property {(printer: { strobe: string, port: string } | null) => void} setPrinter Asks the bench to report the codes sent to a printer;
- *   null for no printer.
+ * @property {(printer: { strobe: string, port: string } | null) => void} setPrinter Asks the bench to report the codes that the program
+ *   sends to a printer; null for no printer.
  * @property {() => void} clear Clears the bench's copy of the printout.
  */
 
-/** The maximum number of lines on the page: the last ones of the printout. */
-const MAX_LINES = 400;
-/** The largest scroll distance from the end, in pixels, at which new lines still scroll into view. */
-const END_DISTANCE = 24;
+/** The maximum number of lines on the page. The page shows the last lines of a longer printout. */
+const MAX_SHOWN_LINES = 400;
+/** The distance in pixels from the end of the printout within which the view follows new lines. */
+const MAX_END_DISTANCE = 24;
 
 export class PrinterView {
   /** @param {PrinterCalls} calls */
@@ -36,7 +36,7 @@ export class PrinterView {
     this.lines = [];
     this.root = block("strip");
     this.printoutBlock = block("paper");
-    /** True if new lines scroll into view. */
+    /** True if the view scrolls to new lines. */
     this.followsEnd = true;
     this.printoutBlock.addEventListener("scroll", () => this.handleScroll());
     // Lines can arrive while the printout is hidden, so scroll again when its size changes.
@@ -93,7 +93,7 @@ export class PrinterView {
 
   /** Shows the lines of the printout. Reuses the elements of unchanged leading lines. */
   show() {
-    const lines = this.printer ? printoutLines(this.codes, this.printer.words).slice(-MAX_LINES) : [];
+    const lines = this.printer ? printoutLines(this.codes, this.printer.words).slice(-MAX_SHOWN_LINES) : [];
     if (lines[lines.length - 1] === "") lines.pop();
     let unchangedCount = 0;
     while (unchangedCount < lines.length && lines[unchangedCount] === this.lines[unchangedCount]) unchangedCount += 1;
@@ -107,7 +107,7 @@ export class PrinterView {
 
   handleScroll() {
     const { scrollHeight, scrollTop, clientHeight } = this.printoutBlock;
-    this.followsEnd = scrollHeight - scrollTop - clientHeight <= END_DISTANCE;
+    this.followsEnd = scrollHeight - scrollTop - clientHeight <= MAX_END_DISTANCE;
   }
 
   scrollToEnd() {

@@ -1,4 +1,5 @@
-// The sound of the board's buzzer. In real time, Web Audio plays the edges of the buzzer's line if sound is on.
+// The sound of the board's buzzer. If sound is on and time runs at the real chip's speed, Web Audio plays the level changes of the buzzer's
+// line.
 
 import { CYCLES_PER_SECOND } from "../../core/time/mcs4_time.js";
 import { Cell, block, button, onClick, pressedSwitch } from "../ui/dom.js";
@@ -12,20 +13,20 @@ import * as say from "../../words/board.js";
 /**
  * The callbacks of Sound.
  * @typedef {object} SoundCalls
- * @property {(line: string) => void} listenToLine Asks the bench to report the edges of a line; "" for no line.
+ * @property {(line: string) => void} listenToLine Asks the bench to report the level changes of a line; "" stops the reports.
  * @property {() => boolean} isRealTime Returns true if time is running at the real chip's speed. At other speeds the buzzer is silent.
  */
 
 /** The number of cycles in one block of samples: 45 ms. */
 const BLOCK_CYCLES = 4200;
-/** The delay in seconds between a cycle and its sound. */
-const DELAY = 0.09;
+/** The delay in seconds between the simulation of a cycle and its sound. */
+const SOUND_DELAY_SECONDS = 0.09;
 /** The maximum delay in seconds. Blocks that would play even later are dropped. */
-const MAX_DELAY = 0.4;
+const MAX_DELAY_SECONDS = 0.4;
 /** The gain of the sound, from 0 to 1. */
-const VOLUME = 0.12;
-/** The cut-off frequency of the high-pass filter in hertz. The filter silences a line that stays at 1. */
-const MIN_PITCH = 30;
+const GAIN = 0.12;
+/** The cut-off frequency of the high-pass filter in hertz. The filter makes a line that stays at 1 silent. */
+const CUTOFF_HERTZ = 30;
 
 /** Plays blocks of samples in sequence. */
 class Player {
@@ -34,8 +35,8 @@ class Player {
     this.pieces = new SoundPieces(BLOCK_CYCLES);
     /** The end time of the last block, in seconds of the audio context. */
     this.endTime = 0;
-    const volume = new GainNode(this.context, { gain: VOLUME });
-    const filter = new BiquadFilterNode(this.context, { type: "highpass", frequency: MIN_PITCH });
+    const volume = new GainNode(this.context, { gain: GAIN });
+    const filter = new BiquadFilterNode(this.context, { type: "highpass", frequency: CUTOFF_HERTZ });
     this.input = volume;
     volume.connect(filter).connect(this.context.destination);
   }
@@ -44,9 +45,9 @@ class Player {
   play(heard) {
     const samples = this.pieces.add(heard);
     const currentTime = this.context.currentTime;
-    if (!samples || this.endTime > currentTime + MAX_DELAY) return;
+    if (!samples || this.endTime > currentTime + MAX_DELAY_SECONDS) return;
     // An audio context's time is 0 until it runs.
-    if (this.endTime <= currentTime) this.endTime = currentTime + DELAY;
+    if (this.endTime <= currentTime) this.endTime = currentTime + SOUND_DELAY_SECONDS;
     const buffer = this.context.createBuffer(1, samples.length, CYCLES_PER_SECOND);
     buffer.copyToChannel(samples, 0);
     const source = new AudioBufferSourceNode(this.context, { buffer });
@@ -69,7 +70,7 @@ export class Sound {
   }
 
   /**
-   * Sets the buzzer of another board or front panel.
+   * Selects the buzzer of a new board or front panel.
    * @param {{ place: string, name: string } | null} buzzer null if the board has no buzzer
    */
   draw(buzzer) {
@@ -100,7 +101,7 @@ export class Sound {
     this.update();
   }
 
-  /** Updates the button and the status, and asks the bench for the edges of the buzzer's line or for none. */
+  /** Updates the button and the status, and starts or stops the bench's reports about the buzzer's line. */
   update() {
     const isOn = this.player !== null;
     this.isPressed.set(isOn);

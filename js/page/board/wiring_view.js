@@ -19,13 +19,13 @@ import * as say from "../../words/board.js";
  * @typedef {(Switch | undefined)[]} Levels the levels of a port or a chain; undefined for lines that are not drawn
  */
 
-/** The radius of a pin's clickable area. */
-const PIN_REACH = 9;
-/** The length of a chip's leg. */
-const LEG = 7;
-/** Half the width of the notch in a chip's outline. */
-const NOTCH = 6;
-/** The minimum size of the picture, in its own units. The space around a small board is for parts that the user drops there. */
+/** The radius of a pin's clickable area, in SVG units. */
+const PIN_CLICK_RADIUS = 9;
+/** The length of a chip's drawn leg, in SVG units. */
+const LEG_LENGTH = 7;
+/** Half the width of the notch in a chip's outline, in SVG units. */
+const NOTCH_RADIUS = 6;
+/** The minimum size of the picture in SVG units. A small board leaves empty space, onto which the user can drop parts. */
 const MIN_WIDTH = 560;
 const MIN_HEIGHT = 240;
 
@@ -35,7 +35,7 @@ export class WiringView {
     this.isShown = isShown;
     this.root = block("wiring-picture");
     this.words = block("wiring-words");
-    /** @type {Map<string, Switch>} the level of each line, by line name; "" is the TEST pin */
+    /** @type {Map<string, Switch>} the level of each line, by line name; the name of the TEST pin is "" */
     this.levels = new Map();
     /** @type {Map<string, SVGElement>} the parts and pins by name, in drawing order */
     this.items = new Map();
@@ -45,14 +45,16 @@ export class WiringView {
     this.linePins = new Map();
     /** @type {WeakMap<Element, string>} the part or pin to which an element belongs */
     this.names = new WeakMap();
-    /** @type {{ mask: string, levels: Levels }[]} the lines of each ROM chip, with the port as the board's text declares it */
+    /**
+     * @type {{ mask: string, levels: Levels }[]} the line levels of each ROM chip; `mask` is the chip's `port` string in the board's text
+     */
     this.roms = [];
     /** @type {Levels[]} */
     this.chains = [];
-    /** @type {Map<string, Levels>} the lines of each RAM chip, by `bank.chip` */
+    /** @type {Map<string, Levels>} the line levels of each RAM chip, by `bank.chip` */
     this.rams = new Map();
     this.markedName = "";
-    /** The part or pin that the Tab key reaches. */
+    /** The name of the part or pin that the Tab key moves the focus to. */
     this.tabStop = "";
     /** @type {Ports | null} */
     this.ports = null;
@@ -86,11 +88,11 @@ export class WiringView {
   }
 
   /**
-   * Draws a board in place of the present one.
+   * Draws a new board in place of the current one.
    * @param {Board} board
    * @param {import("../../core/board/wiring.js").Appearance} appearance
-   * @param {{ moved: import("../../core/board/wiring.js").Positions, isWired: boolean }} state the positions of dragged parts, and whether
-   *   this board is the one in use, whose lines have levels
+   * @param {{ moved: import("../../core/board/wiring.js").Positions, isWired: boolean }} state `moved`: the positions of the dragged parts;
+   *   `isWired`: true if the bench uses this board, so that its lines have levels
    */
   draw(board, appearance, { moved, isWired }) {
     const { parts, wires, ...size } = drawBoard(board, appearance, moved);
@@ -160,7 +162,7 @@ export class WiringView {
     const box = svgElement("g", { class: `part of-${kind}`, role: "button", tabindex: -1, "aria-label": description });
     const head = svgElement("text", { class: "title", x: x + width / 2, y: y + TITLE_HEIGHT - 9 }, title);
     const isChip = part.pins.some(({ number }) => number !== undefined);
-    const [middle, notch] = [x + width / 2, NOTCH];
+    const [middle, notch] = [x + width / 2, NOTCH_RADIUS];
     box.append(svgElement("rect", { x, y, width, height, rx: isChip ? 2 : 4 }), head);
     if (isChip) box.append(svgElement("path", { class: "notch", d: `M${middle - notch},${y}a${notch},${notch},0,0,0,${2 * notch},0` }));
     this.registerNode(box, id);
@@ -190,13 +192,15 @@ export class WiringView {
     const side = isLeft ? "at-left" : "at-right";
     const label = svgElement("text", { class: side, x: pin.x + (isLeft ? 10 : -10), y: pin.y + 4 }, pin.label);
     nodes.set(pin.line, [...(nodes.get(pin.line) || []), circle]);
-    const hitArea = svgElement("circle", { class: "reach", ...centre, r: PIN_REACH });
+    const hitArea = svgElement("circle", { class: "reach", ...centre, r: PIN_CLICK_RADIUS });
     const description = `${part.title}, ${pin.label}, ${this.describePin(pin)}`;
     const { number } = pin;
     const title = svgElement("title", {}, (pin.line || say.TEST_PIN) + (number === undefined ? "" : say.pinOf(number)));
     const leg = number === undefined ? [] : [
-      svgElement("rect", { class: "leg", x: isLeft ? pin.x - LEG : pin.x, y: pin.y - 3, width: LEG, height: 6 }),
-      svgElement("text", { class: `number ${isLeft ? "at-right" : ""}`, x: pin.x + (isLeft ? -LEG : LEG), y: pin.y - 5 }, String(number))];
+      svgElement("rect", { class: "leg", x: isLeft ? pin.x - LEG_LENGTH : pin.x, y: pin.y - 3, width: LEG_LENGTH, height: 6 }),
+      svgElement("text", {
+        class: `number ${isLeft ? "at-right" : ""}`, x: pin.x + (isLeft ? -LEG_LENGTH : LEG_LENGTH), y: pin.y - 5,
+      }, String(number))];
     const node = svgElement("g", { "class": "at-pin", "role": "button", "tabindex": -1, "aria-label": description },
       title, ...leg, circle, label, hitArea);
     this.registerNode(node, pin.id);
@@ -204,7 +208,7 @@ export class WiringView {
   }
 
   /**
-   * Returns a text with the pins that a pin is wired to.
+   * Returns a text that lists the pins to which a pin is wired.
    * @param {Pin} pin
    */
   describePin({ id, line }) {
@@ -226,7 +230,7 @@ export class WiringView {
   }
 
   /**
-   * Makes one item the picture's only tab stop.
+   * Makes one part or pin the only element of the picture that the Tab key reaches.
    * @param {string} name
    */
   setTabStop(name) {
@@ -260,7 +264,7 @@ export class WiringView {
     }
     this.root.classList.toggle("wiring-on", startPin !== "");
     if (selection) this.setTabStop(selection);
-    if (startPin === "") this.drawPencil("", null);
+    if (startPin === "") this.drawNewWire("", null);
   }
 
   /**
@@ -268,7 +272,7 @@ export class WiringView {
    * @param {string} name the pin's name; "" removes the wire
    * @param {import("../../core/board/wiring.js").Point | null} to
    */
-  drawPencil(name, to) {
+  drawNewWire(name, to) {
     const pin = [...this.parts.values()].flatMap(({ pins }) => pins).find(({ id }) => id === name);
     this.newWire.setAttribute("d", pin && to ? pathText(routeWire({ from: pin, to }, [], 0)) : "");
   }
@@ -286,7 +290,7 @@ export class WiringView {
   }
 
   /**
-   * Marks the part that is described by the line at the caret of the board's text.
+   * Highlights the part that the caret's line in the board's text describes.
    * @param {string} name `rom 1`, `ram 0`, `lamp 3`, `test`; "" for none
    */
   mark(name) {

@@ -1,4 +1,4 @@
-// Determines whether a button can be used once its text or panel is in front.
+// Finds out whether a button can be used, or could be used if its text or panel were in front.
 
 /**
  * Returns true if an element is a text, a panel or the view menu. Such an element is hidden only while another one is in front of it.

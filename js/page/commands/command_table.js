@@ -8,7 +8,8 @@ import * as say from "../../words/page_commands.js";
 
 /**
  * @typedef {import("../ui/icons.js").IconName} IconName
- * @typedef {"everywhere" | "texts" | "source" | "board" | "tests" | "properties"} KeyPlace the texts in which a key works
+ * @typedef {"everywhere" | "texts" | "source" | "board" | "tests" | "properties"} KeyPlace the texts of the page in which a command's keys
+ *   work
  * @typedef {"system" | "light" | "dark"} Theme
  *
  * A command. `id` names it within the page's modules. `words` is its label. `group` is its group in lists. `icon` is its optional icon.
@@ -24,7 +25,8 @@ import * as say from "../../words/page_commands.js";
  */
 
 /**
- * The callbacks through which commands reach the page. A call that opens or sends something reports its own failure.
+ * The callbacks through which commands reach the page. If a call fails to open or send something, the call itself reports the failure to
+ * the user.
  * @typedef {object} CommandCalls
  * @property {() => boolean} isRunning Returns true if time is running.
  * @property {() => void} runOrStop Resumes or pauses time.
@@ -34,19 +36,21 @@ import * as say from "../../words/page_commands.js";
  * @property {() => void} goForward Returns to the state before the last move back.
  * @property {() => boolean} canGoForward Returns true if a move back can be undone.
  * @property {() => void} runToCursor Runs to the line of the caret in the source.
- * @property {(line: string) => void} serve Serves one line of the bench and logs its answer.
+ * @property {(line: string) => void} serve Sends one line to the bench and logs its answer.
  * @property {() => void} test Changes the level of the TEST pin.
- * @property {(id: string) => void} setSpeed Sets the speed, by its id in speeds.js.
+ * @property {(id: string) => void} setSpeed Sets the speed. `id` is the speed's id in speeds.js.
  * @property {(theme: Theme) => void} setTheme Sets the colours of the page.
  * @property {() => void} print Prints the page.
  * @property {(name: string) => void} show Brings a text or a panel to the front, by its name.
- * @property {(button: string, shown: string) => void} press Brings the text or panel `shown` to the front, then clicks a button by its id.
- * @property {(button: string) => boolean} isOffered Returns true if the button with an id can be used.
- * @property {(field: string, shown: string) => void} enter Brings the text or panel `shown` to the front, then focuses a field by its id.
- * @property {(text: TextName) => void} send Sends a text, as the first button of its editor does.
- * @property {(box: string) => void} toggle Toggles a check box by its id.
- * @property {(isSource: boolean) => boolean} hasText Returns true if a text is in front. With `isSource`, returns whether the source is in
- *   front.
+ * @property {(button: string, shown: string) => void} press Brings the text or panel `shown` to the front, then clicks the button with the
+ *   id `button`.
+ * @property {(button: string) => boolean} isOffered Returns true if the button with the id `button` can be used.
+ * @property {(field: string, shown: string) => void} enter Brings the text or panel `shown` to the front, then focuses the field with the
+ *   id `field`.
+ * @property {(text: TextName) => void} send Sends a text to the bench, like the first button of its editor.
+ * @property {(box: string) => void} toggle Toggles the check box with the id `box`.
+ * @property {(isSource: boolean) => boolean} hasText Returns true if a text is in front. If `isSource` is true, returns true only if that
+ *   text is the source.
  * @property {(what: TextAct) => void} inText Performs an editing action in the text that is in front.
  * @property {(what?: import("../machine/breakpoint_form.js").BreakpointField) => void} breakpoint Toggles the breakpoint at the caret's
  *   line. With a field, opens that field of the breakpoint.
@@ -62,12 +66,12 @@ import * as say from "../../words/page_commands.js";
  * @property {() => boolean} hasKeys Returns true if the board has a key matrix.
  * @property {(id: string) => void} togglePanel Shows or hides a panel by its id.
  * @property {(id: string) => void} fullPanel Maximises a panel, or restores its size.
- * @property {() => void} resetLayout Restores the initial layout.
+ * @property {() => void} resetLayout Restores the initial layout of the page.
  * @property {() => void} toggleHelp Closes the help, or opens it at the word at the caret.
  * @property {() => void} examples Opens the list of examples.
  * @property {() => void} welcome Opens the welcome cards.
- * @property {(wanted?: string) => void} help Opens the help, at an entry if one is given.
- * @property {(begin: string) => void} palette Opens the palette with an initial text in its field.
+ * @property {(wanted?: string) => void} help Opens the help. With `wanted`, shows the entry of that name.
+ * @property {(begin: string) => void} palette Opens the command palette with `begin` as the text of its field.
  */
 
 /**

@@ -1,4 +1,4 @@
-// Fills empty panels: says what each is for, and offers the command that fills it.
+// Explains each empty panel, and offers the command that fills the panel.
 
 import { block, element, onClick } from "../ui/dom.js";
 import { commandById } from "./command_table.js";

@@ -1,4 +1,4 @@
-// Key bindings of commands: keys that work everywhere, and keys of an editor.
+// Key bindings of the commands: keys that work everywhere, and keys that work only in an editor.
 
 import { COMMANDS, commandById } from "./command_table.js";
 

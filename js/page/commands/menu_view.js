@@ -5,8 +5,8 @@ import { icon } from "../ui/icons.js";
 import { putBelow } from "../ui/popup_message.js";
 
 /**
- * A menu item: its id, label, icon, key and action. `isChosen` returns whether this alternative is selected. A wide window has the items
- * with `isNarrow` in the toolbar instead.
+ * A menu item: its id, label, icon, key and action. For an item that is one of several alternatives, `isChosen` returns true if it is
+ * selected. An item with `isNarrow` appears only in a narrow window; a wide window has a toolbar button instead.
  * @typedef {{ id?: string, words: string, icon?: import("../ui/icons.js").IconName, key?: string, act: () => void,
  *   isChosen?: () => boolean, isNarrow?: boolean }} MenuItem
  */
@@ -62,7 +62,7 @@ class MenuList {
     });
   }
 
-  /** The buttons that are visible at the window's present width. */
+  /** The buttons that are visible at the window's current width. */
   get visibleButtons() {
     return this.buttons.filter((button) => button.offsetParent !== null);
   }

@@ -16,24 +16,24 @@ import * as say from "../../words/page_commands.js";
  * @property {() => string[]} examples Returns the names of the examples.
  * @property {() => { id: string, name: string }[]} projects Returns the ids and names of the saved projects.
  * @property {(name: string) => void} show Brings a text to the front, by the name of its tab.
- * @property {(line: number) => void} line Shows a line of the source, from 1.
+ * @property {(line: number) => void} line Shows a line of the source. Lines count from 1.
  * @property {(address: number) => void} address Shows an address in the source and in the disassembly.
  * @property {(name: string) => void} example Begins a new session from the example with a name.
  * @property {(id: string) => void} project Shows the project with an id.
  */
 
-const LINE_QUERY = /^:\s*(\d+)$/;
+const LINE_NUMBER_QUERY = /^:\s*(\d+)$/;
 
 /** @type {(words: string, hint: string, action: () => void, isFound?: boolean) => Entry} */
 const makeEntry = (words, hint, action, isFound = false) => ({ words, hint, why: "", keys: [], isFound, act: action });
 
 /**
- * Returns the entry for a typed line number, address, or name with an offset. Returns an empty list for any other text.
+ * Returns a list with the entry for a typed line number, address, or name with an offset. Returns an empty list for any other text.
  * @param {string} query
  * @param {PlaceCalls} calls
  */
 function typedDestination(query, calls) {
-  const [, line = ""] = LINE_QUERY.exec(query) || [];
+  const [, line = ""] = LINE_NUMBER_QUERY.exec(query) || [];
   if (line) return [makeEntry(say.lineNamed(Number(line)), "", () => calls.line(Number(line)), true)];
   const map = calls.map();
   if (query === "" || (map && map.names.has(query))) return [];

@@ -2,7 +2,8 @@
 
 /**
  * A palette entry. `words` is its label and `hint` the text next to it. `why` is the reason why it cannot run, or "" if it can. `isFound`
- * is true if another search has found the entry, which is then listed even if its label does not match.
+ * is true if the entry comes from another search, for example for an address. Such an entry is always listed, even if its label does not
+ * match the query.
  * @typedef {{ words: string, hint: string, why: string, keys: string[], icon?: import("../ui/icons.js").IconName, isFound?: boolean,
  *   act: () => void }} Entry
  */

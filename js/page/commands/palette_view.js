@@ -8,13 +8,14 @@ import * as say from "../../words/page_commands.js";
 
 /**
  * @typedef {import("./palette_search.js").Entry} Entry
- * @typedef {{ commands: () => Entry[], places: (query: string) => Entry[] }} Sources return the entries of commands and of destinations
+ * @typedef {{ commands: () => Entry[], places: (query: string) => Entry[] }} Sources `commands` returns the entries of all commands,
+ *   `places` those of the destinations that match a query
  */
 
-/** The first character of a query for commands. Without it, the query is for destinations. */
+/** The first character of a query that searches commands. A query without it searches destinations. */
 export const COMMAND_SIGN = ">";
 /** The maximum number of entries that are drawn. */
-const MAX_DRAWN = 500;
+const MAX_DRAWN_ENTRIES = 500;
 /** The number of entries by which Page Up and Page Down move. */
 const PAGE_STEP = 8;
 
@@ -51,25 +52,25 @@ export class PaletteView {
     this.field.setSelectionRange(begin.length, begin.length);
   }
 
-  /** True if the query is for commands, false if it is for destinations. */
-  get isCommands() {
+  /** True if the query begins with COMMAND_SIGN and therefore searches commands; false if it searches destinations. */
+  get searchesCommands() {
     return this.field.value.startsWith(COMMAND_SIGN);
   }
 
   draw() {
-    const { isCommands, field } = this;
-    const query = isCommands ? field.value.slice(COMMAND_SIGN.length) : field.value;
-    const title = isCommands ? say.PALETTE : say.GO_TO;
+    const { searchesCommands, field } = this;
+    const query = searchesCommands ? field.value.slice(COMMAND_SIGN.length) : field.value;
+    const title = searchesCommands ? say.PALETTE : say.GO_TO;
     this.dialog.setAttribute("aria-label", title);
     this.list.setAttribute("aria-label", title);
-    field.setAttribute("aria-label", isCommands ? say.TYPE_COMMAND : say.TYPE_PLACE);
-    field.placeholder = isCommands ? say.TYPE_COMMAND : say.TYPE_PLACE;
-    const allEntries = isCommands ? this.sources.commands() : this.sources.places(query.trim());
-    this.entries = searchEntries(allEntries, query).slice(0, MAX_DRAWN);
+    field.setAttribute("aria-label", searchesCommands ? say.TYPE_COMMAND : say.TYPE_PLACE);
+    field.placeholder = searchesCommands ? say.TYPE_COMMAND : say.TYPE_PLACE;
+    const allEntries = searchesCommands ? this.sources.commands() : this.sources.places(query.trim());
+    this.entries = searchEntries(allEntries, query).slice(0, MAX_DRAWN_ENTRIES);
     this.list.replaceChildren(...this.entries.map((entry, index) => this.makeOption(entry, index)));
     const { length } = this.entries;
     const noMatchText = splitQuery(query).length > 0 && length === 0 ? say.noneHas(query.trim()) : "";
-    this.count.textContent = noMatchText || (isCommands ? say.countOfCommands(length) : say.countOfPlaces(length));
+    this.count.textContent = noMatchText || (searchesCommands ? say.countOfCommands(length) : say.countOfPlaces(length));
     if (noMatchText) this.list.append(element("li", { "role": "option", "aria-disabled": "true" }, noMatchText));
     this.choose(0);
   }
@@ -82,7 +83,7 @@ export class PaletteView {
     const option = element("li", { "id": `palette-${index}`, "role": "option", "aria-selected": "false" });
     if (why) option.setAttribute("aria-disabled", "true");
     // An empty icon aligns the label with the labels of other commands.
-    const iconSpace = this.isCommands ? [element("span", { className: "icon" })] : [];
+    const iconSpace = this.searchesCommands ? [element("span", { className: "icon" })] : [];
     option.append(...(name ? [icon(name)] : iconSpace), element("span", { className: "grow" }, words), element("small", {}, why || hint),
       ...keys.slice(0, 1).map((key) => element("kbd", {}, key)));
     return option;
@@ -90,7 +91,7 @@ export class PaletteView {
 
   /** Lists the destinations again. The same index stays selected. */
   refresh() {
-    if (!this.dialog.open || this.isCommands) return;
+    if (!this.dialog.open || this.searchesCommands) return;
     const { selectedIndex } = this;
     this.draw();
     this.choose(selectedIndex);

@@ -18,7 +18,7 @@ import * as say from "../../words/page_commands.js";
  */
 
 /** The id of each command's button. */
-const TRANSPORT_IDS = {
+const RUN_BUTTON_IDS = {
   "time.stepBack": "back-instruction", "time.continue": "run", "time.over": "over", "time.into": "step", "time.out": "out",
   "time.reset": "reset",
 };
@@ -42,9 +42,9 @@ export class ToolbarView {
     /** @type {(command: Command) => void} executes a command; the page sets it after it has been created */
     this.executeCommand = () => {};
     this.runWord = element("span", { className: "word" });
-    this.transport = Object.entries(TRANSPORT_IDS).map(([command, id]) => (
+    this.runButtons = Object.entries(RUN_BUTTON_IDS).map(([command, id]) => (
       this.button(commandById(command), { id, tip: say.TIPS[command] })));
-    this.run = this.transport[1];
+    this.run = this.runButtons[1];
     this.run.classList.add("primary");
     this.showRunning(false);
     this.notices = this.button(commandById("go.notices"), { id: "notices-button" });
@@ -54,7 +54,7 @@ export class ToolbarView {
     this.help.setAttribute("aria-expanded", "false");
     this.file = this.fileMenu();
     block("session-bar").append(this.file.node, this.button(commandById("project.examples"), { id: "sessions-button", isWide: true }));
-    block("steps").append(...this.transport);
+    block("steps").append(...this.runButtons);
     const share = this.button(commandById("project.share"), { id: "share-button", isWide: true });
     block("tools").append(this.paletteButton(), share, this.notices, this.themeMenu(theme).node, this.help);
   }

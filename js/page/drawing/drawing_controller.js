@@ -1,6 +1,6 @@
 // Controls the picture in the Wiring tab. The picture is drawn from the board's text in the Board tab.
 
-import { wantsKey } from "../board/key_presser.js";
+import { handlesKey } from "../board/key_presser.js";
 import { button, isDialogOpen, onClick } from "../ui/dom.js";
 import { TITLE_HEIGHT } from "../../core/board/wiring.js";
 import { Drawing } from "../../core/drawing/board_drawing.js";
@@ -93,7 +93,7 @@ export class DrawingController {
    * @param {KeyboardEvent} event
    */
   handleKey(event) {
-    const isForPicture = this.calls.isInFront() && !isDialogOpen() && !wantsKey(event.target, event.key);
+    const isForPicture = this.calls.isInFront() && !isDialogOpen() && !handlesKey(event.target, event.key);
     if (!isForPicture || event.defaultPrevented || !(event.ctrlKey || event.metaKey)) return;
     if (this.input.handleControlKey(event)) event.preventDefault();
   }
@@ -129,7 +129,7 @@ export class DrawingController {
 
   /**
    * Updates the drawing after a board was applied.
-   * @param {string[]} answers the answers to `board`
+   * @param {string[]} answers the bench's answers to the query `board`
    */
   handleBoard(answers) {
     this.drawing.setSessionBoard(answers);
@@ -137,8 +137,8 @@ export class DrawingController {
   }
 
   /**
-   * Adds a part from the shelf, with its title at a point of the sheet. If the part joins an existing part, as a lamp joins a row of lamps,
-   * the point is not used.
+   * Adds a part from the shelf, with its title at `point` on the sheet. If the new part becomes an element of an existing part, such as a
+   * lamp in a row of lamps, `point` is ignored.
    * @param {import("../../core/drawing/drawing_actions.js").DrawingAction} action
    * @param {import("../../core/board/wiring.js").Point | null} point
    */
@@ -161,7 +161,7 @@ export class DrawingController {
     this.drawing.say(await this.calls.applyBoard());
   }
 
-  /** The positions of dragged parts, as stored with the session. */
+  /** The positions of dragged parts that are stored with the session. */
   get storedPlaces() {
     const session = this.calls.session();
     return (session && session.record.places) || [];

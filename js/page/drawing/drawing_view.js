@@ -1,4 +1,5 @@
-// The controls around the board's picture: the shelf of parts, the fields of the selected part, and the message about the last action.
+// The controls around the board's picture: the shelf of parts that the user can add, the fields of the selected part, and the message about
+// the last action.
 
 import { Cell, block, button, element, field, onClick } from "../ui/dom.js";
 import { findBuzzer, lampColours } from "../../core/board/face_board.js";
@@ -18,18 +19,19 @@ import * as say from "../../words/drawing.js";
 /**
  * The callbacks of the shelf, the buttons and the fields.
  * @typedef {object} ViewCalls
- * @property {(action: DrawingAction) => void} performAction Performs an action on the board's text, if the bench accepts the result.
+ * @property {(action: DrawingAction) => void} performAction Changes the board's text by an action. If the bench rejects the new text, the
+ *   old text stays.
  * @property {(which: "undo" | "redo") => void} undoOrRedo Undoes or redoes the last step.
  * @property {() => void} applyBoard Applies the text as the board.
  * @property {(part: string) => void} showPartLines Shows the lines of a part in the text. The part is named as in the picture, for example
  *   `rom 1`.
  * @property {() => void} arrangeParts Moves all parts to their default positions.
  * @property {() => void} scanKeys Inserts a key scan routine into the source.
- * @property {(action: DrawingAction, point: Point | null) => void} dropPart Adds a part and focuses it. The part is at a point of the
- *   sheet, or at its default position for null.
+ * @property {(action: DrawingAction, point: Point | null) => void} dropPart Adds a part and focuses it. The part appears at `point` on the
+ *   sheet, or at its default position if `point` is null.
  */
 
-/** The parts for which the user chooses a number of digits. */
+/** The parts whose number of digits the user chooses before adding them. */
 const PARTS_WITH_DIGIT_COUNT = new Set(["digit", "segments", "scanned"]);
 /** The parts that the user can drop on a line, to which they are then wired. */
 const LINE_PARTS = new Set(["lamp", "buzzer"]);
@@ -159,7 +161,7 @@ export class DrawingView {
   }
 
   /**
-   * Sets the value of a field. Text that the user is typing stays, even if the bench rejected it.
+   * Sets the value of a field. The text of a field in which the user is typing stays, even if the bench has rejected that text.
    * @param {HTMLInputElement | HTMLSelectElement} node
    * @param {string} value
    */

@@ -5,12 +5,13 @@
  * @typedef {import("../board/wiring_view.js").WiringView} WiringView
  * @typedef {import("../../core/board/wiring.js").Point} Point
  *
- * The part or pin under the pressed pointer: its name, the point where the pointer went down, and the part's initial position.
+ * The part or pin under the pressed pointer. `downPoint` is the point where the pointer went down. `startPosition` is the part's position
+ * before the drag.
  * @typedef {{ name: string, isPart: boolean, downPoint: Point, startPosition: Point, isDragged: boolean }} HeldItem
  */
 
 /**
- * The callbacks of the picture's input. Parts and pins have the picture's names.
+ * The callbacks of the picture's input. Parts and pins are identified by their names in the picture.
  * @typedef {object} InputCalls
  * @property {(name: string) => void} pressItem Handles a click on a part or a pin.
  * @property {(from: string, to: string) => void} drawWire Draws a wire that was dragged from one pin to another.
@@ -24,9 +25,9 @@
 /** The distance that the pointer must move to start a drag, in the picture's units. */
 const DRAG_DISTANCE = 4;
 /** The distance that an arrow key moves a part, in the picture's units. */
-const STEP = 12;
+const ARROW_STEP = 12;
 /** @type {Record<string, { x: number, y: number }>} */
-const ARROWS = { ArrowLeft: { x: -1, y: 0 }, ArrowRight: { x: 1, y: 0 }, ArrowUp: { x: 0, y: -1 }, ArrowDown: { x: 0, y: 1 } };
+const ARROW_DIRECTIONS = { ArrowLeft: { x: -1, y: 0 }, ArrowRight: { x: 1, y: 0 }, ArrowUp: { x: 0, y: -1 }, ArrowDown: { x: 0, y: 1 } };
 
 export class PictureInput {
   /**
@@ -73,7 +74,7 @@ export class PictureInput {
     const part = this.view.parts.get(name);
     const startPosition = part || { x: 0, y: 0 };
     this.heldItem = { name, isPart: part !== undefined, downPoint: this.view.toPicturePoint(event), startPosition, isDragged: false };
-    // With the capture, the picture also receives pointer events from outside of it.
+    // Pointer capture lets the picture receive the events of a drag that leaves the picture.
     if (event.pointerType !== "touch") this.view.root.setPointerCapture(event.pointerId);
     if (name) this.view.focus(name);
   }
@@ -82,7 +83,7 @@ export class PictureInput {
   handlePointerMove(event) {
     const { heldItem, view } = this;
     if (!heldItem) {
-      if (this.startPin) view.drawPencil(this.startPin, view.toPicturePoint(event));
+      if (this.startPin) view.drawNewWire(this.startPin, view.toPicturePoint(event));
       return;
     }
     const point = view.toPicturePoint(event);
@@ -95,7 +96,7 @@ export class PictureInput {
     view.isDragging = heldItem.isPart;
     const { name, startPosition: { x, y }, downPoint } = heldItem;
     if (heldItem.isPart) this.calls.movePart(name, { x: x + point.x - downPoint.x, y: y + point.y - downPoint.y });
-    else view.drawPencil(heldItem.name, point);
+    else view.drawNewWire(heldItem.name, point);
   }
 
   /** @param {PointerEvent} event */
@@ -126,7 +127,7 @@ export class PictureInput {
   release() {
     this.heldItem = null;
     this.view.isDragging = false;
-    this.view.drawPencil("", null);
+    this.view.drawNewWire("", null);
   }
 
   /** @param {KeyboardEvent} event */
@@ -144,7 +145,7 @@ export class PictureInput {
     const { key } = event;
     const name = this.view.nameAt(/** @type {Element} */ (event.target));
     if (event.ctrlKey || event.metaKey) return this.handleControlKey(event);
-    if (key in ARROWS) return this.handleArrow(event, name);
+    if (key in ARROW_DIRECTIONS) return this.handleArrow(event, name);
     if (key === "Enter" || key === " ") this.press(name);
     else if (key === "Escape") this.calls.cancelAct();
     else if (key === "Delete" || key === "Backspace") this.calls.deleteItem(name);
@@ -161,17 +162,18 @@ export class PictureInput {
   }
 
   /**
-   * Handles an arrow key: moves the focus to the next part or pin. During a wire, the focus moves between the pins where the wire can end,
-   * from the last to the first. With Shift, moves the part instead. Returns true if the key has an action.
+   * Handles an arrow key: moves the focus to the next part or pin. While the user draws a wire, the focus moves only between the pins where
+   * the wire can end, and continues at the first pin after the last. With Shift, moves the part instead. Returns true if the key has an
+   * action.
    * @param {KeyboardEvent} event
    * @param {string} name
    */
   handleArrow({ key, shiftKey }, name) {
     const { view } = this;
-    const { x, y } = ARROWS[key];
+    const { x, y } = ARROW_DIRECTIONS[key];
     const part = view.parts.get(name);
     if (shiftKey && part) {
-      this.calls.movePart(name, { x: part.x + STEP * x, y: part.y + STEP * y });
+      this.calls.movePart(name, { x: part.x + ARROW_STEP * x, y: part.y + ARROW_STEP * y });
       this.calls.handleDrop();
     }
     if (shiftKey) return part !== undefined;

@@ -2,14 +2,14 @@
 
 import { button, onClick } from "../ui/dom.js";
 
-/** The zoom factor of one click, key press or wheel step. */
-const STEP = 1.25;
+/** The zoom factor of one button click, key press or wheel step. */
+const ZOOM_FACTOR = 1.25;
 /** The minimum scale, unless the picture fits into its panel only at a smaller scale. */
 const MIN_SCALE = 0.35;
 /** The maximum scale. */
 const MAX_SCALE = 4;
 /** Scales that differ by less than this count as equal. */
-const TOLERANCE = 0.001;
+const SCALE_TOLERANCE = 0.001;
 
 export class PictureZoom {
   /** @param {HTMLElement} root the panel in which the picture scrolls */
@@ -17,8 +17,8 @@ export class PictureZoom {
     this.root = root;
     this.largerButton = button("picture-larger");
     this.smallerButton = button("picture-smaller");
-    onClick(this.largerButton, () => this.zoom(STEP));
-    onClick(this.smallerButton, () => this.zoom(1 / STEP));
+    onClick(this.largerButton, () => this.zoom(ZOOM_FACTOR));
+    onClick(this.smallerButton, () => this.zoom(1 / ZOOM_FACTOR));
     onClick(button("picture-fit"), () => this.fit());
     root.addEventListener("keydown", (event) => this.handleKey(event));
     root.addEventListener("wheel", (event) => this.handleWheel(event), { passive: false });
@@ -30,13 +30,13 @@ export class PictureZoom {
     return picture ? picture.getBoundingClientRect() : new DOMRect();
   }
 
-  /** The present scale: displayed width by natural width, or 0 if there is no picture. */
+  /** The current scale: displayed width by natural width, or 0 if there is no picture. */
   get scale() {
     const width = parseFloat(this.root.style.getPropertyValue("--picture-width"));
     return width > 0 ? this.box.width / width : 0;
   }
 
-  /** The minimum and maximum scale. The range always includes the present scale. */
+  /** The minimum and maximum scale. The range always includes the current scale. */
   get bounds() {
     const { root, scale, box } = this;
     const height = parseFloat(getComputedStyle(root).maxHeight) || root.clientHeight;
@@ -66,18 +66,18 @@ export class PictureZoom {
     this.showBounds();
   }
 
-  /** Marks each button as disabled at its limit with aria-disabled, so that the button keeps the focus. */
+  /** Sets `aria-disabled` on the zoom button whose limit is reached. Unlike `disabled`, this attribute lets the button keep the focus. */
   showBounds() {
     const { scale, bounds: { min, max } } = this;
-    this.smallerButton.setAttribute("aria-disabled", String(scale <= min + TOLERANCE));
-    this.largerButton.setAttribute("aria-disabled", String(scale >= max - TOLERANCE));
+    this.smallerButton.setAttribute("aria-disabled", String(scale <= min + SCALE_TOLERANCE));
+    this.largerButton.setAttribute("aria-disabled", String(scale >= max - SCALE_TOLERANCE));
   }
 
   /** @param {KeyboardEvent} event */
   handleKey(event) {
     if (event.ctrlKey || event.metaKey || event.altKey) return;
     /** @type {Record<string, () => void>} */
-    const keys = { "+": () => this.zoom(STEP), "-": () => this.zoom(1 / STEP), 0: () => this.fit() };
+    const keys = { "+": () => this.zoom(ZOOM_FACTOR), "-": () => this.zoom(1 / ZOOM_FACTOR), 0: () => this.fit() };
     if (!(event.key in keys)) return;
     event.preventDefault();
     keys[event.key]();
@@ -88,6 +88,6 @@ export class PictureZoom {
     if (!event.ctrlKey && !event.metaKey) return;
     event.preventDefault();
     const { left, top } = this.root.getBoundingClientRect();
-    this.zoom(event.deltaY < 0 ? STEP : 1 / STEP, { x: event.clientX - left, y: event.clientY - top });
+    this.zoom(event.deltaY < 0 ? ZOOM_FACTOR : 1 / ZOOM_FACTOR, { x: event.clientX - left, y: event.clientY - top });
   }
 }

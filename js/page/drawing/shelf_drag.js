@@ -7,8 +7,8 @@ import { element } from "../ui/dom.js";
  * @typedef {import("../../core/drawing/drawing_actions.js").ShelfPart} ShelfPart
  * @typedef {{ clientX: number, clientY: number }} Place
  *
- * The part under the pressed pointer, with its button, the point where the pointer went down, and whether the part has been dragged since
- * then.
+ * The part under the pressed pointer, with its button `node`, the point where the pointer went down, and `isDragged`, which is true once
+ * the pointer has moved far enough for a drag.
  * @typedef {{ part: ShelfPart, node: HTMLElement, start: Place, isDragged: boolean }} HeldPart
  *
  * The callbacks of the shelf.

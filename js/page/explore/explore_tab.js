@@ -19,21 +19,22 @@ import * as say from "../../words/explore.js";
  * @typedef {import("../../core/bench/task_worker.js").TaskResult} TaskResult
  * @typedef {import("../prove/proofs.js").ProofsCalls} ProofsCalls
  *
- * The results of a search: its texts, its report, and the session file of each counterexample, by property number.
+ * The results of a search: the texts that were searched, the report, and the session file of each counterexample, by the number of its
+ * property.
  * @typedef {{ texts: ExploredTexts, report: Report | null, files: Map<number, Uint8Array>, isStopped: boolean }} SearchResults
  */
 
 /**
- * The callbacks of the Properties tab. Its text editor also uses `labels`, `texts`, `handleEdit` and `reportFailure`.
+ * The callbacks of the Properties tab. The tab's text editor also uses the callbacks `labels`, `texts`, `handleEdit` and `reportFailure`.
  * @typedef {object} ExploreCalls
- * @property {() => Omit<ExploredTexts, "propertiesText">} texts Returns the present texts of board, source and tests.
+ * @property {() => Omit<ExploredTexts, "propertiesText">} texts Returns the current texts of the board, the source and the tests.
  * @property {() => string[]} labels Returns the labels of the program in ROM.
  * @property {(texts: ExploredTexts) => Promise<TextFault[]>} faults Resolves to the errors of all texts.
  * @property {(texts: ExploredTexts, asked: RunOptions, signal: AbortSignal, showProgress: (progress: Progress) => void) =>
  *   Promise<TaskResult>} explore Searches until the time is up, every property has a counterexample, or `signal` is aborted. Calls
  *   `showProgress` with each progress report. Resolves to the errors in the texts and whether the search was stopped.
- * @property {(number: number) => string} describeRefusal Returns the message of a refusal.
- * @property {(line: number) => void} goToSource Shows a line of the source, from 1.
+ * @property {(number: number) => string} describeRefusal Returns the message for a numbered error of the bench.
+ * @property {(line: number) => void} goToSource Shows a line of the source. Lines count from 1.
  * @property {(name: string, file: Uint8Array, texts: ExploredTexts) => void} open Opens a new session from a file, with the texts of the
  *   search.
  * @property {ProofsCalls["prove"]} prove Proves properties.
@@ -158,11 +159,11 @@ export class ExploreTab {
   /** Updates the tab's mark and the button that clears results. */
   showProofs() {
     this.showMark(this.faultCount);
-    this.offerClear();
+    this.updateClearButton();
   }
 
   /** Shows the button that clears results if there are results and nothing is running. */
-  offerClear() {
+  updateClearButton() {
     const { proofs } = this;
     const isRunning = this.controller !== null || proofs.controller !== null;
     button("clear-finds").hidden = isRunning || !(this.currentResults || proofs.currentResults);
@@ -173,14 +174,14 @@ export class ExploreTab {
     const { currentResults } = this;
     const isRunning = this.controller !== null;
     this.exploreButton.set(isRunning ? say.STOP : say.EXPLORE);
-    this.offerClear();
+    this.updateClearButton();
     if (currentResults && currentResults.report) this.view.show(currentResults.report, isRunning);
     this.showMark(0);
     this.showMessage(this.describeSearch(currentResults, isRunning));
   }
 
   /**
-   * Shows a message if it differs from the last one. Otherwise a message about another action stays.
+   * Shows a message if it differs from the last one. If the message is the same, a message about another action that has replaced it stays.
    * @param {string} words
    */
   showMessage(words) {
@@ -211,7 +212,7 @@ export class ExploreTab {
    * Returns the duration and the seed of the search. If a field has no valid number, shows a message and returns null.
    * @returns {RunOptions | null}
    */
-  readRequest() {
+  readRunOptions() {
     const invalidFields = NUMBER_FIELDS.filter(({ id, max }) => {
       const { value } = field(id);
       const isInvalid = !/^\d{1,8}$/.test(value.trim()) || Number(value) < 1 || Number(value) > max;
@@ -224,7 +225,7 @@ export class ExploreTab {
   }
 
   async explore() {
-    const request = this.readRequest();
+    const request = this.readRunOptions();
     if (!request) return;
     const { texts, session } = this;
     /** @type {SearchResults} */

@@ -14,16 +14,16 @@ import { wordsOfLine } from "../../words/stops.js";
 /**
  * The callbacks of the search results. Properties are numbered from 0.
  * @typedef {object} CounterexampleCalls
- * @property {(line: number) => void} goTo Shows a line of the properties text, from 1.
- * @property {(line: number) => void} goToSource Shows a line of the source, from 1.
+ * @property {(line: number) => void} goTo Shows a line of the properties text. Lines count from 1.
+ * @property {(line: number) => void} goToSource Shows a line of the source. Lines count from 1.
  * @property {(property: number) => void} openCounterexample Opens a counterexample as a new session.
  * @property {(property: number) => void} addTest Adds a counterexample's test to the program's tests.
  */
 
 /** The maximum number of lines listed as never executed. */
-const MAX_LINES = 60;
+const MAX_LISTED_LINES = 60;
 
-/** A property's row. The counterexample is inserted only once, so that controls in use do not disappear. */
+/** A property's row. The counterexample is inserted only once, so that buttons that the user is about to click are not replaced. */
 class PropertyRow {
   /**
    * @param {PropertyResult} property
@@ -40,8 +40,8 @@ class PropertyRow {
     this.node = element("li", {}, element("p", {}, mark, " ", name, " ", statusText));
     this.mark = new Cell(mark);
     this.words = new Cell(statusText);
-    this.rightSwitch = new Switch((isOn) => mark.classList.toggle("ok", isOn));
-    this.wrongSwitch = new Switch((isOn) => mark.classList.toggle("not-ok", isOn));
+    this.okSwitch = new Switch((isOn) => mark.classList.toggle("ok", isOn));
+    this.notOkSwitch = new Switch((isOn) => mark.classList.toggle("not-ok", isOn));
     this.hasCounterexample = false;
   }
 
@@ -53,8 +53,8 @@ class PropertyRow {
   show(property, report, isRunning) {
     const mark = markOf(property, isRunning);
     this.mark.set(mark);
-    this.rightSwitch.set(mark === "ok");
-    this.wrongSwitch.set(mark === "not ok");
+    this.okSwitch.set(mark === "ok");
+    this.notOkSwitch.set(mark === "not ok");
     this.words.set(wordsOfProperty(property, report));
     if (!property.found || this.hasCounterexample) return;
     this.hasCounterexample = true;
@@ -79,7 +79,7 @@ export class ExploreView {
     });
     this.neverRunBlock = block("never-run");
     /** The line numbers in the list of lines that never ran, to detect changes. */
-    this.shownNeverRun = "";
+    this.listedNeverRun = "";
     /** @type {PropertyRow[]} */
     this.rows = [];
   }
@@ -89,7 +89,7 @@ export class ExploreView {
     this.rows = [];
     this.list.replaceChildren();
     this.figures.set("");
-    this.showNeverRun([]);
+    this.listNeverRunLines([]);
   }
 
   /**
@@ -102,7 +102,7 @@ export class ExploreView {
       this.list.replaceChildren(...this.rows.map(({ node }) => node));
     }
     this.rows.forEach((row, index) => row.show(report.properties[index], report, isRunning));
-    // If proofs decide all properties, there is no search.
+    // If proofs have already decided all properties, the search executes no steps.
     const isSearched = isRunning || report.steps > 0;
     this.figures.set(isSearched ? wordsOfFigures(report) : say.NO_STEPS);
     this.showCoverage(report, isRunning, isSearched);
@@ -124,16 +124,16 @@ export class ExploreView {
       words.set(label);
     }
     // The list would change continuously during a search, so it is empty until the end.
-    this.showNeverRun(isRunning || !isSearched ? [] : coverage.left);
+    this.listNeverRunLines(isRunning || !isSearched ? [] : coverage.left);
   }
 
   /** @param {number[]} lines the lines that never ran */
-  showNeverRun(lines) {
+  listNeverRunLines(lines) {
     const key = lines.join(" ");
-    if (key === this.shownNeverRun) return;
-    this.shownNeverRun = key;
-    const moreText = lines.length > MAX_LINES ? andMore(lines.length - MAX_LINES) : "";
-    const buttons = lines.slice(0, MAX_LINES).flatMap((line) => [
+    if (key === this.listedNeverRun) return;
+    this.listedNeverRun = key;
+    const moreText = lines.length > MAX_LISTED_LINES ? andMore(lines.length - MAX_LISTED_LINES) : "";
+    const buttons = lines.slice(0, MAX_LISTED_LINES).flatMap((line) => [
       " ", makeButton(String(line), () => this.calls.goToSource(line), { className: "name", ariaLabel: say.lineOfSource(line) })]);
     this.neverRunBlock.replaceChildren(...(lines.length === 0 ? [] : [say.NEVER_RUN, ...buttons, moreText]));
   }

@@ -1,4 +1,4 @@
-// The guide: the help, the tour with the first program, the example stories, and the console's input.
+// The guide: the help, the tour with the first program, the stories of the examples, and the hints in the console's input.
 
 import { addKeyRows } from "../commands/key_list.js";
 import { HelpView } from "./help_view.js";
@@ -28,7 +28,7 @@ import * as say from "../../words/help.js";
  * @property {(program: string, words: string) => void} replace Replaces the source with a program, and shows a message that offers undo.
  * @property {import("../../core/help/story_actions.js").ActCalls} acts The callbacks for links in stories.
  * @property {() => void} handleTourEnd Handles the end of the tour or of a story.
- * @property {(words: string) => void} showRefusal Shows the reason why a story cannot be shown.
+ * @property {(words: string) => void} showRefusal Shows the reason why a story cannot be opened.
  */
 
 /** @typedef {Omit<LinesCalls, "openHelp"> & GuideOwnCalls} GuideCalls */

@@ -34,7 +34,7 @@ export class HelpView {
     this.search = field("help-search");
     this.sections = descendant(this.root, "#help-sections", HTMLElement);
     this.status = new Cell(descendant(this.root, "#help-status", HTMLElement));
-    /** @type {string | null} the query for which the sections are drawn; null before the first drawing */
+    /** @type {string | null} the query whose matching sections are drawn; null before the first drawing */
     this.drawnQuery = null;
     this.isOpen = false;
     onClick(button("help-close"), () => this.close());
@@ -48,7 +48,7 @@ export class HelpView {
 
   /**
    * Shows the help.
-   * @param {string} [query] the query; by default, the query stays
+   * @param {string} [query] the new query; if it is missing, the last query stays
    */
   open(query) {
     if (query !== undefined) this.search.value = query;

@@ -3,7 +3,7 @@
 import { element } from "../ui/dom.js";
 
 /** The interval in milliseconds at which the ring's position is updated. */
-const MOVE_INTERVAL = 200;
+const UPDATE_INTERVAL_MS = 200;
 /** The distance in pixels between the ring and its target. */
 const GAP = 4;
 
@@ -23,7 +23,7 @@ export class PointerRing {
     this.target = target;
     this.scrolledTarget = null;
     clearInterval(this.timer);
-    this.timer = window.setInterval(() => this.updatePosition(), MOVE_INTERVAL);
+    this.timer = window.setInterval(() => this.updatePosition(), UPDATE_INTERVAL_MS);
     this.updatePosition();
   }
 

@@ -29,7 +29,7 @@ import * as say from "../../words/help.js";
  * The element that each target names.
  * @type {Record<Target, () => Element | null>}
  */
-const TARGETS = {
+const TARGET_ELEMENTS = {
   send: () => document.querySelector("#program-editor .send"),
   key: () => document.querySelector("#keys .key"),
   margin: () => document.querySelector("#program-editor .cm-gutters"),
@@ -53,7 +53,7 @@ export class TourView {
     for (const name of ["tour-begin", "first-program", "hello-program"]) onClick(button(name), () => this.begin());
     onClick(button("tour-close"), () => this.close());
     onClick(this.putButton, () => calls.putProgram(this.tourWatch.step.program));
-    onClick(this.nextButton, () => (this.isLast ? this.close() : this.show(this.tourWatch.at + 1)));
+    onClick(this.nextButton, () => (this.isLastStep ? this.close() : this.show(this.tourWatch.at + 1)));
     onClick(button("tour-back"), () => this.show(Math.max(0, this.tourWatch.at - 1)));
   }
 
@@ -77,12 +77,12 @@ export class TourView {
     this.calls.handleTourEnd();
   }
 
-  /** True for an example's story, false for the first program. */
+  /** True if the panel shows an example's story, false if it shows the tour with the first program. */
   get isStory() {
     return this.tourWatch.steps !== TOUR;
   }
 
-  get isLast() {
+  get isLastStep() {
     return this.tourWatch.at === this.tourWatch.steps.length - 1;
   }
 
@@ -95,13 +95,13 @@ export class TourView {
     this.program.set(program);
     this.program.node.hidden = program === "";
     this.putButton.hidden = program === "";
-    this.nextButton.textContent = this.isLast ? say.END : say.NEXT_STEP;
+    this.nextButton.textContent = this.isLastStep ? say.END : say.NEXT_STEP;
     this.showDone();
     this.pointAtTarget();
   }
 
   /**
-   * Scrolls the step's target into view. A ring marks the element that the user needs next: first the button that inserts the program, then
+   * Scrolls the step's target into view. A ring marks the element that the user needs next. It is the button that inserts the program, then
    * the target, then the button that continues.
    */
   pointAtTarget() {
@@ -113,7 +113,7 @@ export class TourView {
     this.calls.reveal(target);
     this.ring.pointAt(() => {
       if (this.tourWatch.isDone) return this.nextButton;
-      return program !== "" && !this.calls.isProgramInSource(program) ? this.putButton : TARGETS[target]();
+      return program !== "" && !this.calls.isProgramInSource(program) ? this.putButton : TARGET_ELEMENTS[target]();
     });
   }
 
@@ -127,7 +127,7 @@ export class TourView {
 
   showDone() {
     const { isDone } = this.tourWatch;
-    this.status.set(isDone ? (this.isLast ? say.LAST_DONE : say.DONE) : "");
+    this.status.set(isDone ? (this.isLastStep ? say.LAST_DONE : say.DONE) : "");
     this.root.classList.toggle("done", isDone);
     this.nextButton.classList.toggle("primary", isDone);
   }
@@ -146,7 +146,7 @@ export class TourView {
     this.showDone();
   }
 
-  /** @param {string} end the reason why a run ended */
+  /** @param {string} end the reason why the last run ended */
   recordEnd(end) {
     if (!this.isOn || this.tourWatch.isDone) return;
     this.tourWatch.recordEnd(end);

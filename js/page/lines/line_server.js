@@ -1,4 +1,4 @@
-// Executes session lines that change the session. The bench executes the lines, then the page saves the session, and then shows the
+// Executes lines of the console that change the session. The bench executes the lines, then the page saves the session, and then shows the
 // answers.
 
 import { parseRefusal } from "../../core/bench/answers.js";
@@ -24,19 +24,19 @@ import { stoppedAt } from "../../words/stops.js";
 /**
  * The callbacks of LineServer.
  * @typedef {object} LineServerCalls
- * @property {() => SourceMap | null} map Returns the source map of the program in ROM, which has the values of `@NAME`, or null if ROM does
- *   not match the source.
- * @property {<Result>(words: string, work: (ways: CallOptions) => Promise<Result>) => Promise<Result>} work Performs long work, described
- *   by `words`, and shows its progress. Rejects with `CancelledError` if the user cancels the work.
+ * @property {() => SourceMap | null} map Returns the source map of the program in ROM, which gives the value of each `@NAME`; null if ROM
+ *   does not match the source.
+ * @property {<Result>(words: string, work: (ways: CallOptions) => Promise<Result>) => Promise<Result>} work Performs long work and shows
+ *   its progress with the description `words`. Rejects with `CancelledError` if the user cancels the work.
  * @property {() => string} counter Returns the program counter on the page, as three hexadecimal digits.
  * @property {(result: LinesReply) => void} show Shows the session after the lines.
  * @property {() => void} checkSource Compares the source with ROM again.
- * @property {() => Promise<string>} keep Saves the session. Resolves to the reason why it could not be saved, or to "".
+ * @property {() => Promise<string>} save Saves the session. Resolves to the reason why it could not be saved, or to "".
  * @property {(entries: ServedInput[], fault: string) => void} log Logs lines with their answers, and the reason if the session could not be
  *   saved.
  * @property {(tally: Tally) => void} countHits Shows the hit counts and log messages of breakpoints.
  * @property {() => boolean} isRunning Returns true if time is running.
- * @property {() => void} forgetGoal Forgets the goal of the run, because the bench was reset.
+ * @property {() => void} forgetGoal Forgets the goal of the current run. Called after the bench was reset.
  * @property {(stop: Stop) => string} describeStop Returns the message with the reason why a run stopped.
  * @property {(words: string) => void} showMessage Shows a message in the status line.
  * @property {(fault: unknown) => void} reportFailure Reports an error that a call threw.
@@ -57,8 +57,8 @@ export class LineServer {
   }
 
   /**
-   * Serves lines that change the session, saves the session and shows the answers. Resolves to the first answer, or to null after a
-   * failure.
+   * Sends lines that change the session to the bench, saves the session and shows the answers. Resolves to the first answer, or to null
+   * after a failure.
    * @param {string} lines
    * @returns {Promise<string | null>}
    */
@@ -68,7 +68,8 @@ export class LineServer {
   }
 
   /**
-   * Serves typed lines after replacing each `@NAME` with the value of that name. A run in these lines stops at each breakpoint.
+   * Replaces each `@NAME` in typed lines with the name's value, and sends the lines to the bench. If a line runs time, each breakpoint
+   * stops the run.
    * @param {string} typedLines
    */
   async serveTyped(typedLines) {
@@ -117,13 +118,13 @@ export class LineServer {
     calls.show(result);
     this.showCounter(counter, result.entries);
     if (result.touchesRom) calls.checkSource();
-    const fault = await calls.keep();
+    const fault = await calls.save();
     if (result.status !== 0) this.notice.show(say.LINES_TOO_LONG);
     calls.log(result.entries, fault);
   }
 
   /**
-   * Updates the status line after lines were served. A message about the last stop must not stay after the program counter has moved.
+   * Updates the status line after lines were served. Removes the message about the last stop if the program counter has moved.
    * @param {string} previousCounter the program counter before the lines, as three hexadecimal digits
    * @param {ServedInput[]} entries
    */

@@ -7,16 +7,17 @@ import * as say from "../../words/page.js";
 /**
  * The callbacks of the console input.
  * @typedef {object} LinesCalls
- * @property {(lines: string) => Promise<string | null>} send Serves lines. Resolves to the first answer, or to null after a failure. A
- *   failure has already been reported.
- * @property {(answer: string) => string} formatAnswer Returns an answer. A refusal is followed by its message.
- * @property {(wanted: string) => void} openHelp Opens the help at an entry.
+ * @property {(lines: string) => Promise<string | null>} send Sends lines to the bench. Resolves to the first answer, or to null after a
+ *   failure. A failure has already been reported.
+ * @property {(answer: string) => string} formatAnswer Returns the text that the console shows for an answer. If the answer is a numbered
+ *   error, the text includes the error's message.
+ * @property {(wanted: string) => void} openHelp Opens the help at the entry `wanted`.
  */
 
 /** The maximum number of sent lines that the arrow keys can recall. */
-const MAX_LINES = 200;
+const MAX_RECALLED_LINES = 200;
 /** The maximum number of commands that the hint explains in full. */
-const MAX_HINTS = 4;
+const MAX_EXPLAINED_COMMANDS = 4;
 
 export class LinesView {
   /**
@@ -33,7 +34,7 @@ export class LinesView {
     this.status = new Cell(block("answer-status"));
     /** @type {string[]} the sent lines, oldest first */
     this.sentLines = [];
-    /** The index of the recalled line, or the number of sent lines if none is recalled. */
+    /** The index of the recalled line in `sentLines`, or the length of `sentLines` if no line is recalled. */
     this.recallIndex = 0;
     /** The text that was in the input before a sent line was recalled. */
     this.draft = "";
@@ -105,8 +106,8 @@ export class LinesView {
 
   showHint() {
     const matches = matchLines(this.lines, this.lastLine);
-    const shownForms = matches.slice(0, MAX_HINTS).map(({ form, does }) => `${form}: ${does}`);
-    if (matches.length > MAX_HINTS) shownForms.push(matches.slice(MAX_HINTS).map(({ form }) => form).join(", "));
+    const shownForms = matches.slice(0, MAX_EXPLAINED_COMMANDS).map(({ form, does }) => `${form}: ${does}`);
+    if (matches.length > MAX_EXPLAINED_COMMANDS) shownForms.push(matches.slice(MAX_EXPLAINED_COMMANDS).map(({ form }) => form).join(", "));
     this.hint.set(shownForms.length > 0 ? shownForms.join("\n") : say.LINES_HINT);
   }
 
@@ -129,7 +130,7 @@ export class LinesView {
   /** @param {string} lines */
   rememberLines(lines) {
     if (this.sentLines[this.sentLines.length - 1] !== lines) this.sentLines.push(lines);
-    if (this.sentLines.length > MAX_LINES) this.sentLines.shift();
+    if (this.sentLines.length > MAX_RECALLED_LINES) this.sentLines.shift();
     this.recallIndex = this.sentLines.length;
   }
 }

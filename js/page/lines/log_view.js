@@ -1,4 +1,4 @@
-// The console log: the lines that were sent, and their answers. A line appears only after the session has been saved.
+// The console log: the lines that were sent, and their answers. A line appears only after the page has tried to save the session.
 
 import { parseRefusal } from "../../core/bench/answers.js";
 import { block, element } from "../ui/dom.js";
@@ -19,9 +19,12 @@ export class LogView {
   constructor(words) {
     this.words = words;
     this.block = block("log");
-    /** The runs since the last save, which are not in the log yet. */
+    /** The runs since the last save. They appear in the log after the next save. */
     this.unloggedRuns = new RunLog();
-    /** @type {{ entry: RunEntry, node: HTMLElement } | null} the last entry of the log if it shows runs; further runs extend this entry */
+    /**
+     * @type {{ entry: RunEntry, node: HTMLElement } | null} the last entry of the log if it is about runs of time; later runs are added to
+     *   this entry
+     */
     this.lastRuns = null;
   }
 
@@ -95,7 +98,7 @@ export class LogView {
   }
 
   /**
-   * Returns an answer. A refusal is followed by its message.
+   * Returns the text that the console shows for an answer. If the answer is a numbered error, the text includes the error's message.
    * @param {string} answer
    */
   formatAnswer(answer) {

@@ -15,18 +15,18 @@ import * as say from "../../words/machine.js";
 /**
  * The callbacks of the breakpoint form.
  * @typedef {object} BreakpointFormCalls
- * @property {(id: number, changes: BreakpointTexts) => void} change Changes a breakpoint, by its id, and sends the change to the bench.
- * @property {(id: number, changes: BreakpointTexts) => void} type Shows the typed text in the breakpoint's mark and list entry, without
- *   sending it to the bench.
+ * @property {(id: number, changes: BreakpointTexts) => void} change Changes the breakpoint with an id, and sends the change to the bench.
+ * @property {(id: number, changes: BreakpointTexts) => void} type Shows the typed texts in the breakpoint's mark and list entry. Does not
+ *   send them to the bench.
  * @property {() => Promise<void>} waitForChanges Resolves when the bench has received all changes.
  * @property {(breakpoint: Breakpoint, node: HTMLElement) => void} placeForm Puts the form below the breakpoint's source line, or into the
  *   list of breakpoints if the breakpoint has no line.
- * @property {(action: () => void) => void} callWhenPlaced Calls `action` when the form is in the page and can receive the focus.
+ * @property {(action: () => void) => void} callWhenPlaced Calls `action` as soon as the form is in the page and can receive the focus.
  * @property {(node: HTMLElement) => void} removeForm Removes the form.
- * @property {(breakpoint: Breakpoint) => void} returnFocus Returns the focus to the breakpoint.
+ * @property {(breakpoint: Breakpoint) => void} returnFocus Moves the focus back to the breakpoint's line or list entry.
  */
 
-const MAX_HITS = 999999999;
+const MAX_HIT_COUNT = 999999999;
 
 /**
  * @param {string} label
@@ -102,7 +102,7 @@ export class BreakpointForm {
       fields[fieldName].focus();
       fields[fieldName].select();
     };
-    // A line that is out of view has no position yet, so the focus must wait.
+    // If the line is out of view, the form is not in the page yet and cannot be focused.
     if (this.node.isConnected) focus();
     else this.calls.callWhenPlaced(focus);
   }
@@ -135,7 +135,7 @@ export class BreakpointForm {
    */
   readFields() {
     const { condition, from, note } = this.fields;
-    const hitCount = from.value.trim() === "" ? 1 : parseCount(from.value, MAX_HITS);
+    const hitCount = from.value.trim() === "" ? 1 : parseCount(from.value, MAX_HIT_COUNT);
     from.setAttribute("aria-invalid", String(hitCount < 1));
     return hitCount < 1 ? null : { condition: condition.value.trim(), from: hitCount, note: note.value.trim() };
   }
@@ -166,9 +166,9 @@ export class BreakpointForm {
   /** @param {Breakpoint} originalBreakpoint */
   finish(originalBreakpoint) {
     const hadFocus = this.node.contains(document.activeElement);
-    // From here on, the form applies nothing when it loses the focus.
+    // This prevents the form from applying its fields when it loses the focus.
     this.originalBreakpoint = null;
-    // The focus returns first: in WebKit, the caret of the source would move to its start after the focused form is removed.
+    // Move the focus before the form is removed. Otherwise, WebKit moves the caret to the start of the source.
     if (hadFocus) this.calls.returnFocus(originalBreakpoint);
     this.calls.removeForm(this.node);
   }

@@ -1,5 +1,5 @@
 // Controls the breakpoints of the current session: their list, their marks in the margin and in the disassembly, their panel, the form that
-// edits one of them, and the margin menu.
+// edits a breakpoint, and the margin menu.
 
 import { BreakpointManager } from "../../core/debug/breakpoint_manager.js";
 import { breakpointMarks } from "../../core/machine/breakpoint_marks.js";
@@ -29,10 +29,10 @@ import * as say from "../../words/machine.js";
  * @typedef {object} BreakpointsCalls
  * @property {() => OpenSession | null} session Returns the current session, whose record stores the breakpoints, or null if there is none.
  * @property {() => void} saveSession Saves the session after the user has changed breakpoints.
- * @property {() => { board: string, program: string }} texts Returns the current texts of board and source.
+ * @property {() => { board: string, program: string }} texts Returns the current texts of the board and the source.
  * @property {(result: LinesReply) => Promise<void>} handleResult Saves, shows and logs the result of lines that set the bench's
  *   breakpoints.
- * @property {(result: LinesReply) => void} showSession Shows the session after breakpoints were set without any lines.
+ * @property {(result: LinesReply) => void} showSession Shows the session after breakpoints were set by a call that executed no lines.
  * @property {(lines: Map<number, BreakpointMark>, addresses: Map<number, BreakpointMark>) => void} showMarks Shows marks at source lines
  *   and at addresses of the disassembly.
  * @property {(address: number) => void} goTo Shows an address in the source and in the disassembly.
@@ -44,7 +44,8 @@ import * as say from "../../words/machine.js";
  * @property {(line: number) => void} runTo Runs to a line of the source.
  * @property {() => Promise<void>} freshSource Compares the source with ROM if the source was edited since the last comparison. Resolves
  *   when the comparison is complete.
- * @property {() => Promise<void>} checkSource Compares the source with ROM in any case. Resolves when the comparison is complete.
+ * @property {() => Promise<void>} checkSource Compares the source with ROM, even if the source was not edited. Resolves when the comparison
+ *   is complete.
  * @property {(words: string) => void} showMessage Shows a message near the user's last action.
  * @property {(fault: unknown) => void} reportFailure Reports an error that a call threw.
  */
@@ -58,18 +59,18 @@ export class BreakpointsController {
     this.bench = bench;
     this.calls = calls;
     /** @type {BreakpointManager} */
-    this.keeper = this.makeKeeper();
+    this.manager = this.makeManager();
     this.view = this.makeView();
     this.form = this.makeForm();
     this.menu = new ContextMenu("margin-menu", say.LINE);
   }
 
-  makeKeeper() {
+  makeManager() {
     const { calls } = this;
     return new BreakpointManager({
       set: (placedBreakpoints) => this.set(placedBreakpoints),
       changed: () => this.show(),
-      counted: () => this.view.showHits(this.keeper),
+      counted: () => this.view.showHits(this.manager),
       touched: calls.saveSession,
       showMessage: calls.showMessage,
       failed: calls.reportFailure,
@@ -79,12 +80,12 @@ export class BreakpointsController {
   makeView() {
     const { calls } = this;
     return new BreakpointsView({
-      change: (id, changes) => this.keeper.change(id, changes),
+      change: (id, changes) => this.manager.change(id, changes),
       edit: (breakpoint) => this.edit(breakpoint, "condition"),
-      remove: (id) => this.keeper.remove(id),
-      switchAll: (isOn) => this.keeper.switchAll(isOn),
-      removeAll: () => this.keeper.removeAll(),
-      resetHits: () => this.keeper.resetHits(),
+      remove: (id) => this.manager.remove(id),
+      switchAll: (isOn) => this.manager.switchAll(isOn),
+      removeAll: () => this.manager.removeAll(),
+      resetHits: () => this.manager.resetHits(),
       goTo: ({ line, address }) => {
         if (address >= 0) calls.goTo(address);
         if (line > 0) calls.reveal(line);
@@ -95,9 +96,9 @@ export class BreakpointsController {
   makeForm() {
     const { calls } = this;
     return new BreakpointForm({
-      change: (id, changes) => this.keeper.change(id, changes),
-      type: (id, changes) => this.keeper.type(id, changes),
-      waitForChanges: () => this.keeper.allSent,
+      change: (id, changes) => this.manager.change(id, changes),
+      type: (id, changes) => this.manager.type(id, changes),
+      waitForChanges: () => this.manager.allSent,
       placeForm: ({ id, line }, node) => {
         calls.showBelow(line, line > 0 ? node : null);
         const root = this.view.rowElement(id);
@@ -121,7 +122,7 @@ export class BreakpointsController {
     const { line } = breakpoint;
     if (line > 0) this.calls.showSource();
     if (line > 0) this.calls.reveal(line);
-    this.form.open(breakpoint, this.keeper.faults.get(breakpoint.id) || "", fieldName);
+    this.form.open(breakpoint, this.manager.faults.get(breakpoint.id) || "", fieldName);
   }
 
   /**
@@ -130,9 +131,9 @@ export class BreakpointsController {
    * @param {{ left: number, bottom: number }} point
    */
   openMenu(line, point) {
-    const { keeper, calls } = this;
+    const { manager, calls } = this;
     const [toggle, condition] = ["debug.breakpoint", "debug.condition"].map((id) => commandById(id).keys[0]);
-    const breakpoint = keeper.list.findByLine(line);
+    const breakpoint = manager.list.findByLine(line);
     const action = (/** @type {() => Promise<void>} */ work) => () => {
       work().catch(calls.reportFailure);
     };
@@ -142,7 +143,7 @@ export class BreakpointsController {
       { words: say.HIT_COUNT, act: action(() => this.editLine(line, "from")) },
       { words: say.LOG_MESSAGE, act: action(() => this.editLine(line, "note")) },
       ...(breakpoint ? [{
-        words: breakpoint.isOn ? say.DISABLE : say.ENABLE, act: () => keeper.change(breakpoint.id, { isOn: !breakpoint.isOn }),
+        words: breakpoint.isOn ? say.DISABLE : say.ENABLE, act: () => manager.change(breakpoint.id, { isOn: !breakpoint.isOn }),
       }] : []),
       { words: say.RUN_TO_LINE, act: () => calls.runTo(line) },
     ], point);
@@ -151,7 +152,7 @@ export class BreakpointsController {
   /** Returns the texts that define the names used in conditions. */
   texts() {
     const { board, program } = this.calls.texts();
-    return { board, program: this.keeper.map ? this.keeper.map.text : program, watched: this.keeper.watchTexts };
+    return { board, program: this.manager.map ? this.manager.map.text : program, watched: this.manager.watchTexts };
   }
 
   /**
@@ -168,11 +169,11 @@ export class BreakpointsController {
 
   show() {
     const session = this.calls.session();
-    const { list, faults, savedBreakpoints: storedBreakpoints } = this.keeper;
+    const { list, faults, savedBreakpoints: storedBreakpoints } = this.manager;
     if (session) session.record.breakpoints = storedBreakpoints;
     const { lines, addresses } = breakpointMarks(list.all, faults);
     this.calls.showMarks(lines, addresses);
-    this.view.show(this.keeper);
+    this.view.show(this.manager);
     this.form.show((id) => list.get(id), faults);
   }
 
@@ -180,14 +181,14 @@ export class BreakpointsController {
   open(record) {
     this.form.close();
     this.view.forget();
-    this.keeper.watchTexts = record.watched || [];
-    this.keeper.open(record.id, record.breakpoints);
+    this.manager.watchTexts = record.watched || [];
+    this.manager.open(record.id, record.breakpoints);
   }
 
   /** @param {number} line */
   async toggleLine(line) {
     await this.calls.freshSource();
-    this.keeper.toggleLine(line);
+    this.manager.toggleLine(line);
   }
 
   /**
@@ -197,23 +198,23 @@ export class BreakpointsController {
    */
   async editLine(line, fieldName) {
     await this.calls.freshSource();
-    const breakpoint = this.keeper.breakpointOnLine(line);
+    const breakpoint = this.manager.breakpointOnLine(line);
     if (breakpoint) this.edit(breakpoint, fieldName);
   }
 
   /**
-   * Updates the breakpoints after the source was loaded into ROM. Resolves when they are at their lines.
-   * @param {boolean} isBegun true if the hit counts are reset
+   * Updates the breakpoints after the source was loaded into ROM. Resolves when each breakpoint has the address of its line.
+   * @param {boolean} isBegun true if the processor was reset, which also resets the hit counts
    */
   async handleAssembly(isBegun) {
-    if (isBegun) this.keeper.resetHits();
+    if (isBegun) this.manager.resetHits();
     await this.calls.checkSource();
-    await this.keeper.allSent;
+    await this.manager.allSent;
   }
 
   /** @param {Tally} tally the hit counts and log messages since the last frame */
   count(tally) {
-    this.keeper.count(tally);
-    this.view.log(tally, this.keeper);
+    this.manager.count(tally);
+    this.view.log(tally, this.manager);
   }
 }

@@ -14,7 +14,7 @@ import * as say from "../../words/machine.js";
  * @typedef {import("../../core/debug/debugger.js").Tally} Tally
  * @typedef {import("../../core/machine/source_map.js").SourceMap} SourceMap
  * @typedef {import("../../core/debug/breakpoint_manager.js").BreakpointManager} BreakpointManager
- * @typedef {Pick<BreakpointManager, "list" | "faults" | "map">} Keeper
+ * @typedef {Pick<BreakpointManager, "list" | "faults" | "map">} ShownManager
  * @typedef {{ root: HTMLLIElement, isOn: HTMLInputElement, mark: Cell, location: Cell, edit: HTMLButtonElement, hits: Cell, words: Cell,
  *   fault: Cell }} Row
  */
@@ -22,8 +22,8 @@ import * as say from "../../words/machine.js";
 /**
  * The callbacks of the breakpoint list.
  * @typedef {object} BreakpointCalls
- * @property {(id: number, changes: Partial<SavedBreakpoint>) => void} change Changes a breakpoint's properties, by its id; for example,
- *   enables or disables it.
+ * @property {(id: number, changes: Partial<SavedBreakpoint>) => void} change Changes the properties of the breakpoint with an id; for
+ *   example, enables or disables the breakpoint.
  * @property {(breakpoint: Breakpoint) => void} edit Opens the form that edits a breakpoint.
  * @property {(id: number) => void} remove Removes the breakpoint with an id.
  * @property {(isOn: boolean) => void} switchAll Enables or disables all breakpoints.
@@ -33,7 +33,7 @@ import * as say from "../../words/machine.js";
  */
 
 /**
- * Returns a text with a breakpoint's location.
+ * Returns the location of a breakpoint as text.
  * @param {Breakpoint} breakpoint
  * @param {SourceMap | null} map
  */
@@ -57,16 +57,16 @@ export class BreakpointsView {
     onClick(button("breakpoints-hits"), () => calls.resetHits());
   }
 
-  /** @param {Keeper} keeper */
-  show(keeper) {
-    const { list: { all }, faults, map } = keeper;
+  /** @param {ShownManager} manager */
+  show(manager) {
+    const { list: { all }, faults, map } = manager;
     for (const [id, { root }] of this.rows) {
       if (all.some((breakpoint) => breakpoint.id === id)) continue;
       root.remove();
       this.rows.delete(id);
     }
     all.forEach((breakpoint, index) => {
-      const row = this.rows.get(breakpoint.id) || this.makeRow(breakpoint.id, keeper);
+      const row = this.rows.get(breakpoint.id) || this.makeRow(breakpoint.id, manager);
       if (this.root.children[index] !== row.root) this.root.insertBefore(row.root, this.root.children[index] || null);
       this.showRow(row, breakpoint, faults.get(breakpoint.id) || "", map);
     });
@@ -94,7 +94,7 @@ export class BreakpointsView {
     row.fault.set(fault && say.stopsEachTime(fault));
   }
 
-  /** @param {Keeper} keeper */
+  /** @param {ShownManager} manager */
   showHits({ list: { all } }) {
     for (const { id, hits } of all) {
       const row = this.rows.get(id);
@@ -104,16 +104,16 @@ export class BreakpointsView {
 
   /**
    * @param {number} id
-   * @param {Keeper} keeper
+   * @param {ShownManager} manager
    * @returns {Row}
    */
-  makeRow(id, keeper) {
+  makeRow(id, manager) {
     const isOn = element("input", { "type": "checkbox", "aria-label": say.ON, "autocomplete": "off" });
     const place = element("button", { type: "button", className: "place" });
     const [mark, location, hits, words, fault] = [element("i", { "aria-hidden": "true" }), place, element("span", { className: "hits" }),
       element("p", { className: "words" }), element("p", { className: "fault" })].map((node) => new Cell(node));
     const withBreakpoint = (/** @type {(breakpoint: Breakpoint) => void} */ call) => () => {
-      const breakpoint = keeper.list.get(id);
+      const breakpoint = manager.list.get(id);
       if (breakpoint) call(breakpoint);
     };
     const edit = makeButton(say.EDIT, withBreakpoint((breakpoint) => this.calls.edit(breakpoint)), { className: "edit" });
@@ -130,13 +130,13 @@ export class BreakpointsView {
   /**
    * Appends the log messages of breakpoints to the log.
    * @param {Tally} tally
-   * @param {Keeper} keeper
+   * @param {ShownManager} manager
    */
-  log({ notes, noted }, keeper) {
+  log({ notes, noted }, manager) {
     if (notes.length === 0) return;
     const lines = notes.slice(-MAX_NOTES).map(({ id, cycles, words }) => {
-      const breakpoint = keeper.list.get(id);
-      const location = breakpoint ? formatLocation(breakpoint, keeper.map) : "";
+      const breakpoint = manager.list.get(id);
+      const location = breakpoint ? formatLocation(breakpoint, manager.map) : "";
       return element("p", { title: say.loggedAt(formatCycles(cycles)) }, element("b", {}, location), ` ${words}`);
     });
     const omittedCount = (noted - notes.length).toLocaleString("en");

@@ -6,16 +6,16 @@ import { putBelow } from "../ui/popup_message.js";
 import * as say from "../../words/machine.js";
 
 /**
- * An editable cell: its place in the `poke` command, its name, and its number of digits.
+ * An editable cell: its location as the `poke` command names it, its name for the user, and its number of hexadecimal digits.
  * @typedef {{ place: string, name: string, digits: number }} EditableCell
  */
 
 /**
  * The callbacks of the cell editor.
  * @typedef {object} EditorCalls
- * @property {(place: string, value: string) => Promise<string>} poke Sets a place to a value, both in the syntax of the `poke` command.
- *   Resolves to "", or to the reason why the bench rejects the value.
- * @property {(words: string, cell: HTMLElement) => void} showMessage Shows a message at a cell that cannot be edited at present.
+ * @property {(place: string, value: string) => Promise<string>} poke Sets a register or memory cell to a value. `place` and `value` have
+ *   the syntax of the `poke` command. Resolves to "", or to the reason why the bench rejects the value.
+ * @property {(words: string, cell: HTMLElement) => void} showMessage Shows a message at a cell that cannot be edited now.
  */
 
 
@@ -60,7 +60,7 @@ export class CellEditor {
   }
 
   /**
-   * Makes a cell show a message when the user tries to edit it.
+   * Makes a cell read-only. If the user tries to edit the cell, it shows the reason.
    * @param {HTMLElement} cell
    * @param {string} reason
    */

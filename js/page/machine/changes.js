@@ -1,4 +1,4 @@
-// Marks the values that have changed since the previous pause. While time is running, nothing is marked, because the marks would flicker.
+// Marks the values that have changed since the previous pause. No value is marked while time is running, because the marks would flicker.
 
 /** @typedef {import("../ui/dom.js").Cell} Cell */
 

@@ -1,5 +1,6 @@
-// The heat map of RAM nibbles. A cell's colour shows how often or how recently its value changed. While time is paused, the bench counts
-// the changes in the recorded past. While time is running, the bench reports the changes as they happen.
+// The heat map of RAM nibbles. A cell's colour shows how often or how recently its value changed. While time is paused, the colours come
+// from the changes in the recorded past, which the bench counts. While time is running, they come from the changes that the bench reports
+// as they happen.
 
 import { block, byId, field } from "../ui/dom.js";
 import { parseCount } from "../../core/bench/numbers.js";
@@ -22,15 +23,15 @@ import * as say from "../../words/machine.js";
  * @property {() => boolean} isRunning Returns true if time is running.
  * @property {(cycles: number, signal: AbortSignal) => Promise<Heat | null>} countChanges Counts the changes in the last `cycles` cycles.
  *   Resolves to null if `signal` is aborted or if the count fails. A failure has already been reported.
- * @property {(isOn: boolean) => void} setWatch Switches the bench's reports of RAM changes on or off.
- * @property {(heatByPlace: Map<string, CellHeat>) => void} showCells Shows the heat level of cells, by place. Cells that are not in the map
- *   have no colour.
- * @property {(place: string) => string} placeName Returns the program's name for a place.
+ * @property {(isOn: boolean) => void} setWatch Starts or stops the bench's reports of RAM changes.
+ * @property {(heatByPlace: Map<string, CellHeat>) => void} showCells Shows the heat of cells. `heatByPlace` has the heat of each cell by
+ *   the cell's location. Cells that are not in the map have no colour.
+ * @property {(place: string) => string} placeName Returns the name of a cell in the program. `place` is the cell's location.
  * @property {() => SourceMap | null} map Returns the source map of the program in ROM, or null if ROM does not match the source.
  */
 
-/** The time in milliseconds without input, while time is paused, after which the count begins. */
-const REST_TIME = 300;
+/** The delay in milliseconds between the user's last input and the count of changes, while time is paused. */
+const COUNT_DELAY_MS = 300;
 /** The maximum number of cycles over which changes are counted. */
 const MAX_CYCLES = 10000000;
 /** The interval in milliseconds at which the cells are updated while time is running. */
@@ -53,7 +54,7 @@ export class HeatView {
     this.isStale = true;
     /** @type {Heat | null} the result of the last count */
     this.heat = null;
-    this.passingHeat = new RecentHeat();
+    this.recentHeat = new RecentHeat();
     /** The time of the last update while time was running, in milliseconds. */
     this.lastDrawTime = 0;
     this.kind.value = preferences.get("heat");
@@ -105,15 +106,15 @@ export class HeatView {
    */
   handleFrame({ warmed, cycles }) {
     if (this.kind.value === "") return;
-    // A message about the past does not apply while time is running. Without RAM, there is no other message.
+    // The message about the recorded past does not apply while time is running. A board without RAM has no other message.
     if (!warmed) this.showStatus("");
     const maxCycles = parseCount(this.cycles.value, MAX_CYCLES);
     if (!warmed || maxCycles === 0) return;
-    this.passingHeat.add(warmed, cycles, maxCycles);
+    this.recentHeat.add(warmed, cycles, maxCycles);
     if (performance.now() - this.lastDrawTime < DRAW_INTERVAL) return;
     this.lastDrawTime = performance.now();
     this.heat = null;
-    this.showCells(this.passingHeat.heat, describeSeenChanges);
+    this.showCells(this.recentHeat.heat, describeSeenChanges);
     this.showStatus(describeHeatStatus(warmed, warmed.cycles >= cycles));
   }
 
@@ -121,13 +122,13 @@ export class HeatView {
   handleSnapshot() {
     if (this.kind.value === "") return;
     this.isStale = true;
-    if (!this.calls.isRunning()) this.passingHeat.clear();
+    if (!this.calls.isRunning()) this.recentHeat.clear();
     this.restartTimer();
   }
 
   clear() {
     this.heat = null;
-    this.passingHeat.clear();
+    this.recentHeat.clear();
     this.lastDrawTime = 0;
     this.showStatus("");
     this.calls.showCells(new Map());
@@ -138,12 +139,12 @@ export class HeatView {
     if (this.status.textContent !== words) this.status.textContent = words;
   }
 
-  /** Cancels the current count. If the heat map is out of date and time is paused, starts another count after REST_TIME. */
+  /** Cancels the current count. If the heat map is out of date and time is paused, starts another count after COUNT_DELAY_MS. */
   restartTimer() {
     clearTimeout(this.countTimer);
     this.request.abort();
     if (!this.isStale || this.kind.value === "" || this.calls.isRunning()) return;
-    this.countTimer = window.setTimeout(() => this.startCount(), REST_TIME);
+    this.countTimer = window.setTimeout(() => this.startCount(), COUNT_DELAY_MS);
   }
 
   async startCount() {

@@ -1,5 +1,5 @@
-// The tooltip about a cell's last change. While time is paused, it says when the value under the pointer or with the focus last changed,
-// and which line changed it. The bench searches the recorded past for this change.
+// The tooltip about a cell's last change. While time is paused, it says when the value under the pointer, or the focused value, last
+// changed, and which line changed it. The bench searches the recorded past for this change.
 
 import { element } from "../ui/dom.js";
 import { putBelow } from "../ui/popup_message.js";
@@ -13,15 +13,15 @@ import { putBelow } from "../ui/popup_message.js";
  * @typedef {object} LastChangeCalls
  * @property {() => boolean} isRunning Returns true if time is running. The tooltip appears only while time is paused.
  * @property {(editableCell: EditableCell, signal: AbortSignal) => Promise<string>} describeLastChange Resolves to a text about the last
- *   change of a place, or to "" if `signal` is aborted or the search fails.
- * @property {(cell: HTMLElement) => EditableCell | undefined} editableCellAt Returns the place whose value a cell shows, or undefined if
- *   the cell shows none.
+ *   change of a cell, or to "" if `signal` is aborted or the search fails.
+ * @property {(cell: HTMLElement) => EditableCell | undefined} editableCellAt Returns the location whose value the element `cell` shows, or
+ *   undefined if the element shows no editable value.
  */
 
 /** The time in milliseconds for which the pointer or the focus must stay on a cell before the tooltip opens. */
-const REST_TIME = 400;
+const HOVER_DELAY_MS = 400;
 /** The distance in pixels between a cell and its tooltip. */
-const BELOW_CELL = 4;
+const TIP_DISTANCE = 4;
 
 export class LastChangeView {
   /**
@@ -48,7 +48,7 @@ export class LastChangeView {
     this.hideTip();
     const editableCell = cell instanceof HTMLElement ? this.calls.editableCellAt(cell) : undefined;
     if (!editableCell) return;
-    this.tipTimer = window.setTimeout(() => this.showChange(/** @type {HTMLElement} */ (cell), editableCell), REST_TIME);
+    this.tipTimer = window.setTimeout(() => this.showChange(/** @type {HTMLElement} */ (cell), editableCell), HOVER_DELAY_MS);
   }
 
   hideTip() {
@@ -69,6 +69,6 @@ export class LastChangeView {
     if (description === "" || request.signal.aborted || !cell.isConnected || this.calls.isRunning()) return;
     this.tip.textContent = description;
     this.tip.hidden = false;
-    putBelow(this.tip, cell.getBoundingClientRect(), BELOW_CELL);
+    putBelow(this.tip, cell.getBoundingClientRect(), TIP_DISTANCE);
   }
 }

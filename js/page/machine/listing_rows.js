@@ -8,18 +8,19 @@ import * as say from "../../words/machine.js";
  *
  * @typedef {import("../../core/machine/breakpoint_marks.js").BreakpointMark} BreakpointMark
  *
- * A row. `markedAddress` is the address of the breakpoint in the row's line, or the line's address if there is no breakpoint.
+ * A row. `address` is the address of the row's instruction. `markedAddress` is the address of a breakpoint in that instruction, or
+ * `address` if there is none.
  * @typedef {{ button: HTMLButtonElement, address: number, markedAddress: number, mark: Cell, bytes: Cell, labels: Cell,
  *   instruction: Cell, breakpoint: Switch, next: Switch }} Row
  */
 
 /**
- * Returns the mark for a breakpoint at an instruction's second byte, or undefined if there is none.
+ * Returns the mark of the breakpoint at an instruction's second byte, or undefined if there is no such breakpoint.
  * @param {string} address
  * @param {Map<string, BreakpointMark>} breakpoints
  * @returns {BreakpointMark | undefined}
  */
-function insideMark(address, breakpoints) {
+function secondByteMark(address, breakpoints) {
   if (!breakpoints.has(address)) return undefined;
   const message = say.insideBreakpoint(address);
   return { mark: "\u25CB", words: message };
@@ -91,7 +92,7 @@ export class ListingRows {
       row.button.hidden = line === undefined;
       if (!line) return;
       const lineMark = breakpoints.get(line.first);
-      const mark = lineMark || insideMark(line.second, breakpoints);
+      const mark = lineMark || secondByteMark(line.second, breakpoints);
       const title = [mark ? mark.words : "", line.source].filter(Boolean).join("; ");
       row.address = line.address;
       row.markedAddress = mark && !lineMark ? parseInt(line.second, 16) : line.address;
@@ -106,7 +107,7 @@ export class ListingRows {
   }
 
   /**
-   * Returns the address of the row that contains a node, or null if no row does.
+   * Returns the address of the row that contains a node, or null if no row contains it.
    * @param {Node} node
    */
   addressAt(node) {
@@ -124,7 +125,9 @@ export class ListingRows {
     this.rows[Math.max(0, Math.min(index, this.visibleCount - 1))].button.focus({ preventScroll: true });
   }
 
-  /** Moves the first row to the end. If it had the focus, the focus moves on, and a screen reader announces the new row. */
+  /**
+   * Moves the first row to the end. If that row had the focus, the next row receives it, so that a screen reader announces the next row.
+   */
   rotateRows() {
     const [first] = this.rows.splice(0, 1);
     this.rows.push(first);

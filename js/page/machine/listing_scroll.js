@@ -1,5 +1,5 @@
-// Scrolling of the disassembly. The box is as high as all 4,096 rows, but only the visible rows exist. The browser handles the scroll bar,
-// the wheel and touch. Keys move by rows and by pages.
+// Scrolling of the disassembly. The box is as high as the rows of all 4,096 addresses together, but only the visible rows exist as
+// elements. The browser handles the scroll bar, the wheel and touch. Keys move by rows and by pages.
 
 import { ADDRESS_COUNT } from "../../core/bench/rom_bytes.js";
 import { element } from "../ui/dom.js";
@@ -14,7 +14,7 @@ import { element } from "../ui/dom.js";
  */
 
 /** The assumed height of a row in pixels before a row has been laid out. */
-const DEFAULT_HEIGHT = 24;
+const DEFAULT_ROW_HEIGHT = 24;
 
 export class ListingScroll {
   /**
@@ -26,8 +26,8 @@ export class ListingScroll {
     this.calls = calls;
     this.rows = element("div", { className: "rows" });
     this.length = element("div", { className: "length" }, this.rows);
-    this.rowHeight = DEFAULT_HEIGHT;
-    /** The last scroll position that is already handled. */
+    this.rowHeight = DEFAULT_ROW_HEIGHT;
+    /** The scroll position in pixels at the last call of `handleScroll`. */
     this.handledScrollTop = 0;
     root.append(this.length);
     root.addEventListener("scroll", () => this.handleScroll(), { passive: true });
@@ -40,7 +40,7 @@ export class ListingScroll {
     const { clientHeight } = this.root;
     if (clientHeight === 0) return;
     const row = this.rows.firstElementChild;
-    this.rowHeight = (row instanceof HTMLElement && row.offsetHeight) || DEFAULT_HEIGHT;
+    this.rowHeight = (row instanceof HTMLElement && row.offsetHeight) || DEFAULT_ROW_HEIGHT;
     this.length.style.setProperty("height", `${ADDRESS_COUNT * this.rowHeight}px`);
     this.calls.handleResize(Math.max(1, Math.floor(clientHeight / this.rowHeight)));
   }

@@ -1,4 +1,4 @@
-// The disassembly: around the program counter or from a chosen address, with breakpoints.
+// The disassembly, with breakpoints. It shows the instructions around the program counter, or from an address that the user has chosen.
 
 import { block, field } from "../ui/dom.js";
 import { addLineNames, labelsWidth } from "../../core/machine/listing_names.js";
@@ -15,13 +15,13 @@ import { LAST_ADDRESS } from "../../core/bench/numbers.js";
  * @typedef {import("../../core/machine/source_map.js").SourceMap} SourceMap
  */
 
-/** The number of rows before the page has been laid out. */
+/** The assumed number of visible rows before the page has been laid out. */
 const DEFAULT_ROWS = 18;
-/** The number of bytes before the program counter, if they fit. */
+/** The number of bytes that are shown before the program counter if they fit. */
 const PRECEDING_BYTES = 10;
 /**
- * The interval in milliseconds at which the disassembly follows the program counter while time is running, so that the user can read the
- * lines.
+ * The interval in milliseconds between moves of the disassembly to the program counter while time is running. Between two moves, the user
+ * can read the lines.
  */
 const FOLLOW_INTERVAL = 300;
 
@@ -37,11 +37,11 @@ export class ListingView {
     this.block = block("lines-of-program");
     this.followsCounter = true;
     /**
-     * The program counter when the user went to another address. When the counter changes, the disassembly follows it again. -1 if the
-     * disassembly is not waiting for the counter.
+     * The value of the program counter when the user went to another address. When the counter changes from this value, the disassembly
+     * follows it again. -1 if the disassembly is not waiting for such a change.
      */
     this.counterAtLeave = -1;
-    /** The first address when the disassembly does not follow the program counter. */
+    /** The first address to show while the disassembly does not follow the program counter. */
     this.firstAddress = 0;
     this.counter = 0;
     /** @type {Map<string, import("../../core/machine/breakpoint_marks.js").BreakpointMark>} the breakpoint marks, by address */
@@ -52,7 +52,7 @@ export class ListingView {
     this.namedLines = [];
     /** @type {SourceMap | null} the program in ROM */
     this.map = null;
-    // The number of requests. Lines that arrive after a newer request are discarded.
+    // The number of requests so far. Lines of an earlier request that arrive after a later one are discarded.
     this.requestCount = 0;
     /** True if time was running when the disassembly was last shown. */
     this.isRunning = false;
@@ -94,7 +94,7 @@ export class ListingView {
   }
 
   /**
-   * Fixes the disassembly's first address. The disassembly no longer follows the program counter.
+   * Sets the disassembly's first address and stops following the program counter.
    * @param {number} address
    */
   fixFirstAddress(address) {
@@ -159,8 +159,8 @@ export class ListingView {
   }
 
   /**
-   * Returns true if other lines must be read. Lines that do not follow the counter are read again if the counter points into the middle of
-   * one of them.
+   * Returns true if other lines must be read. If the disassembly does not follow the counter, it must be read again only if the counter
+   * points to the second byte of a line.
    * @param {boolean} isRunning
    */
   mustReadLines(isRunning) {
@@ -203,7 +203,7 @@ export class ListingView {
   /** @param {number} address */
   handleScroll(address) {
     this.fixFirstAddress(Math.max(0, Math.min(address, LAST_ADDRESS)));
-    // If the address is near the visible lines, their instruction boundaries are used.
+    // If the address is near the visible lines, continue from the start of one of their instructions.
     const nearLine = this.lines.find((line) => line.address >= this.firstAddress);
     const isNear = nearLine && Math.abs(this.lines[0].address - this.firstAddress) <= this.rows.count;
     this.read({ from: this.firstAddress, anchor: nearLine && isNear ? nearLine.address : null }, true);
@@ -251,7 +251,7 @@ export class ListingView {
   }
 
   /**
-   * Focuses a row after the disassembly has moved. The focus gets a new element, so a screen reader announces it.
+   * Focuses a row after the disassembly has moved. The focus moves to a different element, so that a screen reader announces the row.
    * @param {number} index the index of the row
    */
   focusRow(index) {

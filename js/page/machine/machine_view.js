@@ -33,8 +33,8 @@ function cellNodes(cellList) {
   return cellList.map((cell) => cell.node);
 }
 
-/** The number of digits of each register with more than one digit. */
-const DIGITS = new Map([["pc", 3]]);
+/** The number of hexadecimal digits of the registers that have more than one digit. */
+const DIGIT_COUNTS = new Map([["pc", 3]]);
 
 export class RegistersView {
   /**
@@ -63,7 +63,7 @@ export class RegistersView {
       value.setAttribute("aria-labelledby", `${title.id} ${value.id}`);
       this.cells.set(name, new Cell(value));
       if (name === "owed") this.editor.makeReadOnly(value, say.PENDING_CYCLE_IS_READ_ONLY);
-      else this.editor.makeEditable(value, { place: name.toLowerCase(), name, digits: DIGITS.get(name) || 1 });
+      else this.editor.makeEditable(value, { place: name.toLowerCase(), name, digits: DIGIT_COUNTS.get(name) || 1 });
       return element("div", {}, title, element("dd", {}, value));
     }));
     makeOneTabStop(group, () => 8);
@@ -150,7 +150,8 @@ export class PortsView {
   }
 
   /**
-   * Shows the addresses that SRC has selected: `10` for the ROM chips, `0.10` for bank 0.
+   * Shows the address that the last SRC instruction has sent to the ROM chips, for example `10`, and to each RAM bank, for example `0.10`
+   * for bank 0.
    * @param {string[]} sources
    */
   showSources(sources) {

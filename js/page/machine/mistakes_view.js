@@ -1,5 +1,5 @@
-// The list of common mistakes that the bench has reported since time last started. Each row has the line of the mistake, and a check box to
-// stop time at the next mistake of this kind.
+// The list of common mistakes that the bench has reported since time last started. Each row has the line of the mistake, and a check box
+// that makes time stop at the next mistake of this kind.
 
 import { block, element, onClick } from "../ui/dom.js";
 import { KINDS } from "../../words/debug.js";

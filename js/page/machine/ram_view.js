@@ -1,4 +1,4 @@
-// The board's RAM as a table for each bank. A click on a nibble watches the nibble. Nibbles can be edited in place.
+// The board's RAM as a table for each bank. A click on a nibble sets or clears a watch on it. Nibbles can be edited in place.
 
 import { Cell, block, byId, element, makeFirstTabStop, makeOneTabStop, pressedSwitch } from "../ui/dom.js";
 import { hex, indices } from "../../core/bench/numbers.js";
@@ -37,8 +37,8 @@ function nibbleLabels(register, names) {
   ];
 }
 
-/** The number of nibbles in a group that does not wrap. */
-const GROUP_SIZE = CHARACTERS / 2;
+/** The number of nibbles in a group, which stays on one line when the table wraps. */
+const NIBBLES_PER_GROUP = CHARACTERS / 2;
 
 /** @param {Cell[]} cells */
 function nibbleGroup(cells) {
@@ -59,11 +59,11 @@ export class RamView {
     this.watchSwitches = new Map();
     /** @type {Map<string, ShownRegister>} */
     this.registers = new Map();
-    /** @type {Map<string, { node: HTMLElement, title: string }>} the nibbles, by their places in the `poke` command */
+    /** @type {Map<string, { node: HTMLElement, title: string }>} the nibbles, by their locations as the `poke` command names them */
     this.characters = new Map();
-    /** @type {ReadonlyMap<string, string[]>} the names of nibbles, by place */
+    /** @type {ReadonlyMap<string, string[]>} the names of nibbles, by the nibble's location */
     this.names = new Map();
-    /** @type {ReadonlyMap<string, CellHeat>} the nibbles that changed recently, by place */
+    /** @type {ReadonlyMap<string, CellHeat>} the heat of the nibbles that changed recently, by the nibble's location */
     this.heatByPlace = new Map();
     /** @type {Map<string, Cell>} */
     this.ports = new Map();
@@ -122,7 +122,7 @@ export class RamView {
     const status = indices(STATUS_COUNT).map((character) => this.drawStatus(location, character));
     const names = element("small", { className: "cell-names", hidden: true });
     this.registers.set(`${bank}.${chip}.${register}`, { characters, status, names, shownText: "" });
-    const halves = [characters.slice(0, GROUP_SIZE), characters.slice(GROUP_SIZE), status].map(nibbleGroup);
+    const halves = [characters.slice(0, NIBBLES_PER_GROUP), characters.slice(NIBBLES_PER_GROUP), status].map(nibbleGroup);
     const cells = [element("td", {}, ...halves.slice(0, 2), names), element("td", {}, halves[2])];
     if (register === 0) cells[1].append(this.drawPort(bank, chip));
     return element("tr", {}, element("th", { scope: "row", title: describeRegister(location) }, `${chip}.${register}`), ...cells);
@@ -143,7 +143,7 @@ export class RamView {
     button.addEventListener("click", (event) => {
       if (event.detail > 0) button.blur();
       if (event.detail > 2) return;
-      // The second click of a double click undoes the first.
+      // The second click of a double click undoes the effect of the first.
       wasWatched = event.detail === 2 ? !wasWatched : watchSwitch.isOn;
       this.toggleWatch(bank, source, wasWatched, button);
     });
@@ -164,7 +164,7 @@ export class RamView {
 
   /**
    * Makes a nibble editable.
-   * @param {string} place the nibble's place in the `poke` command
+   * @param {string} place the nibble's location as the `poke` command names it
    * @param {HTMLButtonElement} node
    */
   makeEditable(place, node) {
@@ -200,7 +200,7 @@ export class RamView {
 
   /**
    * Returns a RAM nibble's name, or its description if it has no name.
-   * @param {string} place the nibble's place in the `poke` command
+   * @param {string} place the nibble's location as the `poke` command names it
    */
   placeName(place) {
     const [name] = this.names.get(place) || [];
@@ -208,7 +208,7 @@ export class RamView {
     return name || (nibble ? nibble.title : place);
   }
 
-  /** @param {ReadonlyMap<string, string[]>} names the names of nibbles, by place */
+  /** @param {ReadonlyMap<string, string[]>} names the names of nibbles, by the nibble's location */
   showNames(names) {
     this.names = names;
     for (const place of this.characters.keys()) this.updateTitle(place);
@@ -218,7 +218,7 @@ export class RamView {
     }
   }
 
-  /** @param {ReadonlyMap<string, CellHeat>} heatByPlace the nibbles that changed recently, by place */
+  /** @param {ReadonlyMap<string, CellHeat>} heatByPlace the heat of the nibbles that changed recently, by the nibble's location */
   showHeat(heatByPlace) {
     const oldHeat = this.heatByPlace;
     this.heatByPlace = heatByPlace;

@@ -14,9 +14,9 @@ import * as say from "../../words/machine.js";
  * @typedef {{ button: HTMLButtonElement, value: Cell, note: Cell, isLive: Switch }} Row
  */
 
-/** The columns of the first ROM byte in a line of the bench's `list` answer. */
-const BYTE_START = 4;
-const BYTE_END = 6;
+/** The column range of the first ROM byte in a line of the bench's answer to `list`. */
+const FIRST_BYTE_COLUMN = 4;
+const FIRST_BYTE_END_COLUMN = 6;
 
 export class StackView {
   /**
@@ -30,11 +30,11 @@ export class StackView {
     this.ask = ask;
     /** @type {number[]} the program counter, then the return addresses, newest first */
     this.addresses = [];
-    /** The addresses that the current notes describe. */
+    /** The addresses that the current notes describe, as one text. */
     this.describedAddresses = "";
     /** @type {SourceMap | null} */
     this.map = null;
-    // The number of requests. An answer for earlier addresses is discarded.
+    // The number of requests so far. The answer to a request is discarded if a later request has been sent.
     this.requestCount = 0;
     this.rows = ["pc", "ret 1", "ret 2", "ret 3"].map((name, index) => (
       this.makeRow(name, explain(name), () => goTo(this.rowAddress(index)))));
@@ -77,7 +77,7 @@ export class StackView {
     this.addresses = addressTexts.map((addressText) => parseInt(addressText, 16));
   }
 
-  /** Makes the next `explain` read ROM again, because its contents may have changed. */
+  /** Makes the next call of `explain` read ROM again, because the contents of ROM may have changed. */
   forget() {
     this.describedAddresses = "";
   }
@@ -118,7 +118,7 @@ export class StackView {
   async readBytes(addresses) {
     const lines = joinLines(addresses.map((address) => `list 0x${hex(address, 3)} 1`));
     const answers = matchAnswers(readInputs(lines), await this.ask(lines));
-    return answers.map(([line = ""]) => line.slice(BYTE_START, BYTE_END));
+    return answers.map(([line = ""]) => line.slice(FIRST_BYTE_COLUMN, FIRST_BYTE_END_COLUMN));
   }
 
   /** @param {AddressNote[]} notes */

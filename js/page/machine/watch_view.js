@@ -15,7 +15,8 @@ import * as say from "../../words/machine.js";
  * The callbacks of the watch list.
  * @typedef {object} WatchViewCalls
  * @property {import("../text/meaning_view.js").MakeEditable} makeEditable Makes a cell that shows a value editable.
- * @property {() => MachineState | null} pausedState Returns the state that has the values, or null while time is running.
+ * @property {() => MachineState | null} pausedState Returns the paused machine state, from which the values are read, or null while time is
+ *   running.
  * @property {() => Names} names Returns the names that expressions can use.
  * @property {() => void} handleListChange Called after the list has changed.
  * @property {(texts: string[]) => void} storeExpressions Saves the expressions as texts.

@@ -1,5 +1,5 @@
-// Proofs of properties: a button that proves them for all inputs in a separate worker, and the verdicts. A verdict is visible as long as
-// its texts are unchanged.
+// Proofs of properties: a button that proves them for all inputs in a separate worker, and the verdicts. A verdict is visible only while
+// the texts are the same as when it was reached.
 
 import { Cell, button, field, onClick } from "../ui/dom.js";
 import { findPropertyLine, isStillValid } from "../../core/prove/verdict_validity.js";
@@ -14,22 +14,23 @@ import { ProofsView } from "./proofs_view.js";
  * @typedef {import("../../core/prove/bounded_proof.js").JudgedLine} JudgedLine
  * @typedef {import("../../core/testing/test_preparation.js").TextFault} TextFault
  *
- * The proof of a session's properties: its texts, the maximum number of states for each question, and its progress.
+ * The proof of a session's properties: the texts, the maximum number of states that the prover may visit for each property, and the
+ * progress.
  * @typedef {{ texts: ExploredTexts, maxStates: number, progress: Progress }} ProofResults
  *
  * The callbacks of Proofs.
  * @typedef {object} ProofsCalls
  * @property {() => ExploredTexts} texts Returns the current texts.
  * @property {(texts: ExploredTexts, maxStates: number, signal: AbortSignal, report: (progress: Progress) => void) => Promise<TaskResult>}
- *   prove Proves properties with at most `maxStates` states for each question. Calls `report` with each progress report. Resolves to the
- *   errors in the texts and whether `signal` has cancelled the proof.
- * @property {(line: number) => void} goTo Shows a line of the properties text, from 1.
+ *   prove Proves properties, visiting at most `maxStates` states for each of them. Calls `report` with each progress report. Resolves to
+ *   the errors in the texts and whether `signal` has cancelled the proof.
+ * @property {(line: number) => void} goTo Shows a line of the properties text. Lines count from 1.
  * @property {(words: string) => void} showMessage Shows a message next to the buttons.
  * @property {(faults: TextFault[]) => void} showFaults Shows the errors that prevented the proof.
  * @property {(name: string, lines: string, texts: ExploredTexts, words: string) => Promise<void>} open Opens a new session with the texts,
  *   executes lines in it, and shows a message.
  * @property {(test: string) => string} addTest Adds a test to the program's tests. Returns the message about the result.
- * @property {() => void} handleVerdictChange Handles changed verdicts, for example updates the tab's mark.
+ * @property {() => void} handleVerdictChange Called after the verdicts have changed; for example, updates the mark on the tab.
  * @property {(fault: unknown) => void} reportFailure Reports an error that a call threw.
  */
 
@@ -97,7 +98,7 @@ export class Proofs {
     return currentResults ? currentResults.progress.judged.filter(this.isCurrent(currentResults)) : [];
   }
 
-  /** A short text about the current verdicts. */
+  /** The short text that the tab shows about the current verdicts. */
   get mark() {
     return this.currentResults ? markOfTab(this.currentVerdicts) : "";
   }
@@ -108,7 +109,7 @@ export class Proofs {
   }
 
   /**
-   * Returns a predicate that is true if a verdict is about the current texts.
+   * Returns a function that returns true if a verdict is about the current texts.
    * @param {ProofResults} currentResults
    * @returns {(judged: JudgedLine) => boolean}
    */
@@ -134,7 +135,10 @@ export class Proofs {
     else this.prove().catch(this.calls.reportFailure);
   }
 
-  /** Returns the maximum number of states for each question. If the field has no valid number, shows a message and returns 0. */
+  /**
+   * Returns the maximum number of states that the prover may visit for each property. If the field has no valid number, shows a message and
+   * returns 0.
+   */
   readMaxStates() {
     const { value } = field("prove-states");
     const isNumber = /^\d{1,9}$/.test(value.trim()) && Number(value) >= 1 && Number(value) <= MAX_STATES;

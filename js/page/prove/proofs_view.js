@@ -17,7 +17,7 @@ import { wordsOfLine } from "../../words/stops.js";
  * @property {(counterexample: Counterexample) => void} addTest Adds a counterexample's test to the program's tests.
  */
 
-/** A property's row. The verdict is inserted only once, so that controls in use do not disappear. */
+/** A property's row. The verdict is inserted only once, so that buttons that the user is about to click are not replaced. */
 class VerdictRow {
   /**
    * @param {JudgedLine} judgedLine
@@ -35,7 +35,7 @@ class VerdictRow {
     this.mark = new Cell(mark);
     this.words = new Cell(statusText);
     this.litSwitch = new Switch((isOn) => mark.classList.toggle("lit", isOn));
-    this.wrongSwitch = new Switch((isOn) => mark.classList.toggle("not-ok", isOn));
+    this.notOkSwitch = new Switch((isOn) => mark.classList.toggle("not-ok", isOn));
     if (verdict.kind === "found") this.node.append(...this.counterexampleNodes(isGoal, verdict.found, calls));
   }
 
@@ -62,7 +62,7 @@ class VerdictRow {
     this.mark.set(isCurrent ? markOf(judgedLine) : "");
     this.words.set(isCurrent ? wordsOfVerdict(judgedLine) : say.CHANGED);
     this.litSwitch.set(isCurrent && judgedLine.verdict.kind === "proved" && isRight(judgedLine));
-    this.wrongSwitch.set(isCurrent && judgedLine.verdict.kind !== "open" && !isRight(judgedLine));
+    this.notOkSwitch.set(isCurrent && judgedLine.verdict.kind !== "open" && !isRight(judgedLine));
   }
 }
 
@@ -87,7 +87,7 @@ export class ProofsView {
 
   /**
    * @param {Progress} progress
-   * @param {number} maxStates the maximum number of states for each question
+   * @param {number} maxStates the maximum number of states that the prover may visit for each property
    * @param {boolean} isRunning true if a proof is running
    * @param {(judgedLine: JudgedLine) => boolean} isCurrent returns true if a verdict is about the current texts
    */

@@ -1,5 +1,5 @@
 // The page's address. The text after `#` names a saved session or an example, or contains the texts of a link. The text after `?` names the
-// example whose story is open.
+// example whose story the page opens.
 
 /** @typedef {"session" | "example" | "link"} AddressKind */
 
@@ -13,8 +13,8 @@ function decodeText(text) {
 }
 
 /**
- * Returns the name of the example whose story the address requests, or "" if the address requests none. The name can also be the example's
- * folder name.
+ * Returns the name of the example whose story the address requests, or "" if it requests no story. The address can contain the example's
+ * name or the name of its folder.
  * @param {string} search
  */
 export function requestedStory(search) {
@@ -28,12 +28,12 @@ export function forgetStory() {
   try {
     history.replaceState(null, "", address);
   } catch {
-    // Some browsers do not change the address of a local file. A reload then opens the story again.
+    // Some browsers do not let a page change the address of a local file. A reload then opens the story again.
   }
 }
 
 /**
- * Returns the target of an address. Removes trailing spaces, which users can copy with an address.
+ * Returns the target of an address. Ignores trailing spaces, which users sometimes copy together with an address.
  * @param {string} hash
  * @returns {{ kind: AddressKind | "", value: string }}
  */

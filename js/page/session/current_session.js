@@ -23,10 +23,11 @@ import * as say from "../../words/session.js";
 /**
  * The callbacks of CurrentSession.
  * @typedef {object} CurrentCalls
- * @property {(record: SessionRecord) => void} begin Shows the texts and the settings of another session, from its record.
+ * @property {(record: SessionRecord) => void} begin Shows the texts and the settings of another session. The session's record contains
+ *   them.
  * @property {(state: PageState) => void} show Shows the current state of the session.
- * @property {() => Promise<void>} checkSource Compares the source with ROM. Resolves when the program's names are visible.
- * @property {() => void} run Resumes time in a session that was left while time was running.
+ * @property {() => Promise<void>} checkSource Compares the source with ROM. Resolves when the page shows the program's names.
+ * @property {() => void} run Resumes time in a session that the user left while time was running.
  * @property {(words: string) => void} showPaused Shows that time is paused, and the reason.
  * @property {() => Promise<void>} stopTime Stops time. Resolves when the worker has stopped.
  * @property {() => string} describeCounter Returns a text with the program counter, its name and its source line.
@@ -39,7 +40,7 @@ import * as say from "../../words/session.js";
  */
 
 /** The ids of the elements that stay hidden until a session is open. */
-const SHOWN_WITH_SESSION = ["bench", "session-bar", "clock", "tools", "statusbar"];
+const SESSION_ELEMENT_IDS = ["bench", "session-bar", "clock", "tools", "statusbar"];
 
 export class CurrentSession {
   /**
@@ -57,7 +58,7 @@ export class CurrentSession {
     this.session = null;
     /** The time of the last save, in milliseconds. */
     this.lastSaveTime = 0;
-    /** True while a session is being opened in which time will run. Until then, no source line is marked as the next one. */
+    /** True while a session is being opened in which time will resume. No source line is marked as the next one during that time. */
     this.willRun = false;
   }
 
@@ -67,7 +68,7 @@ export class CurrentSession {
    * @param {Release} release
    * @param {string} example the example's name if the session is still unchanged, otherwise ""
    */
-  async use(record, release, example) {
+  async replaceSession(record, release, example) {
     const { bench, store, calls } = this;
     await bench.call("settled", [record.file]);
     const oldSession = this.session;
@@ -80,19 +81,22 @@ export class CurrentSession {
     this.showName();
     const { goal, runs } = record;
     this.willRun = runs && !goal;
-    await this.showParts();
-    await this.keep();
+    await this.showElements();
+    await this.save();
     if (this.willRun) calls.run();
     else calls.showPaused(goal ? wordsOfInterrupted(goal, runs, calls.describeCounter()) : say.PAUSED);
     this.willRun = false;
     await this.restoreHistory();
   }
 
-  /** Shows the elements of the page. The elements stay invisible until the source's names have arrived, because the names move them. */
-  async showParts() {
+  /**
+   * Shows the elements of the page. They stay invisible until the names in the source have arrived, because showing the names changes the
+   * layout.
+   */
+  async showElements() {
     const isFirst = block("bench").hidden;
     document.body.classList.toggle("settling", isFirst);
-    for (const part of SHOWN_WITH_SESSION) block(part).hidden = false;
+    for (const part of SESSION_ELEMENT_IDS) block(part).hidden = false;
     await this.calls.checkSource();
     document.body.classList.remove("settling");
   }
@@ -108,7 +112,7 @@ export class CurrentSession {
   /** Stops and saves the session that the user leaves. The record says whether time was running, so that time can resume on return. */
   async leaveSession() {
     await this.calls.stopTime();
-    await this.keep();
+    await this.save();
   }
 
   /**
@@ -117,7 +121,7 @@ export class CurrentSession {
    */
   async open(record) {
     try {
-      return await this.callOpen(record);
+      return await this.requestOpening(record);
     } catch (fault) {
       if (this.session) this.calls.showPaused(say.PAUSED);
       throw fault;
@@ -128,7 +132,7 @@ export class CurrentSession {
    * @param {SessionRecord} record
    * @returns {Promise<PageState>}
    */
-  callOpen({ file, cycles = NO_CYCLES, printed }) {
+  requestOpening({ file, cycles = NO_CYCLES, printed }) {
     return this.bench.call("open", [file, cycles.total, cycles.reset, printed || null]);
   }
 
@@ -142,8 +146,8 @@ export class CurrentSession {
   }
 
   /**
-   * Shows the session's name in its field and in the window title. The address bar gets the session's address, or the example's address if
-   * the session is an unchanged example.
+   * Shows the session's name in its field and in the window title. Puts the session's address into the address bar, or the example's
+   * address if the session is an unchanged example.
    */
   showName() {
     if (!this.session) return;
@@ -154,10 +158,10 @@ export class CurrentSession {
   }
 
   /**
-   * Names the session after the title in its texts, unless the user has named it.
+   * Uses the title in the session's texts as the session's name, unless the user has named the session.
    * @param {string} title
    */
-  takeTitle(title) {
+  adoptTitle(title) {
     const name = shortName(title.replace(/\.$/, ""));
     if (!this.session || !this.session.record.isTitled || name === "" || name === this.session.record.name) return;
     this.session.record.name = name;
@@ -169,36 +173,36 @@ export class CurrentSession {
     if (!this.session) return;
     this.session.record.isTitled = false;
     this.session.record.name = name.trim() || "session";
-    this.touch();
+    this.markChanged();
     this.showName();
-    await this.keep();
+    await this.save();
   }
 
   /** Records that the user has changed the session. From then on, the session is saved. */
-  touch() {
+  markChanged() {
     if (!this.session) return;
     this.calls.handleSessionChange();
-    if (!this.session.touch()) return;
+    if (!this.session.markChanged()) return;
     this.showName();
-    this.keep();
+    this.save();
   }
 
   /** Records a change and saves the session. Resolves to the reason why the session could not be saved, or to "". */
-  touchAndKeep() {
-    this.touch();
-    return this.keep();
+  markChangedAndSave() {
+    this.markChanged();
+    return this.save();
   }
 
   /**
-   * Writes the session to the store, then logs the runs before this save. Resolves to the reason why the session could not be saved, or to
-   * "".
+   * Writes the session to the store, then logs the runs since the last save. Resolves to the reason why the session could not be saved, or
+   * to "".
    */
-  async keep() {
+  async save() {
     if (!this.session) return "";
     const { calls } = this;
     this.lastSaveTime = performance.now();
     const runs = calls.takeRuns();
-    const fault = await this.session.keep();
+    const fault = await this.session.save();
     calls.logRuns(runs, fault);
     calls.showSaveError(fault && say.notKept(fault));
     calls.showSaveState(fault || !this.store.isPersistent ? "failed" : this.session.isUntouched ? "example" : "saved");
@@ -206,9 +210,9 @@ export class CurrentSession {
   }
 
   /** Saves the session when the user leaves the page. */
-  keepNow() {
+  saveNow() {
     if (!this.session) return;
-    this.session.keepNow();
-    this.storedHistory.leave();
+    this.session.saveNow();
+    this.storedHistory.saveOnLeave();
   }
 }

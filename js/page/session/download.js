@@ -2,8 +2,8 @@
 
 import { element } from "../ui/dom.js";
 
-/** The time in milliseconds for which the file's bytes stay available to the browser. */
-const URL_LIFETIME = 10000;
+/** The time in milliseconds for which the browser can read the file's bytes. */
+const URL_LIFETIME_MS = 10000;
 
 /**
  * @param {string} name
@@ -14,5 +14,5 @@ export function download(name, extension, bytes) {
   const link = element("a", { href: URL.createObjectURL(bytes) });
   link.download = `${name.replace(/[^\w .,()-]/g, "_").trim() || "session"}${extension}`;
   link.click();
-  setTimeout(() => URL.revokeObjectURL(link.href), URL_LIFETIME);
+  setTimeout(() => URL.revokeObjectURL(link.href), URL_LIFETIME_MS);
 }

@@ -5,7 +5,7 @@ import { download } from "./download.js";
 import * as say from "../../words/session.js";
 
 /**
- * A file to export: its extension, its description, and a function that returns its contents.
+ * A file to export: its extension, its description, and `make`, which returns its contents.
  * @typedef {{ extension: string, description: string, make: () => string | Uint8Array | Promise<string | Uint8Array> }} ExportedFile
  */
 

@@ -4,12 +4,12 @@ import { PROJECT_FILE } from "../../core/project/project_toml.js";
 
 /** @typedef {{ name: string, files: Map<string, File> }} Folder a folder's files, by their paths in the folder */
 
-/** The maximum number of files read from a folder, and the maximum depth of subfolders. No project needs more. */
+/** The limits for reading a folder: the number of files, and the depth of subfolders. No project needs more. */
 const MAX_FILES = 400;
 const MAX_DEPTH = 6;
 
 /**
- * Returns the folders among dropped items. Must be called during the event.
+ * Returns the folders among the dropped items. Must be called while the browser handles the drop event.
  * @param {DataTransfer | null} data
  * @returns {FileSystemDirectoryEntry[]}
  */

@@ -11,7 +11,7 @@ import * as say from "../../words/session.js";
  * @typedef {import("../../core/engine/examples.js").Example} Example
  * @typedef {import("../../core/session/opened_file.js").FileTexts} FileTexts
  *
- * The texts, the requested speed ("" for none), and a message about omitted files.
+ * The texts of a project folder, the speed that the project requests ("" for none), and a message about the files that were not read.
  * @typedef {{ texts: Example, speed: string, words: string }} FolderTexts
  */
 
@@ -25,7 +25,7 @@ async function readBytes(file, limit) {
 }
 
 /**
- * Resolves to the text of one kind in a folder's file, or to "" if the folder has no such file.
+ * Resolves to the text in the folder's file at `path`, or to "" if `path` is empty.
  * @param {Map<string, File>} files
  * @param {string} path
  * @param {"board" | "program" | "tests" | "properties"} kind
@@ -40,7 +40,8 @@ async function readText(files, path, kind) {
 }
 
 /**
- * Returns a message about the omitted files, or "" if there are none. A session has only one text of each kind.
+ * Returns a message about the files that were not read, or "" if all were read. A session has only one text of each kind, so the other
+ * files of that kind are omitted.
  * @param {string[][]} lists
  */
 function omittedMessage(lists) {

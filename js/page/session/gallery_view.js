@@ -23,7 +23,7 @@ function shapeNodes(shape) {
     svgElement("text", { class: `digits ${shape.colour}`, x: x + width - 5, y: base + 6 }, shape.digits)];
 }
 
-/** Returns the picture for a board with an empty front panel: a chip. */
+/** Returns a picture of a chip, which is shown for a board with an empty front panel. */
 function emptyPicture() {
   const picture = icon("chip");
   picture.classList.add("picture", "empty-picture");

@@ -1,5 +1,5 @@
-// The texts that are not yet in the store when the user leaves the page. In WebKit, the page's last write to the store does not complete,
-// so these texts also go to the browser's local storage, which stores them at once.
+// Saves the texts that are not yet in the session store when the user leaves the page. In WebKit, the last write to that store does not
+// complete, so these texts are also written to the browser's local storage, which saves them at once.
 
 import { browserStore } from "../ui/preferences.js";
 
@@ -8,66 +8,66 @@ import { browserStore } from "../ui/preferences.js";
  * @typedef {Pick<Storage, "getItem" | "setItem" | "removeItem">} TextStore
  */
 
-const KEY = "fethsaim.left.";
+const KEY_PREFIX = "fethsaim.left.";
 
 /** @param {SessionRecord} record */
 function formatTexts({ boardText, programText, testText, propertiesText }) {
   return JSON.stringify({ boardText, programText, testText, propertiesText });
 }
 
-export class LeftTexts {
+export class UnsavedTexts {
   /** @param {TextStore | null} store null if the browser has no storage */
   constructor(store = browserStore()) {
     this.store = store;
-    /** The texts that are in the session store. */
+    /** The current session's texts in the session store, as JSON. */
     this.storedTexts = "";
   }
 
   /**
-   * Notes that the session store has the texts of a record.
+   * Records that the session store has the texts of a session.
    * @param {SessionRecord} record
    */
-  note(record) {
+  noteStored(record) {
     this.storedTexts = formatTexts(record);
   }
 
   /**
-   * Keeps the texts of a session that the user leaves, unless the session store has them.
+   * Saves the texts of a session in local storage when the user leaves it, unless the session store has them.
    * @param {SessionRecord} record
    */
-  leave(record) {
+  saveOnLeave(record) {
     const texts = formatTexts(record);
     if (texts === this.storedTexts) return;
-    this.change((store) => store.setItem(KEY + record.id, JSON.stringify({ revision: record.revision, texts })));
+    this.accessStore((store) => store.setItem(KEY_PREFIX + record.id, JSON.stringify({ revision: record.revision, texts })));
   }
 
   /**
-   * Puts the kept texts into a record from the session store, if the store does not have the record's last revision. The texts stay here
-   * until the store has a later revision, because the user can leave again before the next write.
+   * Copies the texts in local storage into a record that was read from the session store, if they are newer than the record. The texts stay
+   * in local storage until the session store has newer ones, because the user can leave again before the next write.
    * @param {SessionRecord} record
    */
   restore(record) {
-    this.change((store) => {
-      const { revision = 0, texts = "{}" } = JSON.parse(store.getItem(KEY + record.id) || "{}");
+    this.accessStore((store) => {
+      const { revision = 0, texts = "{}" } = JSON.parse(store.getItem(KEY_PREFIX + record.id) || "{}");
       if (revision > record.revision) Object.assign(record, JSON.parse(texts), { revision });
-      else store.removeItem(KEY + record.id);
+      else store.removeItem(KEY_PREFIX + record.id);
     });
   }
 
   /**
-   * Removes the kept texts of a session that is deleted.
+   * Removes the texts of a deleted session from local storage.
    * @param {string} id
    */
   forget(id) {
-    this.change((store) => store.removeItem(KEY + id));
+    this.accessStore((store) => store.removeItem(KEY_PREFIX + id));
   }
 
   /** @param {(store: TextStore) => void} action */
-  change(action) {
+  accessStore(action) {
     try {
       if (this.store) action(this.store);
     } catch {
-      // Without storage, WebKit loses what the user typed just before leaving the page.
+      // Without local storage, WebKit loses the text that the user typed just before leaving the page.
     }
   }
 }

@@ -25,7 +25,7 @@ import * as say from "../../words/session.js";
  * @property {() => Texts | null} currentTexts Returns the name and the texts of the current session, or null if there is none.
  * @property {() => void} showSessionAddress Puts the address of the current session into the address bar.
  * @property {(texts: Texts, file: Uint8Array, runs: boolean) => Promise<boolean>} begin Begins a new session from texts and a file. If
- *   `runs`, time is running in the session. Resolves to true if the session was created.
+ *   `runs` is true, time runs in the session. Resolves to true if the session was created.
  * @property {() => void} save Saves the project as a file. Called if the link would be too long.
  */
 
@@ -79,7 +79,7 @@ export class LinkSharing {
     }
   }
 
-  /** @param {string} size the length of the link as a text */
+  /** @param {string} size the length of the link, formatted for the user */
   async offerFile(size) {
     const isSaved = await this.confirmDialog.ask({
       title: say.TOO_LONG_LINK,

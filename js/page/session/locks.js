@@ -2,16 +2,18 @@
 
 import { withTimeout } from "./store.js";
 
-/** The number of attempts to acquire a lock, and the time in milliseconds between attempts. */
+/** The maximum number of attempts to acquire a lock, and the time in milliseconds between two attempts. */
 const MAX_ATTEMPTS = 6;
-const RETRY_DELAY = 150;
-/** The name of a lock that tests whether locks work. A browser that blocks site data rejects all lock requests. */
+const RETRY_DELAY_MS = 150;
+/**
+ * The name of a lock that the page requests only to find out whether locks work. A browser that blocks site data rejects all lock requests.
+ */
 const PROBE_NAME = "fethsaim probe";
 
 /** @typedef {() => void} Release releases a lock */
 
 export class Locks {
-  /** Resolves to the browser's locks. If the browser has no working locks, every lock is free. */
+  /** Resolves to the browser's locks, or to substitutes that are always free if the browser has no working locks. */
   static async find() {
     if (!navigator.locks) return new Locks(null);
     try {
@@ -29,16 +31,16 @@ export class Locks {
   }
 
   /**
-   * Acquires a session's lock for this tab. Resolves to a function that releases the lock, or to null if another tab holds the lock. A page
-   * that is reloading can hold the lock for a moment longer, so there are several attempts.
+   * Acquires a session's lock for this tab. Resolves to a function that releases the lock, or to null if another tab holds the lock. During
+   * a reload, the old page can still hold the lock for a moment, so the lock is requested several times.
    * @param {string} id
    * @returns {Promise<Release | null>}
    */
-  async take(id) {
+  async acquire(id) {
     for (let attempt = 0; attempt < MAX_ATTEMPTS; attempt++) {
       const release = await this.requestLock(`fethsaim session ${id}`);
       if (release) return release;
-      await new Promise((resolve) => setTimeout(resolve, RETRY_DELAY));
+      await new Promise((resolve) => setTimeout(resolve, RETRY_DELAY_MS));
     }
     return null;
   }

@@ -1,4 +1,5 @@
-// Puts the lines of an example or a file into the console's input. If the user had typed a text, a notice offers to restore that text.
+// Puts the lines of an example or a file into the console's input. If this replaces a text that the user typed, a notice offers to restore
+// that text.
 
 import { byId } from "../ui/dom.js";
 import * as say from "../../words/session.js";
@@ -14,7 +15,7 @@ export class OfferedLines {
     this.lastOfferedText = "";
   }
 
-  /** @param {string} lines the lines; "" for a session without lines */
+  /** @param {string} lines the lines to put into the input; "" for a session without lines */
   offer(lines) {
     const userText = this.area.value;
     const hasUserText = userText.trim() !== "" && userText !== this.lastOfferedText;

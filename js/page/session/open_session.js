@@ -1,7 +1,7 @@
-// A session that is open in this tab: its record, which has the last state from the bench, and the writes of the record to the store.
+// A session that is open in this tab: its record, with the last state that the bench reported, and the writes of the record to the store.
 
 import { shortName } from "../../core/session/names.js";
-import { LeftTexts } from "./left_texts.js";
+import { UnsavedTexts } from "./left_texts.js";
 import { withTimeout, describeStoreError } from "./store.js";
 
 /**
@@ -35,15 +35,15 @@ export class OpenSession {
    * @param {SessionStore} store
    * @param {SessionRecord} record
    * @param {Release} release releases the session's lock
-   * @param {string} example the example's name if the session is still unchanged, otherwise ""; an unchanged example is not saved
+   * @param {string} example the example's name if the session is an unchanged example, which is not saved; otherwise ""
    */
   constructor(store, record, release, example = "") {
     this.store = store;
     this.record = record;
     this.release = release;
     this.example = example;
-    this.leftTexts = new LeftTexts();
-    if (record.revision > 0) this.leftTexts.note(record);
+    this.unsavedTexts = new UnsavedTexts();
+    if (record.revision > 0) this.unsavedTexts.noteStored(record);
     /** @type {Promise<string>} the write in progress */
     this.currentWrite = Promise.resolve("");
     /** @type {Promise<string> | null} the next write after the one in progress; null if there is none */
@@ -51,11 +51,11 @@ export class OpenSession {
   }
 
   /**
-   * Stores the file's new bytes. Returns the buffer with the old bytes for reuse.
+   * Puts the new bytes of the session file into the record. Returns the buffer of the old bytes for reuse.
    * @param {ArrayBuffer} file
    * @returns {ArrayBuffer}
    */
-  take(file) {
+  replaceFile(file) {
     const oldBuffer = this.record.file.buffer;
     this.record.file = new Uint8Array(file);
     return oldBuffer;
@@ -66,7 +66,7 @@ export class OpenSession {
    * write. If the store does not answer in time, the write counts as failed, and later writes wait until the store answers.
    * @returns {Promise<string>}
    */
-  keep() {
+  save() {
     return this.isUntouched ? Promise.resolve("") : withTimeout(this.writeNext()).catch(describeStoreError);
   }
 
@@ -83,13 +83,13 @@ export class OpenSession {
   }
 
   /**
-   * Writes the session when the user leaves the page and the page cannot wait. Nothing is written if the store must answer a read first:
-   * the answer would arrive too late, and the unfinished write would block other pages.
+   * Writes the session when the user leaves the page and the page cannot wait. Writes nothing if the store must first answer a read. That
+   * answer would arrive too late, and the unfinished write would block other pages.
    */
-  keepNow() {
+  saveNow() {
     if (!this.store.isAtomic || this.isUntouched) return Promise.resolve("");
     const write = this.write();
-    this.leftTexts.leave(this.record);
+    this.unsavedTexts.saveOnLeave(this.record);
     return write;
   }
 
@@ -98,7 +98,7 @@ export class OpenSession {
   }
 
   /** Records that the user has changed the session. From then on, the session is saved. Returns true if this is the first change. */
-  touch() {
+  markChanged() {
     const { isUntouched } = this;
     this.example = "";
     return isUntouched;
@@ -110,7 +110,7 @@ export class OpenSession {
       this.record.changed = Date.now();
       const writtenRecord = { ...this.record };
       await this.store.put(this.record);
-      this.leftTexts.note(writtenRecord);
+      this.unsavedTexts.noteStored(writtenRecord);
       return "";
     } catch (fault) {
       return describeStoreError(fault);

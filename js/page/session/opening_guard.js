@@ -1,20 +1,20 @@
-// Detects sessions that hang the page while they are opened, for example through a text that takes too long. Such a session must not be
-// opened automatically at every start. A flag is set before a session is opened. The flag is cleared when the page shows the session and
-// still responds.
+// Detects sessions that make the page hang while they are opened, for example because a text takes too long to process. The page must not
+// open such a session automatically at every start. A flag is set before a session is opened. The flag is cleared when the page shows the
+// session and still responds.
 
 import { browserStore } from "../ui/preferences.js";
 
 /** @typedef {Pick<Storage, "getItem" | "setItem" | "removeItem">} FlagStore */
 
-const KEY = "fethsaim.opening.";
-/** The time in milliseconds after which an opened session counts as harmless. */
-const SETTLE_TIME = 1000;
+const KEY_PREFIX = "fethsaim.opening.";
+/** The time in milliseconds for which the page must still respond after it has opened a session. The session then counts as harmless. */
+const HARMLESS_AFTER_MS = 1000;
 /**
- * The maximum age in milliseconds of a recent opening. If the user leaves the page within this time, the page has not hung. In another tab,
- * the session may still be opening.
+ * The time in milliseconds during which an opening counts as recent. A user who leaves the page within this time has not seen it hang.
+ * Another tab may still be opening the session.
  */
-const RECENT_TIME = 2000;
-/** The window events that announce that the user leaves the page. Every browser sends at least one of them. */
+const RECENT_OPENING_MS = 2000;
+/** The window events that tell the page that the user is leaving it. Every browser sends at least one of them. */
 const LEAVE_EVENTS = ["beforeunload", "pagehide"];
 
 export class OpeningGuard {
@@ -28,27 +28,27 @@ export class OpeningGuard {
     this.callLater = callLater;
     this.currentTime = currentTime;
     /**
-     * @type {Map<string, { time: number, isEnded: boolean }>} the openings whose flags this page has set: the start time, and whether the
-     *   opening has ended
+     * @type {Map<string, { time: number, isEnded: boolean }>} the openings whose flags this page has set, by session id: the start time,
+     *   and whether the opening has ended
      */
     this.pendingOpenings = new Map();
   }
 
   /**
-   * Opens a session. The session's flag is set during the opening and for SETTLE_TIME afterwards.
+   * Opens a session. The session's flag is set during the opening and for HARMLESS_AFTER_MS afterwards.
    * @param {string} id
-   * @param {() => Promise<void>} open opens the session; a rejection also ends the opening
+   * @param {() => Promise<void>} open opens the session; the opening has also ended if the promise is rejected
    */
   async runOpening(id, open) {
     const opening = { time: this.currentTime(), isEnded: false };
     this.pendingOpenings.set(id, opening);
-    this.accessStore((store) => store.setItem(KEY + id, String(opening.time)));
+    this.accessStore((store) => store.setItem(KEY_PREFIX + id, String(opening.time)));
     try {
       await open();
     } finally {
       opening.isEnded = true;
       // The session may have been opened again in the meantime.
-      this.callLater(() => (this.pendingOpenings.get(id) === opening ? this.forget(id) : undefined), SETTLE_TIME);
+      this.callLater(() => (this.pendingOpenings.get(id) === opening ? this.forget(id) : undefined), HARMLESS_AFTER_MS);
     }
   }
 
@@ -60,7 +60,7 @@ export class OpeningGuard {
     /** @type {string | null} */
     let flag = null;
     this.accessStore((store) => {
-      flag = store.getItem(KEY + id);
+      flag = store.getItem(KEY_PREFIX + id);
     });
     return flag !== null && !this.isRecent(Number(flag));
   }
@@ -68,19 +68,19 @@ export class OpeningGuard {
   /** @param {number} time the time at which an opening began, in milliseconds */
   isRecent(time) {
     const age = this.currentTime() - time;
-    return age >= 0 && age < RECENT_TIME;
+    return age >= 0 && age < RECENT_OPENING_MS;
   }
 
   /** @param {string} id the id of a session whose opening has ended, or which has been deleted */
   forget(id) {
     this.pendingOpenings.delete(id);
-    this.accessStore((store) => store.removeItem(KEY + id));
+    this.accessStore((store) => store.removeItem(KEY_PREFIX + id));
   }
 
   /** @param {Pick<Window, "addEventListener">} target the page's window */
   listen(target) {
-    // When the user leaves a page, Firefox 153 often does not run functions that have never run. Run all functions needed at that time once
-    // now.
+    // When the user leaves a page, Firefox 153 often does not run functions that have never run. So run all functions that are needed then
+    // once now.
     this.pendingOpenings.set("", { time: this.currentTime(), isEnded: false });
     this.handleLeave();
     for (const name of LEAVE_EVENTS) target.addEventListener(name, () => this.handleLeave());

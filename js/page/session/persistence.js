@@ -1,5 +1,5 @@
-// Asks the browser to store the page's data permanently, even if disk space is short. Some browsers then ask the user, so the page asks
-// only once, when there is data to lose.
+// Asks the browser not to delete the page's data when disk space is short. Some browsers then ask the user for permission, so the page asks
+// only once, and only when there is data to lose.
 
 /**
  * The browser's storage manager, or a substitute in tests.
@@ -17,7 +17,7 @@ export class Persistence {
   constructor(storageManager = browserStorageManager()) {
     this.storageManager = storageManager;
     this.isAsked = false;
-    /** True if the browser has promised to keep the data. */
+    /** True if the browser has promised not to delete the page's data. */
     this.isPromised = false;
   }
 

@@ -112,7 +112,7 @@ export class SessionList {
   }
 
   /**
-   * Deletes sessions. The focus then moves to the entry that is now at the first one's position.
+   * Deletes sessions. The focus then moves to the entry that is now in the position of the first deleted one.
    * @param {SessionRecord[]} records
    */
   async remove(records) {

@@ -3,7 +3,7 @@
 import { download } from "./download.js";
 import { runsAtOnce } from "../../core/engine/examples.js";
 import { newRecord } from "./open_session.js";
-import { LeftTexts } from "./left_texts.js";
+import { UnsavedTexts } from "./left_texts.js";
 import { readFolderTexts } from "./folder_project.js";
 import { readOpenedFile } from "../../core/session/opened_file.js";
 import { MAX_PROJECT_BYTES, projectText, readProject, tooLongMessage } from "../../core/session/project_file.js";
@@ -27,9 +27,9 @@ import * as say from "../../words/session.js";
  * The callbacks of SessionManager.
  * @typedef {object} ManagerCalls
  * @property {() => OpenSession | null} session Returns the current session, or null if there is none.
- * @property {() => Promise<string>} keep Saves the session. Resolves to the reason why it could not be saved, or to "".
- * @property {(words: string, ...actions: NoticeAction[]) => void} refuse Shows a message about an action that was not executed, with
- *   buttons for alternatives.
+ * @property {() => Promise<string>} save Saves the session. Resolves to the reason why it could not be saved, or to "".
+ * @property {(words: string, ...actions: NoticeAction[]) => void} refuse Shows a message that says why an action was not executed, with
+ *   buttons for alternative actions.
  * @property {(id: string) => void} setSpeed Sets the speed that a project requests, by its id.
  * @property {(record: SessionRecord) => void} offerReturn Reports a session that the user has left for a new one, and offers to return to
  *   it.
@@ -55,7 +55,7 @@ export class SessionManager {
     this.locks = locks;
     this.words = words;
     this.calls = calls;
-    this.leftTexts = new LeftTexts();
+    this.unsavedTexts = new UnsavedTexts();
   }
 
   /** Resolves to the saved sessions, the most recently changed first. */
@@ -72,13 +72,13 @@ export class SessionManager {
   async readRecord(id) {
     const record = await this.store.get(id);
     if (!record) throw new StoreError(say.NO_LONGER_KEPT);
-    this.leftTexts.restore(record);
+    this.unsavedTexts.restore(record);
     return record;
   }
 
   /**
    * @param {string} words
-   * @param {NoticeAction[]} actions buttons for alternatives
+   * @param {NoticeAction[]} actions buttons for alternative actions
    * @returns {false}
    */
   rejectAction(words, ...actions) {
@@ -91,7 +91,7 @@ export class SessionManager {
    * @param {string} id
    */
   async open(id) {
-    const release = await this.locks.take(id);
+    const release = await this.locks.acquire(id);
     if (!release) return this.rejectAction(say.IN_ANOTHER_TAB, { word: say.OPEN_A_COPY, act: () => this.copy(id) });
     try {
       await this.calls.useSession(await this.readRecord(id), release, "");
@@ -111,7 +111,7 @@ export class SessionManager {
     const previousSession = this.calls.session();
     try {
       const record = await makeRecord();
-      await this.calls.useSession(record, (await this.locks.take(record.id)) || (() => {}), example);
+      await this.calls.useSession(record, (await this.locks.acquire(record.id)) || (() => {}), example);
       if (previousSession && !previousSession.isUntouched) this.calls.offerReturn(previousSession.record);
       return true;
     } catch (fault) {
@@ -146,7 +146,7 @@ export class SessionManager {
   /** @param {string} id */
   async copy(id) {
     const currentSession = this.calls.session();
-    if (currentSession && currentSession.record.id === id) await this.calls.keep();
+    if (currentSession && currentSession.record.id === id) await this.calls.save();
     return this.openNew(async () => {
       const record = await this.readRecord(id);
       return newRecord(say.aCopy(record.name), record.file, record);
@@ -199,7 +199,7 @@ export class SessionManager {
   }
 
   /**
-   * Resolves to a new record for a project. The bytes of its session stay unchanged.
+   * Resolves to a new record for a project file. The record contains the bytes of the project's session unchanged.
    * @param {Uint8Array} bytes
    */
   async projectRecord(bytes) {
@@ -214,7 +214,7 @@ export class SessionManager {
    * @param {Uint8Array} bytes
    */
   async sessionFileRecord(fileName, bytes) {
-    // One byte more than a session's size is enough for the bench to detect a file that is too long.
+    // The bench needs only one byte more than the size of a session file to detect a file that is too long.
     const settledBytes = await this.bench.call("settled", [bytes.slice(0, this.bench.size + 1)]);
     const texts = await this.bench.call("texts", [settledBytes]);
     return newRecord(fileName.replace(/\.mcs$/i, ""), settledBytes, texts);

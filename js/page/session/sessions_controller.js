@@ -25,7 +25,7 @@ import * as say from "../../words/session.js";
  * The callbacks of SessionsController.
  * @typedef {object} ControllerCalls
  * @property {() => OpenSession | null} session Returns the current session, or null if there is none.
- * @property {() => Promise<string>} keep Saves the session. Resolves to the reason why it could not be saved, or to "".
+ * @property {() => Promise<string>} save Saves the session. Resolves to the reason why it could not be saved, or to "".
  * @property {(name: string) => void} rename Renames the current session.
  * @property {(id: string) => void} setSpeed Sets the speed that a project requests, by its id.
  * @property {(name: string, texts: import("../../core/session/opened_file.js").FileTexts) => Promise<void>} loadTexts Loads the texts of a
@@ -112,7 +112,10 @@ export class SessionsController {
     this.notice.show(say.sessionLeft(name, this.store.isPersistent), "left", { word: say.BACK_TO_IT, act: () => this.open(id) });
   }
 
-  /** Called when the user changes the session. The user now has data to lose, and has accepted this session. */
+  /**
+   * Called when the user changes the session. From now on, the user has data to lose, and no longer needs the offer to return to the
+   * previous session.
+   */
   handleSessionChange() {
     this.notice.hide("left");
     if (this.store.isPersistent) this.persistence.ask();
@@ -136,7 +139,7 @@ export class SessionsController {
   }
 
   /** @param {string} name the name of an example */
-  async beginNamed(name) {
+  async beginExampleByName(name) {
     const example = [...this.examples, FIRST_PROGRAM].find((candidate) => candidate.name === name);
     if (example) return this.begin(example);
     this.notice.show(say.noSuchExample(shortName(name)), "session");
@@ -161,8 +164,8 @@ export class SessionsController {
   }
 
   /**
-   * Opens the first session of the page: the address's target, the example whose story is requested, the last used session that is not open
-   * in another tab, or the first example.
+   * Opens the first session of the page. It is the target of the address if there is one, or the example whose story is requested.
+   * Otherwise it is the last used session that is not open in another tab, or the first example.
    * @param {string} story the name of the example whose story is requested; "" for none
    */
   async openFirst(story) {
@@ -173,11 +176,11 @@ export class SessionsController {
     const isQuiet = kind === "" || kind === "link" || (kind === "session" && this.openings.hasUnfinishedOpening(value));
     if (isQuiet || !(await this.openFromAddress(kind, value))) await this.openLast(isQuiet);
     if (kind === "link") await this.calls.openLink(value);
-    if (kind === "") this.refuseAddress(hash);
+    if (kind === "") this.reportUnknownAddress(hash);
   }
 
   /** @param {string} hash the text after `#` in an address that names no session, example or link */
-  refuseAddress(hash) {
+  reportUnknownAddress(hash) {
     if (hash.length > 1) this.notice.show(say.namesNothing(shortName(hash)), "session");
   }
 
@@ -187,10 +190,10 @@ export class SessionsController {
    */
   async openFromAddress(kind, value) {
     if (kind === "session") return this.open(value);
-    return kind === "example" ? this.beginNamed(value) : false;
+    return kind === "example" ? this.beginExampleByName(value) : false;
   }
 
-  /** @param {boolean} isQuiet true if sessions that are open in other tabs are skipped without a notice */
+  /** @param {boolean} isQuiet true to skip sessions that are open in other tabs without a notice */
   async openLast(isQuiet) {
     const records = await this.manager.savedSessions();
     const unendedRecords = records.filter(({ id }) => this.openings.hasUnfinishedOpening(id));
@@ -203,12 +206,12 @@ export class SessionsController {
   }
 
   /**
-   * Reports a session that may have hung the page when it was last opened. Such a session is not opened automatically. Reports nothing if
-   * another tab holds the session's lock.
+   * Reports a session that may have made the page hang when it was last opened. Such a session is not opened automatically. Reports nothing
+   * if another tab holds the session's lock.
    * @param {SessionRecord} record
    */
   async reportUnfinishedOpening(record) {
-    const release = await this.locks.take(record.id);
+    const release = await this.locks.acquire(record.id);
     if (!release) return;
     release();
     const message = say.notOpenedAutomatically(shortName(record.name));
@@ -221,9 +224,9 @@ export class SessionsController {
     const { kind, value } = readAddress(location.hash);
     const session = this.calls.session();
     if (!session) return;
-    if (kind === "") this.refuseAddress(location.hash);
+    if (kind === "") this.reportUnknownAddress(location.hash);
     else if (kind === "link") await this.calls.openLink(value);
     else if (kind === "session" && !this.isShown(value)) await this.open(value);
-    else if (kind === "example" && session.example !== value) await this.beginNamed(value);
+    else if (kind === "example" && session.example !== value) await this.beginExampleByName(value);
   }
 }

@@ -26,14 +26,15 @@ import * as say from "../../words/session.js";
  * @property {(example: Example) => Promise<boolean>} begin Begins a new session from an example.
  * @property {(example: Example) => Promise<boolean>} beginStory Begins a new session from an example, and shows its story.
  * @property {(file: File) => Promise<boolean>} openFile Opens a file: a project, a session or a text.
- * @property {(read: () => Promise<import("./folder_files.js").Folder>) => Promise<boolean>} openFolder Opens a project in a folder, which
- * Opens the project in the folder that `read` reads.
+ * @property {(read: () => Promise<import("./folder_files.js").Folder>) => Promise<boolean>} openFolder Opens the project in the folder that
+ *   `read` reads.
  * @property {(name: string) => void} rename Renames the current session.
  * @property {() => string} describeStorage Returns a text about where the browser stores sessions.
  */
 
 /**
- * Returns the examples in page order: first the empty bench, on which the user can build a board, then the others in the order of ORDER.
+ * Returns the examples in page order: first the example without any texts, with which the user can build a board, then the others in the
+ * order of ORDER.
  * @param {Example[]} examples
  */
 function orderExamples(examples) {
@@ -54,7 +55,7 @@ export class SessionsView {
     this.calls = calls;
     this.notice = notice;
     this.dialog = byId("sessions", HTMLDialogElement);
-    /** True if the user pressed the dialog's last button by pointer. */
+    /** True if the user pressed the last button in the dialog with the pointer, not with a key. */
     this.isByPointer = false;
     this.sessionList = new SessionList({
       ...calls,
@@ -95,8 +96,8 @@ export class SessionsView {
 
   handleClose() {
     this.notice.moveTo(document.body);
-    // The browser returns the focus to the button that opened the dialog. After a click by pointer, drop the focus so that the board
-    // receives the keys.
+    // The browser returns the focus to the button that opened the dialog. After a click with the pointer, remove the focus from that
+    // button, so that the board receives the keys.
     if (this.isByPointer && document.activeElement instanceof HTMLElement) document.activeElement.blur();
   }
 
@@ -153,7 +154,7 @@ export class SessionsView {
   /** @param {HTMLInputElement} input */
   async openChosenFiles(input) {
     await this.openAll(input.files ? [...input.files] : []);
-    // With an empty value, the user can choose the same file again.
+    // Clear the field, so that the user can choose the same file again.
     input.value = "";
   }
 

@@ -1,5 +1,5 @@
 // A link contains a session's name and texts after the `#` of an address, which browsers do not send to servers. The link begins with its
-// compression method: 1 for deflate, 0 for none. Then follow a checksum and the lines of a project file up to the session.
+// compression method: 1 for deflate, 0 for none. A checksum follows, and then the lines of a project file that precede its session.
 
 import { fromBase64, toBase64 } from "../../core/session/base64.js";
 import { checksum } from "../../core/session/checksum.js";
@@ -8,12 +8,13 @@ import * as say from "../../words/session.js";
 
 /**
  * @typedef {import("../../core/session/project_file.js").Texts} Texts
- * @typedef {{ readable: ReadableStream<Uint8Array>, writable: WritableStream<BufferSource> }} ByteTransform a transforming stream
+ * @typedef {{ readable: ReadableStream<Uint8Array>, writable: WritableStream<BufferSource> }} ByteTransform a stream that compresses or
+ *   decompresses
  */
 
 /**
  * The maximum length of a link. Chromium leaves its address bar empty if an address has more than 32,768 characters, and users copy and
- * paste links there. Any program that fits into ROM fits into a link, unless its text hardly compresses.
+ * paste links there. Any program that fits into ROM fits into a link, unless its text compresses very badly.
  */
 export const MAX_LINK_LENGTH = 32000;
 /** The length of an address that all software should accept (RFC 9110, 4.1). Some software truncates longer addresses. */
@@ -21,7 +22,7 @@ export const MAX_SAFE_LINK_LENGTH = 8000;
 /** The maximum number of bytes after decompression. */
 const MAX_BYTES = 1 << 20;
 
-/** The error of a link that cannot be opened. Its message is a text for the user. */
+/** The error that is thrown if a link cannot be opened. Its message is meant for the user. */
 export class LinkError extends Error {}
 
 
@@ -41,7 +42,7 @@ function makeStream(name) {
 }
 
 /** @param {Uint8Array} bytes */
-function encodeLetters(bytes) {
+function encodeBase64(bytes) {
   return toBase64(bytes).replace(/\+/g, "-").replace(/\//g, "_").replace(/=+$/, "");
 }
 
@@ -94,7 +95,7 @@ export async function toLink({ name, boardText, programText, testText, propertie
   const body = `${projectLines({ name, boardText, programText, testText, propertiesText }).join("\n")}\n`;
   const bytes = encoder.encode(`${checksum(encoder.encode(body))}\n${body}`);
   const stream = makeStream("CompressionStream");
-  return stream ? `1.${encodeLetters(await readOutput(bytes, stream))}` : `0.${encodeLetters(bytes)}`;
+  return stream ? `1.${encodeBase64(await readOutput(bytes, stream))}` : `0.${encodeBase64(bytes)}`;
 }
 
 /** @param {Uint8Array} bytes */

@@ -1,14 +1,15 @@
-// The session store in the browser's IndexedDB. The page writes to the store, not the worker. When the user leaves the page, the browser
-// completes the page's requests but terminates the worker immediately.
+// The session store in the browser's IndexedDB. The page itself writes to the store, because the browser terminates the worker at once when
+// the user leaves the page, but still completes the page's requests.
 
 import * as say from "../../words/session.js";
 
 /**
- * A session in the store: its file, its name, and the texts of the editors, which the file does not contain. Older sessions have no text of
- * tests or of properties. `runs`: whether time is running, so that a reload continues. `cycles`: the cycle counts. `breakpoints`: the
- * breakpoints of the source. `watched`: the watch list. `isTitled`: whether the name is the title in the texts, because the user has given
- * none. `goal`: the goal of a move in progress. `places`: the positions of dragged parts. `printed`: the codes that were sent to the
- * board's printer. `wired`: the texts of the last boards, the one in use first. `rows`: the arrangement of the rows of waves.
+ * A session in the store: its file, its name, and the texts of the editors, which the file does not contain. Records from older versions
+ * have no tests text and no properties text. `runs`: true if time is running, so that it resumes after a reload. `cycles`: the cycle counts
+ * that the page shows. `breakpoints`: the breakpoints of the source. `watched`: the watch list. `isTitled`: true if the name is the title
+ * in the texts because the user has not named the session. `goal`: the goal of the run in progress. `places`: the positions of dragged
+ * parts in the board's picture. `printed`: the codes that were sent to the board's printer. `wired`: the texts of the last boards,
+ * beginning with the board in use. `rows`: the arrangement of the rows in the logic analyser.
  * @typedef {{ id: string, name: string, file: Uint8Array, boardText: string, programText: string, testText?: string,
  *   propertiesText?: string, runs: boolean, revision: number, changed: number, cycles?: import("../../core/time/cycles.js").StoredCycles,
  *   isTitled?: boolean, breakpoints?: import("../../core/debug/breakpoints.js").SavedBreakpoint[], watched?: string[],
@@ -17,25 +18,25 @@ import * as say from "../../words/session.js";
  *   wired?: import("../../core/board/wired_board_text.js").WiredText[] }} SessionRecord
  *
  * @typedef {{ isPersistent: boolean, isAtomic: boolean, all: () => Promise<SessionRecord[]>, get: (id: string) => Promise<SessionRecord |
- * undefined>, put: (record: SessionRecord) => Promise<void>, remove: (id: string) => Promise<void> }} SessionStore `isAtomic`: `put`
- * sends all its requests together
+ *   undefined>, put: (record: SessionRecord) => Promise<void>, remove: (id: string) => Promise<void> }} SessionStore `isPersistent`: the
+ *   sessions outlast the page; `isAtomic`: `put` sends all its requests at once, so that they complete even while the page closes
  */
 
-/** The error of a session that could not be saved or read. Its message is a text for the user. */
+/** The error that is thrown if a session cannot be saved or read. Its message is meant for the user. */
 export class StoreError extends Error {}
 
 /** The time in milliseconds after which a store that does not answer counts as failed. Its requests may still succeed later. */
-const STORE_TIMEOUT = 10000;
+const STORE_TIMEOUT_MS = 10000;
 
 /**
- * Resolves to the answer of a browser service, such as the store. Rejects after STORE_TIMEOUT, so that the page never waits forever.
+ * Resolves to the answer of a browser service, such as the store. Rejects after STORE_TIMEOUT_MS, so that the page never waits forever.
  * @template Result
  * @param {Promise<Result>} answer
  * @returns {Promise<Result>}
  */
 export function withTimeout(answer) {
   return new Promise((resolve, reject) => {
-    const timer = setTimeout(() => reject(new StoreError(say.STORE_SILENT)), STORE_TIMEOUT);
+    const timer = setTimeout(() => reject(new StoreError(say.STORE_SILENT)), STORE_TIMEOUT_MS);
     answer.then(resolve, reject).finally(() => clearTimeout(timer));
   });
 }
@@ -76,7 +77,7 @@ export class Store {
     this.database = database;
     this.isPersistent = true;
     this.isAtomic = hasLocks;
-    // Without this handler, a newer page in another tab would wait forever.
+    // Close the database when another tab needs a newer version of it. Otherwise that tab would wait forever.
     database.onversionchange = () => database.close();
   }
 
@@ -98,8 +99,8 @@ export class Store {
   }
 
   /**
-   * Stores a record. Resolves when the record is on the disk. With locks, all requests are sent together, so they complete even while the
-   * page is closing.
+   * Stores a record. Resolves when the record is on the disk. If the browser has locks, all requests are sent at once, so that they
+   * complete even while the page is closing.
    * @param {SessionRecord} record
    * @returns {Promise<void>}
    */
@@ -166,7 +167,7 @@ export class Store {
 }
 
 /**
- * Returns a text about why a session could not be saved.
+ * Returns the message that says why a session could not be saved.
  * @param {unknown} error
  */
 export function describeStoreError(error) {

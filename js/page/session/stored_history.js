@@ -1,6 +1,6 @@
-// The recent history of the current session, for going back after a page reload. A history segment is the session's file at one moment and
-// the commands since then. The worker reports the history. When the user leaves the page, it is written to the tab's session
-// storage.
+// The recent history of the current session, with which the user can go back in time even after a page reload. A history segment is the
+// session file at one moment and the commands since then. The worker reports the commands. When the user leaves the page, the history is
+// written to the tab's session storage.
 
 import { fromBase64, toBase64 } from "../../core/session/base64.js";
 import * as say from "../../words/session.js";
@@ -12,15 +12,15 @@ import * as say from "../../words/session.js";
  * @typedef {Pick<Storage, "getItem" | "setItem" | "removeItem">} TabStore
  */
 
-const KEY = "fethsaim.past";
-/** A new segment begins when the last one reaches this number of cycles, of commands, or of characters in commands. */
+const STORAGE_KEY = "fethsaim.past";
+/** The limits of a segment: its cycles, its commands, and the characters in its commands. At each of these limits, a new segment begins. */
 const MAX_CYCLES = 4000000;
 const MAX_ENTRIES = 4000;
 const MAX_CHARACTERS = 200000;
-/** The most cycles that one report can add to the history. A longer report restarts the history at the current state. */
+/** The maximum number of cycles that one report can add to the history. A longer report restarts the history at the current state. */
 const MAX_REPORT_CYCLES = 16000000;
-/** The maximum number of stored segments. */
-const SEGMENTS = 2;
+/** The maximum number of history segments that are stored. */
+const MAX_SEGMENTS = 2;
 
 /** Returns the tab's session storage, or null if the page cannot use it. */
 function tabStore() {
@@ -78,47 +78,48 @@ export class StoredHistory {
    * @param {News} news
    * @param {{ file: Uint8Array, total: number, reset: number }} currentState the session after the report's entries
    */
-  take({ isNewPast, entries }, currentState) {
+  addReport({ isNewPast, entries }, currentState) {
     const cycles = sumCycles(entries);
     const lastSegment = this.segments[this.segments.length - 1];
     if (isNewPast || !lastSegment || cycles > MAX_REPORT_CYCLES) {
       this.segments = [];
-      this.add(currentState);
+      this.addSegment(currentState);
       return;
     }
     lastSegment.entries.push(...entries);
     this.cycles += cycles;
     this.characters += entries.reduce((sum, { line }) => sum + line.length, 0);
-    if (this.cycles >= MAX_CYCLES || lastSegment.entries.length >= MAX_ENTRIES || this.characters >= MAX_CHARACTERS) this.add(currentState);
+    const isFull = this.cycles >= MAX_CYCLES || lastSegment.entries.length >= MAX_ENTRIES || this.characters >= MAX_CHARACTERS;
+    if (isFull) this.addSegment(currentState);
   }
 
   /** @param {{ file: Uint8Array, total: number, reset: number }} currentState */
-  add({ file, total, reset }) {
-    this.segments = [...this.segments, { file: file.slice(), total, reset, entries: [] }].slice(-SEGMENTS);
+  addSegment({ file, total, reset }) {
+    this.segments = [...this.segments, { file: file.slice(), total, reset, entries: [] }].slice(-MAX_SEGMENTS);
     this.cycles = 0;
     this.characters = 0;
   }
 
   /** Writes the history to the storage when the user leaves the page. */
-  leave() {
+  saveOnLeave() {
     const segments = this.segments.map(({ file, ...fields }) => ({ file: toBase64(file), ...fields }));
-    this.change((store) => store.setItem(KEY, JSON.stringify({ session: this.session, segments })));
+    this.accessStore((store) => store.setItem(STORAGE_KEY, JSON.stringify({ session: this.session, segments })));
   }
 
   /** Removes the session's history from the storage and returns it. Returns an empty list if the storage has none for this session. */
   storedSegments() {
     /** @type {StoredSegment[]} */
     let segments = [];
-    this.change((store) => {
-      const stored = JSON.parse(store.getItem(KEY) || "{}");
-      store.removeItem(KEY);
+    this.accessStore((store) => {
+      const stored = JSON.parse(store.getItem(STORAGE_KEY) || "{}");
+      store.removeItem(STORAGE_KEY);
       if (stored.session === this.session && Array.isArray(stored.segments)) segments = stored.segments.map(parseSegment);
     });
     return segments;
   }
 
   /**
-   * Continues a history that the bench has restored. The entries since the reload are appended to it.
+   * Continues a history that the bench has restored after a reload. Appends the entries since the reload to it.
    * @param {StoredSegment[]} restoredSegments
    * @param {number} count the number of restored entries in the last segment
    */
@@ -126,18 +127,18 @@ export class StoredHistory {
     const [{ entries }, ...laterSegments] = this.segments;
     const lastSegment = restoredSegments[restoredSegments.length - 1];
     lastSegment.entries.splice(count, Infinity, ...entries);
-    this.segments = [...restoredSegments, ...laterSegments].slice(-SEGMENTS);
+    this.segments = [...restoredSegments, ...laterSegments].slice(-MAX_SEGMENTS);
     if (laterSegments.length > 0) return;
     this.cycles = sumCycles(lastSegment.entries);
     this.characters = lastSegment.entries.reduce((sum, { line }) => sum + line.length, 0);
   }
 
   /** @param {(store: TabStore) => void} action */
-  change(action) {
+  accessStore(action) {
     try {
       if (this.store) action(this.store);
     } catch {
-      // Without a stored history, the user can go back only to the reload.
+      // If the history cannot be stored, the user can go back only to the last reload.
     }
   }
 }

@@ -15,12 +15,12 @@ import * as say from "../../words/session.js";
  * The callbacks of TextsController.
  * @typedef {object} TextsCalls
  * @property {() => OpenSession | null} session Returns the current session, or null if there is none.
- * @property {() => void} touch Records that the user has changed the session.
- * @property {() => Promise<string>} keep Saves the session. Resolves to the reason why it could not be saved, or to "".
+ * @property {() => void} markChanged Records that the user has changed the session.
+ * @property {() => Promise<string>} save Saves the session. Resolves to the reason why it could not be saved, or to "".
  * @property {() => void} handleEdit Handles an edit of a text.
  * @property {(boardText: string) => void} updateNames Updates the names that come from the board's text, which may have changed.
  * @property {() => Promise<string>} source Resolves to a source text that assembles to the contents of ROM. Rejects if the bench fails.
- * @property {(text: string) => Promise<boolean>} isNoProgram Resolves to true if every line of a text has an error, so that the text is
+ * @property {(text: string) => Promise<boolean>} isNoProgram Resolves to true if every line of a text has an error. The text is then
  *   probably not a program.
  * @property {(shownName: TextName, lines: string) => void} handleLoadedTexts Handles texts that were loaded from a file. Shows the text
  *   `shownName` and puts `lines` into the console's input.
@@ -30,12 +30,13 @@ import * as say from "../../words/session.js";
 /**
  * @typedef {keyof typeof say.WHICH_TEXT} TextName
  *
- * A replaced text: its name, the old text, the new text, and the editor step that restores the old text if nothing has changed since.
+ * A replaced text: its name, the old text, the new text, and whether the editor's undo or redo restores the old text if the user has not
+ * edited the text since.
  * @typedef {{ name: TextName, oldText: string, newText: string, undoStep: "undo" | "redo" }} ReplacedText
  */
 
 /** The delay in milliseconds between the last edit and the save. */
-const EDIT_TIME = 600;
+const SAVE_DELAY_MS = 600;
 
 /**
  * Returns the number of lines in a text as words, for example "12 lines".
@@ -80,7 +81,7 @@ export class TextsController {
     this.properties.open(id, propertiesText);
   }
 
-  /** Saves the texts EDIT_TIME after the last edit, and updates the names that come from the board's text. */
+  /** Saves the texts SAVE_DELAY_MS after the last edit, and updates the names that come from the board's text. */
   handleEdit() {
     const session = this.calls.session();
     if (!session) return;
@@ -89,13 +90,13 @@ export class TextsController {
     record.programText = this.program.text;
     record.testText = this.tests.text;
     record.propertiesText = this.properties.text;
-    this.calls.touch();
+    this.calls.markChanged();
     this.calls.handleEdit();
     clearTimeout(this.saveTimer);
     this.saveTimer = setTimeout(() => {
       this.calls.updateNames(record.boardText);
-      this.calls.keep();
-    }, EDIT_TIME);
+      this.calls.save();
+    }, SAVE_DELAY_MS);
   }
 
   /**
@@ -113,7 +114,7 @@ export class TextsController {
   }
 
   /**
-   * Loads a file's texts into the editors. The user can restore the previous texts. The bench does not have the new texts yet.
+   * Loads a file's texts into the editors. The user can restore the previous texts. The texts are not sent to the bench.
    * @param {string} name the name of the file
    * @param {import("../../core/session/opened_file.js").FileTexts} texts
    */
@@ -191,7 +192,7 @@ export class TextsController {
    * Replaces a text. A notice offers to restore the previous text.
    * @param {TextName} name
    * @param {string} text
-   * @param {string} words the message
+   * @param {string} words the message of the notice
    */
   replace(name, text, words) {
     const session = this.calls.session();
@@ -200,7 +201,7 @@ export class TextsController {
   }
 
   /**
-   * Replaces a text. Returns an entry that can restore the previous text, or an empty list if there is nothing to restore.
+   * Replaces a text. Returns a list with the entry that can restore the previous text. The list is empty if the text has not changed.
    * @param {TextName} name
    * @param {string} text
    * @returns {ReplacedText[]}
@@ -214,7 +215,8 @@ export class TextsController {
   }
 
   /**
-   * Restores a text with the editor's undo or redo. If the text was edited since then, restores the text through a new edit.
+   * Restores a replaced text with the editor's undo or redo. If the user has edited the text since it was replaced, restores it through a
+   * new edit.
    * @param {ReplacedText} replacedTexts
    * @returns {ReplacedText[]} entries that can restore the texts just replaced
    */
@@ -235,7 +237,7 @@ export class TextsController {
   }
 
   /**
-   * Restores texts. A notice offers to reverse this.
+   * Restores texts. A notice offers to undo the restoration.
    * @param {OpenSession} session
    * @param {ReplacedText[]} replacedTexts
    * @param {string} words

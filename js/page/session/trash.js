@@ -1,6 +1,6 @@
 // The deleted sessions, which can be restored until the page is closed.
 
-import { LeftTexts } from "./left_texts.js";
+import { UnsavedTexts } from "./left_texts.js";
 import { describeStoreError } from "./store.js";
 import * as say from "../../words/session.js";
 
@@ -25,13 +25,14 @@ export class Trash {
     this.store = store;
     this.locks = locks;
     this.refuse = refuse;
-    this.leftTexts = new LeftTexts();
+    this.unsavedTexts = new UnsavedTexts();
     /** @type {SessionRecord[]} the sessions deleted since the page was opened, most recent first */
     this.deleted = [];
   }
 
   /**
-   * Deletes sessions. Resolves to the deleted ones. Does not delete a session that is open in another tab, but reports that session.
+   * Deletes sessions. Resolves to the sessions that were deleted. If a session is open in another tab, reports that to the user instead of
+   * deleting the session.
    * @param {SessionRecord[]} records
    */
   async remove(records) {
@@ -43,7 +44,7 @@ export class Trash {
 
   /** @param {SessionRecord} record */
   async removeSession(record) {
-    const release = await this.locks.take(record.id);
+    const release = await this.locks.acquire(record.id);
     if (!release) {
       this.refuse(say.openElsewhere(record.name));
       return false;
@@ -52,9 +53,9 @@ export class Trash {
       // Include changes that another tab has made since the session was listed.
       const newestRecord = await this.store.get(record.id);
       if (newestRecord) Object.assign(record, newestRecord);
-      this.leftTexts.restore(record);
+      this.unsavedTexts.restore(record);
       await this.store.remove(record.id);
-      this.leftTexts.forget(record.id);
+      this.unsavedTexts.forget(record.id);
       return true;
     } catch (fault) {
       this.refuse(say.notDeleted(record.name, describeStoreError(fault)));
@@ -65,13 +66,13 @@ export class Trash {
   }
 
   /**
-   * Restores sessions. If the store rejects a session, reports that, and the session stays deleted.
+   * Restores sessions. If the store rejects a session, reports that to the user, and the session stays in the trash.
    * @param {SessionRecord[]} records
    */
   async restoreSessions(records) {
     for (const record of records.filter((candidate) => this.deleted.includes(candidate))) {
       try {
-        // The store has no earlier revision of the record.
+        // The store no longer has a revision of the deleted record, so its revisions begin again.
         record.revision = 0;
         await this.store.put(record);
         this.deleted = this.deleted.filter((candidate) => candidate !== record);

@@ -1,4 +1,4 @@
-// The dialog of the first visit. Each of its six cards starts something: the tour, an example or a drawing.
+// The dialog that a first-time visitor sees. Each of its six cards starts the tour, an example or a drawing.
 
 import { boardPicture } from "./gallery_view.js";
 import { makeButton, element } from "../ui/dom.js";
@@ -17,7 +17,7 @@ import * as say from "../../words/example_notes.js";
  * @property {(name: string) => Promise<boolean>} begin Begins a new session from an example, by its name. Resolves to true if the session
  *   was created.
  * @property {() => void} showWiring Brings the Wiring tab's picture to the front.
- * @property {() => void} storeSeen Stores that the cards were shown.
+ * @property {() => void} storeSeen Stores the fact that the cards were shown.
  */
 
 export class WelcomeView {

@@ -18,15 +18,15 @@ import * as say from "../../words/testing.js";
  */
 
 /**
- * The callbacks of the Tests tab. Its text editor also uses `labels`, `handleEdit` and `reportFailure`.
+ * The callbacks of the Tests tab. The tab's text editor also uses the callbacks `labels`, `handleEdit` and `reportFailure`.
  * @typedef {object} TestsCalls
- * @property {() => { boardText: string, programText: string }} texts Returns the current texts of board and source.
+ * @property {() => { boardText: string, programText: string }} texts Returns the current texts of the board and the source.
  * @property {() => string[]} labels Returns the labels of the program in ROM.
  * @property {(texts: TestedTexts) => Promise<TextFault[]>} faults Resolves to the errors of all texts.
  * @property {(texts: Texts) => Promise<string>} sample Resolves to a sample test for a board and a source.
  * @property {(texts: TestedTexts) => Promise<Report>} run Runs the tests. Resolves to their results. Rejects with `CancelledError` if the
  *   user cancels the run.
- * @property {(number: number) => string} describeRefusal Returns the message of a refusal.
+ * @property {(number: number) => string} describeRefusal Returns the message for a numbered error of the bench.
  * @property {(report: Report | null, programText: string) => void} showCounts Shows the execution counts of a program's lines in the
  *   margin; null removes the counts.
  * @property {(address: number) => void} goTo Shows an address in the source and in the disassembly.
@@ -65,7 +65,7 @@ export class TestsTab {
     /** @type {TestedTexts | null} the texts of the last run; null if there are no results */
     this.testedTexts = null;
     this.isRunning = false;
-    /** The number of sessions opened so far. Results of an earlier session are discarded. */
+    /** The number of sessions opened so far. Test results that arrive for an earlier session are discarded. */
     this.sessionNumber = 0;
     onClick(button("clear-tests"), () => this.clear());
   }

@@ -17,7 +17,7 @@ import * as say from "../../words/testing.js";
 /**
  * The callbacks of the test results.
  * @typedef {object} ResultCalls
- * @property {(line: number) => void} goTo Shows a line of the tests text, from 1.
+ * @property {(line: number) => void} goTo Shows a line of the tests text. Lines count from 1.
  * @property {(address: number) => void} goToAddress Shows an address in the source and in the disassembly.
  * @property {(outcome: Outcome) => void} openFailure Opens the session of a failed test as a new session.
  */

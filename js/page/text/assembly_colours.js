@@ -9,7 +9,7 @@ const STYLES = {
 };
 
 /**
- * @param {Set<string>} mnemonics the mnemonics in upper case
+ * @param {Set<string>} mnemonics the mnemonics of all instructions, in upper case
  * @returns {import("./line_colours.js").Colours}
  */
 export function assemblyColours(mnemonics) {

@@ -1,4 +1,5 @@
-// Execution counts of source lines, in the margin of the source. An edit removes the counts, because they belong to the text that was run.
+// Execution counts of source lines, in the margin of the source. An edit removes the counts, because they apply only to the text that the
+// tests have run.
 
 import * as say from "../../words/text.js";
 
@@ -8,7 +9,7 @@ import * as say from "../../words/text.js";
  */
 
 /**
- * Returns the margin text of a line: its count. For a jump, also how often the jump was taken and not taken.
+ * Returns the text in the margin of a line: its execution count and, for a jump, how often the jump was taken and not taken.
  * @param {LineCoverage} covered
  */
 export function formatCount({ count, isJump, taken }) {

@@ -38,9 +38,9 @@ import * as say from "../../words/text.js";
  * @property {(edits: Edit[]) => void} handleEdits Handles an edit: the edits of the source, or an empty list for an edit of the board's
  *   text.
  * @property {(isBegun: boolean) => Promise<void>} handleAssembly Handles a program that was loaded into ROM; `isBegun` is true if the
- *   processor was reset. Resolves when the breakpoints are at their lines.
- * @property {(lines: string) => Promise<string | null>} serveLines Serves lines. Resolves to the first answer, or to null after a failure.
- *   A failure has already been reported.
+ *   processor was also reset. Resolves when each breakpoint has the address of its line.
+ * @property {(lines: string) => Promise<string | null>} serveLines Sends lines to the bench. Resolves to the first answer, or to null after
+ *   a failure. A failure has already been reported.
  * @property {() => Promise<void>} pauseTime Pauses time. Resolves when time is paused.
  * @property {() => void} resumeTime Resumes time.
  * @property {() => string} counter Returns the program counter on the page, as three hexadecimal digits.
@@ -58,7 +58,7 @@ import * as say from "../../words/text.js";
  */
 
 /** The maximum number of errors in the list below a text. */
-const MAX_FAULTS = 20;
+const MAX_LISTED_ERRORS = 20;
 
 export class Editors {
   /**
@@ -151,8 +151,8 @@ export class Editors {
   }
 
   /**
-   * Shows or hides the offer of a first board. When the offer disappears while it has the focus, the focus moves to the front panel's
-   * heading.
+   * Shows or hides the button that inserts a first board. If the button has the focus when it disappears, the focus moves to the heading of
+   * the front panel.
    * @param {boolean} isOffered
    */
   offerBoard(isOffered) {
@@ -164,7 +164,7 @@ export class Editors {
   }
 
   /**
-   * Resolves to the error with which the bench would reject a text. The session stays unchanged.
+   * Resolves to the error with which the bench would reject a text, or to null if the bench would accept it. The session stays unchanged.
    * @param {"asm" | "wire"} word
    * @param {string} text
    */
@@ -180,11 +180,11 @@ export class Editors {
   showFoundFaults(name, { faults, isWhole }) {
     const shownFaults = name === "board" ? [...faults, ...findFrontPanelErrors(this.board.text)] : faults;
     const moreNote = isWhole || faults.length < 2 ? "" : say.MAY_BE_MORE;
-    this[name].showFaults(shownFaults.slice(0, MAX_FAULTS), moreErrors(shownFaults, MAX_FAULTS) || moreNote);
+    this[name].showFaults(shownFaults.slice(0, MAX_LISTED_ERRORS), moreErrors(shownFaults, MAX_LISTED_ERRORS) || moreNote);
     this.calls.showFaultCount(name, shownFaults.length);
   }
 
-  /** Loads the program into ROM, clears leftovers of other programs, resets the processor and runs. */
+  /** Loads the program into ROM, clears the ROM bytes that other programs have left, resets the processor and starts time. */
   async assembleAndRun() {
     if (!(await this.hasNoFaults("program"))) return;
     await this.calls.pauseTime();
@@ -257,7 +257,7 @@ export class Editors {
   }
 
   /**
-   * Shows a message that a text with errors is not sent, and scrolls to the first error.
+   * Shows a message that says that a text with errors is not sent. Scrolls to the first error.
    * @param {"program" | "board"} name
    * @param {Fault[]} faults
    */

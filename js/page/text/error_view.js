@@ -49,7 +49,7 @@ export class ErrorView {
    */
   underline({ line, from, to, words }) {
     const length = (this.editor.getLine(line - 1) || "").length;
-    // A missing word has no range of its own, so underline the character before it.
+    // A missing word has an empty range, so underline the character before it.
     const start = to > from ? from : Math.max(0, Math.min(from, length) - 1);
     const end = Math.max(to, start + 1);
     const [begin, stop] = [start, end].map((ch) => this.editor.offset({ line: line - 1, ch }));

@@ -4,8 +4,8 @@ import { Cell, element, onClick } from "../ui/dom.js";
 import * as say from "../../words/text.js";
 
 /**
- * A question: its label, the initial text of the field, the label of the button, and the action. The action returns an error message, or ""
- * if it succeeds.
+ * A question to the user: `label` is the field's label, `value` the field's initial text, and `word` the button's label. `act` receives the
+ * typed text. It returns "" if it succeeds, otherwise an error message.
  * @typedef {{ label: string, value: string, word: string, act: (typed: string) => string }} BarQuestion
  */
 

@@ -12,7 +12,7 @@ import * as say from "../../words/text.js";
  */
 
 /**
- * Adapts a document to the interface of folding.js: returns a function that returns the text of a line, by its number from 0.
+ * Returns a function that returns the text of a document's line, by its number from 0. The functions of folding.js take this function.
  * @param {import("@codemirror/state").Text} doc
  * @returns {import("../../core/text/folding.js").LineAt}
  */
@@ -21,7 +21,7 @@ function lineReader(doc) {
 }
 
 /**
- * Returns the placeholder element for folded lines.
+ * Returns the element that replaces folded lines and says how many there are.
  * @param {number} count
  * @param {(event: Event) => void} unfoldRange
  */
@@ -81,7 +81,7 @@ function foldAllRanges(editor) {
 }
 
 /**
- * Unfolds the folded ranges that contain a line.
+ * Unfolds each folded range that contains a line.
  * @param {LineEditor} editor
  * @param {number} line from 0
  */

@@ -9,7 +9,7 @@ import { ChangeSet, Compartment, EditorState, Prec, Transaction } from "@codemir
 import { EditorView, dropCursor, highlightSpecialChars, keymap, lineNumbers } from "@codemirror/view";
 import { lineColours } from "./line_colours.js";
 import { belowLayer, elementBelow, gutterLayer, makeLayerGutter, markLayer, lineStyle, textLayer, textMark } from "./line_layers.js";
-import { keepRulesInSheet } from "./style_rules.js";
+import { insertRulesIntoSheet } from "./style_rules.js";
 import { descendant } from "../ui/dom.js";
 
 /**
@@ -20,9 +20,9 @@ import { descendant } from "../ui/dom.js";
  * @typedef {import("./line_layers.js").Layer} Layer
  * @typedef {Record<string, (editor: LineEditor) => void>} KeyMap actions by key name, for example `Shift-Ctrl-[`
  *
- * The options of an editor. `label` and `description` are for screen readers. `gutters` are the names of its gutters; "numbers" is the
- * gutter of line numbers. `indent` is the indentation of a new line, by default that of the previous line. `keys` are additional key
- * bindings, and `more` are further CodeMirror extensions.
+ * The options of an editor. `label` and `description` are for screen readers. `gutters` are the names of its gutters. The gutter "numbers"
+ * shows line numbers. `indent` is the indentation of a new line, by default that of the previous line. `keys` are additional key bindings,
+ * and `more` are further CodeMirror extensions.
  * @typedef {{ container: HTMLElement, label: string, description: string, colours: import("./line_colours.js").Colours, gutters: string[],
  *   indent?: string, keys: KeyMap, more: Extension[], calls: EditorCalls }} EditorParts
  */
@@ -41,10 +41,10 @@ import { descendant } from "../ui/dom.js";
 
 const TAB_WIDTH = 8;
 const HISTORY_OPTIONS = { minDepth: 1000, newGroupDelay: 1250 };
-/** The user events that insert a whole text. The size of the resulting text is checked first. */
-const WHOLE_TEXT_EVENTS = ["input.paste", "input.drop"];
+/** The user events that can insert a long text. They are rejected if the resulting text would be too long. */
+const LONG_TEXT_EVENTS = ["input.paste", "input.drop"];
 
-keepRulesInSheet();
+insertRulesIntoSheet();
 
 /**
  * @param {import("@codemirror/state").Text} doc
@@ -74,7 +74,7 @@ function transactionEdits(transaction) {
 }
 
 /**
- * Converts a key name to CodeMirror's convention, which has letters in lower case.
+ * Converts a key name to CodeMirror's form, in which letters are in lower case.
  * @param {string} name
  */
 function keyName(name) {
@@ -180,12 +180,12 @@ export class LineEditor {
    * @param {Transaction} transaction
    */
   acceptsTransaction(transaction) {
-    const isWholeTextEvent = transaction.docChanged && WHOLE_TEXT_EVENTS.some((event) => transaction.isUserEvent(event));
+    const isWholeTextEvent = transaction.docChanged && LONG_TEXT_EVENTS.some((event) => transaction.isUserEvent(event));
     return !isWholeTextEvent || this.calls.acceptsSize(transaction.newDoc.length);
   }
 
   /**
-   * Starts a new line with the given indentation, by default that of the previous line.
+   * Starts a new line with an indentation, which by default is that of the previous line.
    * @param {string} [indent]
    */
   breakLine(indent) {
@@ -266,7 +266,7 @@ export class LineEditor {
     return offsetToPosition(this.doc, Math.min(Math.max(0, offset), this.doc.length));
   }
 
-  /** @param {"head" | "from" | "to"} endName the end of the selection */
+  /** @param {"head" | "from" | "to"} endName the end of the selection to return */
   getCursor(endName = "head") {
     return this.position(this.state.selection.main[endName]);
   }
@@ -298,7 +298,7 @@ export class LineEditor {
   /**
    * Replaces the selection with a text and puts the caret after the text.
    * @param {string} text
-   * @param {string} [event] the name of the user event; with it, one undo step can include text typed before
+   * @param {string} [event] the name of the user event; if it is given, one undo step can also include text that was typed before
    */
   replaceSelection(text, event) {
     const { from, to } = this.state.selection.main;
@@ -349,7 +349,7 @@ export class LineEditor {
   }
 
   /**
-   * Returns the line numbers, from 0, that have a mark in a gutter.
+   * Returns the numbers, from 0, of the lines that have a mark in a gutter.
    * @param {string} gutter
    */
   marksIn(gutter) {
@@ -361,7 +361,7 @@ export class LineEditor {
   }
 
   /**
-   * Styles the given lines in the gutters. The style "next" also applies to the text of the line.
+   * Applies a style to lines in the gutters. The style "next" also applies to the texts of the lines.
    * @param {"next" | "lacking"} name
    * @param {number[]} lines line numbers from 0, in ascending order
    */
@@ -389,12 +389,12 @@ export class LineEditor {
    */
   showBelow(line, node) {
     this.nodeBelow = node;
-    this.fitBelow();
+    this.fitElementBelow();
     this.layers.below.show(this.view, node ? [elementBelow(node).range(this.offset({ line, ch: Infinity }))] : []);
   }
 
   /** Limits the width of the element below a line to the visible part of the text. */
-  fitBelow() {
+  fitElementBelow() {
     if (!this.nodeBelow) return;
     const gutters = descendant(this.view.dom, ".cm-gutters", HTMLElement).offsetWidth;
     this.nodeBelow.style.setProperty("left", `${gutters}px`);
@@ -467,11 +467,11 @@ export class LineEditor {
 
   /** Measures the layout again after elements around the text have changed their sizes. */
   refresh() {
-    this.fitBelow();
+    this.fitElementBelow();
     this.view.requestMeasure();
   }
 
-  /** @param {() => void} action called after the next measurement, when CodeMirror no longer restores the scroll position */
+  /** @param {() => void} action called after CodeMirror's next measurement, when it no longer changes the scroll position */
   callAfterLayout(action) {
     this.view.requestMeasure({ read: () => null, write: () => queueMicrotask(action) });
   }
@@ -482,7 +482,7 @@ export class LineEditor {
    */
   swapState(state) {
     const previousState = this.state;
-    // Without this, CodeMirror would adjust the scroll position to keep a line in place, because it measures line heights.
+    // CodeMirror measures line heights, and would otherwise change the scroll position to keep the same line in place.
     this.scrollTo(0);
     this.view.setState(state);
     this.view.dispatch({ effects: this.lineWrapping.reconfigure(this.wraps ? EditorView.lineWrapping : []) });

@@ -1,5 +1,5 @@
-// Layers over an editor's lines: marks in the gutters, line styles, underlined ranges, and texts after lines. Layers move with their lines
-// while the text is edited. Showing new ranges in a layer replaces its previous ranges.
+// Layers of an editor: marks in the gutters, line styles, underlined ranges, and texts after lines. Their ranges move with the text when
+// the user edits it. New ranges in a layer replace its previous ranges.
 
 import { RangeSet, StateEffect, StateField } from "@codemirror/state";
 import { Decoration, EditorView, GutterMarker, WidgetType, gutter, gutterLineClass } from "@codemirror/view";
@@ -94,8 +94,8 @@ class ElementBelow extends WidgetType {
 /** A set of ranges over a text. */
 export class Layer {
   /**
-   * @param {(field: StateField<Ranges>) => Extension} provide connects the ranges to the editor
-   * @param {(ranges: Ranges, edit: Transaction) => Ranges} [move] maps the ranges through an edit
+   * @param {(field: StateField<Ranges>) => Extension} provide returns the extension through which the editor shows the ranges
+   * @param {(ranges: Ranges, edit: Transaction) => Ranges} [move] returns the ranges after an edit
    */
   constructor(provide, move = (ranges, { changes }) => ranges.map(changes)) {
     /** @type {import("@codemirror/state").StateEffectType<Ranges>} */

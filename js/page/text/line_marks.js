@@ -1,5 +1,5 @@
 // Marks at the lines of a text: texts in the gutters, and the mark of the next instruction. Marks move with their lines while the text is
-// edited. Each call replaces the previous marks.
+// edited. Each call replaces the previous marks of the same kind.
 
 import { indices } from "../../core/bench/numbers.js";
 

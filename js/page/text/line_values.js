@@ -1,5 +1,5 @@
-// Grey texts after source lines that show which values the lines have changed. The texts do not belong to the source, but move with their
-// lines.
+// Grey texts after source lines. Each text shows the values that its line has changed. The texts are not part of the source, but they move
+// with their lines.
 
 import { textAfterLine } from "./line_layers.js";
 

@@ -9,8 +9,8 @@ const CHECK_DELAY = 300;
  */
 export class LiveErrors {
   /**
-   * @param {(isWanted: () => boolean) => Promise<Result | undefined>} find resolves to the errors, or to undefined if the check is
-   *   cancelled
+   * @param {(isWanted: () => boolean) => Promise<Result | undefined>} find resolves to the errors; resolves to undefined if `isWanted`
+   *   returns false, because a newer check has begun
    * @param {(result: Result) => void} show
    * @param {(fault: unknown) => void} reportFailure
    */

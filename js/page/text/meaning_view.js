@@ -16,7 +16,7 @@ import * as say from "../../words/text.js";
 const BELOW_POINTER = 16;
 
 /**
- * Returns the layout of the description without its values. While the layout is unchanged, the cells are reused.
+ * Returns a text that identifies the layout of a description without its values. Descriptions with the same layout reuse the same cells.
  * @param {Piece[]} pieces
  */
 function layoutKey(pieces) {

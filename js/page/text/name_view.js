@@ -1,4 +1,4 @@
-// The commands for names in a text: go to the definition, find all references, rename. Also the command that goes to a line.
+// The commands for names in a text: go to the definition, find all references, and rename. The command that goes to a line is also here.
 
 import { formatQuantity } from "../../core/bench/numbers.js";
 import { element, onClick } from "../ui/dom.js";
@@ -12,12 +12,12 @@ import * as say from "../../words/text.js";
  */
 
 /** The maximum length of a line in the list of references. */
-const MAX_LENGTH = 60;
+const MAX_LINE_LENGTH = 60;
 
 export class NameView {
   /**
    * @param {TextEditor} text
-   * @param {HTMLElement} parent the element that receives the bar and the list
+   * @param {HTMLElement} parent the element that contains the field for typed names and the list of references
    * @param {{ isInstruction: (word: string) => boolean, showMessage: (words: string) => void }} calls
    */
   constructor(text, parent, calls) {
@@ -75,7 +75,7 @@ export class NameView {
   row(reference, text) {
     const node = element("button", { type: "button" }, say.lineOfName(reference.line, reference.isDefinition));
     onClick(node, () => this.selectReference(reference));
-    return element("li", {}, node, " ", element("code", {}, text.trim().slice(0, MAX_LENGTH)));
+    return element("li", {}, node, " ", element("code", {}, text.trim().slice(0, MAX_LINE_LENGTH)));
   }
 
   close() {

@@ -11,7 +11,7 @@ import * as say from "../../words/text.js";
 /**
  * The callbacks of the list of problems.
  * @typedef {object} ProblemCalls
- * @property {(name: string, fault: Fault) => void} goTo Shows an error in a text, by the name of its tab.
+ * @property {(name: string, fault: Fault) => void} goTo Shows an error in a text. `name` is the name of the text's tab.
  * @property {(count: number) => void} showCount Shows the number of problems.
  */
 

@@ -8,8 +8,8 @@ import * as say from "../../words/text.js";
  * @typedef {{ from: number, to: number }} Span a range of offsets in the text
  */
 
-/** The maximum number in the count of matches. */
-const MAX_COUNTED = 1000;
+/** The maximum number of matches that are counted. */
+const MAX_COUNTED_MATCHES = 1000;
 
 export class SearchBar {
   /**
@@ -93,7 +93,7 @@ export class SearchBar {
   }
 
   /**
-   * Selects the next or previous match, ignoring case. The search wraps around at the end of the text.
+   * Selects the next or previous match, ignoring case. The search continues at the other end of the text.
    * @param {boolean} isBack
    * @param {number} startOffset the offset at which the search begins
    */
@@ -107,7 +107,7 @@ export class SearchBar {
     const spans = this.findSpans(query);
     const previousMatch = spans.filter((span) => span.to <= startOffset).pop();
     const match = (isBack ? previousMatch : spans.find((span) => span.from >= startOffset)) || spans[isBack ? spans.length - 1 : 0];
-    this.status.set(match ? say.foundOf(spans.indexOf(match) + 1, Math.min(MAX_COUNTED, spans.length)) : say.NOT_FOUND);
+    this.status.set(match ? say.foundOf(spans.indexOf(match) + 1, Math.min(MAX_COUNTED_MATCHES, spans.length)) : say.NOT_FOUND);
     if (!match) return;
     editor.setSelection(editor.position(match.from), editor.position(match.to));
     editor.scrollIntoView(editor.position(match.to), 60);

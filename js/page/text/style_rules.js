@@ -8,7 +8,7 @@ const addedModules = new Set();
 let count = 0;
 
 /** Makes CodeMirror insert its style rules into the page's style sheet. */
-export function keepRulesInSheet() {
+export function insertRulesIntoSheet() {
   StyleModule.mount = (_, modules) => {
     const [sheet] = document.styleSheets;
     for (const module of [modules].flat()) {

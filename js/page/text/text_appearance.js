@@ -7,10 +7,10 @@ import { block, button, field, onClick } from "../ui/dom.js";
  * @typedef {import("./line_editor.js").LineEditor} LineEditor
  */
 
-/** The font sizes in pixels. */
-const DEFAULT_SIZE = 13;
-const MIN_SIZE = 9;
-const MAX_SIZE = 28;
+/** The initial, minimum and maximum font size in pixels. */
+const DEFAULT_FONT_SIZE = 13;
+const MIN_FONT_SIZE = 9;
+const MAX_FONT_SIZE = 28;
 
 export class TextAppearance {
   /**
@@ -32,12 +32,12 @@ export class TextAppearance {
   }
 
   get size() {
-    return Math.min(MAX_SIZE, Math.max(MIN_SIZE, Number(this.preferences.get("size")) || DEFAULT_SIZE));
+    return Math.min(MAX_FONT_SIZE, Math.max(MIN_FONT_SIZE, Number(this.preferences.get("size")) || DEFAULT_FONT_SIZE));
   }
 
   /** @param {number} size */
   resize(size) {
-    this.preferences.set("size", String(Math.min(MAX_SIZE, Math.max(MIN_SIZE, size))));
+    this.preferences.set("size", String(Math.min(MAX_FONT_SIZE, Math.max(MIN_FONT_SIZE, size))));
     this.show();
   }
 

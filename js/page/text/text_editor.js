@@ -1,5 +1,5 @@
 // An editor with the features that all texts of the page share. Each opened text has its own state with its undo history. The states of
-// recent sessions are stored until the page is closed.
+// recently opened sessions stay in memory until the page is closed.
 
 import { EditorView } from "@codemirror/view";
 import { indices } from "../../core/bench/numbers.js";
@@ -14,7 +14,7 @@ import * as say from "../../words/text.js";
  * @typedef {import("../../core/debug/breakpoints.js").Edit} Edit
  *
  * The options of an editor: its container, its name for screen readers, its syntax colouring, the gutters besides the error gutter, the
- * indentation of a new line, its foldable parts, and its own keys.
+ * indentation of a new line, the foldable parts of its text, and its additional key bindings.
  * @typedef {{ container: HTMLElement, label: string, colours: import("./line_colours.js").Colours, gutters: string[], indent?: string,
  *   folds?: import("../../core/text/folding.js").Parts, keys: KeyMap, calls: TextCalls }} TextParts
  *
@@ -29,16 +29,16 @@ import * as say from "../../words/text.js";
  * @property {() => void} handleCaretMove Handles a caret move.
  * @property {(line: number) => void} handleGutterClick Handles a click on a gutter at a line, from 1.
  * @property {(line: number, event: Event) => void} handleGutterMenu Handles a right click on a gutter at a line, from 1.
- * @property {() => void} handleNameClick Handles a click with Control, which has already moved the caret.
+ * @property {() => void} handleNameClick Handles a click with Control on a name. The click has already moved the caret to the name.
  * @property {(size: number) => void} reportTooLong Reports that a text of `size` characters is too long and was rejected.
  * @property {(position: Position) => import("../../core/text/completion.js").Completion} complete Returns the completions for the word at a
  *   position.
  */
 
-/** The maximum number of stored texts. */
-const MAX_STORED = 30;
-/** The modifier keys, which do nothing without another key. */
-const MODIFIERS = ["Shift", "Control", "Alt", "Meta"];
+/** The maximum number of texts whose editor state is stored. */
+const MAX_STORED_TEXTS = 30;
+/** The modifier keys, which have no action on their own. */
+const MODIFIER_KEYS = ["Shift", "Control", "Alt", "Meta"];
 
 export class TextEditor {
   /** @param {TextParts} parts */
@@ -52,14 +52,16 @@ export class TextEditor {
     this.pendingScrollTop = null;
     /** The line to reveal as soon as the text can be measured, or 0 for none. */
     this.pendingLine = 0;
-    /** True if Tab moves the focus out of the editor: after Escape, and after Tab has moved the focus into the editor. */
-    this.tabLeaves = true;
-    /** True if the user has placed the caret: the editor has had the focus since its text was loaded. */
+    /**
+     * True if the Tab key moves the focus out of the editor. This is so after Escape, and after Tab has moved the focus into the editor.
+     */
+    this.tabMovesFocus = true;
+    /** True if the editor has had the focus since its text was loaded, so that the user may have placed the caret. */
     this.hasCaret = false;
-    /** @type {Map<string, StoredText>} the stored texts, by session name */
+    /** @type {Map<string, StoredText>} the stored editor states, by session name */
     this.storedTexts = new Map();
     this.name = "";
-    /** @type {string | null} the cached text; null if it must be read again after an edit */
+    /** @type {string | null} the editor's text; null after an edit, until the text is read again */
     this.cachedText = null;
     const { container, label, colours, gutters, indent, folds, keys } = parts;
     /** @type {LineEditor} */
@@ -98,13 +100,13 @@ export class TextEditor {
   eventHandlers() {
     return EditorView.domEventHandlers({
       blur: () => {
-        this.tabLeaves = true;
+        this.tabMovesFocus = true;
       },
       focus: () => {
         this.hasCaret = true;
       },
       mousedown: ({ ctrlKey, metaKey, button }) => {
-        this.tabLeaves = false;
+        this.tabMovesFocus = false;
         if ((ctrlKey || metaKey) && button === 0) setTimeout(this.calls.handleNameClick);
       },
       keydown: (event) => this.handleKey(event),
@@ -148,9 +150,9 @@ export class TextEditor {
    * @param {KeyboardEvent} event
    */
   handleKey({ key, shiftKey, ctrlKey, altKey, metaKey }) {
-    if (key === "Tab") return !this.tabLeaves && !ctrlKey && !altKey && !metaKey && this.editor.indent(shiftKey);
-    if (key === "Escape") this.tabLeaves = true;
-    else if (!MODIFIERS.includes(key)) this.tabLeaves = false;
+    if (key === "Tab") return !this.tabMovesFocus && !ctrlKey && !altKey && !metaKey && this.editor.indent(shiftKey);
+    if (key === "Escape") this.tabMovesFocus = true;
+    else if (!MODIFIER_KEYS.includes(key)) this.tabMovesFocus = false;
     return false;
   }
 
@@ -177,7 +179,7 @@ export class TextEditor {
     this.scheduleScroll(isUnchanged ? storedText.top : 0);
     this.name = name;
     this.cachedText = null;
-    for (const oldestName of [...storedTexts.keys()].slice(0, -MAX_STORED)) storedTexts.delete(oldestName);
+    for (const oldestName of [...storedTexts.keys()].slice(0, -MAX_STORED_TEXTS)) storedTexts.delete(oldestName);
   }
 
   /**
@@ -259,6 +261,6 @@ export class TextEditor {
   goTo(position) {
     this.editor.setCursor(position);
     this.editor.focus();
-    this.tabLeaves = false;
+    this.tabMovesFocus = false;
   }
 }

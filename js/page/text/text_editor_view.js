@@ -27,9 +27,8 @@ import * as say from "../../words/text.js";
  *
  * The language of a text. `mark` begins a comment. `indent` is the indentation of a new line, by default that of the previous line. `folds`
  * are its foldable parts. `isInstruction` returns true if a word in upper case is an instruction, and is missing for texts without names.
- * `isUnsent` is true for a text that is never sent to the bench. `wordsAt` describes the word at an offset in a line, both from 0.
- * `valuesAt` returns the current values of that word, and `makeEditable` makes a value editable. `complete` returns the completions for the
- * word.
+ * `isUnsent` is true if the text is never sent to the bench. `wordsAt` describes the word at an offset in a line, both from 0. `valuesAt`
+ * returns the current values of that word, and `makeEditable` makes a value editable. `complete` returns the completions for the word.
  * @typedef {{ mark: import("../../core/text/sendable_text.js").CommentMark, colours: import("./line_colours.js").Colours,
  *   gutters: string[], indent?: string,
  *   folds?: import("../../core/text/folding.js").Parts, isInstruction?: (word: string) => boolean,
@@ -53,7 +52,7 @@ import * as say from "../../words/text.js";
  */
 
 /** The time in milliseconds for which the pointer or the caret must rest before its word is described. */
-const REST_TIME = 150;
+const REST_DELAY_MS = 150;
 
 export class EditorView {
   /**
@@ -84,9 +83,9 @@ export class EditorView {
     this.faults = new ErrorView(editor, this.marks, list, (fault) => this.goToFault(fault));
     this.search = new SearchBar(editor, panel, label);
     this.names = new NameView(this.editor, panel, { isInstruction, showMessage: (words) => this.status.set(words) });
-    /** The timer for the description at the resting pointer or caret. */
+    /** The timer that describes the word at the pointer or the caret once it rests. */
     this.descriptionTimer = 0;
-    /** The timer for the size of the text. */
+    /** The timer that updates the displayed size of the text. */
     this.sizeTimer = 0;
     this.listenToPointer(editor.getWrapperElement());
     editor.onScroll(() => this.meaning.hideTip());
@@ -184,7 +183,7 @@ export class EditorView {
     wrapper.addEventListener("pointermove", (event) => {
       this.meaning.hideTip();
       clearTimeout(this.descriptionTimer);
-      this.descriptionTimer = window.setTimeout(() => this.describeAtPointer(event.clientX, event.clientY), REST_TIME);
+      this.descriptionTimer = window.setTimeout(() => this.describeAtPointer(event.clientX, event.clientY), REST_DELAY_MS);
     });
     wrapper.addEventListener("pointerleave", () => {
       this.meaning.hideTip();
@@ -223,17 +222,17 @@ export class EditorView {
   }
 
   /**
-   * Returns the error message at a position, or the help for the word there, or "".
+   * Returns the error message at a position. If there is none, returns the description of the word there, or "".
    * @param {Position} position
    */
   messageOrHelpAt(position) {
     return this.faults.messageAt(position) || this.language.wordsAt(this.lines, position.line, position.ch);
   }
 
-  /** Schedules the description of the word at the caret. The delay of REST_TIME keeps typing fast. */
+  /** Schedules the description of the word at the caret. The delay of REST_DELAY_MS keeps typing fast. */
   scheduleDescription() {
     clearTimeout(this.descriptionTimer);
-    this.descriptionTimer = window.setTimeout(() => this.describeAtCaret(), REST_TIME);
+    this.descriptionTimer = window.setTimeout(() => this.describeAtCaret(), REST_DELAY_MS);
   }
 
   get text() {
@@ -249,7 +248,7 @@ export class EditorView {
     return sentText(this.text, this.language.mark);
   }
 
-  /** The text in which the bench's error positions are valid. */
+  /** The text to which the error positions that the bench reports refer. */
   get alignedText() {
     return alignedText(this.text, this.language.mark);
   }
@@ -345,7 +344,7 @@ export class EditorView {
     this.calls.handleEdits(edits);
   }
 
-  /** Schedules the update of the text's size. The delay of REST_TIME keeps typing fast. */
+  /** Schedules the update of the text's size. The delay of REST_DELAY_MS keeps typing fast. */
   updateSize() {
     clearTimeout(this.sizeTimer);
     this.sizeTimer = window.setTimeout(() => {
@@ -353,6 +352,6 @@ export class EditorView {
       const [{ length }, limit, unit] = isUnsent ? [this.text, STORED_LIMIT, "characters"] : [this.benchText, LONGEST_TEXT, "bytes"];
       this.counter.set(say.sizeOf(length.toLocaleString("en"), limit.toLocaleString("en"), unit));
       this.counter.node.classList.toggle("too-many", length > limit);
-    }, REST_TIME);
+    }, REST_DELAY_MS);
   }
 }

@@ -1,5 +1,5 @@
-// The editor of the tests or the properties of a board and a program. The editor completes names of the board and the program, and shows
-// errors while the user types.
+// The editor of the Tests tab or the Properties tab. The editor completes names of the board and the program, and shows errors while the
+// user types.
 
 import { Face, moreErrors } from "../../core/board/face.js";
 import { button, onClick } from "../ui/dom.js";
@@ -33,15 +33,15 @@ import { COLOURS } from "../../core/text/test_colours.js";
  */
 
 /**
- * A kind of text. `name` is also a part of the editor's id. `firstButton` is the button that inserts `firstText`. `forms` are the forms of
- * its lines. `wordsAt` describes a word, and `complete` completes it.
+ * A kind of text: tests or properties. `name` is also a part of the editor's id. `firstButton` is the id of the button that inserts
+ * `firstText`. `forms` are the syntax forms of its lines. `wordsAt` describes a word, and `complete` completes it.
  * @template Forms
  * @typedef {{ name: "tests" | "properties", firstButton: string, firstText: (names: Names) => string | Promise<string>, forms: Forms,
  *   wordsAt: (lines: string[], line: number, offset: number, forms: Forms) => string,
  *   complete: (lines: string[], line: number, offset: number, names: Names, forms: Forms) => Completion }} TextKind
  */
 
-const MAX_FAULTS = 20;
+const MAX_LISTED_ERRORS = 20;
 
 /** @template Forms */
 export class TextTab {
@@ -97,7 +97,10 @@ export class TextTab {
     button(this.kind.firstButton).hidden = this.editor.text.trim() !== "";
   }
 
-  /** Checks the text when its tab comes to the front or another text has changed, because the names may have changed. */
+  /**
+   * Checks the text again. Called when its tab comes to the front or another text has changed, because the names that it uses may have
+   * changed.
+   */
   refresh() {
     this.offerFirstText();
     this.faults.checkNow().catch(this.calls.reportFailure);
@@ -115,7 +118,7 @@ export class TextTab {
       const text = lines[line - 1] || "";
       return { number, line, from: text.length - text.trimStart().length, to: text.length, words };
     });
-    this.editor.showFaults(entries.slice(0, MAX_FAULTS), moreErrors(entries, MAX_FAULTS));
+    this.editor.showFaults(entries.slice(0, MAX_LISTED_ERRORS), moreErrors(entries, MAX_LISTED_ERRORS));
     this.tabCalls.showFaultCount(entries.length);
   }
 }

@@ -1,6 +1,6 @@
-// The clock. In real time or slower, each animation frame runs the cycles that are due. At full speed, the worker continues on its own.
-// Below full speed, time stands still while the page is hidden, and while the browser or the computer suspends the page. In real time, a
-// key press does not wait for the next frame: its cycles are simulated early.
+// The clock. At the chip's real speed or below, each animation frame runs the cycles that are due. At full speed, the worker continues on
+// its own. Below full speed, time stands still while the page is hidden, and while the browser or the computer suspends the page. At real
+// speed, a key press does not wait for the next frame. The cycles until that frame are simulated early.
 
 import { CYCLES_PER_SECOND } from "../../core/time/mcs4_time.js";
 import { LONG_GAP, MAX_AHEAD, RealTime } from "../../core/time/real_time.js";
@@ -31,7 +31,7 @@ export class Clock {
     this.speed = REAL_TIME_SPEED;
     /** True while a call is in progress. */
     this.isBusy = false;
-    /** True if a key was pressed since the call in progress began. More cycles then run as soon as it ends. */
+    /** True if a key was pressed since the call in progress began. More cycles then run as soon as that call ends. */
     this.mustRunAgain = false;
     /** The id of the requested animation frame. */
     this.frameRequest = 0;
@@ -47,8 +47,8 @@ export class Clock {
     return this.isRunning && canFollowLine(this.speed);
   }
 
-  /** True if key presses are queued until their time. Otherwise, a press toggles the key. */
-  get movesKeys() {
+  /** True if key presses and releases are queued until the simulation reaches their time. Otherwise, each press toggles the key. */
+  get queuesKeyChanges() {
     return this.isRunning && !togglesKeys(this.speed);
   }
 
@@ -58,8 +58,8 @@ export class Clock {
   }
 
   /**
-   * Returns the duration of a number of cycles in milliseconds at the current speed. Returns Infinity at full speed and at one instruction
-   * per second, so that lamps show their long-term brightness.
+   * Returns the duration of a number of cycles in milliseconds at the current speed. At full speed and at one instruction per second,
+   * returns Infinity, so that lamps show their average brightness.
    * @param {number} cycles
    */
   displayDuration(cycles) {
@@ -98,26 +98,26 @@ export class Clock {
   }
 
   /** Records that the page is hidden. */
-  hide() {
+  handlePageHidden() {
     this.time.hide();
   }
 
   requestFrame() {
     this.frameRequest = requestAnimationFrame((now) => {
       this.requestFrame();
-      this.frame(now);
+      this.runFrame(now);
     });
   }
 
   /**
    * Runs the cycles that are due at a key press, without waiting for the next frame. Returns true if the key was sent with these cycles;
-   * otherwise the caller must send the key. If a call is in progress, more cycles run as soon as it ends.
+   * otherwise the caller must send the key. If a call is in progress, more cycles run as soon as that call ends.
    * @param {Key} key
    */
-  pressNow(key) {
+  simulateKeyPress(key) {
     if (!this.isRunning || this.isFull || this.speed.isByInstruction) return false;
     this.mustRunAgain = this.isBusy;
-    return this.frame(performance.now(), this.maxEarlyTime, key);
+    return this.runFrame(performance.now(), this.maxEarlyTime, key);
   }
 
   /** The number of milliseconds by which a key press can be simulated early. */
@@ -131,7 +131,7 @@ export class Clock {
    * @param {number} [earlyTime] the number of milliseconds to simulate early
    * @param {Key | null} [key] the key to press before the cycles
    */
-  frame(now, earlyTime = 0, key = null) {
+  runFrame(now, earlyTime = 0, key = null) {
     // Some browsers still send animation frames to a hidden page. Cycles that become due during a call run in the next frame.
     if (document.hidden || this.isBusy) return false;
     const skippedGap = this.time.skipGap(now, Date.now());
@@ -156,6 +156,6 @@ export class Clock {
     } finally {
       this.isBusy = false;
     }
-    if (this.mustRunAgain && this.isRunning && !this.isFull) this.frame(performance.now(), this.maxEarlyTime);
+    if (this.mustRunAgain && this.isRunning && !this.isFull) this.runFrame(performance.now(), this.maxEarlyTime);
   }
 }

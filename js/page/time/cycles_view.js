@@ -1,4 +1,4 @@
-// The cycle counter: cycles since a reset, since the last pause, and between two markers.
+// The cycle counter. It shows the cycles since the last reset, since the last pause, and between two markers.
 
 import { Cycles, formatCycles } from "../../core/time/cycles.js";
 import { Cell, block, element, onClick } from "../ui/dom.js";

@@ -22,11 +22,12 @@ import * as say from "../../words/time.js";
  */
 
 const MAX_INSTRUCTIONS = 10000000;
-/** The maximum length of an error message that quotes the typed text. */
+/** The maximum length of an error message. Longer messages, which quote the typed text, are truncated. */
 const MAX_MESSAGE_LENGTH = 200;
 
 /**
- * Returns suggestions for places on a board, most useful first. The user can also type other places.
+ * Returns the names of locations to suggest for a board, such as lamps, ports and registers. The most useful ones are first. The user can
+ * also type other locations.
  * @param {Board} board
  * @param {string[]} lampNames the name of each lamp; "" for a lamp without a name
  */

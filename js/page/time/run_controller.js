@@ -1,4 +1,4 @@
-// Runs time until it stops, by the clock or at full speed. Handles the frames that the worker reports.
+// Runs and pauses time, with the clock or at full speed. Handles the frames that the worker reports.
 
 import { isStop, readRun, parseRefusal } from "../../core/bench/answers.js";
 import { wordsOfHalt, wordsOfMove, wordsOfStop } from "../../words/stops.js";
@@ -39,15 +39,16 @@ import * as say from "../../words/time.js";
  * @property {(id: number) => string} describeCondition Returns a text with the condition of a breakpoint, by its id.
  * @property {() => number} countUnreadable Returns the number of breakpoints whose condition has an error. These breakpoints stop at every
  *   hit.
- * @property {(number: number) => string} describeRefusal Returns the message of a refusal.
- * @property {() => Promise<string | null>} step Serves a step. Resolves to its answer, or to null if the call failed.
+ * @property {(number: number) => string} describeRefusal Returns the message for a numbered error of the bench.
+ * @property {() => Promise<string | null>} step Sends the command for one step to the bench. Resolves to its answer, or to null if the call
+ *   failed.
  * @property {(fault: unknown) => void} reportFailure Reports an error that a call threw.
  */
 
 /** The interval in milliseconds between saves of the session while time is running. */
 const SAVE_INTERVAL = 1000;
 /** The time in milliseconds for which the message about a standstill stays. */
-const MESSAGE_TIME = 8000;
+const STANDSTILL_MESSAGE_MS = 8000;
 
 export class RunController {
   /**
@@ -102,7 +103,7 @@ export class RunController {
     if (this.status.set(words)) this.status.node.title = words;
   }
 
-  /** Starts a new measurement of the rate. */
+  /** Starts a new measurement of the simulation rate. */
   startRateMeasurement() {
     this.rate = new Rate(this.clock.now);
     this.showRate();
@@ -128,10 +129,13 @@ export class RunController {
     this.clock.start();
     this.startRateMeasurement();
     bench.isRunning = this.clock.isFull;
-    currentSession.keep();
+    currentSession.save();
   }
 
-  /** @param {Goal | null} goal the goal of a move; saved with the session, so that a reload can report that the move was interrupted */
+  /**
+   * @param {Goal | null} goal the goal of the run; saved with the session, so that the page can report after a reload that the run was
+   *   interrupted
+   */
   storeGoal(goal) {
     const { session } = this.currentSession;
     if (!session) return;
@@ -146,7 +150,7 @@ export class RunController {
 
   /** Resumes or pauses time at the user's request. */
   runOrStop() {
-    this.currentSession.touch();
+    this.currentSession.markChanged();
     if (this.clock.isRunning) this.stop();
     else this.run();
   }
@@ -172,7 +176,7 @@ export class RunController {
     this.handleFrame(frame);
   }
 
-  /** Runs one instruction, which can take two cycles. Breakpoints and watches stop it like any other run. */
+  /** Runs one instruction, which can take two cycles. A breakpoint or a watch can stop this run like any other run. */
   async runInstruction() {
     const { bench, calls } = this;
     this.handleFrame(await bench.call("advance", [1]));
@@ -182,13 +186,13 @@ export class RunController {
   /** @param {boolean} isHidden */
   setHidden(isHidden) {
     const { bench, currentSession, calls } = this;
-    if (isHidden) this.clock.hide();
+    if (isHidden) this.clock.handlePageHidden();
     if (this.clock.isFull && this.clock.isRunning) bench.call("pace", [isHidden]).catch(calls.reportFailure);
-    if (isHidden) currentSession.keepNow();
+    if (isHidden) currentSession.saveNow();
   }
 
   /**
-   * Shows for MESSAGE_TIME that time stood still, and restarts the measurement of the rate.
+   * Shows a message that time stood still, for STANDSTILL_MESSAGE_MS milliseconds. Restarts the measurement of the simulation rate.
    * @param {number} time the duration in milliseconds
    * @param {boolean} wasHidden
    */
@@ -198,7 +202,7 @@ export class RunController {
     this.showMessage(message);
     setTimeout(() => {
       if (this.status.text === message) this.showMessage(say.isRunning(this.currentSession.name, this.calls.countUnreadable()));
-    }, MESSAGE_TIME);
+    }, STANDSTILL_MESSAGE_MS);
   }
 
   /**
@@ -242,7 +246,7 @@ export class RunController {
       calls.drawSlowViews();
       this.endRun(wordsOfHalt(this.goal, calls.cycles() - this.startCycles, this.counterText));
     }
-    await currentSession.keep();
+    await currentSession.save();
   }
 
   /** Pauses time if it is running. */
@@ -263,15 +267,15 @@ export class RunController {
     if (frame.stop) {
       this.endRun(this.describeStop(frame.stop));
       this.onRunEnd(frame.stop.why);
-      currentSession.keep();
+      currentSession.save();
       return;
     }
     if (isNewRate || !this.clock.isRunning) this.showRate();
-    // A key press is saved immediately. A hidden page receives only one frame per second, and saves each time.
-    if (frame.changesKeys || document.hidden || performance.now() - currentSession.lastSaveTime >= SAVE_INTERVAL) currentSession.keep();
+    // A key press is saved at once. A hidden page receives only one frame per second, so it saves after each frame.
+    if (frame.changesKeys || document.hidden || performance.now() - currentSession.lastSaveTime >= SAVE_INTERVAL) currentSession.save();
   }
 
-  /** A text with the program counter, its name and its source line. */
+  /** A text with the program counter, its name in the source, and its source line. */
   get counterText() {
     return this.calls.describeCounter();
   }
@@ -303,8 +307,8 @@ export class RunController {
    */
   queueKeyChange(word, key) {
     const { bench, currentSession, calls } = this;
-    currentSession.touch();
-    if (word === "press" && this.clock.pressNow(key)) return;
+    currentSession.markChanged();
+    if (word === "press" && this.clock.simulateKeyPress(key)) return;
     const removePending = this.pendingKeys.send({ word, key });
     bench.call(word, [key]).finally(removePending).then((waiting) => {
       this.pendingKeys.waitingChanges = waiting;
@@ -312,11 +316,11 @@ export class RunController {
   }
 
   /**
-   * Returns true if a key will be down after all queued changes. If changes are not queued, returns `isDown`.
+   * Returns true if a key will be down after all queued presses and releases. If none are queued, returns `isDown`.
    * @param {Key} key
    * @param {boolean} isDown true if the bench reports the key as down
    */
   willBeDown(key, isDown) {
-    return this.clock.movesKeys ? this.pendingKeys.willBeDown(key, isDown) : isDown;
+    return this.clock.queuesKeyChanges ? this.pendingKeys.willBeDown(key, isDown) : isDown;
   }
 }

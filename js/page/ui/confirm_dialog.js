@@ -4,7 +4,8 @@ import { element } from "./dom.js";
 import * as say from "../../words/page.js";
 
 /**
- * @typedef {{ title: string, words: (string | HTMLElement)[], accept: string, refuse: string }} Question `words` are its paragraphs
+ * @typedef {{ title: string, words: (string | HTMLElement)[], accept: string, refuse: string }} Question a question to the user; `words`
+ *   are its paragraphs, `accept` and `refuse` the labels of its buttons
  */
 
 const ACCEPTED = "accepted";
@@ -19,7 +20,7 @@ export class ConfirmDialog {
       element("div", { className: "bar" }, this.accept, this.refuse));
     /** @type {(isAccepted: boolean) => void} */
     this.resolveQuestion = () => {};
-    // If the dialog is open again, this event belongs to an earlier question. Ignore it.
+    // If the dialog has been opened again, this event belongs to an earlier question, so ignore it.
     this.dialog.addEventListener("close", () => {
       if (!this.dialog.open) this.resolveQuestion(this.dialog.returnValue === ACCEPTED);
     });

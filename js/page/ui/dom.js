@@ -53,7 +53,7 @@ export function element(name, properties = {}, ...children) {
 }
 
 /**
- * The text of an element. The page is updated only if the text differs, so an unchanged frame costs nothing. The text node is never
+ * The text of an element. The page is updated only if the text differs, so setting the same text costs nothing. The text node is never
  * replaced, because WebKit loses a click if the pressed text node is removed before the release.
  */
 export class Cell {
@@ -77,7 +77,7 @@ export class Cell {
   }
 }
 
-/** A boolean state of an element, for example a class or an attribute. Calls `show` only when the state changes. */
+/** A state of an element that is on or off, for example a class or an attribute. Calls `show` only when the state changes. */
 export class Switch {
   /** @param {(isOn: boolean) => void} show */
   constructor(show) {
@@ -103,8 +103,8 @@ export function pressedSwitch(node) {
 }
 
 /**
- * Calls `action` on each click. After a click by pointer, the button loses the focus, so that Enter and the space bar press the board's
- * keys again.
+ * Calls `action` on each click. After a click with the pointer, the button loses the focus, so that Enter and the space bar press the
+ * board's keys again.
  * @param {HTMLElement} node
  * @param {() => void} action
  */
@@ -133,7 +133,7 @@ export function isDialogOpen() {
 }
 
 /**
- * Makes a block of buttons a single tab stop. The arrow keys move the focus between the buttons.
+ * Makes the Tab key stop only once in a block of buttons. The arrow keys move the focus between the buttons.
  * @param {HTMLElement} root
  * @param {() => number} columns returns the number of buttons in a row
  */
@@ -157,7 +157,7 @@ export function makeOneTabStop(root, columns) {
 }
 
 /**
- * Makes the first button of a block its tab stop. Called after the buttons have been created.
+ * Makes the first button of a block the one that the Tab key reaches. Called after the buttons have been created.
  * @param {HTMLElement} root
  */
 export function makeFirstTabStop(root) {

@@ -1,6 +1,6 @@
-// Notices about errors and about actions that can be undone. The three newest are visible regardless of the page's scroll position. Most
-// kinds have at most one notice, the newest; undoable actions and sessions that were not opened have one notice each. An error notice
-// disappears when its cause is gone, a success notice after some time. A list shows all past notices.
+// Notices about errors and about actions that can be undone. The three newest are visible regardless of the page's scroll position. For
+// most kinds, only the newest notice is visible. Undoable actions and sessions that were not opened each have their own notice. An error
+// notice disappears when its cause is gone; a success notice disappears after some time. A list shows all past notices.
 
 import { block, element } from "./dom.js";
 import { NoticeList } from "./notice_list.js";
@@ -16,8 +16,8 @@ import * as say from "../../words/page.js";
  */
 
 /**
- * The kinds of errors that are reported repeatedly while they last. After the user has dismissed such a notice, it appears again only if
- * its cause was gone in between.
+ * The kinds of errors that are reported repeatedly while their cause persists. A notice that the user has dismissed appears again only if
+ * its cause was gone in the meantime.
  */
 const LASTING_KINDS = new Set(["kept", "store"]);
 /** The kinds that have a separate notice for each event. */
@@ -25,13 +25,13 @@ const MULTIPLE_KINDS = new Set(["undo", "unended"]);
 /** The kinds that report a success. */
 const SUCCESS_KINDS = new Set(["undo", "file", "share", "left"]);
 /** The time in milliseconds for which a success notice stays. */
-const STAY_TIME = 8000;
+const SUCCESS_NOTICE_MS = 8000;
 /** The maximum number of visible notices. */
-const MAX_VISIBLE = 3;
+const MAX_VISIBLE_NOTICES = 3;
 
 /**
- * Returns the notices to remove so that at most MAX_SHOWN remain: first the oldest success notices, then the oldest others. The newest
- * notice stays.
+ * Returns the notices to remove so that at most MAX_VISIBLE_NOTICES remain: first the oldest success notices, then the oldest others. The
+ * newest notice stays.
  * @template {{ kind: NoticeKind }} Each
  * @param {Each[]} rows the notices, newest first
  * @returns {Each[]}
@@ -40,7 +40,7 @@ export function noticesToRemove(rows) {
   const olderRows = rows.slice(1).reverse();
   const successes = olderRows.filter(({ kind }) => SUCCESS_KINDS.has(kind));
   const removalOrder = [...successes, ...olderRows.filter(({ kind }) => !SUCCESS_KINDS.has(kind))];
-  return removalOrder.slice(0, Math.max(0, rows.length - MAX_VISIBLE));
+  return removalOrder.slice(0, Math.max(0, rows.length - MAX_VISIBLE_NOTICES));
 }
 
 export class Notice {
@@ -83,14 +83,14 @@ export class Notice {
   }
 
   /**
-   * Removes a notice after STAY_TIME, but not while the pointer or the focus is on it.
+   * Removes a notice after SUCCESS_NOTICE_MS milliseconds, but not while the pointer or the focus is on the notice.
    * @param {Row} row
    */
   removeLater(row) {
     row.timer = window.setTimeout(() => {
       if (row.node.matches(":hover, :focus-within")) this.removeLater(row);
       else this.remove(row);
-    }, STAY_TIME);
+    }, SUCCESS_NOTICE_MS);
   }
 
   /**
@@ -109,7 +109,7 @@ export class Notice {
   }
 
   /**
-   * Executes a notice's action and removes the notice, because an action can be executed only once.
+   * Executes an action of a notice and removes the notice, because the action can be executed only once.
    * @param {import("./notice_list.js").Message} message
    * @param {NoticeAction} action
    */
@@ -126,11 +126,11 @@ export class Notice {
     this.rows = this.rows.filter((candidate) => candidate !== row);
     row.node.remove();
     this.block.hidden = this.rows.length === 0;
-    if (hadFocus) this.giveFocus();
+    if (hadFocus) this.moveFocusAway();
   }
 
   /** Moves the focus to the next notice, or to the element that had the focus before the notices appeared. */
-  giveFocus() {
+  moveFocusAway() {
     const next = this.block.querySelector("button") || this.priorFocus;
     if (next) next.focus();
   }
@@ -145,7 +145,7 @@ export class Notice {
     const node = element("button", { type: "button", className }, word);
     node.setAttribute("aria-label", label);
     node.addEventListener("click", (event) => {
-      // After a click by pointer, the board must receive the keys again.
+      // After a click with the pointer, the board must receive the keys again.
       if (event.detail > 0) node.blur();
       act();
     });

@@ -10,7 +10,7 @@ import * as say from "../../words/page.js";
  */
 
 /** The maximum number of stored notices. */
-const MAX_STORED = 100;
+const MAX_STORED_NOTICES = 100;
 
 export class NoticeList {
   /** @param {(message: Message, action: NoticeAction) => void} act executes a notice's action */
@@ -27,7 +27,7 @@ export class NoticeList {
 
   /** @param {Message} message */
   add(message) {
-    this.messages = [message, ...this.messages].slice(0, MAX_STORED);
+    this.messages = [message, ...this.messages].slice(0, MAX_STORED_NOTICES);
     button("notices-button").hidden = false;
   }
 

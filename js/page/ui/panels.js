@@ -1,4 +1,5 @@
-// The workbench panels. Each panel can be closed, reopened and maximised, with its own buttons or in a menu. The state is stored.
+// The workbench panels. Each panel can be closed, reopened and maximised, with the panel's own buttons or in a menu. The page stores the
+// state of the panels.
 
 import { Switch, block, button, makeButton, element, onClick } from "./dom.js";
 import * as say from "../../words/workbench.js";
@@ -8,11 +9,11 @@ import * as say from "../../words/workbench.js";
  * @typedef {{ id: string, name: string, node: HTMLElement, isOpen: Switch, checkBox: HTMLInputElement }} Panel
  */
 
-/** The key of the stored choice for the maximised panel. */
+/** The key of the stored preference for the maximised panel. */
 const MAXIMIZED_KEY = "full";
 
 /**
- * Returns the row at the top of a panel: its tab row, or a new row around its heading.
+ * Returns the row at the top of a panel: the panel's row of tabs, or a new row that contains its heading.
  * @param {HTMLElement} panel
  */
 function panelHead(panel) {
@@ -117,7 +118,7 @@ export class Panels {
     if (panel) this.open(id, !panel.isOpen.isOn);
   }
 
-  /** Gives the space of columns without open panels to the other columns. */
+  /** Hides the columns that have no open panels, so that the other columns use their space. */
   updateColumns() {
     const side = block("side");
     const { classList } = document.body;
@@ -132,7 +133,7 @@ export class Panels {
 
   /**
    * Maximises a panel to the size of the window, above all other panels.
-   * @param {string} id the panel's id; "" restores the maximised panel
+   * @param {string} id the panel's id; "" restores the size of the maximised panel
    */
   setFull(id) {
     this.maximizedId = this.find(id) ? id : "";

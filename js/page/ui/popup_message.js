@@ -2,9 +2,9 @@
 
 import { element } from "./dom.js";
 
-/** The time in milliseconds after a click during which messages appear at the position of that click. */
-const PRESS_TIME = 3000;
-/** The distance in pixels between a message and the element above it, and from the edges of the window. */
+/** The time in milliseconds after a click in which messages appear at the position of that click. */
+const CLICK_ANCHOR_MS = 3000;
+/** The distance in pixels between a message and the element above it, and between a message and the edges of the window. */
 const GAP = 4;
 
 /**
@@ -24,7 +24,7 @@ export class PopupMessage {
     this.node = element("p", { className: "popup-message", hidden: true });
     this.node.setAttribute("role", "alert");
     document.body.append(this.node);
-    this.lastClick = { left: 0, bottom: 0, time: -PRESS_TIME };
+    this.lastClick = { left: 0, bottom: 0, time: -CLICK_ANCHOR_MS };
     addEventListener("pointerdown", (event) => {
       this.lastClick = { left: event.clientX, bottom: event.clientY, time: performance.now() };
       this.hide();
@@ -45,7 +45,7 @@ export class PopupMessage {
   /** @param {HTMLElement} [anchor] */
   anchorBox(anchor) {
     const { left, bottom, time } = this.lastClick;
-    if (!anchor && performance.now() - time < PRESS_TIME) return { left, bottom: bottom + GAP };
+    if (!anchor && performance.now() - time < CLICK_ANCHOR_MS) return { left, bottom: bottom + GAP };
     return (anchor || document.activeElement || document.body).getBoundingClientRect();
   }
 

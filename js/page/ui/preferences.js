@@ -1,7 +1,7 @@
 // The user's preferences for the page, for example folded panels and the tab in front. The preferences are in the browser's local storage
 // if the browser allows that, otherwise in memory until the page is closed.
 
-const KEY = "fethsaim.choices";
+const STORAGE_KEY = "fethsaim.choices";
 
 /** @typedef {Pick<Storage, "getItem" | "setItem">} ChoiceStore */
 
@@ -36,14 +36,14 @@ export class Preferences {
 
   read() {
     try {
-      return this.store && this.store.getItem(KEY);
+      return this.store && this.store.getItem(STORAGE_KEY);
     } catch {
       return null;
     }
   }
 
   /**
-   * Returns the choice with this name, or "" if there is none.
+   * Returns the preference with this name, or "" if there is none.
    * @param {string} name
    */
   get(name) {
@@ -58,9 +58,9 @@ export class Preferences {
     // Another tab may have stored other preferences in the meantime.
     this.choiceByName = { ...this.choiceByName, ...readChoices(this.read()), [name]: value };
     try {
-      if (this.store) this.store.setItem(KEY, JSON.stringify(this.choiceByName));
+      if (this.store) this.store.setItem(STORAGE_KEY, JSON.stringify(this.choiceByName));
     } catch {
-      // Without storage, the choice lasts until the page is closed.
+      // Without local storage, the preference lasts only until the page is closed.
     }
   }
 }

@@ -5,14 +5,15 @@ import { block } from "./dom.js";
 /** @typedef {import("./preferences.js").Preferences} Preferences */
 
 /**
- * A splitter: the panel that it resizes, the side of the panel on which it is, and the CSS property and limits of the size in pixels.
+ * A splitter: the panel that it resizes, the side of the panel that it is on, the CSS property of the panel's size, and the limits of the
+ * size in pixels.
  * @typedef {{ id: string, panel: string, property: string, side: "left" | "right" | "top" | "bottom", min: number, max: number }} Border
  */
 
 /** The distance in pixels that an arrow key moves a splitter. */
 const KEY_STEP = 20;
 /** @type {Record<Border["side"], Record<string, number>>} the change of the panel's size in pixels for each key */
-const KEYS = {
+const SIZE_CHANGES_BY_KEY = {
   left: { ArrowLeft: KEY_STEP, ArrowRight: -KEY_STEP },
   right: { ArrowLeft: -KEY_STEP, ArrowRight: KEY_STEP },
   top: { ArrowUp: KEY_STEP, ArrowDown: -KEY_STEP },
@@ -48,7 +49,7 @@ export class Splitter {
     this.show(Number(preferences.get(this.name)) || 0);
   }
 
-  /** The key of the stored choice. */
+  /** The key of the stored preference for the panel's size. */
   get name() {
     return `size.${this.border.panel}`;
   }
@@ -60,7 +61,7 @@ export class Splitter {
   }
 
   /**
-   * Returns the pointer's position along the axis in which the panel grows.
+   * Returns the pointer's position along the axis that the splitter moves on, increasing as the panel grows.
    * @param {{ clientX: number, clientY: number }} point
    */
   axisPosition({ clientX, clientY }) {
@@ -97,7 +98,7 @@ export class Splitter {
 
   /** @param {KeyboardEvent} event */
   handleKey(event) {
-    const moves = KEYS[this.border.side];
+    const moves = SIZE_CHANGES_BY_KEY[this.border.side];
     if (event.key === "Home" || event.key === "Escape") this.reset();
     else if (event.key in moves) this.set(this.size + moves[event.key]);
     else return;

@@ -13,7 +13,7 @@ export class StatusView {
 
   /**
    * @param {boolean} isMatching true if the source is the program in ROM
-   * @param {string} words the explanation; "" if there is no source
+   * @param {string} words the tooltip that says how ROM and the source differ; "" if there is no source
    */
   showRom(isMatching, words) {
     this.romText.set(isMatching ? say.ROM_MATCHES : words === "" ? "" : say.ROM_DIFFERS);

@@ -67,7 +67,7 @@ export class Tabs {
 
   /**
    * @param {string} name
-   * @param {() => void} listener called each time the tab has come to the front, when its contents can be measured
+   * @param {() => void} listener called each time the tab has come to the front, when the size of its contents can be measured
    */
   onShown(name, listener) {
     this.find(name).listeners.push(listener);
@@ -85,12 +85,12 @@ export class Tabs {
   }
 
   /**
-   * Sets a short text on a tab about its contents; "" removes the text.
+   * Sets the short text that a tab shows about its contents; "" removes the text.
    * @param {string} name
    * @param {string} words
    * @param {boolean} isGood true if the text reports a success
    */
-  mark(name, words, isGood = false) {
+  setMark(name, words, isGood = false) {
     const { mark } = this.find(name);
     if (mark.textContent !== words) mark.textContent = words;
     mark.classList.toggle("good", isGood);

@@ -1,5 +1,5 @@
 // Tooltips with a button's action and key. A tooltip opens when the pointer rests on the button, when the button gets the keyboard focus,
-// or on a long touch. Browsers show a `title` only for the pointer, so a button with a `title` gets a tooltip for the keyboard and for
+// or on a long touch. Browsers show a `title` only at the pointer, so a button with a `title` also gets a tooltip for the keyboard and for
 // touch.
 
 import { element } from "./dom.js";
@@ -7,11 +7,11 @@ import { element } from "./dom.js";
 /** @typedef {{ words: string, key: string }} Tip */
 
 /** The time in milliseconds for which the pointer must rest before the tooltip opens. */
-const REST_TIME = 500;
+const HOVER_DELAY_MS = 500;
 /** The time in milliseconds for which a touch must last before the tooltip opens. */
-const TOUCH_TIME = 500;
+const LONG_TOUCH_MS = 500;
 /** The time in milliseconds for which the tooltip stays after the touch has ended. */
-const READ_TIME = 2500;
+const TOUCH_TIP_MS = 2500;
 /** The distance in pixels between a tooltip and its element, and between a tooltip and the edges of the window. */
 const GAP = 6;
 
@@ -24,7 +24,7 @@ export class Tooltips {
     this.timer = 0;
     /** @type {HTMLElement | null} the element whose tooltip is visible */
     this.describedElement = null;
-    /** True if a touch has opened the tooltip. The end of this touch does not count as a click. */
+    /** True if a touch has opened the tooltip. The click at the end of this touch is ignored. */
     this.isOpenedByTouch = false;
     addEventListener("pointerover", (event) => this.handlePointerOver(event));
     addEventListener("pointerout", (event) => event.pointerType !== "touch" && this.hide());
@@ -69,7 +69,7 @@ export class Tooltips {
   handlePointerOver({ target, pointerType }) {
     const node = pointerType === "touch" ? null : this.find(target, true);
     if (!node || node === this.describedElement) return;
-    this.showLater(node, REST_TIME);
+    this.showLater(node, HOVER_DELAY_MS);
   }
 
   /** @param {PointerEvent} event */
@@ -81,13 +81,13 @@ export class Tooltips {
     this.timer = window.setTimeout(() => {
       this.isOpenedByTouch = true;
       this.show(node);
-    }, TOUCH_TIME);
+    }, LONG_TOUCH_MS);
   }
 
-  /** Hides a tooltip that a touch has opened, READ_TIME after the touch has ended. */
+  /** Hides a tooltip that a touch has opened, TOUCH_TIP_MS after the touch has ended. */
   handleTouchEnd() {
     clearTimeout(this.timer);
-    if (this.isOpenedByTouch) this.timer = window.setTimeout(() => this.hide(), READ_TIME);
+    if (this.isOpenedByTouch) this.timer = window.setTimeout(() => this.hide(), TOUCH_TIP_MS);
   }
 
   /**

@@ -1,4 +1,4 @@
-// The context menus of wave rows: the menu of a line for its name, group, position and colour, and the menu of a group.
+// The context menus of wave rows. The menu of a line changes its name, group, position and colour. A group has its own menu.
 
 import { ContextMenu } from "../commands/menu_view.js";
 import { FieldBar } from "../text/field_bar.js";
@@ -15,7 +15,7 @@ import * as say from "../../words/waves.js";
 const MAX_NAME_LENGTH = 40;
 
 export class RowMenu {
-  /** @param {import("./wave_view.js").WaveView} view the wave view, which has the selected row */
+  /** @param {import("./wave_view.js").WaveView} view the wave view, whose selected row the menus change */
   constructor(view) {
     this.view = view;
     this.menu = new ContextMenu("row-menu", say.ROW);
@@ -48,10 +48,10 @@ export class RowMenu {
     const { view } = this;
     const memberNames = () => view.names.filter((name) => view.arrangement.groupOf(name) === group);
     return [
-      { words: say.FOLD, key: "Enter", act: () => view.fold(group) },
+      { words: say.FOLD, key: "Enter", act: () => view.toggleFold(group) },
       { words: say.RENAME,
-        act: () => this.askName(say.nameOf(group), group, (word) => word && view.change(memberNames(), { group: word })) },
-      { words: say.UNGROUP, act: () => view.change(memberNames(), { group: "" }) },
+        act: () => this.askName(say.nameOf(group), group, (word) => word && view.changeLines(memberNames(), { group: word })) },
+      { words: say.UNGROUP, act: () => view.changeLines(memberNames(), { group: "" }) },
       ...this.moveItems,
     ];
   }
@@ -62,13 +62,15 @@ export class RowMenu {
    */
   lineItems({ name, title, colour, group }) {
     const { view } = this;
-    const leaveItem = { words: say.LEAVE_GROUP, act: () => view.change([name], { group: "" }) };
-    const joinItem = { words: say.GROUP, act: () => this.askName(say.groupOf(name), "", (word) => view.change([name], { group: word })) };
+    const leaveItem = { words: say.LEAVE_GROUP, act: () => view.changeLines([name], { group: "" }) };
+    const joinItem = {
+      words: say.GROUP, act: () => this.askName(say.groupOf(name), "", (word) => view.changeLines([name], { group: word })),
+    };
     const colourItems = /** @type {const} */ (["", ...ROW_COLOURS]).map((choice) => (
-      { words: say.COLOURS[choice], isChosen: () => colour === choice, act: () => view.change([name], { colour: choice }) }));
+      { words: say.COLOURS[choice], isChosen: () => colour === choice, act: () => view.changeLines([name], { colour: choice }) }));
     return [
       { words: say.RENAME, act: () => this.askName(say.nameOf(name), title || name,
-        (word) => view.change([name], { title: word === name ? "" : word })) },
+        (word) => view.changeLines([name], { title: word === name ? "" : word })) },
       group === "" ? joinItem : leaveItem,
       ...this.moveItems,
       { words: say.HIDE, act: () => view.calls.hide(name) },

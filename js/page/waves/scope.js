@@ -29,8 +29,8 @@ import * as say from "../../words/waves.js";
  *   (`isBefore`), or the next ones. `values` are the names of registers and nibbles to include. Resolves to null after a failure. A failure
  *   has already been reported.
  * @property {(wanted: { trigger: string } & LiveSetup, values: string[]) => Promise<{ recorded: Recording | null, fault: string } | null>}
- *   startLive Starts a recording that lasts until `endLive`. Resolves to its first part or to the error in the trigger, or to null after a
- *   failure.
+ *   startLive Starts a recording that lasts until `endLive`. Resolves to the first part of the recording or to the error in the trigger's
+ *   condition, or to null after a failure.
  * @property {() => Promise<LivePart | null>} endLive Ends the recording. Resolves to its last part, or to null if there is none.
  * @property {() => WaveLine[]} boardLines Returns all lines of the board.
  * @property {() => string} name Returns the session's name, which is used for file names.
@@ -42,7 +42,7 @@ import * as say from "../../words/waves.js";
 /** The interval in milliseconds at which the picture of a recording in progress is updated. */
 const DRAW_INTERVAL = 100;
 
-/** Keeps at most one panel below the controls open. Escape and a click outside the panel close it. */
+/** Lets at most one panel be open below the controls. Escape and a click outside the panel close it. */
 function listenToPanels() {
   const panels = [.../** @type {NodeListOf<HTMLDetailsElement>} */ (block("wave-bar").querySelectorAll(".pop"))];
   const closeOthers = (/** @type {EventTarget | null} */ target) => {
@@ -63,8 +63,8 @@ function listenToPanels() {
   }
 }
 
-/** Keeps the height of the controls in a CSS property, because panels open below them. */
-function storeHeight() {
+/** Keeps a CSS property equal to the height of the controls, because panels open below the controls. */
+function trackControlsHeight() {
   const bar = block("wave-bar");
   new ResizeObserver(() => block("scope").style.setProperty("--wave-bar-height", `${bar.offsetHeight}px`)).observe(bar);
 }
@@ -82,7 +82,7 @@ export class Scope {
     this.view = new WaveView({ goTo: calls.goTo, hide: (name) => this.choice.select(name, false), storeRows: calls.storeRows });
     /** @type {WaveChoice} */
     this.choice = new WaveChoice({
-      boardLines: calls.boardLines, showLines: (lines) => this.view.choose(lines), handleMissingValues: () => this.restartLive(),
+      boardLines: calls.boardLines, showLines: (lines) => this.view.setChosenLines(lines), handleMissingValues: () => this.restartLive(),
     });
     this.isBusy = false;
     /** @type {LiveWaves | null} the last recording of running time; null if there is none */
@@ -100,7 +100,7 @@ export class Scope {
     onClick(button("save-png"), () => this.savePng());
     onClick(button("save-svg"), () => this.saveSvg());
     listenToPanels();
-    storeHeight();
+    trackControlsHeight();
     for (const id of ["record-cycles", "trigger", "behind"]) {
       field(id).addEventListener("keydown", (event) => {
         if (event.key === "Enter") this.record();
@@ -209,7 +209,7 @@ export class Scope {
   }
 
   /**
-   * Selects the register or nibble that the trigger names, so that the recording includes it.
+   * Selects the register or nibble that the trigger's condition names, so that the recording includes it.
    * @param {string} trigger
    */
   selectTriggerLine(trigger) {
@@ -223,7 +223,7 @@ export class Scope {
     if (part) this.addPart(part);
   }
 
-  /** Restarts the recording in progress, because the user has selected values that it does not include. */
+  /** Restarts the recording in progress, because the user has selected values that the recording does not include. */
   async restartLive() {
     if (!this.isLive || this.isBusy) return;
     this.isBusy = true;
@@ -235,7 +235,7 @@ export class Scope {
   }
 
   /**
-   * Adds new data to the recording; null if the recording has been lost.
+   * Adds a new part to the recording. `part` is null if the bench has lost the recording.
    * @param {LivePart | null} part
    */
   addPart(part) {
@@ -254,13 +254,13 @@ export class Scope {
   drawLive(liveWaves) {
     this.isUpToDate = true;
     if (this.liveWaves !== liveWaves) return;
-    this.view.grow(liveWaves.triggerMoment);
+    this.view.handleGrowth(liveWaves.triggerMoment);
     if (liveWaves.over === "trigger") this.view.showAround(liveWaves.triggerMoment);
     else if (!liveWaves.isOn) this.view.fit();
     this.choice.handleGrowth();
     this.showLive(liveWaves);
     const { over: endReason } = liveWaves;
-    // After changing the program or the board, the user usually wants the same recording again.
+    // A change of the program or the board ends the recording. The user usually wants the same recording again, so restart it.
     if (endReason === "board" || endReason === "program") this.beginLive();
   }
 
@@ -297,9 +297,9 @@ export class Scope {
     }
     const { name } = waves.lines[search.line];
     if (!this.choice.selectedNames.has(name)) this.choice.select(name, true);
-    this.view.mark(search.line);
+    this.view.selectRowOfLine(search.line);
     const moment = find(waves, search, view.moment, isForward);
-    if (moment >= 0) this.view.move(moment);
+    if (moment >= 0) this.view.moveCursor(moment);
     else this.searchStatus.set(say.notFound(text.trim(), isForward, formatNumber(view.moment)));
   }
 
@@ -316,7 +316,7 @@ export class Scope {
   }
 
   /**
-   * The recording to save. If no row is visible, shows a message and is null.
+   * The recording to save, or null if no row is visible. In that case, shows a message.
    * @returns {Waves | null}
    */
   get savedWaves() {

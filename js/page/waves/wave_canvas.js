@@ -13,24 +13,25 @@ import { tickMoments } from "../../core/waves/wave_window.js";
  * @typedef {CanvasRenderingContext2D | import("../../core/waves/svg_context.js").SvgContext} Context
  * @typedef {{ ink: string, faint: string, grid: string, sheet: string, chosen: string, first: string, second: string, measured: string }
  *   & Record<RowColour, string>} Colours
- * @typedef {{ row: number, from: number, to: number }} RowRange a row between two moments
+ * @typedef {{ row: number, from: number, to: number }} RowRange the part of a row between two moments
  * @typedef {{ waves: Waves, rows: WaveRow[], selected: number, view: WaveWindow, top: number, gutter: number, height: number, trigger:
- * number, measured: RowRange | null, colours: Colours, font: string }} Picture the drawing: `top` is the number of pixels that are
- * scrolled away above, `trigger` the moment of the trigger, -1 for none, `measured` the measurement at the pointer
+ *   number, measured: RowRange | null, colours: Colours, font: string }} Picture the picture to draw: `top` is the vertical scroll position
+ *   in pixels, `gutter` the width of the gutter in pixels, `trigger` the moment of the trigger (-1 for none), and `measured` the measured
+ *   range at the pointer
  */
 
 /** The height in pixels of the time axis. */
-export const AXIS = 26;
+export const AXIS_HEIGHT = 26;
 /** The height in pixels of a row. */
-export const ROW = 26;
+export const ROW_HEIGHT = 26;
 /** The space in pixels reserved for a number on the time axis. */
 const TICK_WIDTH = 92;
 /** The width in pixels of a cursor's flag, which shows its letter. */
 const FLAG_WIDTH = 14;
 /** The indentation in pixels of the names within a group. */
-const INDENT = 14;
+const GROUP_INDENT = 14;
 /** The distance in pixels between the edge of a row and its high or low level. */
-const MARGIN = 5;
+const LEVEL_MARGIN = 5;
 
 /**
  * @param {Context} context
@@ -44,10 +45,10 @@ export function drawWaves(context, picture) {
   context.textBaseline = "middle";
   context.lineWidth = 1;
   drawTicks(context, picture);
-  const first = Math.max(0, Math.floor(top / ROW));
-  const last = Math.min(rows.length, Math.ceil((top + height - AXIS) / ROW));
-  drawClipped(context, [0, AXIS, width, height - AXIS], () => {
-    for (let row = first; row < last; row++) drawRow(context, picture, row, AXIS + row * ROW - top);
+  const first = Math.max(0, Math.floor(top / ROW_HEIGHT));
+  const last = Math.min(rows.length, Math.ceil((top + height - AXIS_HEIGHT) / ROW_HEIGHT));
+  drawClipped(context, [0, AXIS_HEIGHT, width, height - AXIS_HEIGHT], () => {
+    for (let row = first; row < last; row++) drawRow(context, picture, row, AXIS_HEIGHT + row * ROW_HEIGHT - top);
   });
   drawClipped(context, [gutter - FLAG_WIDTH, 0, view.width + FLAG_WIDTH, height], () => {
     if (picture.trigger >= view.begin) {
@@ -58,7 +59,7 @@ export function drawWaves(context, picture) {
 }
 
 /**
- * Draws with a clip rectangle.
+ * Draws with a clip rectangle, so that nothing is drawn outside `box`.
  * @param {Context} context
  * @param {[number, number, number, number]} box
  * @param {() => void} draw
@@ -117,13 +118,13 @@ function drawRow(context, picture, row, y) {
   const { line, title, colour, group, isFolded } = rows[row];
   if (row === selected) {
     context.fillStyle = colours.chosen;
-    context.fillRect(0, y, gutter + view.width, ROW);
+    context.fillRect(0, y, gutter + view.width, ROW_HEIGHT);
   }
   context.strokeStyle = colours.grid;
-  strokeLine(context, 0, y + ROW - 0.5, gutter + view.width, y + ROW - 0.5);
+  strokeLine(context, 0, y + ROW_HEIGHT - 0.5, gutter + view.width, y + ROW_HEIGHT - 0.5);
   context.fillStyle = colours.ink;
   if (line < 0) {
-    context.fillText(`${isFolded ? "\u25B8" : "\u25BE"} ${title}`, 4, y + ROW / 2);
+    context.fillText(`${isFolded ? "\u25B8" : "\u25BE"} ${title}`, 4, y + ROW_HEIGHT / 2);
     return;
   }
   const name = `${row === selected ? "\u25B8" : ""}${title || gutterName(waves.lines[line])}`;
@@ -131,11 +132,13 @@ function drawRow(context, picture, row, y) {
   const valueWidth = Math.min(88, context.measureText(value).width);
   const ink = colour === "" ? colours.ink : colours[colour];
   context.fillStyle = ink;
-  drawClipped(context, [0, y, gutter - 14 - valueWidth, ROW], () => context.fillText(name, group === "" ? 4 : INDENT, y + ROW / 2));
+  drawClipped(context, [0, y, gutter - 14 - valueWidth, ROW_HEIGHT], () => {
+    context.fillText(name, group === "" ? 4 : GROUP_INDENT, y + ROW_HEIGHT / 2);
+  });
   context.textAlign = "right";
-  drawClipped(context, [gutter - 92, y, 88, ROW], () => context.fillText(value, gutter - 6, y + ROW / 2));
+  drawClipped(context, [gutter - 92, y, 88, ROW_HEIGHT], () => context.fillText(value, gutter - 6, y + ROW_HEIGHT / 2));
   context.textAlign = "left";
-  drawClipped(context, [gutter, y, view.width, ROW], () => {
+  drawClipped(context, [gutter, y, view.width, ROW_HEIGHT], () => {
     context.strokeStyle = context.fillStyle = ink;
     if (isDrawnAsBoxes(waves.lines[line])) drawTexts(context, picture, line, y);
     else drawLevels(context, picture, line, y);
@@ -153,11 +156,12 @@ function drawRow(context, picture, row, y) {
 function drawMeasured(context, { view, gutter, colours }, { from, to }, y) {
   const [begin, end] = [from, to].map((moment) => Math.min(Math.max(view.xAt(moment), -2), view.width + 2));
   context.fillStyle = colours.measured;
-  context.fillRect(gutter + begin, y + ROW - 4, Math.max(1, end - begin), 3);
+  context.fillRect(gutter + begin, y + ROW_HEIGHT - 4, Math.max(1, end - begin), 3);
 }
 
 /**
- * Returns the gutter name of a line. A port includes its name in the board's text, and a decoder shows its function.
+ * Returns the name of a line for the gutter. The name of a port includes the name that the board's text gives it. The name of a decoder is
+ * its title.
  * @param {import("../../core/waves/wave_lines.js").WaveLine} line
  */
 function gutterName(line) {
@@ -167,7 +171,7 @@ function gutterName(line) {
 }
 
 /**
- * Returns the gutter value of a line at the active cursor. Labels and decoders show their values only in their rows.
+ * Returns the value of a line at the active cursor, for the gutter. Labels and decoders show their values only in their rows.
  * @param {Picture} picture
  * @param {number} line
  */
@@ -184,7 +188,7 @@ function gutterValue({ waves, view }, line) {
  */
 function drawLevels(context, { waves, view, gutter }, line, y) {
   const changes = waves.changesOf(line);
-  const [high, low] = [y + MARGIN + 0.5, y + ROW - MARGIN - 0.5];
+  const [high, low] = [y + LEVEL_MARGIN + 0.5, y + ROW_HEIGHT - LEVEL_MARGIN - 0.5];
   const end = Math.min(view.width, view.xAt(waves.cycles));
   let level = waves.numberAt(line, Math.floor(view.from));
   let changeIndex = countUpTo(changes, Math.floor(view.from));
@@ -195,7 +199,7 @@ function drawLevels(context, { waves, view, gutter }, line, y) {
     const x = view.xAt(changes[changeIndex]);
     const next = countUpTo(changes, view.cyclesAt(x + 1));
     if (next > changeIndex + 1) {
-      // Several edges are in one pixel.
+      // Several edges are in the same pixel column, so draw a solid block.
       context.lineTo(gutter + x, level ? high : low);
       context.fillRect(gutter + x, high, 1, low - high);
       level ^= (next - changeIndex) & 1;
@@ -222,7 +226,7 @@ function drawLevels(context, { waves, view, gutter }, line, y) {
  */
 function drawTexts(context, { waves, view, gutter }, line, y) {
   const changes = waves.changesOf(line);
-  const [high, low] = [y + MARGIN + 0.5, y + ROW - MARGIN - 0.5];
+  const [high, low] = [y + LEVEL_MARGIN + 0.5, y + ROW_HEIGHT - LEVEL_MARGIN - 0.5];
   const end = Math.min(view.width, view.xAt(waves.cycles));
   let from = 0;
   let changeIndex = countUpTo(changes, Math.floor(view.from));
@@ -249,7 +253,7 @@ function drawTexts(context, { waves, view, gutter }, line, y) {
 function drawValue(context, value, from, to, y) {
   if (to - from < 26) return;
   const width = context.measureText(value).width;
-  if (width + 6 <= to - from) context.fillText(value, from + (to - from - width) / 2, y + ROW / 2);
+  if (width + 6 <= to - from) context.fillText(value, from + (to - from - width) / 2, y + ROW_HEIGHT / 2);
 }
 
 /**
@@ -267,7 +271,7 @@ function drawCursor(context, picture, cursor, colour) {
 }
 
 /**
- * Returns the left edge of a mark's flag. The flag is centred at the mark, but does not cross the right edge of the picture.
+ * Returns the left edge of a mark's flag. The flag is centred on the mark, unless it would cross the right edge of the picture.
  * @param {number} x the x coordinate of the mark
  * @param {number} right the x coordinate of the right edge
  */

@@ -13,8 +13,8 @@ import * as say from "../../words/waves.js";
  * The callbacks of the selection.
  * @typedef {object} ChoiceCalls
  * @property {() => WaveLine[]} boardLines Returns all lines of the board, recorded or not.
- * @property {(chosen: number[]) => void} showLines Shows lines of the recording, by their indices, in this order.
- * @property {() => void} handleMissingValues Handles the selection of values that the recording does not include.
+ * @property {(chosen: number[]) => void} showLines Shows the lines of the recording with the indices `chosen`, in this order.
+ * @property {() => void} handleMissingValues Called when the user selects values that the recording does not include.
  */
 
 export class WaveChoice {
@@ -25,7 +25,7 @@ export class WaveChoice {
     this.waves = null;
     /** @type {Set<string>} the names of the selected lines and values */
     this.selectedNames = new Set();
-    /** True if the user has made the selection. Otherwise the lines that change are selected. */
+    /** True if the user has selected the lines; false if the page has selected the lines that change. */
     this.isUserSelection = false;
     this.status = new Cell(block("signals-status"));
     /** @type {Map<string, HTMLInputElement>} the check boxes, by line name */
@@ -52,7 +52,7 @@ export class WaveChoice {
     this.showCount();
   }
 
-  /** Handles a recording that has grown: selects the lines that change, unless the user has made a selection. */
+  /** Called when the recording has grown. Selects the lines that change, unless the user has selected lines. */
   handleGrowth() {
     if (this.isUserSelection || !this.waves) return;
     if (this.selectChangingIn(this.waves)) this.showCount();
@@ -68,7 +68,7 @@ export class WaveChoice {
     const newSelection = new Set([...names, ...values]);
     if (newSelection.size === this.selectedNames.size && [...newSelection].every((name) => this.selectedNames.has(name))) return false;
     this.selectedNames = newSelection;
-    this.showTicks();
+    this.updateCheckBoxes();
     return true;
   }
 
@@ -98,7 +98,7 @@ export class WaveChoice {
       root.append(this.makeCheckBox(line));
       groups.set(line.group, root);
     }
-    this.showTicks();
+    this.updateCheckBoxes();
     block("wave-boxes").replaceChildren(...groups.values());
     block("signals-more").textContent = moreText;
   }
@@ -111,7 +111,7 @@ export class WaveChoice {
     return element("label", {}, box, name, ...(title === "" ? [] : [element("small", {}, ` ${title}`)]));
   }
 
-  showTicks() {
+  updateCheckBoxes() {
     for (const [name, box] of this.boxes) box.checked = this.selectedNames.has(name);
   }
 
@@ -133,7 +133,7 @@ export class WaveChoice {
   setSelection(names, isUserSelection) {
     this.selectedNames = new Set(names);
     this.isUserSelection = isUserSelection;
-    this.showTicks();
+    this.updateCheckBoxes();
     this.showCount();
     if (this.missingValues.length > 0) this.calls.handleMissingValues();
   }

@@ -6,7 +6,7 @@ import { drawWaves } from "./wave_canvas.js";
 
 /** @typedef {import("./wave_canvas.js").Picture} Picture */
 
-/** The scale of a PNG file relative to the page. */
+/** The number of pixels of a PNG file for each pixel of the page. */
 const PNG_SCALE = 2;
 
 /** @param {Picture} picture */

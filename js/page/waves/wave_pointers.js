@@ -8,18 +8,20 @@
 /**
  * The callbacks of the pointer input. Points are in pixels from the top left corner.
  * @typedef {object} PointerCalls
- * @property {(point: Point, isOtherCursor: boolean) => void} click Places the active cursor at a point; the other cursor if `isOtherCursor`
- *   (with Shift).
+ * @property {(point: Point, isOtherCursor: boolean) => void} click Moves the active cursor to a point, or the other cursor if
+ *   `isOtherCursor` is true (a click with Shift).
  * @property {(point: Point) => boolean} holdsCursor Returns true if a drag from this point moves the cursor.
  * @property {(point: Point) => void} drag Moves the dragged cursor to a point.
  * @property {(point: Point) => boolean} isOnRowName Returns true if a point is on the row names.
  * @property {(from: Point, to: Point) => void} dragRow Moves the row whose name is at `from` to the position `to`.
- * @property {(point: Point | null) => void} hover Handles a pointer that hovers at a point; null if the pointer has left or is pressed.
+ * @property {(point: Point | null) => void} hover Called when the pointer hovers at a point. `point` is null if the pointer has left the
+ *   waves or is pressed.
  * @property {(pixels: number) => void} pan Pans by a number of pixels; positive numbers move to later moments.
- * @property {(factor: number, x: number) => void} zoom Multiplies the pixels per cycle by `factor`. The moment at `x` stays in place.
+ * @property {(factor: number, x: number) => void} zoom Multiplies the number of pixels per cycle by `factor`. The moment at the x
+ *   coordinate `x` stays where it is.
  */
 
-/** The maximum distance in pixels that the pointer can move in a click. */
+/** The maximum distance in pixels that the pointer can move during a click. A longer movement is a drag. */
 const CLICK_DISTANCE = 5;
 /** The zoom factor of one wheel step. */
 const WHEEL_FACTOR = 1.25;

@@ -1,7 +1,7 @@
 // The view of the waves: the canvas, the cursors, and texts with the values at the cursors.
 
 import { Cell, block, button, byId, field, onClick, pressedSwitch } from "../ui/dom.js";
-import { AXIS, ROW, drawWaves } from "./wave_canvas.js";
+import { AXIS_HEIGHT, ROW_HEIGHT, drawWaves } from "./wave_canvas.js";
 import { measureAt, describeMeasurement } from "../../core/waves/measurement.js";
 import { RowMenu } from "./row_menu.js";
 import { WavePointers } from "./wave_pointers.js";
@@ -31,23 +31,23 @@ import * as say from "../../words/waves.js";
  */
 
 /** The zoom factor of one click or key press. */
-const ZOOM = 2;
+const ZOOM_FACTOR = 2;
 /** The width in pixels of the gutter with the line names. */
-const GUTTER = 150;
-/** The width in pixels of that gutter in a narrow view. */
-const NARROW_GUTTER = 112;
+const GUTTER_WIDTH = 150;
+/** The width in pixels of the gutter in a narrow view. */
+const NARROW_GUTTER_WIDTH = 112;
 /** The width in pixels below which a view is narrow. */
-const NARROW_WIDTH = 600;
-/** The maximum number of rows that are visible without scrolling. */
+const MIN_WIDE_WIDTH = 600;
+/** The maximum number of rows that the canvas shows without scrolling. */
 const MAX_ROWS = 20;
 
 /** The CSS property that defines each colour. */
-const COLOURS = {
+const COLOUR_PROPERTIES = {
   ink: "--wave-ink", faint: "--wave-faint", grid: "--wave-grid", sheet: "--wave-sheet", chosen: "--wave-chosen", first: "--wave-first",
   second: "--wave-second", measured: "--wave-measured",
   ...Object.fromEntries(ROW_COLOURS.map((colour) => [colour, `--wave-${colour}`])),
 };
-/** The distance in pixels between the pointer and the measurement next to it. */
+/** The distance in pixels between the pointer and the text of the measurement. */
 const MEASURE_DISTANCE = 12;
 
 export class WaveView {
@@ -59,22 +59,22 @@ export class WaveView {
     this.room = block("wave-room");
     /** @type {Waves | null} */
     this.waves = null;
-    /** @type {number[]} the lines to show, in board order */
+    /** @type {number[]} the indices of the lines to show, in board order */
     this.chosenLines = [];
     this.arrangement = new WaveRows();
     /** @type {WaveRow[]} */
     this.rows = [];
-    /** @type {WaveRow | null} the row that the user drags by its name; null if there is none */
+    /** @type {WaveRow | null} the row whose name the user is dragging; null if there is none */
     this.draggedRow = null;
     /** @type {Point | null} the position of the hovering pointer; null if it has left or is pressed */
     this.pointer = null;
     this.measure = block("wave-measure");
     this.measureCell = new Cell(this.measure);
     this.menu = new RowMenu(this);
-    /** The index of the selected row, or -1 if there is none. Edges are searched in this row. */
+    /** The index of the selected row, or -1 if there is none. The buttons for the next and previous edge search this row. */
     this.selected = -1;
     this.view = new WaveWindow(0);
-    /** True if a drawing has been requested but not executed. */
+    /** True if a drawing has been requested for the next animation frame. */
     this.isDrawingRequested = false;
     /** @type {NumberBase} the number base of values */
     this.base = "hex";
@@ -98,9 +98,9 @@ export class WaveView {
     }
     new WavePointers(this.canvas, {
       click: (point, isOtherCursor) => this.click(point, isOtherCursor),
-      holdsCursor: ({ x, y }) => y < AXIS && x >= this.gutter,
-      drag: ({ x }) => this.move(this.view.cyclesAt(x - this.gutter)),
-      isOnRowName: ({ x, y }) => y >= AXIS && x < this.gutter,
+      holdsCursor: ({ x, y }) => y < AXIS_HEIGHT && x >= this.gutter,
+      drag: ({ x }) => this.moveCursor(this.view.cyclesAt(x - this.gutter)),
+      isOnRowName: ({ x, y }) => y >= AXIS_HEIGHT && x < this.gutter,
       dragRow: (from, to) => this.dragRow(from, to),
       hover: (point) => this.hover(point),
       pan: (pixels) => this.changeView(() => this.view.goTo(this.view.from + (pixels / this.view.width) * this.view.span)),
@@ -109,21 +109,21 @@ export class WaveView {
   }
 
   listenToButtons() {
-    onClick(button("zoom-in"), () => this.zoom(ZOOM));
-    onClick(button("zoom-out"), () => this.zoom(1 / ZOOM));
+    onClick(button("zoom-in"), () => this.zoom(ZOOM_FACTOR));
+    onClick(button("zoom-out"), () => this.zoom(1 / ZOOM_FACTOR));
     onClick(button("zoom-all"), () => this.changeView(() => this.view.showAll()));
     onClick(button("edge-before"), () => this.moveToEdge(false));
     onClick(button("edge-after"), () => this.moveToEdge(true));
     onClick(button("wave-go-to"), () => this.showInstruction());
-    onClick(button("cursor-a"), () => this.activate(0));
-    onClick(button("cursor-b"), () => this.activate(1));
+    onClick(button("cursor-a"), () => this.activateCursor(0));
+    onClick(button("cursor-b"), () => this.activateCursor(1));
   }
 
   get gutter() {
-    return this.scroll.clientWidth < NARROW_WIDTH ? NARROW_GUTTER : GUTTER;
+    return this.scroll.clientWidth < MIN_WIDE_WIDTH ? NARROW_GUTTER_WIDTH : GUTTER_WIDTH;
   }
 
-  /** The line of the selected row, or -1 if there is none. */
+  /** The index of the selected row's line, or -1 if there is none. */
   get line() {
     return this.selected < 0 ? -1 : this.rows[this.selected].line;
   }
@@ -150,10 +150,10 @@ export class WaveView {
   }
 
   /**
-   * Handles a recording that has grown at its end or lost its beginning.
+   * Shows a recording after parts were added at its end or removed at its beginning.
    * @param {number} trigger the moment of the trigger, or -1 if there is none
    */
-  grow(trigger) {
+  handleGrowth(trigger) {
     if (!this.waves) return;
     this.trigger = trigger;
     this.view.stretch(this.waves.from, this.waves.cycles);
@@ -184,8 +184,8 @@ export class WaveView {
     this.requestDrawing();
   }
 
-  /** @param {number[]} lines the lines to show, in board order */
-  choose(lines) {
+  /** @param {number[]} lines the indices of the lines to show, in board order */
+  setChosenLines(lines) {
     this.chosenLines = lines;
     this.arrange(this.rows[this.selected]);
   }
@@ -199,8 +199,8 @@ export class WaveView {
     this.rows = waves ? this.arrangement.arrange(waves.lines, this.chosenLines) : [];
     const { length } = this.rows;
     this.selected = Math.max(selectedRow ? this.indexOfRow(selectedRow) : -1, length > 0 ? 0 : -1);
-    this.room.style.setProperty("height", `${AXIS + length * ROW}px`);
-    this.scroll.style.setProperty("height", `${AXIS + Math.max(1, Math.min(MAX_ROWS, length)) * ROW}px`);
+    this.room.style.setProperty("height", `${AXIS_HEIGHT + length * ROW_HEIGHT}px`);
+    this.scroll.style.setProperty("height", `${AXIS_HEIGHT + Math.max(1, Math.min(MAX_ROWS, length)) * ROW_HEIGHT}px`);
     if (waves) this.values.draw(waves, this.rows.filter(({ line }) => line >= 0));
     this.requestDrawing();
   }
@@ -215,7 +215,7 @@ export class WaveView {
 
   /** @param {Point} point */
   rowIndexAt({ y }) {
-    return y < AXIS ? -1 : Math.floor((y - AXIS + this.scroll.scrollTop) / ROW);
+    return y < AXIS_HEIGHT ? -1 : Math.floor((y - AXIS_HEIGHT + this.scroll.scrollTop) / ROW_HEIGHT);
   }
 
   // --- the arrangement of rows ---
@@ -244,9 +244,9 @@ export class WaveView {
   moveRow(index, to) {
     const { names, rows } = this;
     if (!rows[index] || !rows[to]) return;
-    this.select(index);
+    this.selectRow(index);
     this.rearrange(() => this.arrangement.move(rows, names, index, to));
-    this.select(this.selected);
+    this.selectRow(this.selected);
   }
 
   /**
@@ -260,11 +260,11 @@ export class WaveView {
   }
 
   /**
-   * Changes the appearance of lines, by name.
+   * Changes the name, the colour or the group of lines. `names` are the lines' names.
    * @param {string[]} names
    * @param {import("../../core/waves/wave_rows.js").RowAppearance} look
    */
-  change(names, look) {
+  changeLines(names, look) {
     this.rearrange(() => names.forEach((name) => this.arrangement.change(name, look)));
   }
 
@@ -272,12 +272,12 @@ export class WaveView {
    * Folds or unfolds a group.
    * @param {string} group
    */
-  fold(group) {
+  toggleFold(group) {
     this.rearrange(() => this.arrangement.fold(group));
   }
 
   /**
-   * Opens the menu of the row under the pointer, or of the selected row if a key has opened the menu.
+   * Opens the context menu of the row under the pointer, or of the selected row if the user pressed the menu key.
    * @param {MouseEvent} event
    */
   openMenu(event) {
@@ -285,9 +285,9 @@ export class WaveView {
     const { left, top } = this.canvas.getBoundingClientRect();
     const index = this.rowIndexAt({ x: event.clientX - left, y: event.clientY - top });
     const isPointed = event.button === 2 || event.ctrlKey || (event instanceof PointerEvent && event.pointerType === "touch");
-    if (this.rows[index] && isPointed) this.select(index);
+    if (this.rows[index] && isPointed) this.selectRow(index);
     const row = this.rows[this.selected];
-    const y = top + AXIS + this.selected * ROW - this.scroll.scrollTop;
+    const y = top + AXIS_HEIGHT + this.selected * ROW_HEIGHT - this.scroll.scrollTop;
     if (row) this.menu.open(row, { left: Math.max(left, event.clientX), bottom: event.clientY > top ? event.clientY : y });
   }
 
@@ -301,8 +301,7 @@ export class WaveView {
   }
 
   /**
-   * Shows the measurement at the pointer in a text beside it. Returns the range of the row to underline, or null if there is no
-   * measurement.
+   * Shows the measurement at the pointer in a text beside the pointer. Returns the range to underline, or null if there is no measurement.
    * @param {Waves} waves
    * @returns {import("./wave_canvas.js").RowRange | null}
    */
@@ -325,19 +324,19 @@ export class WaveView {
 
   // --- actions of the user ---
 
-  /** @param {() => void} action changes which cycles are visible */
+  /** @param {() => void} action changes the range of cycles that is visible */
   changeView(action) {
     action();
     this.requestDrawing();
   }
 
   /** @param {number} moment */
-  move(moment) {
+  moveCursor(moment) {
     this.changeView(() => this.view.move(moment));
   }
 
   /** @param {number} cursor 0 for cursor A, 1 for cursor B */
-  activate(cursor) {
+  activateCursor(cursor) {
     this.changeView(() => {
       this.view.active = cursor;
       this.view.move(this.view.moment);
@@ -362,7 +361,7 @@ export class WaveView {
     if (!this.waves || this.line < 0) return;
     const { moment } = this.view;
     const edge = isForward ? this.waves.changeAfter(this.line, moment) : this.waves.changeBefore(this.line, moment);
-    if (edge !== undefined) this.move(edge);
+    if (edge !== undefined) this.moveCursor(edge);
   }
 
   /** Shows the instruction at the active cursor in the source and the disassembly. */
@@ -371,9 +370,9 @@ export class WaveView {
   }
 
   /** Handles Enter: folds the selected group, or shows the instruction at the cursor. */
-  enter() {
+  handleEnter() {
     const row = this.rows[this.selected];
-    if (row && row.line < 0) this.fold(row.group);
+    if (row && row.line < 0) this.toggleFold(row.group);
     else this.showInstruction();
   }
 
@@ -381,18 +380,18 @@ export class WaveView {
    * Selects the row of a line if it is visible.
    * @param {number} line
    */
-  mark(line) {
+  selectRowOfLine(line) {
     const row = this.rows.findIndex((candidate) => candidate.line === line);
-    if (row >= 0) this.select(row);
+    if (row >= 0) this.selectRow(row);
   }
 
   /** @param {number} row */
-  select(row) {
+  selectRow(row) {
     this.selected = Math.min(Math.max(row, 0), this.rows.length - 1);
-    const top = this.selected * ROW;
-    const visibleHeight = this.scroll.clientHeight - AXIS;
+    const top = this.selected * ROW_HEIGHT;
+    const visibleHeight = this.scroll.clientHeight - AXIS_HEIGHT;
     if (top < this.scroll.scrollTop) this.scroll.scrollTop = top;
-    else if (top + ROW > this.scroll.scrollTop + visibleHeight) this.scroll.scrollTop = top + ROW - visibleHeight;
+    else if (top + ROW_HEIGHT > this.scroll.scrollTop + visibleHeight) this.scroll.scrollTop = top + ROW_HEIGHT - visibleHeight;
     this.requestDrawing();
   }
 
@@ -403,11 +402,11 @@ export class WaveView {
   click({ x, y }, isOtherCursor) {
     if (!this.waves) return;
     const row = this.rowIndexAt({ x, y });
-    if (this.rows[row]) this.select(row);
-    if (this.rows[row] && this.rows[row].line < 0) this.fold(this.rows[row].group);
+    if (this.rows[row]) this.selectRow(row);
+    if (this.rows[row] && this.rows[row].line < 0) this.toggleFold(this.rows[row].group);
     if (x < this.gutter) return;
     if (isOtherCursor) this.view.active = 1 - this.view.active;
-    this.move(this.view.momentAt(x - this.gutter, this.waves, y >= AXIS ? this.line : -1));
+    this.moveCursor(this.view.momentAt(x - this.gutter, this.waves, y >= AXIS_HEIGHT ? this.line : -1));
   }
 
   /** @param {KeyboardEvent} event */
@@ -423,14 +422,14 @@ export class WaveView {
     if (event.altKey) return;
     /** @type {Record<string, (() => void) | undefined>} */
     const actions = {
-      ArrowLeft: () => this.move(view.moment - stepSize), ArrowRight: () => this.move(view.moment + stepSize),
-      ArrowUp: () => this.select(this.selected - 1), ArrowDown: () => this.select(this.selected + 1),
-      PageUp: () => this.move(view.moment - view.span / 2), PageDown: () => this.move(view.moment + view.span / 2),
-      Home: () => this.move(view.begin), End: () => this.move(view.end),
-      "+": () => this.zoom(ZOOM), "-": () => this.zoom(1 / ZOOM), 0: () => this.changeView(() => view.showAll()),
-      Enter: () => this.enter(),
+      ArrowLeft: () => this.moveCursor(view.moment - stepSize), ArrowRight: () => this.moveCursor(view.moment + stepSize),
+      ArrowUp: () => this.selectRow(this.selected - 1), ArrowDown: () => this.selectRow(this.selected + 1),
+      PageUp: () => this.moveCursor(view.moment - view.span / 2), PageDown: () => this.moveCursor(view.moment + view.span / 2),
+      Home: () => this.moveCursor(view.begin), End: () => this.moveCursor(view.end),
+      "+": () => this.zoom(ZOOM_FACTOR), "-": () => this.zoom(1 / ZOOM_FACTOR), 0: () => this.changeView(() => view.showAll()),
+      Enter: () => this.handleEnter(),
       "/": () => field("wave-search").focus(),
-      p: () => this.moveToEdge(false), n: () => this.moveToEdge(true), a: () => this.activate(0), b: () => this.activate(1),
+      p: () => this.moveToEdge(false), n: () => this.moveToEdge(true), a: () => this.activateCursor(0), b: () => this.activateCursor(1),
     };
     const action = actions[event.key] || actions[event.key.toLowerCase()];
     // Keys that are pressed on the canvas must not press the board's keys.
@@ -495,10 +494,11 @@ export class WaveView {
    */
   picture(waves) {
     const style = getComputedStyle(this.canvas);
-    const colours = Object.fromEntries(Object.entries(COLOURS).map(([name, property]) => [name, style.getPropertyValue(property).trim()]));
+    const colours = Object.fromEntries(Object.entries(COLOUR_PROPERTIES).map(([name, property]) => (
+      [name, style.getPropertyValue(property).trim()])));
     const { rows, selected, view, gutter, trigger } = this;
     return {
-      waves, rows, selected, view, top: 0, gutter, height: AXIS + rows.length * ROW, trigger, measured: null,
+      waves, rows, selected, view, top: 0, gutter, height: AXIS_HEIGHT + rows.length * ROW_HEIGHT, trigger, measured: null,
       colours: /** @type {Colours} */ (/** @type {unknown} */ (colours)), font: `12px ${style.fontFamily}`,
     };
   }

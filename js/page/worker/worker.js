@@ -1,4 +1,4 @@
-// The bench's worker. The worker serves one request after another. Between requests, time runs at full speed if requested.
+// The bench's worker. The worker serves one request after another. Between requests, time runs at full speed if the page has started it.
 
 import { BenchCalls } from "../../core/engine/bench_calls.js";
 import { earlySender } from "../bench/early_replies.js";
@@ -16,11 +16,11 @@ import { packError } from "../../core/bench/bench_errors.js";
 /** The interval in milliseconds between progress reports. */
 const PROGRESS_INTERVAL = 100;
 
-/** @type {Record<string, true>} the calls that change the session even while time is running */
+/** @type {Record<string, true>} the names of the calls that change the session even while time is running */
 const CHANGING_CALLS = { serve: true, serveTyped: true, goOn: true, goBack: true, goForward: true };
 
 /**
- * Returns true if a call runs time after a key press, so that the user is waiting for the lamps.
+ * Returns true if a call presses a key and runs time. The user is then waiting for the lamps to react.
  * @param {string} call
  * @param {any[]} words
  */
@@ -70,7 +70,7 @@ class BenchWorker {
     this.scope.postMessage(message, transfer);
   }
 
-  /** Resolves after the messages that have arrived in the meantime are handled. */
+  /** Resolves after the worker has handled the messages that are waiting. */
   yieldToMessages() {
     return new Promise((resolve) => {
       this.resume = () => resolve(undefined);
@@ -98,7 +98,7 @@ class BenchWorker {
   async answerRequest({ number, call, words }) {
     this.currentRequest = number;
     this.lastReportTime = performance.now();
-    // Report the run before the call first.
+    // Report the run that preceded the call first.
     if (CHANGING_CALLS[call] && this.calls.bench.fullSpeed.isOn) this.postFrame(this.calls.bench.takeUnreported());
     try {
       const result = await (/** @type {any} */ (this.calls))[call](...words);
