@@ -26,6 +26,7 @@ import * as say from "../../words/session.js";
  * @property {(record: SessionRecord) => void} begin Shows the texts and the settings of another session, from its record.
  * @property {(state: PageState) => void} show Shows the current state of the session.
  * @property {() => Promise<void>} checkSource Compares the source with ROM. Resolves when the program's names are visible.
+ * @property {() => void} checkTrialTexts Checks the tests and the properties of the session.
  * @property {() => void} run Resumes time in a session that was left while time was running.
  * @property {(words: string) => void} showPaused Shows that time is paused, and the reason.
  * @property {() => Promise<void>} stopTime Stops time. Resolves when the worker has stopped.
@@ -86,6 +87,7 @@ export class CurrentSession {
     else calls.showPaused(goal ? wordsOfInterrupted(goal, runs, calls.describeCounter()) : say.PAUSED);
     this.willRun = false;
     await this.restoreHistory();
+    calls.checkTrialTexts();
   }
 
   /** Shows the elements of the page. The elements stay invisible until the source's names have arrived, because the names move them. */

@@ -97,7 +97,7 @@ export class TextTab {
     button(this.kind.firstButton).hidden = this.editor.text.trim() !== "";
   }
 
-  /** Checks the text when its tab comes to the front or another text has changed, because the names may have changed. */
+  /** Checks the text when a session has been opened, or when the tab comes to the front, because the names may have changed. */
   refresh() {
     this.offerFirstText();
     this.faults.checkNow().catch(this.calls.reportFailure);
