@@ -13,6 +13,7 @@ import { requestedStory } from "./session/address.js";
 import { makeGuide } from "./compose_session.js";
 import { SPEEDS, findSpeed } from "../core/time/speeds.js";
 import { withTimeout, MemoryStore, Store } from "./session/store.js";
+import { makeStream, readOutput } from "./session/byte_streams.js";
 import { ErrorMessages } from "../core/bench/error_messages.js";
 import * as say from "../words/page.js";
 
@@ -42,12 +43,12 @@ function missingFeature() {
 
 /**
  * Opens the browser's session store, or creates a store in memory if the browser's store cannot be opened.
- * @param {boolean} hasLocks
+ * @param {Promise<Locks>} locks
  * @returns {Promise<SessionStore>}
  */
-async function openStore(hasLocks) {
+async function openStore(locks) {
   try {
-    return await withTimeout(Store.open(hasLocks));
+    return await withTimeout(Store.open(locks.then(({ areAvailable }) => areAvailable)));
   } catch {
     return new MemoryStore();
   }
@@ -62,21 +63,25 @@ function partText(id) {
 }
 
 /**
- * Returns the decompressed bytes of an embedded script element of the page.
+ * Resolves to the decompressed bytes of an embedded script element of the page. The browser decompresses faster than a script, but older
+ * browsers cannot.
  * @param {string} id
+ * @returns {Promise<Uint8Array>}
  */
-function unpackedPart(id) {
-  return inflateRaw(fromBase64(partText(id)));
+async function unpackPart(id) {
+  const bytes = fromBase64(partText(id));
+  const stream = makeStream("DecompressionStream");
+  return stream ? readOutput(bytes, stream) : inflateRaw(bytes);
 }
 
 /**
- * Returns a function that creates a bench in a new worker. The worker's script is embedded in the page.
+ * Resolves to a function that creates a bench in a new worker. The worker's script is embedded in the page.
  * @param {Example[]} examples
  */
-function benchMaker(examples) {
-  const address = URL.createObjectURL(new Blob([unpackedPart("worker")], { type: "text/javascript" }));
-  const module = unpackedPart("module").buffer;
-  return () => new Bench(() => startWorker(address), module, examples);
+async function prepareBench(examples) {
+  const [script, module] = await Promise.all([unpackPart("worker"), unpackPart("module")]);
+  const address = URL.createObjectURL(new Blob([script], { type: "text/javascript" }));
+  return () => new Bench(() => startWorker(address), module.buffer, examples);
 }
 
 /** @param {Page} page */
@@ -138,13 +143,16 @@ function listenToLeaving(page) {
  * @param {Data} data
  */
 async function start(words, notice, shell, { examples, manual }) {
-  const locks = await Locks.find();
-  const makeBench = benchMaker(examples);
+  const finding = Locks.find();
+  const opening = openStore(finding);
+  const makeBench = await prepareBench(examples);
   const bench = makeBench();
-  const [store] = await Promise.all([openStore(locks.areAvailable), bench.start()]);
-  const page = new Page({ bench, makeBench, store, locks, words, notice, examples, manual });
+  // The views are created while the worker loads the module.
+  const creation = Promise.all([finding, opening]).then(([locks, store]) => (
+    new Page({ bench, makeBench, store, locks, words, notice, examples, manual })));
+  const [page] = await Promise.all([creation, bench.start()]);
   bench.listener = page.listener();
-  if (!store.isPersistent) notice.show(say.NO_STORE, "store");
+  if (!page.store.isPersistent) notice.show(say.NO_STORE, "store");
   const guide = makeGuide(page, manual);
   const story = requestedStory(location.search);
   const commands = new Commands(page, guide, examples, shell);
@@ -172,7 +180,7 @@ async function main() {
     return;
   }
   /** @type {Data} */
-  const data = JSON.parse(new TextDecoder().decode(unpackedPart("data")));
+  const data = JSON.parse(new TextDecoder().decode(await unpackPart("data")));
   const errorMessages = new ErrorMessages(data.refusals);
   try {
     await start(errorMessages, notice, shell, data);
