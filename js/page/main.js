@@ -20,6 +20,7 @@ import * as say from "../words/page.js";
 /**
  * @typedef {import("../core/engine/examples.js").Example} Example
  * @typedef {import("./session/store.js").SessionStore} SessionStore
+ * @typedef {import("./compose_commands.js").Shell} Shell
  * @typedef {import("../core/help/manual.js").ManualSection} ManualSection
  * @typedef {{ refusals: Record<string, string>, examples: Example[], manual: ManualSection[] }} Data The data that page/build embeds in the
  *   page.
@@ -136,30 +137,42 @@ function listenToLeaving(page) {
 }
 
 /**
- * Creates the page and opens its first session.
- * @param {ErrorMessages} words
- * @param {Notice} notice
- * @param {import("./compose_commands.js").Shell} shell
- * @param {Data} data
+ * Creates the page with its commands and its guide, as soon as the session store is open. The bench may still be loading.
+ * @param {Omit<import("./bench_page.js").PageServices, "store" | "locks">} services
+ * @param {Shell} shell
+ * @param {Promise<Locks>} findingLocks
+ * @param {Promise<SessionStore>} openingStore
  */
-async function start(words, notice, shell, { examples, manual }) {
-  const finding = Locks.find();
-  const opening = openStore(finding);
-  const makeBench = await prepareBench(examples);
-  const bench = makeBench();
-  // The views are created while the worker loads the module.
-  const creation = Promise.all([finding, opening]).then(([locks, store]) => (
-    new Page({ bench, makeBench, store, locks, words, notice, examples, manual })));
-  const [page] = await Promise.all([creation, bench.start()]);
-  bench.listener = page.listener();
-  if (!page.store.isPersistent) notice.show(say.NO_STORE, "store");
-  const guide = makeGuide(page, manual);
-  const story = requestedStory(location.search);
-  const commands = new Commands(page, guide, examples, shell);
-  const isFirst = location.hash === "" && !story && (await page.sessionsController.manager.savedSessions()).length === 0;
+async function createPage(services, shell, findingLocks, openingStore) {
+  const [locks, store] = await Promise.all([findingLocks, openingStore]);
+  const page = new Page({ ...services, store, locks });
+  services.bench.listener = page.listener();
+  if (!store.isPersistent) services.notice.show(say.NO_STORE, "store");
+  const guide = makeGuide(page, services.manual);
+  const commands = new Commands(page, guide, services.examples, shell);
   page.keyPresser.listenToKeyboard();
   listenToButtons(page);
   listenToLeaving(page);
+  return { page, guide, commands };
+}
+
+/**
+ * Creates the page and opens its first session.
+ * @param {ErrorMessages} words
+ * @param {Notice} notice
+ * @param {Shell} shell
+ * @param {Data} data
+ */
+async function start(words, notice, shell, { examples, manual }) {
+  const findingLocks = Locks.find();
+  const openingStore = openStore(findingLocks);
+  const makeBench = await prepareBench(examples);
+  const bench = makeBench();
+  const services = { bench, makeBench, words, notice, examples, manual };
+  // The page creates its views while the worker loads the module.
+  const [{ page, guide, commands }] = await Promise.all([createPage(services, shell, findingLocks, openingStore), bench.start()]);
+  const story = requestedStory(location.search);
+  const isFirst = location.hash === "" && !story && (await page.sessionsController.manager.savedSessions()).length === 0;
   await page.sessionsController.openFirst(story);
   if (story) guide.showStory(story, examples);
   if (isFirst) commands.showFirstWelcome();
