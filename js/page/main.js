@@ -153,7 +153,8 @@ async function createPage(services, shell, findingLocks, openingStore) {
   page.keyPresser.listenToKeyboard();
   listenToButtons(page);
   listenToLeaving(page);
-  return { page, guide, commands };
+  const savedSessions = await page.sessionsController.manager.savedSessions();
+  return { page, guide, commands, hasSessions: savedSessions.length > 0 };
 }
 
 /**
@@ -170,16 +171,17 @@ async function start(words, notice, shell, { examples, manual }) {
   const bench = makeBench();
   const services = { bench, makeBench, words, notice, examples, manual };
   // The page creates its views while the worker loads the module.
-  const [{ page, guide, commands }] = await Promise.all([createPage(services, shell, findingLocks, openingStore), bench.start()]);
+  const creatingPage = createPage(services, shell, findingLocks, openingStore);
+  const [{ page, guide, commands, hasSessions }] = await Promise.all([creatingPage, bench.start()]);
   const story = requestedStory(location.search);
-  const isFirst = location.hash === "" && !story && (await page.sessionsController.manager.savedSessions()).length === 0;
+  const isFirst = location.hash === "" && !story && !hasSessions;
   await page.sessionsController.openFirst(story);
   if (story) guide.showStory(story, examples);
   if (isFirst) commands.showFirstWelcome();
-  // When the user leaves the page, Firefox 153 runs a function only if it has run before, so save once now.
-  page.currentSession.keepNow();
   // The startup time in milliseconds.
   document.body.dataset.ready = String(Math.round(performance.now()));
+  // When the user leaves the page, Firefox 153 runs a function only if it has run before, so save once now.
+  page.currentSession.keepNow();
 }
 
 async function main() {
