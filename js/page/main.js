@@ -146,7 +146,6 @@ function listenToLeaving(page) {
 async function createPage(services, shell, findingLocks, openingStore) {
   const [locks, store] = await Promise.all([findingLocks, openingStore]);
   const page = new Page({ ...services, store, locks });
-  services.bench.listener = page.listener();
   if (!store.isPersistent) services.notice.show(say.NO_STORE, "store");
   const guide = makeGuide(page, services.manual);
   const commands = new Commands(page, guide, services.examples, shell);
@@ -173,6 +172,8 @@ async function start(words, notice, shell, { examples, manual }) {
   // The page creates its views while the worker loads the module.
   const creatingPage = createPage(services, shell, findingLocks, openingStore);
   const [{ page, guide, commands, hasSessions }] = await Promise.all([creatingPage, bench.start()]);
+  // A worker that dies before it has loaded the module is not replaced.
+  bench.listener = page.listener();
   const story = requestedStory(location.search);
   const isFirst = location.hash === "" && !story && !hasSessions;
   await page.sessionsController.openFirst(story);
