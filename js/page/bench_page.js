@@ -140,11 +140,18 @@ export class Page {
     this.heatView.clear();
     this.watchView.open(record.watched);
     this.textsController.show(record);
+    this.testsTab.begin();
     this.drawingController.begin();
     this.exploreTab.begin(record.id);
     this.source.forget();
     this.logView.clear();
     this.cyclesView.open(record.cycles);
+  }
+
+  /** Checks the tests and the properties of an opened session. Their tabs are rarely in front, so the session is visible first. */
+  checkTrialTexts() {
+    this.testsTab.refresh();
+    this.exploreTab.refresh();
   }
 
   /**

@@ -18,6 +18,7 @@ export function makeCurrentSession(page) {
     begin: (record) => page.begin(record),
     show: (shown) => page.show(shown),
     checkSource: () => page.checkSource(),
+    checkTrialTexts: () => page.checkTrialTexts(),
     run: () => page.runController.run(),
     showPaused: (words) => page.runController.endRun(words),
     stopTime: () => page.runController.stopRun(),

@@ -13,12 +13,14 @@ import { requestedStory } from "./session/address.js";
 import { makeGuide } from "./compose_session.js";
 import { SPEEDS, findSpeed } from "../core/time/speeds.js";
 import { withTimeout, MemoryStore, Store } from "./session/store.js";
+import { makeStream, readOutput } from "./session/byte_streams.js";
 import { ErrorMessages } from "../core/bench/error_messages.js";
 import * as say from "../words/page.js";
 
 /**
  * @typedef {import("../core/engine/examples.js").Example} Example
  * @typedef {import("./session/store.js").SessionStore} SessionStore
+ * @typedef {import("./compose_commands.js").Shell} Shell
  * @typedef {import("../core/help/manual.js").ManualSection} ManualSection
  * @typedef {{ refusals: Record<string, string>, examples: Example[], manual: ManualSection[] }} Data The data that page/build embeds in the
  *   page.
@@ -42,12 +44,12 @@ function missingFeature() {
 
 /**
  * Opens the browser's session store, or creates a store in memory if the browser's store cannot be opened.
- * @param {boolean} hasLocks
+ * @param {Promise<Locks>} locks
  * @returns {Promise<SessionStore>}
  */
-async function openStore(hasLocks) {
+async function openStore(locks) {
   try {
-    return await withTimeout(Store.open(hasLocks));
+    return await withTimeout(Store.open(locks.then(({ areAvailable }) => areAvailable)));
   } catch {
     return new MemoryStore();
   }
@@ -62,21 +64,25 @@ function embeddedText(id) {
 }
 
 /**
- * Returns the decompressed bytes of an embedded script element of the page.
+ * Resolves to the decompressed bytes of an embedded script element of the page. The browser decompresses faster than a script, but older
+ * browsers cannot.
  * @param {string} id
+ * @returns {Promise<Uint8Array>}
  */
-function unpackEmbedded(id) {
-  return inflateRaw(fromBase64(embeddedText(id)));
+async function unpackEmbedded(id) {
+  const bytes = fromBase64(embeddedText(id));
+  const stream = makeStream("DecompressionStream");
+  return stream ? readOutput(bytes, stream) : inflateRaw(bytes);
 }
 
 /**
- * Returns a function that creates a bench in a new worker. The worker's script is embedded in the page.
+ * Resolves to a function that creates a bench in a new worker. The worker's script is embedded in the page.
  * @param {Example[]} examples
  */
-function makeBenchFactory(examples) {
-  const address = URL.createObjectURL(new Blob([unpackEmbedded("worker")], { type: "text/javascript" }));
-  const module = unpackEmbedded("module").buffer;
-  return () => new Bench(() => startWorker(address), module, examples);
+async function prepareBench(examples) {
+  const [script, module] = await Promise.all([unpackEmbedded("worker"), unpackEmbedded("module")]);
+  const address = URL.createObjectURL(new Blob([script], { type: "text/javascript" }));
+  return () => new Bench(() => startWorker(address), module.buffer, examples);
 }
 
 /** @param {Page} page */
@@ -131,34 +137,52 @@ function listenToLeaving(page) {
 }
 
 /**
- * Creates the page and opens its first session.
- * @param {ErrorMessages} words
- * @param {Notice} notice
- * @param {import("./compose_commands.js").Shell} shell
- * @param {Data} data
+ * Creates the page with its commands and its guide, as soon as the session store is open. The bench may still be loading.
+ * @param {Omit<import("./bench_page.js").PageServices, "store" | "locks">} services
+ * @param {Shell} shell
+ * @param {Promise<Locks>} findingLocks
+ * @param {Promise<SessionStore>} openingStore
  */
-async function start(words, notice, shell, { examples, manual }) {
-  const locks = await Locks.find();
-  const makeBench = makeBenchFactory(examples);
-  const bench = makeBench();
-  const [store] = await Promise.all([openStore(locks.areAvailable), bench.start()]);
-  const page = new Page({ bench, makeBench, store, locks, words, notice, examples, manual });
-  bench.listener = page.listener();
-  if (!store.isPersistent) notice.show(say.NO_STORE, "store");
-  const guide = makeGuide(page, manual);
-  const story = requestedStory(location.search);
-  const commands = new Commands(page, guide, examples, shell);
-  const isFirst = location.hash === "" && !story && (await page.sessionsController.manager.savedSessions()).length === 0;
+async function createPage(services, shell, findingLocks, openingStore) {
+  const [locks, store] = await Promise.all([findingLocks, openingStore]);
+  const page = new Page({ ...services, store, locks });
+  if (!store.isPersistent) services.notice.show(say.NO_STORE, "store");
+  const guide = makeGuide(page, services.manual);
+  const commands = new Commands(page, guide, services.examples, shell);
   page.keyPresser.listenToKeyboard();
   listenToButtons(page);
   listenToLeaving(page);
+  const savedSessions = await page.sessionsController.manager.savedSessions();
+  return { page, guide, commands, hasSessions: savedSessions.length > 0 };
+}
+
+/**
+ * Creates the page and opens its first session.
+ * @param {ErrorMessages} words
+ * @param {Notice} notice
+ * @param {Shell} shell
+ * @param {Data} data
+ */
+async function start(words, notice, shell, { examples, manual }) {
+  const findingLocks = Locks.find();
+  const openingStore = openStore(findingLocks);
+  const makeBench = await prepareBench(examples);
+  const bench = makeBench();
+  const services = { bench, makeBench, words, notice, examples, manual };
+  // The page creates its views while the worker loads the module.
+  const creatingPage = createPage(services, shell, findingLocks, openingStore);
+  const [{ page, guide, commands, hasSessions }] = await Promise.all([creatingPage, bench.start()]);
+  // A worker that dies before it has loaded the module is not replaced.
+  bench.listener = page.listener();
+  const story = requestedStory(location.search);
+  const isFirst = location.hash === "" && !story && !hasSessions;
   await page.sessionsController.openFirst(story);
   if (story) guide.showStory(story, examples);
   if (isFirst) commands.showFirstWelcome();
-  // When the user leaves the page, Firefox 153 runs a function only if it has run before, so save once now.
-  page.currentSession.saveNow();
   // The startup time in milliseconds.
   document.body.dataset.ready = String(Math.round(performance.now()));
+  // When the user leaves the page, Firefox 153 runs a function only if it has run before, so save once now.
+  page.currentSession.saveNow();
 }
 
 async function main() {
@@ -172,7 +196,7 @@ async function main() {
     return;
   }
   /** @type {Data} */
-  const data = JSON.parse(new TextDecoder().decode(unpackEmbedded("data")));
+  const data = JSON.parse(new TextDecoder().decode(await unpackEmbedded("data")));
   const errorMessages = new ErrorMessages(data.refusals);
   try {
     await start(errorMessages, notice, shell, data);

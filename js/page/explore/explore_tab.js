@@ -120,7 +120,7 @@ export class ExploreTab {
     return this.resultsBySession.get(this.session) || null;
   }
 
-  /** Checks the text when the tab comes to the front. */
+  /** Checks the text when a session has been opened or the tab comes to the front. */
   refresh() {
     this.textTab.refresh();
   }
@@ -144,7 +144,7 @@ export class ExploreTab {
     this.view.clear();
     this.show();
     this.proofs.begin(session);
-    this.refresh();
+    this.textTab.offerFirstText();
   }
 
   /** Clears the counterexamples and the verdicts. */

@@ -32,15 +32,27 @@ export class ListingScroll {
     root.append(this.length);
     root.addEventListener("scroll", () => this.handleScroll(), { passive: true });
     root.addEventListener("keydown", (event) => this.handleKey(event));
-    // A ResizeObserver must not change sizes in its own callback.
-    new ResizeObserver(() => requestAnimationFrame(() => this.measure())).observe(root);
+    new ResizeObserver(() => this.measure()).observe(root);
   }
 
+  /**
+   * Measures the box and a row. A ResizeObserver must not change sizes in its own callback, so they change at the next frame. Sizes that
+   * were read then would lay out the page once more.
+   */
   measure() {
     const { clientHeight } = this.root;
     if (clientHeight === 0) return;
     const row = this.rows.firstElementChild;
-    this.rowHeight = (row instanceof HTMLElement && row.offsetHeight) || DEFAULT_ROW_HEIGHT;
+    const rowHeight = (row instanceof HTMLElement && row.offsetHeight) || DEFAULT_ROW_HEIGHT;
+    requestAnimationFrame(() => this.setSizes(clientHeight, rowHeight));
+  }
+
+  /**
+   * @param {number} clientHeight the height of the box in pixels
+   * @param {number} rowHeight the height of a row in pixels
+   */
+  setSizes(clientHeight, rowHeight) {
+    this.rowHeight = rowHeight;
     this.length.style.setProperty("height", `${ADDRESS_COUNT * this.rowHeight}px`);
     this.calls.handleResize(Math.max(1, Math.floor(clientHeight / this.rowHeight)));
   }

@@ -27,6 +27,7 @@ import * as say from "../../words/session.js";
  *   them.
  * @property {(state: PageState) => void} show Shows the current state of the session.
  * @property {() => Promise<void>} checkSource Compares the source with ROM. Resolves when the page shows the program's names.
+ * @property {() => void} checkTrialTexts Checks the tests and the properties of the session.
  * @property {() => void} run Resumes time in a session that the user left while time was running.
  * @property {(words: string) => void} showPaused Shows that time is paused, and the reason.
  * @property {() => Promise<void>} stopTime Stops time. Resolves when the worker has stopped.
@@ -87,6 +88,7 @@ export class CurrentSession {
     else calls.showPaused(goal ? wordsOfInterrupted(goal, runs, calls.describeCounter()) : say.PAUSED);
     this.willRun = false;
     await this.restoreHistory();
+    calls.checkTrialTexts();
   }
 
   /**

@@ -52,6 +52,7 @@ export class SessionsView {
    * @param {SessionsCalls} calls
    */
   constructor(examples, notice, calls) {
+    this.examples = orderExamples(examples);
     this.calls = calls;
     this.notice = notice;
     this.dialog = byId("sessions", HTMLDialogElement);
@@ -68,7 +69,6 @@ export class SessionsView {
     onClick(button("close-sessions"), () => this.close());
     field("file").addEventListener("change", () => this.openChosenFiles(field("file")));
     field("name").addEventListener("change", () => this.calls.rename(field("name").value));
-    block("examples").replaceChildren(...orderExamples(examples).map((example) => this.makeExampleEntry(example)));
     this.dialog.addEventListener("close", () => this.handleClose());
     this.listenToDrops();
   }
@@ -102,8 +102,15 @@ export class SessionsView {
   }
 
   async draw() {
+    this.drawExamples();
     block("kept-where").textContent = this.calls.describeStorage();
     this.sessionList.draw(await this.calls.savedSessions());
+  }
+
+  /** Draws the examples before the dialog opens for the first time. Their pictures would delay the start of the page. */
+  drawExamples() {
+    const list = block("examples");
+    if (list.childElementCount === 0) list.append(...this.examples.map((example) => this.makeExampleEntry(example)));
   }
 
   /**

@@ -2,15 +2,12 @@
 // compression method: 1 for deflate, 0 for none. A checksum follows, and then the lines of a project file that precede its session.
 
 import { fromBase64, toBase64 } from "../../core/session/base64.js";
+import { makeStream, readOutput } from "./byte_streams.js";
 import { checksum } from "../../core/session/checksum.js";
 import { Lines, TextTooLong, projectLines, readTexts } from "../../core/session/project_file.js";
 import * as say from "../../words/session.js";
 
-/**
- * @typedef {import("../../core/session/project_file.js").Texts} Texts
- * @typedef {{ readable: ReadableStream<Uint8Array>, writable: WritableStream<BufferSource> }} ByteTransform a stream that compresses or
- *   decompresses
- */
+/** @typedef {import("../../core/session/project_file.js").Texts} Texts */
 
 /**
  * The maximum length of a link. Chromium leaves its address bar empty if an address has more than 32,768 characters, and users copy and
@@ -25,22 +22,6 @@ const MAX_BYTES = 1 << 20;
 /** The error that is thrown if a link cannot be opened. Its message is meant for the user. */
 export class LinkError extends Error {}
 
-
-/**
- * Returns a compression or decompression stream, or null if this browser does not have it.
- * @param {"CompressionStream" | "DecompressionStream"} name
- * @returns {ByteTransform | null}
- */
-function makeStream(name) {
-  const Stream = (/** @type {any} */ (globalThis))[name];
-  try {
-    return typeof Stream === "function" ? new Stream("deflate-raw") : null;
-  } catch {
-    // The browser has CompressionStream but not deflate-raw.
-    return null;
-  }
-}
-
 /** @param {Uint8Array} bytes */
 function encodeBase64(bytes) {
   return toBase64(bytes).replace(/\+/g, "-").replace(/\//g, "_").replace(/=+$/, "");
@@ -54,36 +35,6 @@ function decodeBase64(letters) {
   } catch {
     throw new LinkError(say.DAMAGED);
   }
-}
-
-/**
- * Resolves to the output of a stream for an input. Throws an error if the output is longer than MAX_BYTES.
- * @param {Uint8Array} bytes
- * @param {ByteTransform} stream
- */
-async function readOutput(bytes, { readable, writable }) {
-  const writer = writable.getWriter();
-  // Errors in the input are reported through the reader.
-  writer.write(bytes).catch(() => {});
-  writer.close().catch(() => {});
-  const reader = readable.getReader();
-  /** @type {Uint8Array[]} */
-  const chunks = [];
-  let count = 0;
-  for (let result = await reader.read(); !result.done; result = await reader.read()) {
-    chunks.push(result.value);
-    count += result.value.length;
-    if (count > MAX_BYTES) {
-      reader.cancel().catch(() => {});
-      throw new LinkError(say.HOLDS_MORE);
-    }
-  }
-  const output = new Uint8Array(count);
-  chunks.reduce((offset, chunk) => {
-    output.set(chunk, offset);
-    return offset + chunk.length;
-  }, 0);
-  return output;
 }
 
 /**
@@ -105,7 +56,7 @@ async function decompress(bytes) {
     throw new LinkError(say.CANNOT_DECOMPRESS);
   }
   try {
-    return await readOutput(bytes, stream);
+    return await readOutput(bytes, stream, MAX_BYTES, new LinkError(say.HOLDS_MORE));
   } catch (fault) {
     throw fault instanceof LinkError ? fault : new LinkError(say.DAMAGED);
   }

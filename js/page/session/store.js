@@ -53,20 +53,26 @@ function requestResult(request) {
   });
 }
 
+/** @returns {Promise<IDBDatabase>} */
+function openDatabase() {
+  return new Promise((resolve, reject) => {
+    const request = indexedDB.open("fethsaim", 1);
+    request.onupgradeneeded = () => request.result.createObjectStore("sessions", { keyPath: "id" });
+    request.onsuccess = () => resolve(request.result);
+    request.onerror = () => reject(request.error);
+    request.onblocked = () => reject(new Error(say.OLDER_STORE));
+  });
+}
+
 /** @implements {SessionStore} */
 export class Store {
   /**
-   * @param {boolean} hasLocks true if locks prevent a session from being open in two tabs
+   * @param {Promise<boolean>} hasLocks resolves to true if locks prevent a session from being open in two tabs
    * @returns {Promise<Store>}
    */
-  static open(hasLocks) {
-    return new Promise((resolve, reject) => {
-      const request = indexedDB.open("fethsaim", 1);
-      request.onupgradeneeded = () => request.result.createObjectStore("sessions", { keyPath: "id" });
-      request.onsuccess = () => resolve(new Store(request.result, hasLocks));
-      request.onerror = () => reject(request.error);
-      request.onblocked = () => reject(new Error(say.OLDER_STORE));
-    });
+  static async open(hasLocks) {
+    const database = await openDatabase();
+    return new Store(database, await hasLocks);
   }
 
   /**

@@ -26,16 +26,25 @@ export class WelcomeView {
    * @param {WelcomeCalls} calls
    */
   constructor(examples, calls) {
+    this.examples = examples;
     this.calls = calls;
-    /** @type {(name: string) => Example | undefined} */
-    const findExample = (name) => examples.find((example) => example.name === name);
-    this.cards = Object.entries(say.CARDS).map(([name, card]) => this.card(name, card, findExample(card.example)));
-    const title = element("h2", { id: "welcome-title" }, say.WELCOME);
-    this.dialog = element("dialog", { "id": "welcome", "aria-labelledby": "welcome-title" },
-      element("div", { className: "bar" }, title, makeButton(say.CLOSE, () => this.dialog.close())),
-      element("ul", {}, ...this.cards.map((card) => element("li", {}, card))), element("p", { className: "hint" }, say.WELCOME_HINT));
+    /** @type {HTMLButtonElement[]} the cards, once they have been drawn */
+    this.cards = [];
+    this.dialog = element("dialog", { "id": "welcome", "aria-labelledby": "welcome-title" });
     this.dialog.addEventListener("close", () => calls.storeSeen());
     document.body.append(this.dialog);
+  }
+
+  /** Draws the cards before the dialog opens for the first time. Their pictures would delay the start of the page. */
+  draw() {
+    if (this.cards.length > 0) return;
+    /** @type {(name: string) => Example | undefined} */
+    const findExample = (name) => this.examples.find((example) => example.name === name);
+    this.cards = Object.entries(say.CARDS).map(([name, card]) => this.card(name, card, findExample(card.example)));
+    const title = element("h2", { id: "welcome-title" }, say.WELCOME);
+    this.dialog.append(
+      element("div", { className: "bar" }, title, makeButton(say.CLOSE, () => this.dialog.close())),
+      element("ul", {}, ...this.cards.map((card) => element("li", {}, card))), element("p", { className: "hint" }, say.WELCOME_HINT));
   }
 
   /**
@@ -65,6 +74,7 @@ export class WelcomeView {
 
   open() {
     if (this.dialog.open) return;
+    this.draw();
     this.dialog.showModal();
     this.cards[0].focus();
   }

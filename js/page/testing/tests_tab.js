@@ -75,7 +75,7 @@ export class TestsTab {
     return { ...this.calls.texts(), testText: this.editor.text };
   }
 
-  /** Checks the text when the tab comes to the front. */
+  /** Checks the text when a session has been opened or the tab comes to the front. */
   refresh() {
     this.textTab.refresh();
   }
@@ -90,7 +90,11 @@ export class TestsTab {
   forget() {
     this.sessionNumber += 1;
     this.clear();
-    this.refresh();
+  }
+
+  /** Shows the button for a first test if the text of the opened session is empty. */
+  begin() {
+    this.textTab.offerFirstText();
   }
 
   clear() {

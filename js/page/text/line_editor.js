@@ -477,6 +477,16 @@ export class LineEditor {
   }
 
   /**
+   * Returns a state in which long lines wrap if they do so in this editor.
+   * @param {EditorState} state
+   */
+  withWrapping(state) {
+    const wrapping = this.wraps ? EditorView.lineWrapping : [];
+    const isSame = (this.lineWrapping.get(state) === EditorView.lineWrapping) === this.wraps;
+    return isSame ? state : state.update({ effects: this.lineWrapping.reconfigure(wrapping) }).state;
+  }
+
+  /**
    * Shows another editor state. Returns the previous state.
    * @param {EditorState} state
    */
@@ -484,8 +494,7 @@ export class LineEditor {
     const previousState = this.state;
     // CodeMirror measures line heights, and would otherwise change the scroll position to keep the same line in place.
     this.scrollTo(0);
-    this.view.setState(state);
-    this.view.dispatch({ effects: this.lineWrapping.reconfigure(this.wraps ? EditorView.lineWrapping : []) });
+    this.view.setState(this.withWrapping(state));
     return previousState;
   }
 }

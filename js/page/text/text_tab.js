@@ -98,7 +98,7 @@ export class TextTab {
   }
 
   /**
-   * Checks the text again. Called when its tab comes to the front or another text has changed, because the names that it uses may have
+   * Checks the text when a session has been opened, its tab comes to the front, or another text has changed: the names that it uses may have
    * changed.
    */
   refresh() {

@@ -1,0 +1,50 @@
+// Compresses and decompresses bytes with the browser's own streams, which older browsers do not have.
+
+/** @typedef {{ readable: ReadableStream<Uint8Array>, writable: WritableStream<BufferSource> }} ByteTransform a transforming stream */
+
+/**
+ * Returns a compression or decompression stream, or null if this browser does not have it.
+ * @param {"CompressionStream" | "DecompressionStream"} name
+ * @returns {ByteTransform | null}
+ */
+export function makeStream(name) {
+  const Stream = (/** @type {any} */ (globalThis))[name];
+  try {
+    return typeof Stream === "function" ? new Stream("deflate-raw") : null;
+  } catch {
+    // The browser has CompressionStream but not deflate-raw.
+    return null;
+  }
+}
+
+/**
+ * Resolves to the output of a stream for an input. Rejects with `tooLong` if the output is longer than `limit` bytes.
+ * @param {Uint8Array} bytes
+ * @param {ByteTransform} stream
+ * @param {number} [limit]
+ * @param {Error} [tooLong]
+ */
+export async function readOutput(bytes, { readable, writable }, limit = Infinity, tooLong = undefined) {
+  const writer = writable.getWriter();
+  // Errors in the input are reported through the reader.
+  writer.write(bytes).catch(() => {});
+  writer.close().catch(() => {});
+  const reader = readable.getReader();
+  /** @type {Uint8Array[]} */
+  const chunks = [];
+  let count = 0;
+  for (let result = await reader.read(); !result.done; result = await reader.read()) {
+    chunks.push(result.value);
+    count += result.value.length;
+    if (count > limit) {
+      reader.cancel().catch(() => {});
+      throw tooLong;
+    }
+  }
+  const output = new Uint8Array(count);
+  chunks.reduce((offset, chunk) => {
+    output.set(chunk, offset);
+    return offset + chunk.length;
+  }, 0);
+  return output;
+}
