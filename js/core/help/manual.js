@@ -14,10 +14,10 @@ import * as say from "../../words/help.js";
  * @typedef {{ form: string, code: string, words: string, cycles: string, does: string }} Instruction
  */
 
-/** The titles of the manual's sections about instructions, and about the cells of the machine such as registers. */
+/** The titles of the manual's sections about instructions, and about the cells of the machine (registers, RAM, ports ..). */
 export const INSTRUCTIONS = say.INSTRUCTIONS;
 export const CELLS = say.CELLS;
-/** The titles of the manual's sections whose rows start with a bench line. */
+/** The titles of the manual's sections that describe a bench line in each table row. */
 const BENCH_LINE_SECTIONS = say.SECTIONS_OF_LINES;
 
 /**
@@ -101,8 +101,8 @@ export function readLineForms(manual) {
 }
 
 /**
- * Returns the bench lines that match a typed text: with the same first word, or while the user types this word, with a first word that
- * starts with the typed text.
+ * Returns the bench lines that match a typed text. After the first word, these are the lines with the same first word. While the user types
+ * the first word, these are the lines that start with the typed text.
  * @param {{ form: string, does: string }[]} lines
  * @param {string} typed
  */
@@ -114,8 +114,8 @@ export function matchLines(lines, typed) {
 }
 
 /**
- * Returns the description of a cell of the machine; "" for none. `R5` can have the description of `R`, and `bank 0` the description of
- * `bank`.
+ * Returns the description of a cell of the machine; "" for none. If a name with a number, such as `R5` or `bank 0`, has no description,
+ * returns that of `R` or `bank`.
  * @param {Map<string, string>} words the descriptions, by cell name
  * @param {string} name
  */
@@ -124,7 +124,7 @@ export function describeCell(words, name) {
 }
 
 /**
- * Returns the descriptions of the cells of the machine, by cell name.
+ * Returns the manual's descriptions of the cells of the machine (registers, RAM, ports ..), by cell name.
  * @param {ManualSection[]} manual
  * @returns {Map<string, string>}
  */

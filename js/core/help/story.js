@@ -3,7 +3,7 @@
 //
 //     run, stop, back, forward                runs time; pauses it; goes back to the previous stop; goes forward
 //     go to LABEL, run to LABEL               shows a line of the program; runs time to a line
-//     back to PLACE                           goes back to the moment before the last change of a place, such as r11, ram.0.0x12 or rom0.2
+//     back to NAME                            goes back to the moment before the last change of, for example, r11, ram.0.0x12 or rom0.2
 //     press KEY, release KEY                  presses a key (it stays down while time is paused); releases a key
 //     show VIEW                               shows a text or a panel
 
@@ -11,16 +11,18 @@
  * @typedef {import("./tour.js").ParagraphPiece} ParagraphPiece
  * @typedef {import("./tour.js").TourStep} TourStep
  *
+ * The name of an action.
+ * @typedef {"run" | "stop" | "back" | "forward" | "go to" | "run to" | "back to" | "press" | "release" | "show"} ActionName
+ *
  * The action of a link. `argument` is "" for an action without an argument.
- * @typedef {"run" | "stop" | "back" | "forward" | "go to" | "run to" | "back to" | "press" | "release" | "show"} ActName
- * @typedef {{ name: ActName, argument: string }} StoryAction
+ * @typedef {{ name: ActionName, argument: string }} StoryAction
  */
 
 /** The views that the action `show` accepts: texts in the order of their tabs, and panels. */
 export const TEXTS = ["program", "board", "tests", "properties", "wiring", "waves"];
 export const PANELS = ["front", "processor", "listing", "memory", "ports"];
 
-const ACT_PATTERN = /^(?:(run|stop|back|forward)|(go to|run to|back to|press|release|show) ([^ ]+))$/;
+const ACTION_PATTERN = /^(?:(run|stop|back|forward)|(go to|run to|back to|press|release|show) ([^ ]+))$/;
 const LINK_PATTERN = /\[([^\]]+)\]\(([^()]+)\)/g;
 
 /**
@@ -29,11 +31,11 @@ const LINK_PATTERN = /\[([^\]]+)\]\(([^()]+)\)/g;
  * @returns {StoryAction | null}
  */
 function parseAction(words) {
-  const found = ACT_PATTERN.exec(words);
+  const found = ACTION_PATTERN.exec(words);
   if (!found) return null;
   const [, simpleName, name, argument = ""] = found;
   if (name === "show" && !TEXTS.includes(argument) && !PANELS.includes(argument)) return null;
-  return { name: /** @type {ActName} */ (simpleName || name), argument };
+  return { name: /** @type {ActionName} */ (simpleName || name), argument };
 }
 
 /**

@@ -1,4 +1,4 @@
-// Runs the actions of story links. Each action calls a function of the page.
+// Runs the actions of the links in a story, the guided text of an example. Each action calls a function of the page.
 
 import { TEXTS } from "./story.js";
 import * as say from "../../words/help.js";
@@ -17,17 +17,17 @@ import * as say from "../../words/help.js";
  *   no such label.
  * @property {() => BoardKey[]} keys Returns the keys of the displayed board.
  * @property {() => void} run Runs time without a goal.
- * @property {() => Promise<void>} pause Pauses time; resolves after time is paused.
- * @property {(goal: Goal) => Promise<void>} goOn Runs time to a goal. Resolves when time reaches a near goal; for a distant goal, when time
- *   runs towards it.
- * @property {(goal: BackGoal) => Promise<void>} goBack Goes back to a goal; resolves when the session is at the goal.
+ * @property {() => Promise<void>} pause Pauses time. Resolves when time is paused.
+ * @property {(goal: Goal) => Promise<void>} goOn Runs time to a goal. Resolves when a near goal is reached. If the goal is far away,
+ *   resolves as soon as time runs.
+ * @property {(goal: BackGoal) => Promise<void>} goBack Goes back in time to a goal. Resolves when the session is at the goal.
  * @property {() => Promise<void>} goForward Returns to the state before the last move back.
  * @property {(address: number) => void} goTo Shows an address in the source and in the listing.
  * @property {() => boolean} isRunning Returns whether the machine runs; key changes are then queued.
  * @property {(key: BoardKey) => boolean} isDown Returns whether a key will be down after all queued changes.
  * @property {(key: BoardKey) => void} press Clicks a key: presses it, or releases it if it is down.
- * @property {(name: string) => void} showText Shows a text, selected by tab name.
- * @property {(name: string) => void} showPanel Shows a panel, selected by name.
+ * @property {(name: string) => void} showText Shows the tab with a name, such as `board`.
+ * @property {(name: string) => void} showPanel Shows the panel with a name, such as `memory`.
  */
 
 /**
@@ -44,7 +44,7 @@ async function callWithAddress(label, calls, act) {
 }
 
 /**
- * Calls a function with the key that has a legend. Returns an error message, "" for none.
+ * Calls a function with the key that has a certain legend. Returns an error message, "" for none.
  * @param {string} legend
  * @param {ActCalls} calls
  * @param {(key: BoardKey) => unknown} act
@@ -57,10 +57,10 @@ function callWithKey(legend, calls, act) {
 }
 
 /**
- * The functions that run actions, by name of the action. Each function resolves to an error message, "" for none.
- * @type {Record<import("./story.js").ActName, (argument: string, calls: ActCalls) => Promise<string>>}
+ * The functions that run the actions, by the name of the action. Each function resolves to an error message, "" for none.
+ * @type {Record<import("./story.js").ActionName, (argument: string, calls: ActCalls) => Promise<string>>}
  */
-const ACTS = {
+const ACTIONS = {
   run: (_, calls) => perform(() => calls.run()),
   stop: (_, calls) => perform(() => calls.pause()),
   back: (_, calls) => perform(() => calls.goBack({ kind: "stop" })),
@@ -88,5 +88,5 @@ async function perform(act) {
  * @param {ActCalls} calls
  */
 export function runAction({ name, argument }, calls) {
-  return ACTS[name](argument, calls);
+  return ACTIONS[name](argument, calls);
 }

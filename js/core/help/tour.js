@@ -1,11 +1,11 @@
-// Defines the tour of the page, which explains a first program in five steps. Each step has a text, a program to type, and a condition that
-// is true when the step is done.
+// Defines the tour of the page, which explains a first program in five steps. Each step has a text, a program to type, and a function that
+// returns whether the step is done.
 
 import * as say from "../../words/help.js";
 
 /**
- * The values from which the conditions of the steps are computed:
- * - `lamps`: one mark per lamp, `*` if the lamp is on;
+ * The values that decide whether a step is done:
+ * - `lamps`: one character for each lamp, `*` if the lamp is on;
  * - `patterns`: the number of different lamp patterns in this step;
  * - `keysDown`: the number of pressed keys;
  * - `end`: the reason for the last stop in this step, such as `break` or `watch`; "" for none.
@@ -14,7 +14,7 @@ import * as say from "../../words/help.js";
  * A piece of a paragraph: a text, or a link with an action. Only stories have links.
  * @typedef {string | { words: string, act: import("./story.js").StoryAction }} ParagraphPiece
  *
- * The control that a step highlights: the assemble button, a key of the board, the margin of the source, or a RAM character.
+ * The control that a step highlights: the assemble button, a key of the board, the margin of the source, or a RAM nibble.
  * @typedef {"send" | "key" | "margin" | "ram"} Target
  *
  * A step: its title, its paragraphs, the program to type ("" for no change), the highlighted control, and a function that returns whether
@@ -103,20 +103,26 @@ export class TourProgress {
   }
 
   /**
-   * Records the state of the lamps.
-   * @param {string} lamps one mark per lamp, `*` if the lamp is on
+   * Records which lamps are on.
+   * @param {string} lamps one character for each lamp, `*` if the lamp is on
    */
   recordLamps(lamps) {
     this.patterns.add(lamps);
     this.update({ lamps, patterns: this.patterns.size });
   }
 
-  /** @param {number} keysDown */
+  /**
+   * Records how many keys are pressed.
+   * @param {number} keysDown
+   */
   recordKeys(keysDown) {
     this.update({ keysDown });
   }
 
-  /** @param {string} end the reason for the last stop */
+  /**
+   * Records why time stopped.
+   * @param {string} end the reason for the stop, such as `break`
+   */
   recordEnd(end) {
     this.update({ end });
   }

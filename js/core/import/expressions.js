@@ -1,5 +1,5 @@
-// Evaluates expressions in the syntax of Intel's assembler and of the AS macro assembler: names, numbers, parentheses and the operators + -
-// * / and &. The prefixes < and > select the low and the high byte. As operands, $ and * mean the address of the line.
+// Evaluates expressions in the syntax of Intel's assembler and of the AS macro assembler. They contain names, numbers, parentheses and the
+// operators + - * / and &. The prefixes < and > select the low and the high byte. As operands, $ and * mean the address of the line.
 
 import { upperCase } from "./source_lines.js";
 import * as say from "../../words/import.js";
@@ -8,19 +8,20 @@ import * as say from "../../words/import.js";
  * The value of an expression. `isKnown` is false if a name in the expression has no value yet. `fault` is an error message, "" for none.
  * @typedef {{ value: number, isKnown: boolean, fault: string }} EvaluationResult
  *
- * The values of names. `isDefined` returns whether a line defines a name. `valueOf` returns the value, undefined if it is not known yet.
+ * The names in a program. `isDefined` returns whether a line defines a name. `valueOf` returns its value, undefined if it is not known yet.
  * @typedef {{ isDefined: (name: string) => boolean, valueOf: (name: string) => number | undefined }} NameValues
  */
 
 /** The maximum nesting depth of an expression. */
 const MAX_DEPTH = 50;
+/** The number of values of a byte. */
 const BYTE = 256;
-/** The value of the highest bit that & compares. Higher bits of the result are 0. */
+/** The value of the highest bit that the operator & can set in its result. */
 const HIGHEST_BIT = 4096;
 const NAME = /[A-Za-z_.?@][A-Za-z0-9_.?@$]*/y;
 const BYTE_FUNCTION = /(LOW|HIGH|LO|HI|low|high|lo|hi)[ \t]*\(/y;
 const CHARACTER = /'[^']'|"[^"]"/y;
-/** The patterns of numbers with their bases, in the order in which the evaluator tries them. */
+/** The patterns of numbers and their bases, in the order in which the evaluator tries them. */
 const NUMBER_PATTERNS = [
   { pattern: /0[xX]([0-9A-Fa-f]+)/y, base: 16 },
   { pattern: /[$]([0-9A-Fa-f]+)/y, base: 16 },
@@ -54,7 +55,7 @@ function parseDigits(digits, base) {
   return value;
 }
 
-/** A recursive-descent evaluator. `at` is the index of the next character. */
+/** The evaluation of one expression, by recursive descent. `at` is the index of the next character. */
 class Evaluation {
   /**
    * @param {string} text
@@ -72,7 +73,7 @@ class Evaluation {
   }
 
   /**
-   * Records an error. Only the first error is stored.
+   * Records an error, unless there was one before.
    * @param {string} words
    */
   fail(words) {
@@ -99,21 +100,23 @@ class Evaluation {
     return pattern.exec(this.text);
   }
 
-  sum() {
-    let value = this.product();
+  /** Parses terms with + and - between them, and returns the value. */
+  parseSum() {
+    let value = this.parseProduct();
     for (let sign = this.peek(); sign === "+" || sign === "-"; sign = this.peek()) {
       this.at += 1;
-      const right = this.product();
+      const right = this.parseProduct();
       value = sign === "+" ? value + right : value - right;
     }
     return value;
   }
 
-  product() {
-    let value = this.factor();
+  /** Parses factors with *, / and & between them, and returns the value. */
+  parseProduct() {
+    let value = this.parseFactor();
     for (let sign = this.peek(); sign === "*" || sign === "/" || sign === "&"; sign = this.peek()) {
       this.at += 1;
-      const right = this.factor();
+      const right = this.parseFactor();
       if (sign === "*") value *= right;
       else if (sign === "&") value = bitwiseAnd(value, right);
       else if (right !== 0) value = Math.trunc(value / right);
@@ -122,21 +125,22 @@ class Evaluation {
     return value;
   }
 
-  /** @returns {number} */
-  factor() {
+  /** @returns {number} the value of an operand; records an error if the expression is nested too deeply */
+  parseFactor() {
     this.depth += 1;
     let value = 0;
     if (this.depth > MAX_DEPTH) {
       this.fail(say.tooDeep(MAX_DEPTH));
       this.at = this.text.length;
     } else {
-      value = this.operand();
+      value = this.parseOperand();
     }
     this.depth -= 1;
     return value;
   }
 
-  operand() {
+  /** Parses a number, a name, a character, or an expression with a prefix or in parentheses. Returns its value. */
+  parseOperand() {
     const letter = this.peek();
     if (letter === "(") return this.parseBracketed();
     if (letter !== "" && "-+<>".includes(letter)) return this.parsePrefixed(letter);
@@ -147,58 +151,69 @@ class Evaluation {
       return /^l/i.test(byteFunction[0]) ? value % BYTE : Math.trunc(value / BYTE);
     }
     const character = this.match(CHARACTER);
-    if (character) return this.character(character[0]);
+    if (character) return this.parseCharacter(character[0]);
     for (const { pattern, base } of NUMBER_PATTERNS) {
       const found = this.match(pattern);
-      if (found) return this.number(found, base);
+      if (found) return this.parseNumber(found, base);
     }
     if (letter === "$" || letter === "*") {
       this.at += 1;
       return this.address;
     }
     const name = this.match(NAME);
-    if (name) return this.nameValue(name[0]);
+    if (name) return this.parseName(name[0]);
     this.fail(letter === "" ? say.NO_OPERAND : say.notUnderstood(this.text.slice(this.at)));
     this.at += 1;
     return 0;
   }
 
-  /** @param {string} sign the prefix: `-` and `+` apply to the next factor, `<` and `>` apply to the next sum */
+  /**
+   * Parses an expression with a prefix, and returns its value.
+   * @param {string} sign the prefix; `-` and `+` apply to the next factor, `<` and `>` apply to the next sum
+   */
   parsePrefixed(sign) {
     this.at += 1;
-    if (sign === "-") return -this.factor();
-    if (sign === "+") return this.factor();
-    const value = this.sum();
+    if (sign === "-") return -this.parseFactor();
+    if (sign === "+") return this.parseFactor();
+    const value = this.parseSum();
     return sign === "<" ? ((value % BYTE) + BYTE) % BYTE : Math.trunc(value / BYTE);
   }
 
+  /** Parses an expression in parentheses, and returns its value. */
   parseBracketed() {
     this.at += 1;
-    const value = this.sum();
+    const value = this.parseSum();
     if (this.peek() !== ")") this.fail(say.NO_BRACKET);
     this.at += 1;
     return value;
   }
 
-  /** @param {string} quoted */
-  character(quoted) {
+  /**
+   * Returns the code of a character.
+   * @param {string} quoted the character with its quotes
+   */
+  parseCharacter(quoted) {
     this.at += quoted.length;
     if (!isAscii(quoted)) this.fail(say.noCharacter(quoted));
     return quoted.charCodeAt(1);
   }
 
   /**
-   * @param {RegExpExecArray} found
+   * Returns the value of a number.
+   * @param {RegExpExecArray} found the match of the number's pattern
    * @param {number} base
    */
-  number([whole, digits], base) {
+  parseNumber([whole, digits], base) {
     this.at += whole.length;
     if (/\w/.test(this.text[this.at] || "")) this.fault = say.noNumber(this.text);
     return parseDigits(digits, base);
   }
 
-  /** @param {string} spelling */
-  nameValue(spelling) {
+  /**
+   * Returns the value of a name; 0 if it is not known yet.
+   * @param {string} spelling the name as in the source
+   */
+  parseName(spelling) {
     this.at += spelling.length;
     const name = upperCase(spelling);
     const value = this.names.valueOf(name);
@@ -225,7 +240,7 @@ export function isAscii(text) {
  */
 export function evaluate(text, address, names) {
   const evaluation = new Evaluation(text, address, names);
-  const value = evaluation.sum();
+  const value = evaluation.parseSum();
   evaluation.skipBlanks();
   if (evaluation.at < text.length) evaluation.fail(say.notUnderstood(text.slice(evaluation.at)));
   const { fault, isKnown } = evaluation;

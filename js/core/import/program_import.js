@@ -1,12 +1,12 @@
-// Converts a program in the syntax of Intel's assembler or of the AS macro assembler to the bench's syntax, line by line. Repeated passes
-// over the lines compute the values of names. Another pass then writes the converted lines.
+// Converts a program from the syntax of Intel's assembler or of the AS macro assembler to the bench's syntax, line by line. Several passes
+// over the lines compute the values of the names. A last pass then writes the converted lines.
 
 import { LAST_ADDRESS, hex } from "../bench/numbers.js";
 import { MAX_NAME_LENGTH } from "../text/assembly.js";
 import { evaluate, isAscii } from "./expressions.js";
 import {
-  BYTE_WORDS, LONGEST_SOURCE_LINE, ONLY_4040, OPERANDS, PROGRAM_RAM, REMARKS, RESERVE_WORDS, UNSUPPORTED_DIRECTIVES, upperCase, splitList,
-  quotedCharacters, readSource, trimBlanks,
+  BYTE_DIRECTIVES, MAX_CODE_LENGTH, INSTRUCTIONS_OF_4040, OPERAND_KINDS, PROGRAM_RAM_MNEMONIC, COMMENTED_DIRECTIVES, RESERVE_DIRECTIVES,
+  UNSUPPORTED_DIRECTIVES, upperCase, splitList, quotedCharacters, readSource, trimBlanks,
 } from "./source_lines.js";
 import * as say from "../../words/import.js";
 
@@ -17,13 +17,14 @@ import * as say from "../../words/import.js";
  * An error in a line; `line` counts from 1.
  * @typedef {{ line: number, words: string }} ImportFault
  *
- * The rules for the value of an operand. `from` and `to` are its limits. `modulus` is added to negative numbers; 0 means that they are not
- * allowed. `isNumber` is true if the output must have the value of a name instead of the name.
+ * The rules for the value of an operand. `from` and `to` are its lowest and highest value. `modulus` is added to negative numbers; 0 means
+ * that they are not allowed. `isNumber` is true if the output must contain the value of a name instead of the name.
  * @typedef {{ from?: number, to: number, modulus?: number, isNumber?: boolean }} OperandRules
  */
 
 /** The maximum number of passes that compute the values of names. */
 const MAX_PASSES = 20;
+/** The numbers of values of a nibble and of a byte. */
 const NIBBLE = 16;
 const BYTE = 256;
 /** The columns at which statements and comments start in the output, counted from 0. */
@@ -31,16 +32,16 @@ const COLUMNS = { statement: 8, comment: 24 };
 /** Matches names that are reserved words in the bench's syntax. */
 const RESERVED_WORD = /^(ORG|DB|WPM|R[0-9]|R1[0-5]|P[0-7])$/;
 const NAME = /^[A-Za-z_.?@][A-Za-z0-9_.?@$]*$/;
-/** Matches numbers whose original spelling needs no comment in the output. */
+/** Matches numbers whose original spelling is not repeated in a comment in the output. */
 const PLAIN_NUMBER = /^([0-9]+|[0-9][0-9A-Fa-f]*[hH]|(0[xX]|[$%])[0-9A-Fa-f]+)$/;
 /** @type {Map<string, number>} the JCN condition numbers, by condition name */
 const CONDITIONS = new Map(Object.entries({ TZ: 1, T0: 1, TN: 9, T1: 9, CN: 2, C1: 2, CZ: 10, C0: 10, AZ: 4, AN: 12 }));
 /** The bit of a JCN condition number that inverts the condition. */
 const INVERTING_BIT = 8;
-/** @type {Record<string, number>} the bits of a JCN condition number, by the letter that names the condition */
+/** @type {Record<string, number>} the bits of a JCN condition number, by the letter for the condition */
 const CONDITION_BITS = { Z: 4, C: 2, T: 1 };
 
-/** The error for a line that cannot be converted. */
+/** The error that is thrown for a line that cannot be converted. */
 class LineError extends Error {}
 
 /**
@@ -59,25 +60,25 @@ class ProgramImport {
     this.lines = readSource(texts);
     /** @type {ImportFault[]} */
     this.faults = [];
-    /** @type {Map<string, number>} the numbers of the lines that define names, by upper-case name */
+    /** @type {Map<string, number>} the number of the line that defines each name, by upper-case name */
     this.definingLines = new Map();
-    /** @type {Map<string, number>} the values of names, by upper-case name */
+    /** @type {Map<string, number>} the value of each name, by upper-case name */
     this.values = new Map();
-    /** @type {Map<string, string>} the spellings of names in the output, by upper-case name */
+    /** @type {Map<string, string>} the spelling of each name in the output, by upper-case name */
     this.names = new Map();
     /** True if the program has the directive CPU, as programs for the AS macro assembler do. */
     this.isForAsAssembler = this.lines.some(({ word }) => word === "CPU");
-    /** The address of the current output line. */
+    /** The address of the line that is being converted. */
     this.address = 0;
-    /** @type {string[]} the original expressions in the current line, for its comment */
+    /** @type {string[]} the original expressions that the comment of the current line repeats */
     this.originalTexts = [];
     /** @type {import("./expressions.js").NameValues} */
     this.nameValues = { isDefined: (name) => this.definingLines.has(name), valueOf: (name) => this.values.get(name) };
   }
 
   /** Converts the program. Returns the output lines; an empty list if a name is defined twice or a line is too long. */
-  run() {
-    this.lines.forEach((line, at) => this.define(line, at + 1));
+  convertLines() {
+    this.lines.forEach((line, at) => this.recordDefinition(line, at + 1));
     if (this.faults.length > 0) return [];
     this.chooseSpellings();
     let passes = MAX_PASSES;
@@ -106,13 +107,13 @@ class ProgramImport {
   // --- names ---
 
   /**
-   * Records the line that defines a name.
+   * If a line defines a name, records the number of the line.
    * @param {SourceLine} line
    * @param {number} number the line number
    */
-  define({ label, isLong }, number) {
+  recordDefinition({ label, isLong }, number) {
     this.attemptLine(number, () => {
-      if (isLong) throw new LineError(say.longLine(LONGEST_SOURCE_LINE));
+      if (isLong) throw new LineError(say.longLine(MAX_CODE_LENGTH));
       if (label === "") return;
       const name = upperCase(label);
       const definingLine = this.definingLines.get(name);
@@ -121,14 +122,14 @@ class ProgramImport {
     }, undefined);
   }
 
-  /** Chooses the spelling of each name in the output: the original spelling, unless the bench rejects it or another name uses it. */
+  /** Chooses the spelling of each name in the output. This is the original spelling, unless the bench rejects it or another name has it. */
   chooseSpellings() {
     const usedSpellings = new Set();
     /** @type {Map<string, number>} the next number to append to a spelling that is already in use, by spelling */
     const nextNumbers = new Map();
     for (const [name, line] of this.definingLines) {
       const plainLabel = this.lines[line - 1].label.replace(/[^A-Za-z0-9_]/g, "_").replace(/^(?=[0-9])/, "_");
-      const isReserved = OPERANDS.has(upperCase(plainLabel)) || RESERVED_WORD.test(upperCase(plainLabel));
+      const isReserved = OPERAND_KINDS.has(upperCase(plainLabel)) || RESERVED_WORD.test(upperCase(plainLabel));
       const base = (isReserved ? `${plainLabel}_` : plainLabel).slice(0, MAX_NAME_LENGTH);
       let spelling = base;
       for (let number = nextNumbers.get(base) || 2; usedSpellings.has(spelling); number++) {
@@ -143,6 +144,7 @@ class ProgramImport {
   // --- values ---
 
   /**
+   * Evaluates an expression in the program.
    * @param {string} text
    * @param {number} address the address of the line
    */
@@ -150,7 +152,7 @@ class ProgramImport {
     return evaluate(text, address, this.nameValues);
   }
 
-  /** Runs a pass that computes the values of names. Returns whether any value has changed. */
+  /** Runs one pass over the lines that computes the values of the names. Returns whether any value has changed. */
   computeValues() {
     let [at, hasChanged] = [0, false];
     for (const line of this.lines) {
@@ -171,15 +173,15 @@ class ProgramImport {
    * @param {number} at the address of the line
    */
   addressAfter({ word, operand }, at) {
-    if (word === "ORG" || word === "ALIGN" || RESERVE_WORDS.has(word)) {
+    if (word === "ORG" || word === "ALIGN" || RESERVE_DIRECTIVES.has(word)) {
       const { value, isKnown } = this.evaluateText(operand, at);
       if (!isKnown) return at;
       if (word === "ORG") return value;
       if (word !== "ALIGN") return at + value;
       return value > 0 ? Math.trunc((at + value - 1) / value) * value : at;
     }
-    if (BYTE_WORDS.has(word)) return splitList(operand).reduce((sum, part) => sum + (quotedCharacters(part) || " ").length, at);
-    const kinds = OPERANDS.get(word);
+    if (BYTE_DIRECTIVES.has(word)) return splitList(operand).reduce((sum, part) => sum + (quotedCharacters(part) || " ").length, at);
+    const kinds = OPERAND_KINDS.get(word);
     return kinds ? at + (kinds.length > 1 || kinds.includes("target") ? 2 : 1) : at;
   }
 
@@ -211,37 +213,38 @@ class ProgramImport {
   statementLine({ label, word, operand }) {
     const name = this.names.get(upperCase(label)) || "";
     if (word === "EQU") return `${name} = ${this.operandText(operand, { to: LAST_ADDRESS, isNumber: true })}`;
-    const statement = this.statement(word, operand);
+    const statement = this.convertStatement(word, operand);
     const mark = name === "" ? "" : `${name}:`;
     return statement === "" ? mark : padToColumn(mark, COLUMNS.statement) + statement;
   }
 
   /**
-   * @param {string} word
-   * @param {string} operand
+   * Converts a statement; "" for a directive that becomes a comment. Throws LineError if the statement cannot be converted.
+   * @param {string} word the mnemonic or directive
+   * @param {string} operand the text of all operands
    */
-  statement(word, operand) {
-    if (word === "" || word === "END" || REMARKS.has(word)) {
+  convertStatement(word, operand) {
+    if (word === "" || word === "END" || COMMENTED_DIRECTIVES.has(word)) {
       if (word !== "") this.originalTexts = [trimBlanks(`${word} ${operand}`)];
       return "";
     }
-    if (ONLY_4040.has(word)) throw new LineError(say.of4040(word));
-    if (word === PROGRAM_RAM) throw new LineError(say.NO_PROGRAM_RAM);
+    if (INSTRUCTIONS_OF_4040.has(word)) throw new LineError(say.of4040(word));
+    if (word === PROGRAM_RAM_MNEMONIC) throw new LineError(say.NO_PROGRAM_RAM);
     if (UNSUPPORTED_DIRECTIVES.has(word)) throw new LineError(say.notSupported(word));
     if (word === "ORG") return `ORG ${this.operandText(operand, { to: LAST_ADDRESS, isNumber: true })}`;
-    if (word === "ALIGN" || RESERVE_WORDS.has(word)) return this.reserve(word, operand);
-    if (BYTE_WORDS.has(word)) return `DB ${this.bytes(operand)}`;
-    const kinds = OPERANDS.get(word);
+    if (word === "ALIGN" || RESERVE_DIRECTIVES.has(word)) return this.convertReservation(word, operand);
+    if (BYTE_DIRECTIVES.has(word)) return `DB ${this.convertBytes(operand)}`;
+    const kinds = OPERAND_KINDS.get(word);
     if (!kinds) throw new LineError(say.noInstruction(word));
-    return this.instruction(word, operand, kinds);
+    return this.convertInstruction(word, operand, kinds);
   }
 
   /**
-   * Returns the ORG line for a directive that reserves bytes.
+   * Converts a directive that reserves or aligns bytes to an ORG statement.
    * @param {string} word
    * @param {string} operand
    */
-  reserve(word, operand) {
+  convertReservation(word, operand) {
     this.operandText(operand, { to: LAST_ADDRESS + 1, isNumber: true });
     this.originalTexts = [`${word} ${operand}`];
     const nextAddress = this.addressAfter({ text: "", label: "", word, operand, comment: "", isLong: false }, this.address);
@@ -249,8 +252,11 @@ class ProgramImport {
     return `ORG 0x${hex(nextAddress, 3)}`;
   }
 
-  /** @param {string} list */
-  bytes(list) {
+  /**
+   * Converts the operands of a directive that defines bytes.
+   * @param {string} list
+   */
+  convertBytes(list) {
     const parts = splitList(list);
     if (parts.length === 0) throw new LineError(say.NO_VALUES);
     return parts.flatMap((part) => {
@@ -262,29 +268,31 @@ class ProgramImport {
   }
 
   /**
-   * @param {string} word
-   * @param {string} operand
+   * Converts an instruction.
+   * @param {string} word the mnemonic
+   * @param {string} operand the text of all operands
    * @param {OperandKind[]} kinds
    */
-  instruction(word, operand, kinds) {
+  convertInstruction(word, operand, kinds) {
     let parts = splitList(operand);
     // Two operands can be separated by blanks instead of a comma.
     const operandPair = kinds.length > 1 && parts.length === 1 ? /^([^ \t]+)[ \t]+(.+)$/.exec(operand) : null;
     if (operandPair) parts = [operandPair[1], operandPair[2]];
     if (word === "BBL" && parts.length === 0) parts = ["0"];
     if (parts.length !== kinds.length) throw new LineError(say.operandCount(word, kinds.length));
-    return [word, kinds.map((kind, at) => this.operand(kind, parts[at])).join(", ")].filter(Boolean).join(" ");
+    return [word, kinds.map((kind, at) => this.convertOperand(kind, parts[at])).join(", ")].filter(Boolean).join(" ");
   }
 
   /**
+   * Converts one operand of an instruction.
    * @param {OperandKind} kind
    * @param {string} text
    */
-  operand(kind, text) {
+  convertOperand(kind, text) {
     switch (kind) {
-      case "register": return this.register(text);
-      case "pair": return this.pair(text);
-      case "condition": return this.condition(text);
+      case "register": return this.convertRegister(text);
+      case "pair": return this.convertPair(text);
+      case "condition": return this.convertCondition(text);
       case "digit": return this.operandText(text, { to: NIBBLE - 1, modulus: NIBBLE });
       case "byte": return this.operandText(text, { to: BYTE - 1, modulus: BYTE });
       default: return this.operandText(text, { to: LAST_ADDRESS });
@@ -292,8 +300,8 @@ class ProgramImport {
   }
 
   /**
-   * Returns the output text of an operand. A name remains a name, unless `isNumber` is true. An expression becomes a number, and its
-   * original text goes into the comment.
+   * Converts an operand that is a name, a number or an expression. A name remains a name, unless `isNumber` is true. An expression becomes
+   * a number, and the comment of the line repeats its original text.
    * @param {string} text
    * @param {OperandRules} rules
    */
@@ -310,16 +318,22 @@ class ProgramImport {
     return `0x${hex(number, number > BYTE - 1 || (to > BYTE - 1 && !isNumber) ? 3 : 2)}`;
   }
 
-  /** @param {string} text */
-  register(text) {
+  /**
+   * Converts a register operand.
+   * @param {string} text
+   */
+  convertRegister(text) {
     const word = upperCase(text);
     if (/^R([0-9]|1[0-5])$/.test(word) && !this.definingLines.has(word)) return word;
     // A name can be defined as a register, as in `COUNT EQU R5`.
     return `R${this.operandText(text, { to: NIBBLE - 1, isNumber: true })}`;
   }
 
-  /** @param {string} text */
-  pair(text) {
+  /**
+   * Converts a register pair, such as `2P`, `R4R5` or `4<`.
+   * @param {string} text
+   */
+  convertPair(text) {
     const word = upperCase(text);
     const [, number] = /^([0-7])P$/.exec(word) || /^R?P([0-7])$/.exec(word) || [];
     if (number !== undefined) return `P${number}`;
@@ -332,8 +346,11 @@ class ProgramImport {
     throw new LineError(say.noPair(text));
   }
 
-  /** @param {string} text */
-  condition(text) {
+  /**
+   * Converts the condition of a JCN to its number.
+   * @param {string} text
+   */
+  convertCondition(text) {
     const word = upperCase(text);
     if (this.definingLines.has(word)) return this.operandText(text, { to: NIBBLE - 1 });
     const knownNumber = CONDITIONS.get(word);
@@ -354,6 +371,6 @@ export function importProgram(source) {
   const texts = source.split("\n").map((line) => line.replace(/\r$/, ""));
   if (texts[texts.length - 1] === "") texts.pop();
   const program = new ProgramImport(texts);
-  const lines = program.run();
+  const lines = program.convertLines();
   return { text: program.faults.length > 0 ? "" : lines.map((line) => `${line}\n`).join(""), faults: program.faults };
 }

@@ -1,17 +1,19 @@
-// Splits source lines in the syntax of Intel's assembler or of the AS macro assembler. text/assembly.js splits lines in the bench's syntax.
+// Splits source lines in the syntax of Intel's assembler or of the AS macro assembler into labels, mnemonics, operands and comments.
+// text/assembly.js does this for lines in the bench's syntax.
 
 /**
- * A source line. `word` is the upper-case mnemonic or directive, and always EQU for a definition. `operand` is the text of all operands.
- * `isLong` is true if the line is longer than the maximum length.
+ * A source line. `word` is the mnemonic or directive in upper case; it is EQU for every definition of a name. `operand` is the text of all
+ * operands. `isLong` is true if the line is longer than MAX_CODE_LENGTH.
  * @typedef {{ text: string, label: string, word: string, operand: string, comment: string, isLong: boolean }} SourceLine
  *
+ * The kind of an operand. A `digit` is a number from 0 to 15, and a `target` is an address to which the instruction jumps.
  * @typedef {"register" | "pair" | "digit" | "byte" | "target" | "condition"} OperandKind
  */
 
 /** The maximum length of a line without its comment, in characters. */
-export const LONGEST_SOURCE_LINE = 1024;
+export const MAX_CODE_LENGTH = 1024;
 
-/** @type {[string[], OperandKind[]][]} the mnemonics and their operand kinds */
+/** @type {[string[], OperandKind[]][]} groups of mnemonics, each with the kinds of their operands */
 const INSTRUCTION_FORMS = [
   [["NOP", "CLB", "CLC", "IAC", "CMC", "CMA", "RAL", "RAR", "TCC", "DAC", "TCS", "STC", "DAA", "KBP", "DCL", "WRM", "WMP", "WRR",
     "WR0", "WR1", "WR2", "WR3", "SBM", "RDM", "RDR", "ADM", "RD0", "RD1", "RD2", "RD3"], []],
@@ -23,24 +25,28 @@ const INSTRUCTION_FORMS = [
   [["ISZ"], ["register", "target"]],
   [["JCN"], ["condition", "target"]],
 ];
-/** The operand kinds, by mnemonic. */
-export const OPERANDS = new Map(INSTRUCTION_FORMS.flatMap(([names, kinds]) => names.map((name) => /** @type {const} */ ([name, kinds]))));
+/** The kinds of the operands, by mnemonic. */
+export const OPERAND_KINDS = new Map(INSTRUCTION_FORMS.flatMap(([names, kinds]) => (
+  names.map((name) => /** @type {const} */ ([name, kinds])))));
 /** The instructions that exist only on the 4040. */
-export const ONLY_4040 = new Set(["HLT", "BBS", "LCR", "OR4", "OR5", "AN6", "AN7", "DB0", "DB1", "SB0", "SB1", "EIN", "DIN", "RPM"]);
-/** The directives that the import converts to comments. */
-export const REMARKS = new Set(["CPU", "TITLE", "PAGE", "LISTING", "NEWPAGE", "PRTINIT", "PRTEXIT", "SUBTITLE", "EJECT", "NOLIST", "LIST",
-  "NAME", "SPACE", "RELAXED", "RADIX", "INTSYNTAX"]);
-/** The directives that define bytes, and the directives that reserve bytes. */
-export const BYTE_WORDS = new Set(["DB", "DATA", "BYTE", "DEFB", "FCB", "DC"]);
-export const RESERVE_WORDS = new Set(["DS", "RES", "DEFS", "RMB"]);
-const DIRECTIVES = new Set([...BYTE_WORDS, ...RESERVE_WORDS, "EQU", "=", "SET", "ORG", "ALIGN", "END"]);
+export const INSTRUCTIONS_OF_4040 = new Set(["HLT", "BBS", "LCR", "OR4", "OR5", "AN6", "AN7", "DB0", "DB1", "SB0", "SB1", "EIN", "DIN",
+  "RPM"]);
+/** The directives that the import keeps only as comments. */
+export const COMMENTED_DIRECTIVES = new Set(["CPU", "TITLE", "PAGE", "LISTING", "NEWPAGE", "PRTINIT", "PRTEXIT", "SUBTITLE", "EJECT",
+  "NOLIST", "LIST", "NAME", "SPACE", "RELAXED", "RADIX", "INTSYNTAX"]);
+/** The directives that define bytes. */
+export const BYTE_DIRECTIVES = new Set(["DB", "DATA", "BYTE", "DEFB", "FCB", "DC"]);
+/** The directives that reserve bytes. */
+export const RESERVE_DIRECTIVES = new Set(["DS", "RES", "DEFS", "RMB"]);
+const DIRECTIVES = new Set([...BYTE_DIRECTIVES, ...RESERVE_DIRECTIVES, "EQU", "=", "SET", "ORG", "ALIGN", "END"]);
 /** The directives that cannot be imported. */
 export const UNSUPPORTED_DIRECTIVES = new Set(["MACRO", "ENDM", "IF", "ELSE", "ENDIF", "IFDEF", "IFNDEF", "INCLUDE", "BINCLUDE", "REPT",
   "IRP", "WHILE", "STRUCT", "SECTION", "DW"]);
-/** The instruction that writes to program RAM. The bench has no program RAM. */
-export const PROGRAM_RAM = "WPM";
-/** The words that cannot be labels. */
-const KNOWN_WORDS = [OPERANDS, ONLY_4040, REMARKS, DIRECTIVES, UNSUPPORTED_DIRECTIVES, new Set([PROGRAM_RAM])];
+/** The mnemonic of the instruction that writes to program RAM, which the bench does not have. */
+export const PROGRAM_RAM_MNEMONIC = "WPM";
+/** The mnemonics and directives, which cannot be labels. */
+const NON_LABEL_WORDS = [OPERAND_KINDS, INSTRUCTIONS_OF_4040, COMMENTED_DIRECTIVES, DIRECTIVES, UNSUPPORTED_DIRECTIVES,
+  new Set([PROGRAM_RAM_MNEMONIC])];
 
 const NAME = "[A-Za-z_.?@][A-Za-z0-9_.?@$]*";
 const MARKED_LABEL = new RegExp(`^[ \\t]*(${NAME})[ \\t]*[:,]`);
@@ -49,7 +55,7 @@ const DEFINITION = /^(=|EQU|SET|:=)(?=[ \t]|$|[^A-Za-z0-9_=])/i;
 const NAMED_DEFINITION = new RegExp(`^(${NAME})[ \\t]*(?:=|[ \\t]EQU[ \\t]|[ \\t]SET[ \\t])`, "i");
 
 /**
- * Returns a text with upper-case ASCII letters.
+ * Converts the ASCII letters in a text to upper case.
  * @param {string} text
  */
 export function upperCase(text) {
@@ -65,7 +71,7 @@ export function trimBlanks(text) {
 }
 
 /**
- * Returns the index at which a comment starts, -1 for none. `/` starts a comment only at the start of the line or after a blank.
+ * Returns the column at which a comment starts, -1 for none. `/` starts a comment only at the start of the line or after a blank.
  * @param {string} line
  */
 function commentAt(line) {
@@ -86,10 +92,10 @@ function commentAt(line) {
  */
 function splitComment(text) {
   if (/^[*/]/.test(text)) return { code: "", comment: text.slice(1) };
-  const begin = text.slice(0, LONGEST_SOURCE_LINE + 1);
+  const begin = text.slice(0, MAX_CODE_LENGTH + 1);
   const commentStart = commentAt(begin);
   const code = commentStart < 0 ? begin : begin.slice(0, commentStart);
-  const isWhole = commentStart >= 0 || begin.length <= LONGEST_SOURCE_LINE;
+  const isWhole = commentStart >= 0 || begin.length <= MAX_CODE_LENGTH;
   return { code: isWhole ? code.replace(/[ \t]+$/, "") : code, comment: commentStart < 0 ? "" : text.slice(commentStart + 1) };
 }
 
@@ -102,12 +108,13 @@ function splitLabel(line) {
   if (markedLabel) return { label: markedLabel[1], code: trimBlanks(line.slice(markedLabel[0].length)) };
   const [first = ""] = FIRST_NAME.exec(line) || [];
   const code = trimBlanks(line.slice(first.length));
-  const isLabel = first !== "" && !KNOWN_WORDS.some((names) => names.has(upperCase(first))) && !code.startsWith("=");
+  const isLabel = first !== "" && !NON_LABEL_WORDS.some((names) => names.has(upperCase(first))) && !code.startsWith("=");
   return isLabel ? { label: first, code } : { label: "", code: trimBlanks(line) };
 }
 
 /**
- * Splits the statement after a label. A definition has the form `X = 5` or `X EQU 5`, with or without a colon after X.
+ * Splits the statement after a label into its first word and its operands. A definition of a name has the form `X = 5` or `X EQU 5`, with
+ * or without a colon after X.
  * @param {string} label
  * @param {string} code
  */
@@ -123,7 +130,7 @@ function splitStatement(label, code) {
 }
 
 /**
- * Splits the lines of a source. All lines after END count as comments.
+ * Splits all lines of a program. Lines after END are treated as comments.
  * @param {string[]} texts
  * @returns {SourceLine[]}
  */
@@ -133,7 +140,7 @@ export function readSource(texts) {
     const emptyLine = { text, label: "", word: "", operand: "", isLong: false };
     if (isEnded) return { ...emptyLine, comment: text };
     const { code, comment } = splitComment(text);
-    if (code.length > LONGEST_SOURCE_LINE) return { ...emptyLine, comment, isLong: true };
+    if (code.length > MAX_CODE_LENGTH) return { ...emptyLine, comment, isLong: true };
     const { label, code: afterLabel } = splitLabel(code);
     const statement = splitStatement(label, afterLabel);
     isEnded = statement.word === "END";
@@ -142,7 +149,7 @@ export function readSource(texts) {
 }
 
 /**
- * Splits a list of operands at the commas outside of parentheses and quotes.
+ * Splits a list of operands at the commas that are not inside parentheses or quotes.
  * @param {string} list
  */
 export function splitList(list) {
@@ -165,7 +172,7 @@ export function splitList(list) {
 }
 
 /**
- * Returns the characters of a quoted string of two or more characters; null for any other operand.
+ * Returns the text in a quoted string with two or more characters; null for any other operand.
  * @param {string} part
  */
 export function quotedCharacters(part) {

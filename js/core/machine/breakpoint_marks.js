@@ -7,7 +7,7 @@ import * as say from "../../words/machine.js";
  * @typedef {{ mark: string, words: string }} BreakpointMark
  */
 
-/** The marks of breakpoints that always stop, stop on a condition, log, or never stop. */
+/** The marks of breakpoints that stop every time, stop if a condition is true, write a log text, or never stop. */
 const ALWAYS_STOPS_MARK = "\u25CF";
 const CONDITION_MARK = "\u25C6";
 const LOG_MARK = "\u25B8";

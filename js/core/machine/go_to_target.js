@@ -1,4 +1,5 @@
-// Parses the target of the command "go to": a program name, a name plus an offset, an address as in listings, or a number as in commands.
+// Parses the address that a user types for the command "go to": a program name, a name plus an offset, three hexadecimal digits as in
+// listings, or a number as in commands.
 
 import { LAST_ADDRESS, parseNumber } from "../bench/numbers.js";
 import * as say from "../../words/machine.js";
@@ -6,8 +7,8 @@ import * as say from "../../words/machine.js";
 /**
  * @typedef {import("./source_map.js").SourceMap} SourceMap
  *
- * The target address, or an error message.
- * @typedef {{ address: number, words: string }} Goal
+ * The target address; or an error message (`words`, "" for none).
+ * @typedef {{ address: number, words: string }} GoToTarget
  */
 
 /** Matches an address as in listings: three hexadecimal digits without a prefix. */
@@ -18,9 +19,9 @@ const NAME_PLUS_OFFSET = /^([a-z_]\w*)\s*\+\s*(0x[0-9a-f]+|\d+)$/i;
 /**
  * Creates an error result.
  * @param {string} message
- * @returns {Goal}
+ * @returns {GoToTarget}
  */
-function goalError(message) {
+function targetError(message) {
   return { address: 0, words: message };
 }
 
@@ -28,7 +29,7 @@ function goalError(message) {
  * Parses the target of "go to".
  * @param {string} text
  * @param {SourceMap | null} map the source map of the program in ROM; null if unknown
- * @returns {Goal}
+ * @returns {GoToTarget}
  */
 export function parseGoal(text, map) {
   const word = text.trim();
@@ -37,8 +38,8 @@ export function parseGoal(text, map) {
   if (value !== undefined && value + parseNumber(offset) <= LAST_ADDRESS) return { address: value + parseNumber(offset), words: "" };
   const address = LISTING_ADDRESS.test(word) ? parseInt(word, 16) : parseNumber(word);
   if (address <= LAST_ADDRESS) return { address, words: "" };
-  if (!Number.isNaN(parseNumber(word))) return goalError(say.beyondLast(word));
-  if (word === "") return goalError(say.nothingToGoTo(say.ADDRESS_FORMS));
-  if (map) return goalError(say.noNameOrAddress(word, say.ADDRESS_FORMS));
-  return goalError(say.noAddress(word, say.ADDRESS_FORMS));
+  if (!Number.isNaN(parseNumber(word))) return targetError(say.beyondLast(word));
+  if (word === "") return targetError(say.nothingToGoTo(say.ADDRESS_FORMS));
+  if (map) return targetError(say.noNameOrAddress(word, say.ADDRESS_FORMS));
+  return targetError(say.noAddress(word, say.ADDRESS_FORMS));
 }

@@ -10,12 +10,14 @@ import * as say from "../../words/machine.js";
  * @typedef {import("../engine/heat_map.js").HeatCell} HeatCell
  * @typedef {import("./source_map.js").SourceMap} SourceMap
  * @typedef {import("../engine/heat_meter.js").ChipHeat} ChipHeat
+ *
+ * The kind of a heat map: it shows how often, or how recently, each RAM nibble has changed.
  * @typedef {"often" | "lately"} HeatKind
  */
 
 /** The highest heat level. */
 export const MAX_HEAT_LEVEL = 5;
-/** The maximum number of intervals into which the stored cycles are divided. */
+/** The maximum number of intervals for which RecentHeat stores changes separately. */
 const MAX_INTERVALS = 50;
 
 /**
@@ -28,8 +30,8 @@ function scaleLevel(number, max) {
 }
 
 /**
- * Returns the heat levels of all changed places, from 1 to MAX_HEAT_LEVEL. The place that changed most often, or most recently, has the
- * highest level.
+ * Returns the heat levels of all nibbles that have changed, from 1 to MAX_HEAT_LEVEL, by nibble. The nibble that has changed most often, or
+ * most recently, has the highest level.
  * @param {Heat} heat
  * @param {HeatKind} kind
  * @returns {Map<string, number>}
@@ -41,7 +43,7 @@ export function heatLevels({ cycles, cells }, kind) {
     [place, kind === "often" ? scaleLevel(count, maxCount) : MAX_HEAT_LEVEL + 1 - scaleLevel(1 + ago - minAge, cycles)])));
 }
 
-/** Collects the changes in the last cycles while time runs. */
+/** Collects the changes of RAM nibbles in the last cycles while time runs. */
 export class RecentHeat {
   constructor() {
     this.totalCycles = 0;
@@ -55,6 +57,7 @@ export class RecentHeat {
   }
 
   /**
+   * Adds changes, and removes those that are older than `storedCycles`.
    * @param {ChipHeat} heat
    * @param {number} cycles the number of cycles since the previous call; at full speed, `heat` describes only some of these cycles
    * @param {number} storedCycles the number of cycles to store
@@ -69,7 +72,7 @@ export class RecentHeat {
     while (this.intervals.length > 1 && this.intervals[1].from <= this.totalCycles - storedCycles) this.intervals.shift();
   }
 
-  /** @returns {Heat} */
+  /** @returns {Heat} the changes in the stored cycles */
   get heat() {
     /** @type {Map<string, HeatCell & { at: number }>} */
     const changes = new Map();
@@ -81,7 +84,7 @@ export class RecentHeat {
 }
 
 /**
- * Adds newer changes to a map of changes by place.
+ * Adds newer changes to a map of changes by nibble.
  * @param {Map<string, HeatCell & { at: number }>} changes
  * @param {(HeatCell & { at: number })[]} newChanges
  */
@@ -90,7 +93,7 @@ function addChanges(changes, newChanges) {
 }
 
 /**
- * Describes the cause of the last change of a place.
+ * Describes what changed a nibble last: an instruction or a bench line.
  * @param {HeatCell} cell
  * @param {SourceMap | null} map
  */
@@ -99,7 +102,7 @@ function describeCause({ address, line }, map) {
 }
 
 /**
- * Describes the cause and time of the last change of a place.
+ * Describes what changed a nibble last, and when.
  * @param {HeatCell} cell
  * @param {SourceMap | null} map
  */
@@ -108,13 +111,16 @@ function describeLastChange(cell, map) {
   return cell.ago === 0 ? say.by(cause) : say.byAgo(cause, formatCycles(cell.ago));
 }
 
-/** @param {number} count */
+/**
+ * Returns a number of times as text, such as `once`.
+ * @param {number} count
+ */
 function formatTimes(count) {
   return count === 1 ? say.ONCE : say.manyTimes(count.toLocaleString("en"));
 }
 
 /**
- * Describes the changes of a place: `12 times, last by 00B (turn + 9, line 7), 320 cycles, 3.456 ms ago`.
+ * Describes the changes of a nibble: `12 times, last by 00B (turn + 9, line 7), 320 cycles, 3.456 ms ago`.
  * @param {HeatCell} cell
  * @param {SourceMap | null} map
  */
@@ -123,7 +129,7 @@ export function describeChanges(cell, map) {
 }
 
 /**
- * Describes the changes of a place while time runs. The time of the last change is left out because the reports are late and incomplete.
+ * Describes the changes of a nibble while time runs. Omits the time of the last change, because the reports are late and incomplete.
  * @param {HeatCell} cell
  * @param {SourceMap | null} map
  */
@@ -132,19 +138,19 @@ export function describeSeenChanges(cell, map) {
 }
 
 /**
- * Returns the heat map status while time runs.
+ * Returns the status line of the heat map while time runs.
  * @param {ChipHeat} heat
- * @param {boolean} isAll true if all cycles are examined
+ * @param {boolean} isAll true if the changes in all cycles are counted
  */
 export function describeHeatStatus({ chips }, isAll) {
   return say.heatCounted(chips, isAll);
 }
 
 /**
- * Returns the summary of a heat map.
+ * Returns the summary of a heat map: the period, the number of changed nibbles, and the nibbles that changed most often and last.
  * @param {Heat} heat
- * @param {number} requestedCycles
- * @param {(place: string) => string} nameOf
+ * @param {number} requestedCycles the length of the period for which the user asked
+ * @param {(place: string) => string} nameOf returns the name of a nibble
  * @param {SourceMap | null} map
  */
 export function describeHeat({ cycles, cells }, requestedCycles, nameOf, map) {

@@ -7,22 +7,22 @@ import { wordsOfLine } from "../../words/stops.js";
  * @typedef {import("../bench/answers.js").ListingLine} ListingLine
  * @typedef {import("./source_map.js").SourceMap} SourceMap
  *
- * The fields of a listing line. `first` is its address as text, and `second` the address of its second byte ("" for none). `bytes` contains
- * the address and the bytes as in the answer. `labels` are the labels at its address. `source` is its source line ("" for none).
+ * The fields of a listing line. `first`: its address as text; `second`: the address of its second byte ("" for none); `bytes`: the address
+ * and the bytes as in the bench's answer; `labels`: the labels at its address; `source`: its source line ("" for none).
  * @typedef {{ address: number, first: string, second: string, bytes: string, labels: string, instruction: string, source: string }}
  *   NamedLine
  */
 
 /** Matches an instruction whose last operand is an address. */
 const TARGET_INSTRUCTION = /^(JUN|JMS|JCN|ISZ) .*0x([0-9A-F]{3})$/;
-/** Columns in a listing line: the end of the bytes, the second byte, and the instruction. */
+/** Columns in a listing line: the end of the bytes, the start of the second byte, and the start of the instruction. */
 const BYTES_END = 9;
 const SECOND_BYTE_COLUMN = 7;
 const INSTRUCTION_COLUMN = 10;
 const COLON_LENGTH = 1;
 
 /**
- * Returns a listing line with names.
+ * Returns the fields of a listing line, with the program names for its addresses.
  * @param {ListingLine} listingLine
  * @param {SourceMap | null} map
  * @returns {NamedLine}

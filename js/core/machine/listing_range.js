@@ -1,5 +1,6 @@
-// Finds start addresses for a listing, and selects the visible lines. The bench disassembles from the first byte on. Therefore a listing is
-// aligned with the program only if one of its lines starts at a known instruction start.
+// Finds start addresses for a disassembled listing, and selects the visible lines. The bench disassembles from a start address on. If that
+// address is not the start of an instruction, the lines are misaligned. They are aligned if a line starts at an address where an
+// instruction is known to start (the anchor).
 
 import { indices } from "../bench/numbers.js";
 import { ADDRESS_COUNT, MAX_LISTING_LINES } from "../bench/rom_bytes.js";
@@ -7,20 +8,18 @@ import { ADDRESS_COUNT, MAX_LISTING_LINES } from "../bench/rom_bytes.js";
 /**
  * @typedef {import("../bench/answers.js").ListingLine} ListingLine
  *
- * The wanted part of a listing. The first visible line is the first line at or after address `from`. If `anchor` is not null, a line must
- * start at that address.
+ * The part of a listing that shall be shown. The first visible line is the first line at or after address `from`. If `anchor` is not null,
+ * a line must start at that address.
  * @typedef {{ from: number, anchor: number | null }} Goal
  */
 
-/**
- * The number of bytes before the first visible line at which a listing starts: a disassembly becomes aligned after a few instructions. If
- * the listing is still misaligned, the next of at most MAX_TRIES tries starts one byte later.
- */
+/** The number of bytes before the first visible line at which a listing starts, because it becomes aligned after a few instructions. */
 const BYTES_BEFORE = 12;
+/** The maximum number of tries. If a listing is misaligned, the next try starts one byte later. */
 const MAX_TRIES = 4;
 
 /**
- * Returns the start addresses to try, best first. The last one is the anchor itself.
+ * Returns the start addresses to try for a listing, best first. The last one is the anchor itself.
  * @param {Goal} goal
  * @param {number} rows the number of visible lines
  */
@@ -43,7 +42,7 @@ export function linesNeeded(start, { from, anchor }, rows) {
 }
 
 /**
- * Returns whether a line starts at an address.
+ * Returns whether a line starts at an address; true if the address is null.
  * @param {ListingLine[]} lines
  * @param {number | null} address
  */

@@ -1,4 +1,4 @@
-// Reads the visible lines of a listing with as few queries as possible.
+// Reads the visible lines of a disassembled listing with as few queries as possible.
 
 import { readListing } from "../bench/answers.js";
 import { joinLines, matchAnswers, readInputs } from "../bench/inputs.js";
@@ -16,7 +16,7 @@ export class ListingReader {
   }
 
   /**
-   * Resolves to a listing that is aligned with the anchor of the goal. Usually the first query is sufficient.
+   * Resolves to a listing in which a line starts at the anchor address of the goal. Usually the first query is sufficient.
    * @param {Goal} goal
    * @param {number} rows the number of visible lines
    */
@@ -31,8 +31,9 @@ export class ListingReader {
   }
 
   /**
-   * @param {number} start
-   * @param {number} count
+   * Resolves to the disassembled lines from an address on.
+   * @param {number} start the address of the first line
+   * @param {number} count the number of lines
    */
   async list(start, count) {
     const lines = joinLines([`list ${start} ${count}`]);

@@ -5,8 +5,9 @@ import { hex, indices } from "../bench/numbers.js";
 
 /** @typedef {import("./source_map.js").SourceMap} SourceMap */
 
-/** The width of the address and byte columns before the source. */
+/** The column at which the source starts, after the address and the bytes. */
 const SOURCE_COLUMN = 17;
+/** The maximum number of bytes in a row of the listing. */
 const BYTES_IN_ROW = 4;
 const TAB = " ".repeat(8);
 const LABEL_LINE = /^[A-Za-z_]\w*:$/;
@@ -16,7 +17,7 @@ const NAME_DEFINITION = /^([A-Za-z_]\w*)=/;
 const formatRow = (beforeSource, source) => `${beforeSource.padEnd(SOURCE_COLUMN)}${source}`.replace(/ +$/, "");
 
 /**
- * Returns the rows of a line with bytes. The first row contains the source.
+ * Returns the listing rows for a source line with bytes. The first row contains the source.
  * @param {number} address
  * @param {number[]} bytes
  * @param {string} source
@@ -42,7 +43,7 @@ function textBeforeLine(line, address, map) {
 }
 
 /**
- * Returns the rows for all program lines.
+ * Returns the listing rows for all source lines.
  * @param {string} text the source text
  * @param {SourceMap} map
  * @param {Int16Array} bytes the bytes, by address

@@ -1,4 +1,4 @@
-// Finds names for RAM nibbles: the names of watch expressions, and the program names of the bytes that the source loads for SRC.
+// Finds names for RAM nibbles: the names of watch expressions, and the names of those numbers that the source loads as SRC bytes.
 
 import { hex } from "../bench/numbers.js";
 import { PAIR, splitStatement } from "../text/assembly.js";
@@ -10,7 +10,7 @@ import { PAIR, splitStatement } from "../text/assembly.js";
  */
 
 /**
- * Returns the named numbers that a FIM loads into a register pair that an SRC uses, without duplicates.
+ * Returns the named numbers that are probably SRC bytes: those that a FIM loads into a register pair that an SRC uses. Removes duplicates.
  * @param {SourceMap} map
  * @returns {{ name: string, byte: number }[]}
  */
@@ -28,7 +28,7 @@ export function namedSrcBytes(map) {
 }
 
 /**
- * Returns the names of RAM nibbles, by `poke` place. An SRC byte selects one nibble in each bank.
+ * Returns the names of RAM nibbles, by the form that `poke` accepts, such as `ram.0.0x12`. An SRC byte selects one nibble in each bank.
  * @param {Board} board
  * @param {Pick<WatchExpression, "name" | "place">[]} watched
  * @param {SourceMap | null} map null if the source is not the program in ROM
@@ -42,7 +42,7 @@ export function nibbleNames({ banks }, watched, map) {
     const present = names.get(place) || [];
     if (!present.includes(name)) names.set(place, [...present, name]);
   };
-  // If a watch expression has no name, its `name` is its place, which is not a word.
+  // If a watch expression has no name, its `name` has the form `ram.0.0x12`, which is not a word.
   for (const { name, place } of watched) if (place !== "" && /^\w+$/.test(name)) add(place, name);
   for (const { name, byte } of map ? namedSrcBytes(map) : []) {
     for (const { bank, chips } of banks) if (byte < chips * 64) add(`ram.${bank}.0x${hex(byte, 2)}`, name);

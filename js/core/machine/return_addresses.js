@@ -1,5 +1,5 @@
-// Describes the return addresses in the stack. The stack can contain stale entries. A call stores the address after its JMS. Therefore an
-// entry is stale if there is no JMS before its address.
+// Describes the return addresses in the call stack. The stack can contain stale entries, to which the program will not return. A call
+// stores the address after its JMS, so an entry is stale if no JMS precedes its address.
 
 import { LAST_ADDRESS } from "../bench/numbers.js";
 import * as say from "../../words/machine.js";
@@ -8,7 +8,7 @@ import { wordsOfLine } from "../../words/stops.js";
 /**
  * @typedef {import("./source_map.js").SourceMap} SourceMap
  *
- * A description of an address. `isLive` is false for a stale entry.
+ * A description of an address: `words` is its name and line, `title` is its source line. `isLive` is false for a stale entry of the stack.
  * @typedef {{ isLive: boolean, words: string, title: string }} AddressNote
  */
 
@@ -25,9 +25,9 @@ export function callAddress(address) {
 }
 
 /**
- * Returns for each return address, newest first, whether its stack entry is live. All entries older than a stale entry are also stale.
- * @param {number[]} addresses
- * @param {string[]} bytes for each address, the ROM byte at the position of its JMS
+ * Returns, for each return address, whether its stack entry is live. All entries that are older than a stale entry are also stale.
+ * @param {number[]} addresses the return addresses, newest first
+ * @param {string[]} bytes for each return address, the ROM byte at the address where its JMS should be
  * @param {SourceMap | null} map the source map of the program in ROM; null if unknown
  */
 export function findLiveReturns(addresses, bytes, map) {
@@ -65,7 +65,10 @@ export function describeReturn(address, isLive, map) {
   return { isLive, words: joinWords([map.nameOf(address), say.callInLine(line)]), title: map.sources[line - 1].trim() };
 }
 
-/** @param {string[]} words */
+/**
+ * Joins the texts that are not empty with commas.
+ * @param {string[]} words
+ */
 function joinWords(words) {
   return words.filter((word) => word !== "").join(", ");
 }

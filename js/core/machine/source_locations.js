@@ -1,4 +1,4 @@
-// Formats addresses as source locations: `014 (wait), line 22: wait: FIM P1, time`.
+// Formats an address with its label and its source line: `014 (wait), line 22: wait: FIM P1, time`.
 
 import { hex } from "../bench/numbers.js";
 import { inSource, notInSource } from "../../words/machine.js";

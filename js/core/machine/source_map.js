@@ -20,23 +20,26 @@ export class SourceMap {
    */
   constructor(answers, text) {
     this.text = text;
-    /** @type {number[]} the addresses, by line number from 1 */
+    /** @type {number[]} the address of each source line, by line number from 1 */
     this.addresses = [];
-    /** @type {number[]} the numbers of bytes, by line number */
+    /** @type {number[]} the number of bytes of each source line, by line number from 1 */
     this.sizes = [];
-    /** @type {Map<string, Name>} the names, in definition order */
+    /** @type {Map<string, Name>} the names, in the order of their definitions */
     this.names = new Map();
     /** @type {Map<number, string[]>} the labels, by address */
     this.labels = new Map();
-    /** The number of the source line of each byte, by address; 0 for none. */
+    /** The line number of each byte in ROM, by address; 0 for none. */
     this.lines = new Uint16Array(ADDRESS_COUNT);
     this.sources = text.split("\n");
     this.read(answers);
-    /** The nearest labelled address at or below each address, within the same contiguous bytes; -1 for none. */
+    /** For each address, the nearest address with a label at or below it, with no gap between the bytes; -1 for none. */
     this.labelledAddresses = this.findLabelledAddresses();
   }
 
-  /** @param {string[]} answers */
+  /**
+   * Reads the lines and the names from the answers to `map`.
+   * @param {string[]} answers
+   */
   read(answers) {
     const labels = new Set(this.sources.map((line) => (LABEL_LINE.exec(line) || ["", ""])[1]));
     const { lines, names } = readMap(answers);
@@ -57,7 +60,7 @@ export class SourceMap {
     if (name.isLabel) this.labels.set(name.value, [...this.labelsAt(name.value), name.name]);
   }
 
-  /** Returns the value of `labelledAddresses`. */
+  /** Returns, for each address, the nearest address with a label at or below it. */
   findLabelledAddresses() {
     const addresses = new Int16Array(ADDRESS_COUNT);
     let labelledAddress = -1;
@@ -126,8 +129,8 @@ export class SourceMap {
   }
 
   /**
-   * Returns the name of an address: its label, such as `put`, or the nearest label below it with an offset, such as `put + 2`. The bytes
-   * between must be contiguous. Returns "" if there is no name.
+   * Returns the name of an address: its label, such as `put`, or the nearest label below it with an offset, such as `put + 2`. There must
+   * be no gap between the bytes. Returns "" if there is no name.
    * @param {number} address
    */
   nameOf(address) {
@@ -160,7 +163,7 @@ export class SourceMap {
   }
 
   /**
-   * Returns the value of a name. If no name is equal, ignores the case. Returns undefined if no name matches, or if several names match.
+   * Returns the value of a name. If no name matches exactly, ignores case. Returns undefined if no name matches, or if several names do.
    * @param {string} word
    * @returns {number | undefined}
    */

@@ -1,5 +1,5 @@
-// Links the source and the machine. While the source is that of the program in ROM, the editor marks the next line, and addresses have
-// names. The page checks this again after each possible change of the source or of ROM.
+// Keeps the source editor in step with the machine. If the source is that of the program in ROM, the editor marks the next line, and
+// addresses have names. The page checks this again after each change of the source or of ROM.
 
 import { hex } from "../bench/numbers.js";
 import { SourceMap } from "./source_map.js";
@@ -8,8 +8,8 @@ import * as say from "../../words/machine.js";
 /**
  * @typedef {import("../engine/program_check.js").ProgramCheck} ProgramCheck
  *
- * The source editor. `showNext` marks the next line, 0 for none. `showAddresses` shows the addresses of the lines, "" for none. `reveal`
- * scrolls to a line.
+ * The source editor. `showNext` marks the line of the next instruction (0 for none). `showAddresses` shows the address of each line ("" for
+ * none). `reveal` scrolls to a line.
  * @typedef {{ showNext: (line: number) => void, showAddresses: (addresses: string[]) => void,
  *   reveal: (line: number) => void }} SourceEditor
  */
@@ -18,14 +18,14 @@ import * as say from "../../words/machine.js";
  * The callbacks of SourceSync.
  * @typedef {object} SourceSyncCallbacks
  * @property {() => string} text Returns the source as sent to the bench.
- * @property {(text: string) => Promise<ProgramCheck>} check Resolves to the `map` answer for a source or its refusal, and the first
- *   difference from ROM.
- * @property {(map: SourceMap | null, words: string) => void} changed Handles a change of the program in ROM. `map` is null if the source is
- * not that program; then `words` is the message.
- * @property {(number: number) => string} describeRefusal Returns the message of a refusal.
+ * @property {(text: string) => Promise<ProgramCheck>} check Compares a source with ROM. Resolves to the `map` answer or the error in the
+ *   source, and the first difference from ROM.
+ * @property {(map: SourceMap | null, words: string) => void} changed Called with the result of a check that differs from the last one. If
+ *   the source is not the program in ROM, `map` is null and `words` is the reason.
+ * @property {(number: number) => string} describeRefusal Returns the message for an error number of the bench.
  */
 
-/** @type {SourceEditor} */
+/** @type {SourceEditor} an editor that shows nothing, for use before the page has created its editor */
 const NO_EDITOR = { showNext: () => {}, showAddresses: () => {}, reveal: () => {} };
 
 /** @param {number} address */
@@ -46,9 +46,9 @@ export class SourceSync {
     this.lastResult = null;
     /** The text of the last check. */
     this.text = "";
-    /** The number of the last check; results of older checks are discarded. */
+    /** The number of the last check that was started; results of older checks are discarded. */
     this.lastCheck = 0;
-    /** @type {Promise<void> | null} the check shared by all callers of `waitForCheck` */
+    /** @type {Promise<void> | null} the check for which all callers of `waitForCheck` wait; null for none */
     this.pendingCheck = null;
     this.nextLine = 0;
   }
@@ -74,7 +74,7 @@ export class SourceSync {
 
   /**
    * Handles the result of a check.
-   * @param {string} text
+   * @param {string} text the source that was checked
    * @param {ProgramCheck} result
    */
   take(text, result) {
@@ -107,8 +107,8 @@ export class SourceSync {
   }
 
   /**
-   * Marks the next line. While time runs, no line is marked.
-   * @param {number} counter
+   * Marks the line of the next instruction. While time runs, no line is marked.
+   * @param {number} counter the program counter
    * @param {boolean} isRunning
    */
   showNext(counter, isRunning) {
@@ -129,8 +129,8 @@ export class SourceSync {
 
   /** Waits until the current source has been checked. */
   async waitForCheck() {
-    // A newer check discards the result of an older check. If each caller started a check, no result might ever be accepted. Therefore all
-    // callers share one check.
+    // All callers wait for the same check. A newer check discards the result of an older one, so if each caller started its own check,
+    // perhaps no result would ever be accepted.
     while (this.calls.text() !== this.text || !this.lastResult) {
       this.pendingCheck = this.pendingCheck || this.check().finally(() => {
         this.pendingCheck = null;

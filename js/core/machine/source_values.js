@@ -1,5 +1,5 @@
-// Provides the values of words in the source while time is paused, and the changes that the last executed lines made. Both are read from
-// the last snapshot.
+// While time is paused, provides the values of words in the source, and the changes that the last executed lines have made. Both are read
+// from the last snapshot of the session.
 
 import { LineChanges } from "../debug/line_changes.js";
 import { MachineState } from "../debug/machine_state.js";
@@ -12,20 +12,20 @@ import { valuesAt } from "../debug/word_values.js";
 
 /**
  * The page's callbacks for values in the source.
- * @typedef {object} ValuesOwnCalls
+ * @typedef {object} ValueCalls
  * @property {() => import("./source_map.js").SourceMap | null} map Returns the source map of the program in ROM; null if the source is not
  *   in ROM.
  * @property {(lines: ReadonlyMap<number, string>) => void} showLines Shows the changes at the end of each line; line numbers count from 1.
- * @property {() => void} showWatched Updates the watch values.
+ * @property {() => void} showWatched Shows the current values of the watch expressions.
  * @property {() => string[]} snapshot Returns the answers of the last snapshot.
  * @property {() => boolean} isRunning Returns whether time runs; values are shown only while it is paused.
- * @property {() => void} changed Handles a change of the values, including their disappearance when time starts.
+ * @property {() => void} changed Called after the values have changed, and when they become unavailable because time starts.
  */
 
-/** @typedef {Program & ValuesOwnCalls} ValuesCalls */
+/** @typedef {Program & ValueCalls} SourceValueCalls */
 
 export class SourceValues {
-  /** @param {ValuesCalls} calls */
+  /** @param {SourceValueCalls} calls */
   constructor(calls) {
     this.calls = calls;
     /** @type {string[]} the last snapshot */
@@ -55,7 +55,7 @@ export class SourceValues {
   }
 
   /**
-   * Returns the value of the word at a position in a line.
+   * Returns the value of the word at a position in a source line, as pieces of text; an empty list if there is none.
    * @param {string} text
    * @param {number} column
    * @returns {Piece[]}
@@ -66,7 +66,7 @@ export class SourceValues {
   }
 
   /**
-   * Handles a new snapshot. While time runs, only the first snapshot updates the view.
+   * Handles a new snapshot. While time runs, only the first snapshot has an effect: it clears the values.
    * @param {number} cycles the cycle count
    */
   updateFromSnapshot(cycles) {

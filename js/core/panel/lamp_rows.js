@@ -9,15 +9,16 @@ import { indices } from "../bench/numbers.js";
  * @typedef {import("../board/face.js").Group} Group
  * @typedef {import("../board/lamp_state.js").LampReader} LampReader
  *
- * A cell in a row: its lamp (`seen`, null for a gap), its width in characters, the name of the lamp ("" for none) and its colour.
+ * A cell in a row. `reader` reads the level of its lamp (null for a gap); `width` is its width in characters; `name` is the name of the
+ * lamp ("" for none).
  * @typedef {{ reader: LampReader | null, width: number, name: string, colour: string }} LampCell
  */
 
-/** The minimum number of columns in a group that is drawn without gaps between its lamps. */
+/** A group with at least this number of columns is drawn without gaps between its lamps. */
 const MIN_NARROW_COLUMNS = 13;
 /** The width of a die cell in characters. */
 const DIE_WIDTH = 4;
-/** The width of a cell with a name, without the name itself: `( ) ` before the name and a blank after it. */
+/** The number of characters around the name in a cell: `( ) ` before the name and a blank after it. */
 const NAME_PADDING = 5;
 const DEFAULT_COLOUR = "red";
 /** The characters for lamps, by brightness level. */
@@ -44,7 +45,7 @@ class LampRows {
   }
 
   /**
-   * Returns the width of a cell with the lamp name; 0 if the lamp has no name.
+   * Returns the width that a cell needs for the name of its lamp; 0 if the lamp has no name.
    * @param {number} lamp
    */
   cellWidth(lamp) {
@@ -52,6 +53,7 @@ class LampRows {
   }
 
   /**
+   * Returns a cell that shows a lamp.
    * @param {LampReader} seenLamp
    * @param {number} lamp the lamp that determines the colour of the cell
    * @param {number} width
@@ -115,6 +117,7 @@ class LampRows {
 }
 
 /**
+ * Returns an empty cell.
  * @param {number} width
  * @returns {LampCell}
  */

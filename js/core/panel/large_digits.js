@@ -2,6 +2,7 @@
 
 import { digitPattern } from "../board/digit_patterns.js";
 
+/** The number of rows of a large digit. */
 export const LARGE_ROWS = 5;
 const BLANK = " ";
 

@@ -25,7 +25,7 @@ import { visibleLines } from "../machine/listing_range.js";
 export const CHIP_ROWS = 5;
 /** The number of bytes from the start of a new listing to the program counter. */
 const BYTES_BEFORE = 6;
-/** If the program counter is in the last LINES_LEFT lines of the listing or outside of the listing, the panel reads a new listing. */
+/** If the program counter is in the last LINES_LEFT lines of the listing, or not in the listing, the panel reads a new listing. */
 const LINES_LEFT = 2;
 
 export class PanelSnapshot {
@@ -38,17 +38,18 @@ export class PanelSnapshot {
     this.hasDisplay = face.groups.some(({ kind }) => kind === "display");
     this.text = new PerceivedText(face, board.lamps.length);
     this.reader = new ListingReader(panel.ask);
+    /** The number of commands in the session, as text. */
     this.commands = "0";
     /** @type {Registers | null} */
     this.registers = null;
     this.keysDown = new PressedKeys();
-    /** The marks of the lamps at this instant: `*` for each lamp that is on. */
+    /** One character for each lamp: `*` if the lamp is on at the time of the snapshot, otherwise `.`. */
     this.marks = "";
     /** @type {Brightness | null} the perceived brightness of the lamps; null while time is paused */
     this.brightness = null;
     /** @type {string[]} the breakpoint addresses as three hexadecimal digits */
     this.breakpoints = [];
-    /** @type {Ram} the contents of the visible chips */
+    /** @type {Ram} the contents of the RAM chips that are visible on the screen */
     this.ram = { registers: new Map(), ports: new Map() };
     /** @type {ListingLine[]} */
     this.listing = [];
@@ -66,13 +67,16 @@ export class PanelSnapshot {
     return this.breakpoints.includes(hex(this.counter, 3));
   }
 
-  /** @param {import("../board/key_place.js").Key} key */
+  /**
+   * Returns whether a key is pressed.
+   * @param {import("../board/key_place.js").Key} key
+   */
   isDown(key) {
     return this.keysDown.has(key, this.test);
   }
 
   /**
-   * Returns the RAM chips that fit into a number of rows.
+   * Returns the RAM chips that fit into a number of screen rows, starting at the chip to which the user has scrolled.
    * @param {number} rows
    */
   shownChips(rows) {
@@ -81,7 +85,7 @@ export class PanelSnapshot {
   }
 
   /**
-   * Queries the session and stores the answers as the new snapshot.
+   * Queries the session, and stores the answers as the new snapshot.
    * @param {number} rows the number of rows for RAM and listing; 0 to query only the state
    */
   async take(rows) {
@@ -126,7 +130,7 @@ export class PanelSnapshot {
     this.listing = visibleLines(await this.reader.read({ from, anchor: counter }, rows), from, rows);
   }
 
-  /** Clears the listing. Callers do this when the size of the terminal changes. */
+  /** Clears the listing, so that the next snapshot reads it again. Called when the size of the terminal changes. */
   forgetListing() {
     this.listing = [];
   }

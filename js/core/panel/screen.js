@@ -1,7 +1,7 @@
-// Builds the rows of the panel screen. The top rows show the session and its time, the display, the registers, and the source at the
-// program counter. Below, RAM, the front panel and the listing are side by side. The last rows are a message and the help for keys. A row
-// consists of text pieces. A piece that shows a lamp has the colour and the brightness level of the lamp. js/node/panel_terminal.mjs writes
-// the rows to the terminal.
+// Builds the rows of the panel screen. The top rows show the session, whether time runs, the display, the registers, and the source at the
+// program counter. Below them, RAM, the front panel and the listing are side by side. The last two rows are a message and the help for
+// keys. A row consists of text pieces. A piece that shows a lamp has the colour and the brightness level of the lamp.
+// js/node/panel_terminal.mjs writes the rows to the terminal.
 
 import { hex, indices } from "../bench/numbers.js";
 import { printoutLines } from "../board/printout_lines.js";
@@ -24,16 +24,18 @@ import * as say from "../../words/panel.js";
 
 /** The minimum terminal size. */
 export const MIN_SIZE = { rows: 24, columns: 80 };
+/** The number of rows above RAM, the front panel and the listing. */
 const TOP_ROWS = 10;
 /** The number of rows above and below the middle part (RAM, front panel and listing). */
 const FIXED_ROWS = TOP_ROWS + 2;
+/** The widths of RAM and of the front panel, in characters. */
 const RAM_WIDTH = 28;
-const FRONT_WIDTH = 24;
+const FRONT_PANEL_WIDTH = 24;
 /** The minimum width of a key in characters. */
 const MIN_KEY_WIDTH = 3;
 /** The minimum number of printout rows. */
 const MIN_PRINTOUT_ROWS = 2;
-/** The maximum number of large characters, and the width of their rows in terminal columns. */
+/** The maximum number of large digits, and the width that they need, in terminal columns. */
 const MAX_LARGE_CHARACTERS = 18;
 const LARGE_WIDTH = 58;
 
@@ -86,7 +88,7 @@ export class Screen {
   }
 
   /**
-   * Returns all rows.
+   * Returns all rows of the screen.
    * @param {ScreenSize} size
    * @returns {ScreenRow[]}
    */
@@ -111,12 +113,14 @@ export class Screen {
 
   // --- the top rows ---
 
+  /** Returns the rows above RAM, the front panel and the listing, as texts. */
   topRows() {
     const { panel, title, name } = this;
     const state = panel.isPaused ? say.paused(panel.pauseReason) : say.RUNNING;
     return [say.headLine(title, name, panel.snapshot.commands, state), ...this.displayRows(), ...this.registerRows(), this.sourceText()];
   }
 
+  /** Returns the rows that show the display in large digits; empty rows if the board has no display. */
   displayRows() {
     const { snapshot } = this.panel;
     if (!snapshot.hasDisplay) return Array(LARGE_ROWS).fill("");
@@ -126,6 +130,7 @@ export class Screen {
     return [`${first.padEnd(LARGE_WIDTH)} ${say.display(escapeControls(display))}`, ...others];
   }
 
+  /** Returns the rows with the lamps, the registers and the register pairs. */
   registerRows() {
     const { snapshot, subject: { source } } = this.panel;
     if (!snapshot.registers) return ["", "", ""];
@@ -161,8 +166,8 @@ export class Screen {
   // --- RAM, front panel and listing ---
 
   /**
-   * Returns a RAM row: a register, or the port of a chip.
-   * @param {number} row
+   * Returns the RAM text in a row: a RAM register, or the port of a chip.
+   * @param {number} row the index of the row below the top rows
    */
   ramText(row) {
     const { snapshot } = this.panel;
@@ -178,9 +183,9 @@ export class Screen {
   }
 
   /**
-   * Returns a listing row, with marks for the program counter and a breakpoint. If a source line starts at the address, the row shows the
-   * source.
-   * @param {number} row
+   * Returns the listing text in a row, with marks for the program counter and a breakpoint. If an instruction of the source starts at the
+   * address, the text is the source line.
+   * @param {number} row the index of the row below the top rows
    */
   listingText(row) {
     const { snapshot, subject: { source } } = this.panel;
@@ -194,8 +199,8 @@ export class Screen {
   }
 
   /**
-   * Returns the front-panel rows: keys, the button or switch at TEST, lamps and the printout.
-   * @param {number} count
+   * Returns the rows of the front panel: the keys, the button or switch at the TEST pin, the lamps, and the printout.
+   * @param {number} count the number of rows
    */
   frontRows(count) {
     const keys = this.keyRows();
@@ -207,10 +212,10 @@ export class Screen {
     const printout = this.printoutRows(count - rows.length);
     const shown = indices(count).map((at) => rows[at] || []);
     shown.splice(count - printout.length, printout.length, ...printout.map((text) => [plainPiece(text)]));
-    return shown.map((pieces) => fitToWidth(pieces, FRONT_WIDTH));
+    return shown.map((pieces) => fitToWidth(pieces, FRONT_PANEL_WIDTH));
   }
 
-  /** @returns {Piece[][]} */
+  /** @returns {Piece[][]} the rows with the keys, and with the button or switch at the TEST pin; pressed keys are in brackets */
   keyRows() {
     const { panel: { subject: { board }, keys, snapshot }, test } = this;
     const rows = indices(board.rows).map((row) => [plainPiece(indices(board.columns).map((column) => {
@@ -224,8 +229,8 @@ export class Screen {
   }
 
   /**
-   * Returns the last printout lines, at least MIN_PRINTOUT_ROWS.
-   * @param {number} freeRows
+   * Returns the rows with the last lines of the printout. There are at least MIN_PRINTOUT_ROWS rows; none if the board has no printer.
+   * @param {number} freeRows the number of rows that the keys and lamps leave free
    */
   printoutRows(freeRows) {
     const { printing, printout, subject: { face } } = this.panel;
@@ -238,7 +243,10 @@ export class Screen {
   }
 }
 
-/** @param {{ name: string }} test */
+/**
+ * Returns the name of the button or switch at the TEST pin, with blanks instead of underscores.
+ * @param {{ name: string }} test
+ */
 function testName({ name }) {
   return name.replace(/_/g, " ");
 }
@@ -254,7 +262,7 @@ function keyLabel({ legend, letter, isNamed }) {
 }
 
 /**
- * Returns a source line without its comment and with reduced indentation.
+ * Returns a source line without its comment. Reduces its indentation and each sequence of blanks.
  * @param {string} line
  */
 function stripComment(line) {

@@ -1,5 +1,6 @@
-// Controls a session from a panel in a terminal. Time runs as fast as on a real 4004, or is paused. Typed keys press the keys of the board.
-// The panel only sends lines to a session. screen.js converts the state of the panel to rows of characters.
+// Controls a session from a panel in a terminal. Time runs as fast as on a real 4004, or is paused. When the user types a character, the
+// panel presses a key of the board. For all this, it sends lines to the session. screen.js converts the state of the panel to rows of
+// characters.
 
 import { parseRefusal, readRun } from "../bench/answers.js";
 import { joinLines } from "../bench/inputs.js";
@@ -25,21 +26,22 @@ import * as say from "../../words/panel.js";
  * @typedef {import("../machine/source_map.js").SourceMap} SourceMap
  * @typedef {import("./terminal_keys.js").TypedKey} TypedKey
  *
- * Sends lines to the session; resolves to the answers. Throws if the session has ended.
+ * A function that sends lines to the session and resolves to the answers. Throws if the session has ended.
  * @typedef {(lines: string) => Promise<string[]>} Ask
  *
  * The source of the program in ROM: its source map, its lines, and the number of lines before them in the file.
  * @typedef {{ map: SourceMap, lines: string[], before: number }} PanelSource
  *
- * The subject of the panel: the session name, the board and its front panel, the program (null if unknown), and the messages for refusal
- * numbers. `isPaused` is true if time is paused at the start. `note` is the first message.
+ * The session that the panel controls: its name, its board and front panel, and the source of its program (null if unknown).
+ * `describeRefusal` returns the message for an error number of the bench. `isPaused` is true if time is paused at the start. `note` is the
+ * first message.
  * @typedef {{ name: string, board: Board, face: Face, source: PanelSource | null, describeRefusal: (number: number) => string,
  *   isPaused: boolean, note: string }} PanelSubject
  */
 
-/** The maximum number of key changes in the queue. */
+/** The maximum number of presses and releases in the key queue. */
 const MAX_CHANGES = 128;
-/** The maximum length of an instruction in cycles. */
+/** The maximum number of cycles of an instruction. */
 const STEP_CYCLES = 2;
 
 export class Panel {
@@ -80,7 +82,7 @@ export class Panel {
   // --- lines ---
 
   /**
-   * Sends a command; returns its answer. Shows a message if the bench rejects the command.
+   * Sends a command and resolves to its answer. Shows a message if the bench rejects the command.
    * @param {string} line
    */
   async sendCommand(line) {
@@ -90,6 +92,7 @@ export class Panel {
   }
 
   /**
+   * Shows a message if an answer is an error.
    * @param {string} line
    * @param {string} answer
    */
@@ -114,7 +117,7 @@ export class Panel {
   }
 
   /**
-   * Runs the cycles that are due since the previous call.
+   * Runs the cycles that a real 4004 would have run since the previous call, unless time is paused.
    * @param {number} now
    */
   async keepTime(now) {
@@ -122,7 +125,7 @@ export class Panel {
   }
 
   /**
-   * Runs cycles and makes the queued key changes that become due, up to a stop.
+   * Runs cycles, and presses and releases the queued keys when they are due. Ends early if the run stops.
    * @param {number} cycles
    */
   async advance(cycles) {
@@ -130,7 +133,8 @@ export class Panel {
   }
 
   /**
-   * Executes the next event of the key queue: a key change, or a run up to the next key change. Returns the number of cycles run.
+   * Executes the next event of the key queue: presses or releases a key, or runs up to the next press or release. Resolves to the number of
+   * cycles run.
    * @param {number} cycles the maximum number of cycles
    */
   async runNextEvent(cycles) {
@@ -154,7 +158,8 @@ export class Panel {
   }
 
   /**
-   * Runs time up to a stop. Returns the number of cycles run. If the bench rejects the run, returns the number of planned cycles.
+   * Sends a planned `run` line. Resolves to the number of cycles run. If the bench rejects the line, resolves to the number of planned
+   * cycles.
    * @param {PlannedLine} plannedLine
    */
   async run(plannedLine) {
@@ -188,7 +193,7 @@ export class Panel {
   // --- keys ---
 
   /**
-   * Handles a typed key.
+   * Handles a key that the user has typed.
    * @param {TypedKey} key
    * @param {number} now
    */
@@ -202,7 +207,7 @@ export class Panel {
   }
 
   /**
-   * Scrolls the RAM chips.
+   * Scrolls the view of the RAM chips.
    * @param {number} count the number of chips; negative values scroll back
    */
   scrollRam(count) {
@@ -211,7 +216,8 @@ export class Panel {
   }
 
   /**
-   * Handles a board key. While time runs, queues a short press. While time is paused, presses or releases the key at once.
+   * Handles a character for a key of the board. While time runs, queues a short press. While time is paused, presses or releases the key at
+   * once.
    * @param {string} typedCharacter
    */
   async typeKey(typedCharacter) {

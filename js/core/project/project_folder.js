@@ -9,11 +9,11 @@ import * as say from "../../words/server.js";
  * A project: the paths of its files, relative to the project folder. `speed` is "" if the project file does not set it.
  * @typedef {{ board: string, program: string, tests: string[], properties: string[], speed: string }} ProjectFolder
  *
- * Checks that a path names a file in the project folder. Returns an error message, "" for a valid path.
+ * A function that checks whether a path names a file in the project folder. Returns an error message, "" for a valid path.
  * @typedef {(path: string) => string} CheckFile
  */
 
-/** The error for a folder that is not a valid project. The message names the file, the line and the error. */
+/** The error that is thrown for a folder that is not a valid project. Its message names the file, the line and the reason. */
 export class ProjectError extends Error {
   /**
    * @param {string} file
@@ -29,7 +29,7 @@ export class ProjectError extends Error {
 }
 
 /**
- * Checks the bytes of a project file before their decoding. Returns an error message, "" for none.
+ * Checks the bytes of a project file before they are decoded as text. Returns an error message, "" for none.
  * @param {Uint8Array} bytes
  */
 function bytesError(bytes) {

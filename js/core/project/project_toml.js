@@ -9,7 +9,7 @@ import * as say from "../../words/server.js";
  * @typedef {import("../text/board_reader.js").Value} Value
  * @typedef {import("../text/sendable_text.js").Fault} Fault
  *
- * A path in a project file, with its key, line and columns. Lines count from 1, columns from 0.
+ * A path in a project file, with its TOML key, its line, and its first column and end. Lines count from 1, columns from 0.
  * @typedef {{ path: string, key: string, line: number, from: number, to: number }} NamedFile
  *
  * The contents of a project file. `speed` is "" if the file does not set it.
@@ -21,7 +21,7 @@ export const PROJECT_FILE = "mcs4.toml";
 export const LONGEST_PROJECT_FILE = 16384;
 
 const SPEED_NAMES = SPEEDS.map(({ id }) => `"${id}"`);
-/** The descriptions of the keys of a project file, for error messages. */
+/** The descriptions of the TOML keys in a project file, for error messages. */
 const KEY_TEXTS = new Map([
   ["board", say.BOARD_IS],
   ["program", say.PROGRAM_IS],
@@ -111,7 +111,7 @@ function filesForKey(keys, name) {
  */
 export function readProjectToml(text) {
   const { entries, others, keys, faults } = readBoardText(text.replace(/^\uFEFF/, ""));
-  // `others` of the board reader lacks the keys whose value is an empty list.
+  // `others` lacks the keys whose value is an empty list, because the board reader omits them.
   const emptyLists = keys.filter(({ value: { inner } }) => Array.isArray(inner) && inner.length === 0);
   const errors = [
     ...faults.map((fault) => ({ ...fault, number: 0 })),

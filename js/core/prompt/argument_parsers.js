@@ -9,14 +9,15 @@ import * as say from "../../words/prompt.js";
 
 /**
  * @typedef {import("../debug/debug_session.js").DebugSession} DebugSession
- * @typedef {{ line: number, address: number }} ProgramPlace a location in the program; `line` is 0 if the address has no source line
+ * @typedef {{ line: number, address: number }} ProgramLocation a location in the program; `line` is 0 if the address has no source line
  */
 
-/** The error for a rejected command. */
+/** The error that is thrown to reject a command. */
 export class RejectedCommand extends Error {}
 
 /**
- * @param {string} words
+ * Throws the error that rejects a command.
+ * @param {string} words the error message
  * @returns {never}
  */
 export function rejectCommand(words) {
@@ -24,7 +25,7 @@ export function rejectCommand(words) {
 }
 
 /**
- * Returns the address for a text; undefined if the text is not an address.
+ * Parses an address. Returns undefined if the text is not an address.
  * @param {string} text a label or an address, with an optional offset: `show + 3`
  * @param {DebugSession} session
  */
@@ -40,7 +41,7 @@ export function parseAddress(text, { map }) {
  * Returns the instruction at a program location; fails if there is none. For a line without an instruction, returns the next instruction.
  * @param {string} text a line, a label or an address; "" for the next instruction
  * @param {DebugSession} session
- * @returns {ProgramPlace}
+ * @returns {ProgramLocation}
  */
 export function findInstruction(text, session) {
   const words = text.trim().replace(/^[^\s:]*\.[A-Za-z0-9]+:/, "");
@@ -77,8 +78,8 @@ export function parseCycles(text) {
 }
 
 /**
- * Returns the text if it is a condition; "" if it is a program location (a line, an address or a label). Fails if the condition has an
- * error.
+ * Returns `text` itself if it is a condition, or "" if it is a program location (a line, an address or a label). Fails if the condition has
+ * an error.
  * @param {string} text
  * @param {DebugSession} session
  */

@@ -24,9 +24,9 @@ import * as say from "../../words/session_prompt.js";
  * An error in a text: the line number from 1 (0 for none), and the message.
  * @typedef {{ line: number, words: string }} TextError
  *
- * An unfinished text: its first line, such as `wire`, and its other lines. `at` is the line number of the first line in a `source` file (0
- * for a typed line).
- * @typedef {{ word: TextWord, lines: string[], at: number }} OpenedText
+ * A text whose last line (a dot) has not been entered yet: its first line, such as `wire`, and its other lines. `at` is the line number of
+ * the first line in a `source` file, 0 for a typed line.
+ * @typedef {{ word: TextWord, lines: string[], at: number }} UnfinishedText
  */
 
 /**
@@ -40,22 +40,22 @@ import * as say from "../../words/session_prompt.js";
  * @property {(begin: string) => string[]} files Returns the file names that start with a prefix.
  * @property {(word: TextWord, text: string, board: string) => Promise<TextError[]>} errorsOf Resolves to all errors in a rejected text. For
  *   a program, `board` is the board text.
- * @property {(number: number) => string} wordsOf Returns the message of a refusal.
+ * @property {(number: number) => string} wordsOf Returns the message for an error number of the bench.
  * @property {() => ManualSection[]} manual Returns the sections of the manual, with their tables.
  */
 
 const COMMENT_MARKS = /** @type {const} */ ({ wire: "#", asm: ";", map: ";", wiring: "#", errors: ";" });
 /** The maximum number of characters of a source line in an error message. */
 const MAX_SHOWN_CHARACTERS = 120;
-/** The refusal numbers that this prompt explains in its own words. */
-const NO_KEY = 41;
-const NO_ROM = 42;
-const NO_RAM = 43;
-const NO_RUN = 44;
-/** The range of the refusal numbers for errors in texts. */
-const TEXT_REFUSALS = { first: 12, last: 42 };
+/** The error numbers of the bench for which this prompt has its own messages. */
+const NO_KEY_ERROR = 41;
+const NO_ROM_ERROR = 42;
+const NO_RAM_ERROR = 43;
+const NO_RUN_ERROR = 44;
+/** The first and the last error number of the bench for errors in texts. */
+const TEXT_ERROR_NUMBERS = { first: 12, last: 42 };
 
-/** The error for a line that the prompt itself rejects. */
+/** The error that is thrown for a line that the prompt itself rejects. */
 class RejectedLine extends Error {}
 
 export class SessionPrompt {
@@ -63,7 +63,7 @@ export class SessionPrompt {
   constructor(calls) {
     this.calls = calls;
     this.isEnded = false;
-    /** @type {OpenedText | null} */
+    /** @type {UnfinishedText | null} the text that the user is entering */
     this.openText = null;
     this.sources = new SourceCommand(this, calls);
   }
@@ -108,7 +108,7 @@ export class SessionPrompt {
   /**
    * Adds a line to the unfinished text. If the line is a dot, serves the text.
    * @param {string} line
-   * @param {OpenedText} openText
+   * @param {UnfinishedText} openText
    */
   async addTextLine(line, openText) {
     if (line !== ".") {
@@ -124,7 +124,7 @@ export class SessionPrompt {
   }
 
   /**
-   * Serves a line outside a text.
+   * Serves a line that is not part of a text.
    * @param {string} line
    * @returns {Promise<boolean>}
    */
@@ -175,7 +175,7 @@ export class SessionPrompt {
   /**
    * Serves a text and prints the errors in it. Returns false if the bench rejects the text.
    * @param {TextWord} word
-   * @param {string} sentLines the text as sent
+   * @param {string} sentLines the text as sent to the bench
    * @param {string} text the text with its comments
    * @param {{ name: string, before: number }} place the file name ("" for none), and the number of lines before the text
    */
@@ -197,7 +197,7 @@ export class SessionPrompt {
    * @returns {Promise<TextError[]>}
    */
   async findTextErrors(word, text, board, { number, line }) {
-    const isTextRefusal = number >= TEXT_REFUSALS.first && number <= TEXT_REFUSALS.last;
+    const isTextRefusal = number >= TEXT_ERROR_NUMBERS.first && number <= TEXT_ERROR_NUMBERS.last;
     const errors = isTextRefusal ? await this.calls.errorsOf(word, text, board) : [];
     // For a board, the bench reports the line of a table, but the error can be in one of its keys.
     const isSameLine = line === 0 || COMMENT_MARKS[word] === "#" || errors.some((error) => error.line === line);
@@ -248,7 +248,7 @@ export class SessionPrompt {
     }
   }
 
-  // --- explanations of refusals ---
+  // --- explanations of errors ---
 
   /**
    * Explains why the bench rejected a line.
@@ -259,19 +259,19 @@ export class SessionPrompt {
     const fault = findLineError(line);
     if (fault && fault.number === number) return fault.words;
     const [word, ...words] = line.trim().split(/[ \t]+/);
-    if (number === NO_KEY) {
+    if (number === NO_KEY_ERROR) {
       const { rows, columns } = readBoard(await this.calls.ask("board"));
       return rows === 0 ? NO_KEYS : say.noKey(words.join(" "), rows - 1, columns - 1);
     }
-    if (number === NO_ROM) return say.noRomAt(words[0]);
-    if (number === NO_RAM) return noRamAt(word === "poke" ? words[0] : words.join(" "));
-    return number === NO_RUN ? say.noRun(words[0]) : this.calls.wordsOf(number);
+    if (number === NO_ROM_ERROR) return say.noRomAt(words[0]);
+    if (number === NO_RAM_ERROR) return noRamAt(word === "poke" ? words[0] : words.join(" "));
+    return number === NO_RUN_ERROR ? say.noRun(words[0]) : this.calls.wordsOf(number);
   }
 
   // --- help ---
 
   /**
-   * Prints a list of all lines; or the manual's description of a line, of the places, or of a refusal number.
+   * Prints the list of all lines; or the manual's description of a line, of the names for `poke` and `trace`, or of an error number.
    * @param {string} topic the topic; "" for all lines
    */
   help(topic) {

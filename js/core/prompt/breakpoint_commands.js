@@ -12,18 +12,18 @@ import * as say from "../../words/prompt.js";
 
 /** Matches the arguments of `break`: the location, and optionally the first hit, the condition and the note. */
 const BREAKPOINT_ARGUMENTS = /^(.*?)(?:\s*\bfrom\s+(\d{1,9}))?(?:\s*\bif\s+(.+?))?(?:\s*\blog\s+"([^"]*)")?$/;
-/** The word for the last breakpoint that was set, as in gdb. */
+/** The word for the breakpoint that was set last, as in gdb. */
 export const LAST_BREAKPOINT = "$bpnum";
-/** Matches a RAM character. The bench watches RAM characters; `continue` watches any other place. */
-const RAM_CHARACTER = /^ram\.[0-7]\.\w+$/i;
+/** Matches the name of a RAM nibble. The bench itself watches RAM nibbles; `continue` watches anything else, such as a register. */
+const RAM_NIBBLE = /^ram\.[0-7]\.\w+$/i;
 
 export class BreakpointCommands {
   /** @param {Prompt} prompt */
   constructor(prompt) {
     this.prompt = prompt;
-    /** The place that `continue` watches, "" for none. This is never a RAM character, because the bench watches RAM characters. */
+    /** The register, port or lamp whose change stops `continue`, "" for none. It is never a RAM nibble, because the bench watches those. */
     this.watchedPlace = "";
-    /** The number of the last breakpoint that was set, 0 for none. */
+    /** The number of the breakpoint that was set last, 0 for none. */
     this.lastNumber = 0;
   }
 
@@ -51,7 +51,7 @@ export class BreakpointCommands {
     };
   }
 
-  /** Adds bench breakpoints to the list, and removes breakpoints that the bench no longer has. */
+  /** Adds the breakpoints of the bench to the list, and removes the breakpoints that the bench no longer has. */
   syncWithBench() {
     const { map, debugger: { session } } = this.prompt.session;
     for (const address of session.breaks) {
@@ -62,7 +62,7 @@ export class BreakpointCommands {
   }
 
   /**
-   * Sets a breakpoint and replaces the breakpoint at the same address. Returns the breakpoint number.
+   * Sets a breakpoint, replacing any breakpoint at the same address. Returns the number of the new breakpoint.
    * @param {string} argumentText the arguments: location, first hit, condition and note
    */
   async add(argumentText) {
@@ -88,7 +88,7 @@ export class BreakpointCommands {
   }
 
   /**
-   * Changes a breakpoint. If the new condition or note has an error, restores the breakpoint and fails.
+   * Changes a breakpoint. If the new condition or log text has an error, restores the breakpoint and fails.
    * @param {number} id
    * @param {Partial<import("../debug/breakpoints.js").SavedBreakpoint>} changes
    */
@@ -111,7 +111,7 @@ export class BreakpointCommands {
   }
 
   /**
-   * Returns breakpoint numbers; fails if a word is not the number of a breakpoint.
+   * Parses breakpoint numbers; fails if a word is not the number of a breakpoint.
    * @param {string} argumentText
    */
   parseNumbers(argumentText) {
@@ -133,7 +133,7 @@ export class BreakpointCommands {
   async watch(argumentText) {
     const { prompt, watchedPlace } = this;
     const place = prompt.parsePlace(argumentText, "watch");
-    if (RAM_CHARACTER.test(place)) {
+    if (RAM_NIBBLE.test(place)) {
       await prompt.serve(`watch ${place.slice("ram.".length).replace(".", " ")}`);
       prompt.calls.print(say.isWatched(place));
       return;
@@ -148,25 +148,25 @@ export class BreakpointCommands {
   /** @param {string} argumentText */
   async unwatch(argumentText) {
     const place = this.prompt.parsePlace(argumentText, "delete");
-    if (RAM_CHARACTER.test(place)) await this.prompt.serve(`unwatch ${place.slice("ram.".length).replace(".", " ")}`);
+    if (RAM_NIBBLE.test(place)) await this.prompt.serve(`unwatch ${place.slice("ram.".length).replace(".", " ")}`);
     else if (this.watchedPlace === place) this.watchedPlace = "";
     else rejectCommand(say.notWatched(place));
   }
 
-  /** The watched places. */
+  /** The names of the registers, ports, lamps and RAM nibbles that are watched. */
   get watchedPlaces() {
     const [answer] = this.prompt.session.debugger.session.ask("watches\n");
     return [...watchedPlaces(answer), ...(this.watchedPlace ? [this.watchedPlace] : [])];
   }
 
   /** The text of `info watches`. */
-  get watches() {
+  get watchesText() {
     const places = this.watchedPlaces.map((place) => (place === this.watchedPlace ? say.byContinue(place) : place));
     return places.join("\n") || say.NOTHING_WATCHED;
   }
 
   /** The text of `info breakpoints`. */
-  get lines() {
+  get breakpointsText() {
     return breakpointLines(this.prompt.session, (id) => this.prompt.stops.describeActions(id));
   }
 }

@@ -19,8 +19,8 @@ export class ChangeCommands {
   get handlers() {
     const { prompt } = this;
     return {
-      hold: (argumentText) => this.moveKeys("press", argumentText, "hold"),
-      release: (argumentText) => this.moveKeys("release", argumentText, "release"),
+      hold: (argumentText) => this.pressOrReleaseKeys("press", argumentText, "hold"),
+      release: (argumentText) => this.pressOrReleaseKeys("release", argumentText, "release"),
       set: (argumentText) => this.setPlace(argumentText),
       load: () => this.loadProgram(),
       reset: async () => {
@@ -36,11 +36,12 @@ export class ChangeCommands {
   }
 
   /**
+   * Presses or releases keys; time stays paused.
    * @param {"press" | "release"} word the bench word
    * @param {string} argumentText the keys
    * @param {string} command the prompt command, for messages
    */
-  async moveKeys(word, argumentText, command) {
+  async pressOrReleaseKeys(word, argumentText, command) {
     for (const key of this.prompt.keys.parseKeys(argumentText, command)) await this.prompt.serve(key[word]);
   }
 

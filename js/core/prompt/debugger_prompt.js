@@ -1,5 +1,5 @@
-// The prompt of the debugger: each line is a command. Uses the same debugger as the page (js/core/debug), on a session in memory, and saves
-// the session to its file at each stop. Callbacks print output and errors.
+// The prompt of the debugger: each line is a command. The prompt uses the same debugger as the page (js/core/debug). It debugs a session in
+// memory, and saves the session to its file at each stop. Callbacks print output and errors.
 //
 //     const prompt = new Prompt(launchResult, readPageData, { print, complain, pause, source, isInteractive });
 //                                                                                        (see adapter/session_launch.js)
@@ -50,14 +50,15 @@ import { stoppedAt } from "../../words/stops.js";
  */
 
 /**
- * The maximum length in cycles of a move in a script; a real board needs 18 minutes for it. A move is a command that runs or rewinds time.
+ * The maximum length of a move in a script, in cycles; a real board needs 18 minutes for it. A move runs time or goes back in time.
  */
 const MAX_CYCLES = 100000000;
-/** The maximum number of stops per script line at which breakpoint commands run. */
+/** In a script, the maximum number of stops at which breakpoint commands run for one line. */
 const MAX_STOPS = 100000;
 /** Matches a command word and the text after it. */
 const COMMAND = /^([a-zA-Z-]+|\S)(.*)$/;
-const NO_COMMANDS = { commands: [], isSilent: false, words: "", hasMoved: false };
+/** The actions at a stop if the breakpoint has no commands. */
+const NO_STOP_ACTIONS = { commands: [], isSilent: false, words: "", hasMoved: false };
 /** Matches the commands that an empty line repeats. */
 const REPEATABLE_COMMANDS = /^(next|step|reverse-step|reverse-next|reverse-continue|continue|until|list|run|x)$/;
 
@@ -73,8 +74,8 @@ class ReportedError extends Error {}
 export class Prompt {
   /**
    * @param {LaunchResult} launchResult
-   * @param {{ refusals: Record<string, string>, manual: import("../help/manual.js").ManualSection[] }} data the refusal texts and the
-   *   manual
+   * @param {{ refusals: Record<string, string>, manual: import("../help/manual.js").ManualSection[] }} data the bench's error messages, by
+   *   number, and the manual
    * @param {PromptCalls} calls
    */
   constructor(launchResult, { refusals, manual }, calls) {
@@ -88,8 +89,9 @@ export class Prompt {
     this.startCycles = 0;
     /** True if the user interrupted the last line. */
     this.isInterrupted = false;
-    /** @type {{ commands: string[], isSilent: boolean, words: string, hasMoved: boolean }} the actions after the last stop */
-    this.stopActions = NO_COMMANDS;
+    /** @type {{ commands: string[], isSilent: boolean, words: string, hasMoved: boolean }} the commands of the breakpoint at the last stop,
+     *    whether they hide the stop message, an additional message, and whether the last line has moved time */
+    this.stopActions = NO_STOP_ACTIONS;
     /** @type {import("../adapter/debugged_machine.js").MoveEnd} the last stop */
     this.lastStop = { reason: "", words: "", id: 0 };
     this.machine = this.makeMachine();
@@ -126,7 +128,7 @@ export class Prompt {
     });
   }
 
-  /** The place that `continue` watches; "" for none. */
+  /** The register, port or lamp whose change stops `continue`; "" for none. */
   get watchedPlace() {
     return this.breakpoints.watchedPlace;
   }
@@ -152,14 +154,14 @@ export class Prompt {
    */
   output(words, category) {
     if (category === "stderr") this.sources.complain(words.trimEnd());
-    // `makeMove` itself reports a move that did nothing.
+    // The message about a move that did nothing is left out here, because `makeMove` reports it.
     else if (!words.startsWith(say.NOTHING_DONE)) this.calls.print(words.trimEnd());
   }
 
   // --- lines ---
 
   /**
-   * Executes a line, and the commands of the breakpoints at which it stops. If a line is rejected, prints the reason and returns false.
+   * Executes a line, and the commands of each breakpoint that stops it. If a line is rejected, prints the reason and resolves to false.
    * @param {string} text
    */
   async take(text) {
@@ -178,7 +180,7 @@ export class Prompt {
    * @param {string} line
    */
   async executeLine(line) {
-    this.stopActions = NO_COMMANDS;
+    this.stopActions = NO_STOP_ACTIONS;
     try {
       if (this.stops.unfinishedCommands) this.stops.addLine(line);
       else if (line !== "" && !line.startsWith("#")) await this.runCommand(line);
@@ -209,8 +211,8 @@ export class Prompt {
   }
 
   /**
-   * Runs the commands of the breakpoint that stopped the last line. A command that moves time ends the list; the commands of its stop run
-   * next. Returns false if a command is rejected.
+   * Runs the commands of the breakpoint at which the last line stopped. When a command runs time, the commands after it are skipped, and
+   * the commands of the next breakpoint run. Resolves to false if a command is rejected.
    */
   async runCommands() {
     let stops = 0;
@@ -223,12 +225,12 @@ export class Prompt {
       if (!this.stopActions.hasMoved || (!this.calls.isInteractive && stops === MAX_STOPS)) break;
       await this.yieldTurn();
     }
-    this.stopActions = NO_COMMANDS;
+    this.stopActions = NO_STOP_ACTIONS;
     return true;
   }
 
   /**
-   * Starts a move and waits for its end. Returns the report; fails if the move did nothing.
+   * Starts a move and waits for its end. Resolves to a message about the stop; fails if the move did nothing.
    * @param {() => void} startMove starts the move
    */
   async makeMove(startMove) {
@@ -263,8 +265,8 @@ export class Prompt {
   }
 
   /**
-   * Returns the name of a place; fails if the board lacks this place.
-   * @param {string} text a place or a lamp name
+   * Parses the name of a register, port, lamp or RAM nibble. Returns it in the bench's form; fails if the board lacks it.
+   * @param {string} text the name; a lamp can have its name on the front panel
    * @param {string} command the prompt command, for messages
    */
   parsePlace(text, command) {

@@ -12,7 +12,7 @@ import * as say from "../../words/prompt.js";
  * @typedef {import("../adapter/expression_values.js").ExpressionContext} ExpressionContext
  */
 
-/** @type {(base: number, mark: string) => (value: number) => string} creates a formatter for a number base, with a prefix */
+/** @type {(base: number, mark: string) => (value: number) => string} creates a formatter for a number base; `mark` is the prefix */
 const createFormatter = (base, mark) => (value) => `${value < 0 ? "-" : ""}${mark}${Math.abs(value).toString(base).toUpperCase()}`;
 /** @type {Record<string, (value: number, session: DebugSession) => string>} the formatters, by the letter after `print/` */
 const FORMATS = {

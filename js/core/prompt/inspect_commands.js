@@ -15,15 +15,16 @@ import { stoppedAt } from "../../words/stops.js";
  * @typedef {import("./debugger_prompt.js").Prompt} Prompt
  */
 
-/** The maximum count of the command `x`. */
-const MAX_EXAMINED = 4096;
+/** The maximum number of instructions or RAM nibbles that the command `x` prints. */
+const MAX_EXAMINED_COUNT = 4096;
 /** The number of source lines that `list` prints. */
 const LIST_LENGTH = 10;
+/** The words that can follow `info`. */
 export const INFO_WORDS = [
   "registers", "ram", "ports", "keys", "breakpoints", "watches", "display", "names", "source", "session", "line", "symbol", "frame",
   "stack", "program", "locals",
 ];
-/** gdb's abbreviations of the words after `info`, mapped to full words. */
+/** The words after `info` that gdb accepts as other names, each with the word that has the same meaning here. */
 const INFO_ABBREVIATIONS = new Map([
   ["r", "registers"], ["s", "stack"], ["f", "frame"], ["args", "locals"], ["all-registers", "registers"],
 ]);
@@ -63,7 +64,7 @@ export class InspectCommands {
   }
 
   /**
-   * Shows or hides the view.
+   * Shows or hides the view (view.js), the part of the terminal that always shows the source and the registers.
    * @param {string} argumentText the argument of `view` or of gdb's `layout` and `tui`
    */
   switchView(argumentText) {
@@ -98,8 +99,8 @@ export class InspectCommands {
   }
 
   /**
-   * Prints the expressions of `display` with their values.
-   * @param {number} [from] the index of the first expression
+   * Prints the expressions that `display` has added, with their values.
+   * @param {number} [from] the index of the first expression to print
    */
   showDisplays(from = 0) {
     this.displays.slice(from).forEach((expression, at) => {
@@ -107,7 +108,10 @@ export class InspectCommands {
     });
   }
 
-  /** @param {string} argumentText */
+  /**
+   * Adds an expression that is printed at each stop. Without an expression, prints all of them.
+   * @param {string} argumentText the expression, or ""
+   */
   addDisplay(argumentText) {
     if (argumentText === "") return this.showDisplays();
     this.evaluate(argumentText);
@@ -115,7 +119,10 @@ export class InspectCommands {
     return this.showDisplays(this.displays.length - 1);
   }
 
-  /** @param {string} argumentText */
+  /**
+   * Removes expressions that are printed at each stop.
+   * @param {string} argumentText the numbers of the expressions; "" for all
+   */
   removeDisplays(argumentText) {
     const ids = argumentText.split(/\s+/).filter(Boolean).map(Number);
     const hasInvalidNumber = ids.some((each) => !(each >= 1 && each <= this.displays.length));
@@ -123,21 +130,27 @@ export class InspectCommands {
     this.displays = argumentText === "" ? [] : this.displays.filter((_, at) => !ids.includes(at + 1));
   }
 
-  /** @param {string} argumentText */
+  /**
+   * Prints RAM nibbles or disassembled instructions.
+   * @param {string} argumentText an optional count such as `/8`, and the first nibble or address
+   */
   printMemory(argumentText) {
     const { calls, session } = this.prompt;
     const [, count = "", place = ""] = /^(?:\/(\d*)[a-z]?)?\s*(.*)$/.exec(argumentText) || [];
-    const countShown = parseCountArgument(count, MAX_EXAMINED);
+    const countShown = parseCountArgument(count, MAX_EXAMINED_COUNT);
     if (/^ram[. ]/i.test(place)) {
       const { name } = parsePlace(place) || { name: place };
-      return calls.print(stateText.characterLines(session, name, countShown));
+      return calls.print(stateText.nibbleLine(session, name, countShown));
     }
     const address = place === "" ? session.address : parseAddress(place, session);
     if (address === undefined || address > LAST_ADDRESS) return rejectCommand(say.noPlaceOfMemory(place));
     return calls.print(stateText.codeLines(session, address, countShown));
   }
 
-  /** @param {string} argumentText */
+  /**
+   * Prints source lines: those around a location, or those after the last printed line.
+   * @param {string} argumentText the location; "" to continue
+   */
   listSource(argumentText) {
     const { calls, session } = this.prompt;
     const count = stateText.countSourceLines(session);
@@ -166,8 +179,8 @@ export class InspectCommands {
       ram: () => stateText.ramLines(session),
       ports: () => stateText.portLines(session),
       keys: () => keys.infoText(),
-      breakpoints: () => breakpoints.lines,
-      watches: () => breakpoints.watches,
+      breakpoints: () => breakpoints.breakpointsText,
+      watches: () => breakpoints.watchesText,
       display: () => this.displays.map((expression, at) => `${at + 1}: ${expression}`).join("\n") || say.NOTHING_DISPLAYED,
       names: () => stateText.nameLines(session),
       source: () => say.linesOf(launchResult.program || DISASSEMBLED_FROM_ROM, stateText.countSourceLines(session)),

@@ -6,7 +6,7 @@ import { POKE_NAMES, TRACE_NAMES } from "../bench/line_forms.js";
 import { indices } from "../bench/numbers.js";
 
 /**
- * The possible words, and the end of the line that one of them replaces.
+ * The possible words, and the part at the end of the line that one of them replaces.
  * @typedef {[string[], string]} Completion
  */
 
@@ -17,10 +17,11 @@ import { indices } from "../bench/numbers.js";
  * @property {(line: string) => Promise<string[]>} ask Resolves to the bench's answers to a line. Does not print them.
  */
 
-/** The words of the prompt itself. */
+/** The first words of the lines that the prompt itself serves, not the bench. */
 export const PROMPT_WORDS = ["help", "source", "quit"];
-/** The words that a file name can follow. */
+/** The first words of the lines that can end with a file name. */
 export const FILE_WORDS = ["wire", "asm", "map", "wiring", "errors", "source"];
+/** The additional topics of `help`. */
 const HELP_WORDS = ["places"];
 
 /** @type {(words: string[], begin: string) => string[]} returns the words that start with a prefix */
@@ -34,8 +35,8 @@ const numberWords = (count) => indices(count).map(String);
  */
 
 /** @type {(words: string[]) => WordsAt} proposes words only for the first argument */
-const firstArgument = (words) => async (at) => (at === 0 ? words : []);
-/** @type {WordsAt} proposes row numbers, then column numbers */
+const wordsForFirstArgument = (words) => async (at) => (at === 0 ? words : []);
+/** @type {WordsAt} proposes row numbers for the first argument, and column numbers for the second */
 const completeKeys = async (at, ask) => {
   const { rows, columns } = readBoard(await ask("board"));
   return at > 1 ? [] : numberWords(at === 0 ? rows : columns);
@@ -46,10 +47,10 @@ const completeKeys = async (at, ask) => {
  * @type {Record<string, WordsAt>}
  */
 const WORDS_AFTER = {
-  help: firstArgument([...ANSWER_FORMS.keys(), ...PROMPT_WORDS, ...HELP_WORDS]),
-  poke: firstArgument(POKE_NAMES),
+  help: wordsForFirstArgument([...ANSWER_FORMS.keys(), ...PROMPT_WORDS, ...HELP_WORDS]),
+  poke: wordsForFirstArgument(POKE_NAMES),
   trace: async (at) => (at > 0 ? TRACE_NAMES : []),
-  test: firstArgument(["0", "1"]),
+  test: wordsForFirstArgument(["0", "1"]),
   press: completeKeys,
   release: completeKeys,
   ram: async (at, ask) => (at > 0 ? [] : readBoard(await ask("board")).banks.map(({ bank }) => String(bank))),

@@ -1,8 +1,8 @@
-// The prompt commands that move time forward or back. Each command waits for the end of its move and reports the stop.
+// The prompt commands that run time or go back in time. Each command waits until time stops, and reports where and why it stopped.
 
 import { parseGoal } from "../debug/condition_search.js";
 import { openCallCount } from "./state_text.js";
-import { pressKey, stepBackOver } from "./prompt_moves.js";
+import { runKeyPress, stepBackOver } from "./prompt_moves.js";
 import { parseCountArgument, parseCycles, findInstruction, parseConditionText, rejectCommand } from "./argument_parsers.js";
 import * as say from "../../words/prompt.js";
 import { NO_CALL_WAITS, stoppedAt } from "../../words/stops.js";
@@ -66,7 +66,7 @@ export class MoveCommands {
   }
 
   /**
-   * Makes a move and shows the stop.
+   * Starts a move, waits for its end, and shows where it stopped. A move runs time or goes back in time.
    * @param {() => void} startMove starts the move
    */
   async moveAndShow(startMove) {
@@ -74,7 +74,7 @@ export class MoveCommands {
   }
 
   /**
-   * Repeats a move up to a count, or until it stops for another reason than the end of a step. Shows the last stop.
+   * Repeats a move up to a count, or until it stops for another reason than the end of a step. Shows where the last move stopped.
    * @param {string} argumentText the count; "" means 1
    * @param {() => void} startMove starts the move
    */
@@ -88,26 +88,32 @@ export class MoveCommands {
     prompt.showStop(stopText);
   }
 
-  /** @param {string} argumentText */
+  /**
+   * Runs until the current subroutine returns.
+   * @param {string} argumentText must be ""
+   */
   finishSubroutine(argumentText) {
     if (argumentText !== "") rejectCommand(say.FINISH_SYNTAX);
     if (openCallCount(this.prompt.session) === 0) rejectCommand(NO_CALL_WAITS);
     return this.moveAndShow(() => this.prompt.machine.go({ kind: "out" }));
   }
 
-  /** @param {string} argumentText */
+  /**
+   * Runs to the next breakpoint or watch. Fails if nothing can stop the run and the user cannot interrupt it.
+   * @param {string} argumentText must be ""
+   */
   continueRun(argumentText) {
     if (argumentText !== "") rejectCommand(say.CONTINUE_SYNTAX);
     const { session, watchedPlace, calls, machine } = this.prompt;
     const hasWatches = watchedPlace !== "" || session.debugger.session.ask("watches\n")[0] !== "watches -";
-    const stops = session.breakpoints.enabledCount > 0 || hasWatches;
-    if (!stops && !calls.isInteractive) rejectCommand(say.NOTHING_STOPS);
+    const canStop = session.breakpoints.enabledCount > 0 || hasWatches;
+    if (!canStop && !calls.isInteractive) rejectCommand(say.NOTHING_STOPS);
     return this.moveAndShow(() => machine.go(watchedPlace === "" ? null : { kind: "change", place: watchedPlace }));
   }
 
   /**
-   * Presses keys one after another while time passes.
-   * @param {string} argumentText
+   * Presses and releases keys one after another while time runs.
+   * @param {string} argumentText the names of the keys
    */
   async pressKeys(argumentText) {
     const { prompt } = this;
@@ -116,7 +122,7 @@ export class MoveCommands {
     for (const [at, { key }] of keys.entries()) {
       let stopReason = "";
       const stopText = await prompt.makeMove(() => machine.beginMove(async () => {
-        const stop = await pressKey(session, key, (_, tally) => machine.finishPiece(tally));
+        const stop = await runKeyPress(session, key, (_, tally) => machine.finishPiece(tally));
         ({ why: stopReason } = stop);
         return stop;
       }, () => true));

@@ -4,7 +4,7 @@ import { COMMAND_WORDS } from "../../words/debug_commands.js";
 import * as say from "../../words/prompt.js";
 
 /**
- * The texts about a command: its name, its abbreviations (`short`), its usage (`use`), its effect (`does`), and further help (`more`).
+ * The help texts for a command: its name, its abbreviations (`short`), its usage (`use`), its effect (`does`), and further help (`more`).
  * @typedef {{ name: string, short: string[], use: string, does: string, more: string }} CommandText
  */
 

@@ -22,7 +22,7 @@ export class PromptKeys {
     this.namedKeys = listNamedKeys(face);
   }
 
-  /** The names of all keys; an unnamed key is called `row.column`. */
+  /** The names of all keys. The name of a key without a name on the front panel is its row and column, such as `3.0`. */
   get names() {
     const { rows, columns } = readBoard(this.session.debugger.session.statusQueries.board);
     const namedKeys = new Set([...this.namedKeys.values()].map(({ key }) => formatKey(key)));
@@ -57,7 +57,7 @@ export class PromptKeys {
   }
 
   /**
-   * Returns the keys for words; fails if a key does not exist. A word that is not a key name is split into letters.
+   * Parses key names; fails if a key does not exist. A word that is not a key name is split into letters, each of which must be a key name.
    * @param {string} text
    * @param {string} command the prompt command, for messages
    */

@@ -1,4 +1,4 @@
-// Moves that only the prompt offers: a step back over a subroutine call, and a key press while time passes.
+// Moves in time that only the prompt offers: a step back over a subroutine call, and a run during which a key is pressed and released.
 
 import { isCall, isReturn } from "../engine/rom_codes.js";
 import { KEY_DOWN_CYCLES, TOOL_KEY_UP_CYCLES } from "../time/mcs4_time.js";
@@ -18,8 +18,8 @@ function nextOpcode(session) {
 }
 
 /**
- * Steps back over an instruction. If the instruction returns from a subroutine, goes back to the call, which it finds by the changes of the
- * return addresses.
+ * Steps back over an instruction. If the instruction returns from a subroutine, goes back to the call of this subroutine. The call is found
+ * by the changes of the return addresses.
  * @param {DebugSession} session
  * @param {ShouldContinue} shouldContinue
  */
@@ -37,12 +37,12 @@ export async function stepBackOver(session, shouldContinue) {
 }
 
 /**
- * Presses and releases a key while time passes. Resolves to the stop at the end.
+ * Presses and releases a key while time runs. Resolves to where and why the run stopped.
  * @param {DebugSession} session
  * @param {import("../board/key_place.js").Key} key
  * @param {ShouldContinue} shouldContinue
  */
-export function pressKey(session, key, shouldContinue) {
+export function runKeyPress(session, key, shouldContinue) {
   const { queue } = session.debugger.session;
   queue.press(key);
   queue.release(key);

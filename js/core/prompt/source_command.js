@@ -1,11 +1,11 @@
-// Executes the command `source FILE` at a prompt: serves the lines of the file, which can also contain `source` lines. Error messages name
-// the file and the line.
+// Executes the command `source FILE` at a prompt: serves the lines of the file. The file can itself contain `source` lines. Error messages
+// name the file and the line.
 
 import * as say from "../../words/session_prompt.js";
 
 /**
- * The prompt that serves the lines. `take` returns false if a line is rejected. `drop` discards unfinished input and returns a message
- * about it, or "".
+ * The prompt that serves the lines. `take` serves a line, and resolves to false if the line is rejected. `drop` discards an unfinished text
+ * or command list, and returns a message about it, or "".
  * @typedef {{ isEnded: boolean, take: (line: string) => Promise<boolean>, drop: () => string }} LineServer
  */
 
@@ -38,7 +38,8 @@ export class SourceCommand {
   }
 
   /**
-   * Serves the lines of a file until a line is rejected. Returns false if a line is rejected; throws if the file cannot be served.
+   * Serves the lines of a file until a line is rejected. Resolves to false if a line is rejected. Throws if the file cannot be read, is
+   * nested too deeply, or ends within a text.
    * @param {string} name
    */
   async serve(name) {

@@ -1,4 +1,4 @@
-// Formats the state of a debugged session as text for a prompt: source, registers, RAM, ports, ROM, calls and breakpoints.
+// Formats the state of a debugged session as text for a prompt: source lines, registers, RAM, ports, ROM, calls and breakpoints.
 
 import { formatQuantity, hex, parseNumber, indices } from "../bench/numbers.js";
 import { formatBreakpoints } from "../debug/breakpoint_lines.js";
@@ -44,7 +44,7 @@ export function countSourceLines({ program }) {
 }
 
 /**
- * Returns source lines; fails if the first line is after the end of the source.
+ * Returns a range of source lines; fails if the first line is after the end of the source.
  * @param {DebugSession} session
  * @param {number} from
  * @param {number} to the last line, inclusive
@@ -91,7 +91,7 @@ export function registerLines(session) {
 }
 
 /**
- * Returns the text of `info ram`: all registers with their status characters, and the output ports.
+ * Returns the text of `info ram`: all RAM registers with their status nibbles, and the output ports.
  * @param {DebugSession} session
  */
 export function ramLines(session) {
@@ -129,7 +129,7 @@ export function pressedKeys(session) {
 }
 
 /**
- * Returns the number of open calls, which are calls that have not returned.
+ * Returns the number of calls that have not returned yet.
  * @param {DebugSession} session
  */
 export function openCallCount(session) {
@@ -137,7 +137,7 @@ export function openCallCount(session) {
 }
 
 /**
- * Returns an address with its label or line.
+ * Returns an address as text, with its label or its source line.
  * @param {DebugSession} session
  * @param {number} address
  */
@@ -146,7 +146,7 @@ export function addressText(session, address) {
 }
 
 /**
- * Returns the text of `info line`: the source line of an instruction, with the instruction's addresses.
+ * Returns the text of `info line`: the source line of an instruction, and the addresses of its bytes.
  * @param {DebugSession} session
  * @param {{ line: number, address: number }} place
  */
@@ -190,12 +190,12 @@ export function breakpointLines({ breakpoints }, extraText) {
 }
 
 /**
- * Returns RAM characters, starting at a place; fails if the board lacks this place.
+ * Returns RAM nibbles as text; fails if the board lacks the first one.
  * @param {DebugSession} session
- * @param {string} text the place, such as `ram.0.0x10`
+ * @param {string} text the first nibble, such as `ram.0.0x10`
  * @param {number} count
  */
-export function characterLines(session, text, count) {
+export function nibbleLine(session, text, count) {
   const [, bank, at] = /^ram\.([0-7])\.(\w+)$/i.exec(text) || [];
   const first = parseNumber(at || "");
   if (bank === undefined || !(first <= 255)) rejectCommand(say.noPlaceOfRam(text));

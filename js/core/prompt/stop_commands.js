@@ -15,15 +15,18 @@ import * as say from "../../words/prompt.js";
  * @typedef {{ isTemporary: boolean, commands: string[] }} StopActions
  */
 
-/** @type {StopActions} */
+/** @type {StopActions} the actions of a breakpoint that only stops */
 const NO_ACTIONS = { isTemporary: false, commands: [] };
-const MAX_IGNORED = 999999999;
+/** The maximum number of hits that `ignore` accepts. */
+const MAX_IGNORED_HITS = 999999999;
+/** The maximum number of commands of one breakpoint. */
 const MAX_COMMANDS = 100;
-/** The line that ends a list of commands, and the first command that hides the stop message. */
+/** The line that ends a list of commands. */
 export const COMMANDS_END = "end";
+/** The first command of a list that hides the message about the stop. */
 const SILENT_COMMAND = "silent";
 
-/** @type {(command: string) => string} applies a command to the last breakpoint that was set */
+/** @type {(command: string) => string} returns the line that applies a command to the breakpoint that was set last */
 const forLastBreakpoint = (command) => `${command} ${LAST_BREAKPOINT}`;
 
 export class StopCommands {
@@ -63,6 +66,7 @@ export class StopCommands {
   }
 
   /**
+   * Changes the actions of a breakpoint.
    * @param {number} id
    * @param {Partial<StopActions>} changes
    */
@@ -71,7 +75,7 @@ export class StopCommands {
   }
 
   /**
-   * Returns the breakpoint for the first word, and the text after it; fails if the breakpoint does not exist.
+   * Returns the breakpoint whose number is the first word, and the text after the number; fails if the breakpoint does not exist.
    * @param {string} argumentText
    * @param {string} form the usage of the command, for messages
    * @returns {{ breakpoint: Breakpoint, more: string }}
@@ -93,7 +97,7 @@ export class StopCommands {
   async ignoreHits(argumentText) {
     const { breakpoint: { id, hits }, more } = this.parseBreakpoint(argumentText, say.IGNORE_SYNTAX);
     const count = /^\d{1,9}$/.test(more) ? Number(more) : -1;
-    if (count < 0) rejectCommand(say.ignoredIs(MAX_IGNORED.toLocaleString("en"), more || say.NOTHING));
+    if (count < 0) rejectCommand(say.ignoredIs(MAX_IGNORED_HITS.toLocaleString("en"), more || say.NOTHING));
     await this.prompt.breakpoints.change(id, { from: count === 0 ? 1 : hits + count + 1 });
     this.prompt.calls.print(say.willPass(id, count));
   }

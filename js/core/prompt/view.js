@@ -1,5 +1,5 @@
-// Creates the view above the debugger's prompt, as terminal lines: the source near the next instruction, registers, lamps and displays.
-// js/node/terminal_view.mjs positions the lines.
+// Creates the lines of the view, the part of the terminal above the debugger's prompt: the source near the next instruction, the registers,
+// the lamps, and the expressions of `display`. js/node/terminal_view.mjs writes the lines to the terminal.
 //
 //     const view = new View(prompt);
 //     view.lines(viewSize(24, 80), { head, here, other });      viewSize returns null if the terminal is too small
@@ -14,20 +14,22 @@ import * as say from "../../words/prompt.js";
 /**
  * @typedef {import("./debugger_prompt.js").Prompt} Prompt
  * @typedef {{ rows: number, columns: number }} ViewSize the number of lines and their maximum length in characters
- * @typedef {(text: string) => string} Highlight highlights a text
+ * @typedef {(text: string) => string} Highlight a function that adds control codes, so that the terminal highlights a text
  *
  * The functions that highlight the header line (`head`), the next instruction (`here`), and values that the last move changed (`other`).
  * @typedef {{ head: Highlight, here: Highlight, other: Highlight }} Highlights
  */
 
-/** The minimum rows and columns of a terminal, and the minimum number of rows below the view. */
+/** The minimum numbers of rows and columns of a terminal that can show the view. */
 export const MIN_ROWS = 12;
 export const MIN_COLUMNS = 40;
+/** The minimum number of rows below the view. */
 const MIN_COMMAND_ROWS = 5;
+/** The maximum number of rows in the view. */
 const MAX_ROWS = 40;
-/** The minimum columns for registers beside the source. On a narrower terminal, the registers are below the source. */
+/** The minimum number of columns with which the registers are beside the source; with fewer columns, they are below the source. */
 const WIDE_COLUMNS = 72;
-/** The number of columns for registers beside the source. */
+/** The number of columns that registers beside the source take. */
 const SIDE_COLUMNS = 24;
 /** The maximum number of `display` expressions in the view. */
 const MAX_DISPLAYS = 4;
@@ -41,7 +43,7 @@ const MAX_DISPLAYS = 4;
 export function viewSize(rows, columns) {
   if (!(rows >= MIN_ROWS && columns >= MIN_COLUMNS)) return null;
   const wantedRows = Math.round(rows * 0.6);
-  // A terminal wraps after its last column.
+  // A text in the last column could make the terminal start a new line.
   return { rows: Math.min(MAX_ROWS, wantedRows, rows - MIN_COMMAND_ROWS), columns: columns - 1 };
 }
 
@@ -63,7 +65,7 @@ export class View {
     this.previousValues = new Map();
     /** @type {Map<string, string>} the current register values */
     this.currentValues = new Map();
-    /** The cycle count at which `currentValues` were read; -1 before the first reading. */
+    /** The cycle count when `currentValues` were read; -1 before the first time. */
     this.valuesTime = -1;
   }
 
@@ -75,7 +77,7 @@ export class View {
   lines({ rows, columns }, { head, here, other }) {
     this.readRegisters();
     const isWide = columns >= WIDE_COLUMNS;
-    const registers = isWide ? this.sideLines(other) : this.belowLines(columns, other);
+    const registers = isWide ? this.registerLinesBeside(other) : this.registerLinesBelow(columns, other);
     const below = [...(isWide ? [] : registers), ...this.boardLines(columns)];
     const height = Math.max(1, rows - 2 - below.length);
     const width = isWide ? columns - SIDE_COLUMNS : columns;
@@ -87,7 +89,7 @@ export class View {
     return [head(this.headLine(columns)), ...bodyLines, ...below, "-".repeat(columns)].slice(0, rows);
   }
 
-  /** Reads the registers, and stores their values before the last move. */
+  /** Reads the registers. If time has moved since the last call, stores their last values as `previousValues`. */
   readRegisters() {
     const { session } = this.prompt;
     const { total } = session.debugger.session.count;
@@ -100,14 +102,20 @@ export class View {
     this.valuesTime = total;
   }
 
-  /** @param {number} columns */
+  /**
+   * Returns the first line: the program, the program counter and the time.
+   * @param {number} columns
+   */
   headLine(columns) {
     const { session, launchResult } = this.prompt;
     const name = launchResult.program.split("/").pop() || "ROM";
     return cutText(`${name}  ${session.counterText}  ${formatCycles(session.debugger.session.count.total)}`, columns).padEnd(columns);
   }
 
-  /** @param {number} height */
+  /**
+   * Returns the source lines, or the disassembled instructions, near the next instruction.
+   * @param {number} height the number of lines
+   */
   sourceLines(height) {
     const { session } = this.prompt;
     if (session.line === 0) return codeLines(session, session.address, height).split("\n");
@@ -117,6 +125,7 @@ export class View {
   }
 
   /**
+   * Returns the name and the value of a register. Highlights them if the last move changed the value.
    * @param {string} name
    * @param {Highlight} highlight
    * @returns {string}
@@ -127,8 +136,11 @@ export class View {
     return this.previousValues.get(name) === value ? text : highlight(text);
   }
 
-  /** @param {Highlight} highlight */
-  sideLines(highlight) {
+  /**
+   * Returns the lines with the registers beside the source.
+   * @param {Highlight} highlight
+   */
+  registerLinesBeside(highlight) {
     const { session } = this.prompt;
     const formatValue = (/** @type {string} */ name) => this.valueText(name, highlight);
     const calls = session.registers.returns.join(" ");
@@ -141,10 +153,11 @@ export class View {
   }
 
   /**
+   * Returns the lines with the registers below the source.
    * @param {number} columns
    * @param {Highlight} highlight
    */
-  belowLines(columns, highlight) {
+  registerLinesBelow(columns, highlight) {
     const formatValues = (/** @type {string[]} */ names) => names.map((name) => this.valueText(name, highlight)).join(" ");
     const pairs = indices(8).map((at) => `P${at}`);
     const line = ["acc", "cy", "test", "dcl", "SRC"];
@@ -152,7 +165,10 @@ export class View {
     return [formatValues(line), formatValues(pairs.slice(0, 4)), formatValues(pairs.slice(4))];
   }
 
-  /** @param {number} columns */
+  /**
+   * Returns the lines with the lamps, the pressed keys and the expressions of `display`.
+   * @param {number} columns
+   */
   boardLines(columns) {
     const { machine, session, inspectCommands } = this.prompt;
     const keys = pressedKeys(session).join(" ");

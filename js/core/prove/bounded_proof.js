@@ -1,5 +1,5 @@
-// Proofs on the page. Asks the prover in the WebAssembly module repeatedly, with twice the bound on the number of states each time, so that
-// the page can show progress. Confirms a counterexample with its test. The page's worker uses this module.
+// Proofs on the page. Asks the prover in the WebAssembly module repeatedly, each time with twice the maximum number of states, so that the
+// page can show progress. Confirms a counterexample by running its test. The page's worker uses this module.
 //
 //     const { proving, faults } = beginProving(engine, texts, 1000000, { seen: async (states) => {}, yieldToMessages: async () => {} });
 //     for (let judged = await proving.next(); judged; judged = await proving.next()) ..
@@ -21,15 +21,15 @@ import * as say from "../../words/prove.js";
  * @typedef {import("./verdicts.js").JudgedProperty} JudgedProperty
  * @typedef {import("./verdicts.js").Verdict} Verdict
  *
- * The verdict on a property in a message to the page. `line` is 0 for a mistake that every program is checked for.
+ * A property and its verdict, in a message to the page. `line` is the line number in the properties text, 0 for a common mistake.
  * @typedef {{ text: string, line: number, isGoal: boolean, verdict: Verdict }} JudgedLine
  *
  * @typedef {object} ProvingCalls
- * @property {(states: number) => Promise<void>} seen called with the number of states that were searched without a result so far
+ * @property {(states: number) => Promise<void>} seen reports the number of states that were searched so far without a result
  * @property {() => Promise<void>} yieldToMessages yields to other tasks
  */
 
-/** Asks the prover about two texts. */
+/** Asks the prover questions about a board and its program. */
 class ProverQueries {
   /**
    * @param {Engine} engine
@@ -42,12 +42,13 @@ class ProverQueries {
     this.texts = { board: texts.boardText, program: texts.programText };
     this.maxStates = maxStates;
     this.calls = calls;
-    /** The number of states that were searched without a result so far. */
+    /** The number of states that were searched so far without a result. */
     this.searchedStates = 0;
   }
 
   /**
-   * Asks the prover with increasing bounds. Resolves to the first answer that decides the question, or to the last answer.
+   * Asks the prover repeatedly with increasing limits on the number of states. Resolves to the first answer that decides the question, or
+   * to the last answer.
    * @param {Question} question
    * @returns {Promise<Answer>}
    */
@@ -74,7 +75,7 @@ class ProverQueries {
   }
 
   /**
-   * Asks the prover once. Throws an error if the prover does not answer.
+   * Asks the prover once. Throws an error if the answer is an error or unknown.
    * @param {Question} question
    * @param {import("./question.js").QuestionLimits} limits
    */
@@ -86,7 +87,7 @@ class ProverQueries {
   }
 
   /**
-   * Returns the reason why an answer decides nothing, as text.
+   * Returns, as text, why an answer leaves the question undecided.
    * @param {import("./question.js").NoAnswer} answer
    */
   explainNoAnswer(answer) {
@@ -97,7 +98,7 @@ class ProverQueries {
 }
 
 /**
- * Parses the texts. Returns the object that judges their properties one after the other; null if a text has an error.
+ * Parses the texts. Returns the object that decides their properties one after the other; null if a text has an error.
  * @param {Engine} engine
  * @param {ExploredTexts} texts
  * @param {number} maxStates the maximum number of states of a search
@@ -119,7 +120,7 @@ export function beginProving(engine, texts, maxStates, calls) {
 }
 
 /**
- * Returns a verdict in the form of a message.
+ * Returns a property and its verdict in the form in which they are sent to the page.
  * @param {JudgedProperty} judged
  * @returns {JudgedLine}
  */

@@ -1,5 +1,6 @@
-// Translates the places in conditions to the cells of the prover's machine, and comparisons to lines of a question
-// (crates/mcs_prove/src/lines.rt parses these lines). A cell is a number in one of the machine's lists, such as `register` or `counter`.
+// Translates the names in conditions, such as `acc` or `rom0`, to cells of the prover's machine state. Formats comparisons of cells as
+// lines of a question (crates/mcs_prove/src/lines.rt parses these lines). A cell is a number in one of the lists of the machine state, such
+// as `register` or `counter`.
 
 import { hex, indices } from "../bench/numbers.js";
 import { ADDRESS_COUNT, PAGE_BYTES } from "../bench/rom_bytes.js";
@@ -7,22 +8,25 @@ import { ADDRESS_COUNT, PAGE_BYTES } from "../bench/rom_bytes.js";
 /**
  * @typedef {import("../bench/answers.js").Board} Board
  *
- * A comparison of one cell with a range, as a line of a question; and a list of comparisons that must all be true (a conjunction).
+ * A comparison of one cell with a range, as a line of a question.
  * @typedef {string} Comparison
+ *
+ * A list of comparisons that must all be true (a conjunction).
  * @typedef {Comparison[]} Comparisons
  *
- * A place whose values are numbers from 0 up to, but not including, `count`. `texts` returns the values in `trace` that correspond to a
- * number; there are several if `trace` also shows the levels of input lines. `between` returns the condition that the value is in a range:
- * at least one of the returned conjunctions must be true.
+ * A part of the machine state that a condition can read, such as a register. Its values are the numbers from 0 to `count` - 1. `texts`
+ * returns the texts that `trace` can show for a value; there are several if `trace` also shows the levels of input lines. `between` returns
+ * the condition that the value is in a range: at least one of the returned conjunctions must be true.
  * @typedef {{ name: string, count: number, texts: (number: number) => string[],
  *   between: (low: number, high: number) => Comparisons[] }} Field
  */
 
-/** The numbers of the cells in the list `counter`. */
+/** The index of each cell of the processor's state in the prover's `counter` list. */
 export const COUNTER_CELLS = { acc: 0, cy: 1, dcl: 2, owed: 3, page: 4, word: 5, src: 12 };
 const NIBBLES = 16;
 
-/** @type {(list: string, index: number, low: number, high: number, part?: string) => Comparison} compares a cell with a range */
+/** @type {(list: string, index: number, low: number, high: number, part?: string) => Comparison} returns the line that compares a cell with
+ *    a range; `part` is `whole` or the bit, such as `line0` */
 const rangeComparison = (list, index, low, high, part = "whole") => ["in", list, index, part, low, high].join(" ");
 
 /** A conjunction that is never true. */
@@ -34,7 +38,7 @@ export const IMPOSSIBLE_COMPARISONS = [rangeComparison("register", 0, 1, 0)];
  * @param {string} list
  * @param {number} index
  * @param {number} count the number of values
- * @param {number} [digits]
+ * @param {number} [digits] the number of hexadecimal digits that `trace` shows
  * @returns {Field}
  */
 function cellField(name, list, index, count, digits = 1) {
@@ -49,7 +53,7 @@ function cellField(name, list, index, count, digits = 1) {
  * @param {string} [part] the bit, such as `line0`; `whole` for a cell with one bit
  * @returns {Field}
  */
-function lineField(name, list, index, part = "whole") {
+function bitField(name, list, index, part = "whole") {
   return { name, count: 2, texts: (number) => [String(number)], between: (low, high) => [[rangeComparison(list, index, low, high, part)]] };
 }
 
@@ -71,7 +75,7 @@ function counterField() {
 }
 
 /**
- * Creates the field for the port of a ROM. `trace` also shows the levels of its input lines; the corresponding bits of the cell are 0.
+ * Creates the field for the port of a ROM. For an input line of the port, `trace` shows its level, but the bit in the cell is always 0.
  * @param {string} name
  * @param {Board["roms"][number]} rom
  * @returns {Field}
@@ -87,7 +91,7 @@ function romField(name, { chip, port }) {
 }
 
 /**
- * Returns the field for a register or the program counter; null for any other place.
+ * Returns the field for a register of the processor, such as `r3` or `pc`; null for any other name.
  * @param {string} place
  * @returns {Field | null}
  */
@@ -105,7 +109,7 @@ function registerField(place) {
 }
 
 /**
- * Returns the field for a RAM or status nibble; null for any other place.
+ * Returns the field for a RAM nibble or a status nibble; null for any other name.
  * @param {string} place
  * @returns {Field | null}
  */
@@ -122,28 +126,28 @@ function memoryField(place) {
  * @param {Board} board
  * @returns {Field | null}
  */
-export function outputLine(line, { roms }) {
+export function outputLineField(line, { roms }) {
   const [, rom, romLine] = /^rom(\d+)\.(\d)$/.exec(line) || [];
   if (rom) {
     const found = roms.find(({ chip }) => Number(chip) === Number(rom));
     const isInput = found !== undefined && found.port[3 - Number(romLine)] === "i";
-    return isInput ? null : lineField(line, "romport", Number(rom), `line${romLine}`);
+    return isInput ? null : bitField(line, "romport", Number(rom), `line${romLine}`);
   }
   const [, bank, chip, ramLine] = /^ram(\d)\.(\d)\.(\d)$/.exec(line) || [];
-  if (bank) return lineField(line, "ramport", Number(bank) * 4 + Number(chip), `line${ramLine}`);
+  if (bank) return bitField(line, "ramport", Number(bank) * 4 + Number(chip), `line${ramLine}`);
   const [, chain, bit] = /^chain(\d)\.(\d+)$/.exec(line) || [];
-  return chain ? lineField(line, `chain${chain}`, Number(bit)) : null;
+  return chain ? bitField(line, `chain${chain}`, Number(bit)) : null;
 }
 
 /**
- * Returns the field for a `trace` place; null if the value of the place comes from an input. The places `lamps` and `chainN` have no field;
- * each of their bits is a field (`outputLine`).
+ * Returns the field for a name that `trace` accepts; null if its value comes from an input. The names `lamps` and `chainN` have no field,
+ * but each of their bits has one (`outputLineField`).
  * @param {string} place
  * @param {Board} board
  * @returns {Field | null}
  */
 export function findField(place, board) {
-  const simple = registerField(place) || memoryField(place) || outputLine(place, board);
+  const simple = registerField(place) || memoryField(place) || outputLineField(place, board);
   if (simple) return simple;
   const [, chip] = /^rom(\d+)$/.exec(place) || [];
   const rom = chip && board.roms.find((each) => Number(each.chip) === Number(chip));
@@ -153,14 +157,14 @@ export function findField(place, board) {
 }
 
 /** The field that is 1 if the second cycle of an instruction is pending. */
-export const SECOND_CYCLE = lineField("owed", "counter", COUNTER_CELLS.owed);
+export const SECOND_CYCLE_FIELD = bitField("owed", "counter", COUNTER_CELLS.owed);
 
 /**
  * Returns the conjunction that is true if the program counter is at an address and no second cycle is pending.
  * @param {number} address
  * @returns {Comparisons}
  */
-export function counterComparisons(address) {
+export function addressComparisons(address) {
   const [counter] = counterField().between(address, address);
-  return [...SECOND_CYCLE.between(0, 0)[0], ...counter];
+  return [...SECOND_CYCLE_FIELD.between(0, 0)[0], ...counter];
 }

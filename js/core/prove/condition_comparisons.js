@@ -1,7 +1,7 @@
-// Converts a condition to comparisons of cells. Evaluates the condition for all values of the places that it reads. When the condition
-// reads a place without a value, the evaluation is repeated for each possible value of this place.
+// Converts a condition such as `acc > 3` to comparisons of the prover's cells. The condition is evaluated for all values of the fields
+// (registers, ports, RAM nibbles ..) that it reads. When it reads a field without a value, it is evaluated again for each possible value.
 
-import { SECOND_CYCLE, findField, outputLine } from "./cells.js";
+import { SECOND_CYCLE_FIELD, findField, outputLineField } from "./cells.js";
 import { indices } from "../bench/numbers.js";
 import * as say from "../../words/prove.js";
 
@@ -11,20 +11,20 @@ import * as say from "../../words/prove.js";
  * @typedef {import("../bench/answers.js").Board} Board
  * @typedef {import("../conditions/condition_language.js").Condition} Condition
  *
- * The result of a condition: a boolean if it is the same for all values, otherwise the result for each range of values of a field. A range
- * combines consecutive values with the same result.
+ * The result of a condition: a boolean if it is the same for all values of all fields; otherwise a field, and the result for each range of
+ * its values. A range combines consecutive values with the same result.
  * @typedef {boolean | { field: Field, ranges: { low: number, high: number, result: Result }[] }} Result
  */
 
-/** The maximum number of values that all evaluations of a condition read together. */
+/** The maximum number of field values that the evaluations of one condition can read in total. */
 const MAX_READS = 500000;
-/** The maximum number of conjunctions for one condition. */
+/** The maximum number of conjunctions (lists of comparisons that must all be true) that one condition can need. */
 const MAX_COMPARISON_LISTS = 4000;
 
-/** The error for a property or condition about which the prover cannot be asked. */
+/** The error that is thrown for a property or a condition that the prover does not support. */
 export class UnsupportedQuestion extends Error {}
 
-/** The error for a read of a field without a value. */
+/** The error that is thrown when a condition reads a field that has no value in the current evaluation. */
 class UndecidedField extends Error {
   /** @param {Field} field */
   constructor(field) {
@@ -34,24 +34,25 @@ class UndecidedField extends Error {
 }
 
 /** Returns whether two results are the same. */
-function areSame(/** @type {Result} */ one, /** @type {Result} */ other) {
+function areSameResults(/** @type {Result} */ one, /** @type {Result} */ other) {
   return typeof one === "boolean" ? one === other : JSON.stringify(one) === JSON.stringify(other);
 }
 
+/** The evaluation of one condition for all values of its fields. */
 class Evaluation {
   /**
    * @param {Condition} condition
    * @param {Board} board
-   * @param {boolean} isTimed
+   * @param {boolean} ignoresSecondCycle
    */
-  constructor(condition, board, isTimed) {
+  constructor(condition, board, ignoresSecondCycle) {
     this.condition = condition;
     this.board = board;
     this.readCount = 0;
     /** @type {Map<string, string>} the values of the fields in the current evaluation, by field name */
     this.fieldTexts = new Map();
     const input = (/** @type {string} */ name) => this.readField(null, name);
-    const owed = () => (isTimed ? "0" : this.readField(SECOND_CYCLE, SECOND_CYCLE.name));
+    const owed = () => (ignoresSecondCycle ? "0" : this.readField(SECOND_CYCLE_FIELD, SECOND_CYCLE_FIELD.name));
     this.extraValues = {
       get test() {
         return input("TEST");
@@ -67,7 +68,8 @@ class Evaluation {
   }
 
   /**
-   * Returns the value of a field as text. Throws UndecidedField if the field has no value, and UnsupportedQuestion for an input.
+   * Returns the value of a field as text. Throws UndecidedField if the field has no value. Throws UnsupportedQuestion if the condition
+   * reads an input or too many values.
    * @param {Field | null} field null for an input
    * @param {string} name
    */
@@ -81,14 +83,14 @@ class Evaluation {
   }
 
   /**
-   * Returns an object that behaves like a text with one character per line, such as the value of `lamps`. Reads a line only when its
-   * character is used.
-   * @param {string[]} lines
+   * Returns an object that behaves like a string with one character for each output line, such as the value of `lamps`. It reads a line
+   * only when the character of the line is used.
+   * @param {string[]} lines the names of the output lines
    * @param {[string, string]} marks the characters for 0 and 1
    */
-  createMarks(lines, marks) {
+  createLineText(lines, marks) {
     const readMark = (/** @type {number} */ index) => {
-      const text = this.readField(outputLine(lines[index], this.board), lines[index]);
+      const text = this.readField(outputLineField(lines[index], this.board), lines[index]);
       return marks[Number(text)];
     };
     const eachMark = function* each() {
@@ -106,17 +108,17 @@ class Evaluation {
 
   /**
    * Returns the value of a place as text.
-   * @param {string} place
+   * @param {string} place a name in a condition, such as `acc` or `lamps`
    */
   readPlace(place) {
     const { board } = this;
-    if (place === "lamps") return board.lamps.length === 0 ? "-" : this.createMarks(board.lamps, [".", "*"]);
+    if (place === "lamps") return board.lamps.length === 0 ? "-" : this.createLineText(board.lamps, [".", "*"]);
     const [, chain] = /^chain(\d)$/.exec(place) || [];
-    if (chain) return this.createMarks(indices(10 * board.chains[Number(chain)].chips).map((bit) => `chain${chain}.${bit}`), ["0", "1"]);
+    if (chain) return this.createLineText(indices(10 * board.chains[Number(chain)].chips).map((bit) => `chain${chain}.${bit}`), ["0", "1"]);
     return this.readField(findField(place, board), place);
   }
 
-  /** Evaluates the condition with the current values. */
+  /** Evaluates the condition with the current values of the fields. */
   evaluateOnce() {
     const { condition: { places, holds } } = this;
     const values = new Proxy(/** @type {string[]} */ ([]), {
@@ -126,7 +128,7 @@ class Evaluation {
   }
 
   /**
-   * Evaluates the condition for all values of the fields that have no value yet.
+   * Evaluates the condition for all values of those fields that have no value yet.
    * @returns {Result}
    */
   evaluate() {
@@ -134,7 +136,7 @@ class Evaluation {
       return this.evaluateOnce();
     } catch (thrown) {
       if (!(thrown instanceof UndecidedField)) throw thrown;
-      return this.evaluateFor(thrown.field);
+      return this.evaluateForEachValue(thrown.field);
     }
   }
 
@@ -143,7 +145,7 @@ class Evaluation {
    * @param {Field} field
    * @returns {Result}
    */
-  evaluateFor(field) {
+  evaluateForEachValue(field) {
     /** @type {{ low: number, high: number, result: Result }[]} */
     const ranges = [];
     for (const number of indices(field.count)) {
@@ -152,10 +154,10 @@ class Evaluation {
         this.fieldTexts.set(field.name, text);
         return this.evaluate();
       });
-      if (others.some((other) => !areSame(result, other))) throw new UnsupportedQuestion(say.looksAtInput(field.name));
+      if (others.some((other) => !areSameResults(result, other))) throw new UnsupportedQuestion(say.looksAtInput(field.name));
       const last = ranges[ranges.length - 1];
       if (result === undefined) continue;
-      if (last && last.high === number - 1 && areSame(last.result, result)) last.high = number;
+      if (last && last.high === number - 1 && areSameResults(last.result, result)) last.high = number;
       else ranges.push({ low: number, high: number, result });
     }
     this.fieldTexts.delete(field.name);
@@ -169,11 +171,11 @@ class Evaluation {
  * @param {boolean} wantedResult
  * @returns {Comparisons[]}
  */
-function comparisonLists(result, wantedResult) {
+function toComparisonLists(result, wantedResult) {
   if (typeof result === "boolean") return result === wantedResult ? [[]] : [];
   const { field } = result;
   const lists = result.ranges.flatMap(({ low, high, result: nextResult }) => {
-    const nextLists = comparisonLists(nextResult, wantedResult);
+    const nextLists = toComparisonLists(nextResult, wantedResult);
     if (nextLists.length === 0) return [];
     return field.between(low, high).flatMap((fieldComparisons) => nextLists.map((others) => [...fieldComparisons, ...others]));
   });
@@ -187,8 +189,8 @@ function comparisonLists(result, wantedResult) {
  * @param {Condition} condition
  * @param {boolean} wantedResult
  * @param {Board} board
- * @param {boolean} [isTimed] if true, the condition has the same value between the two cycles of an instruction as after the second one
+ * @param {boolean} [ignoresSecondCycle] if true, the condition is evaluated as if no second cycle were pending
  */
-export function listComparisons(condition, wantedResult, board, isTimed = false) {
-  return comparisonLists(new Evaluation(condition, board, isTimed).evaluate(), wantedResult);
+export function listComparisons(condition, wantedResult, board, ignoresSecondCycle = false) {
+  return toComparisonLists(new Evaluation(condition, board, ignoresSecondCycle).evaluate(), wantedResult);
 }

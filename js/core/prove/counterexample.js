@@ -18,22 +18,23 @@ import { listInputs, replayValues } from "./input_replay.js";
  * @typedef {import("../explore/subject.js").Subject} Subject
  * @typedef {import("../explore/walks.js").WalkStep} WalkStep
  *
- * A counterexample. `isAllowed`: true if the properties text allows its changes of inputs. `text`: a test, or bench lines if a pressed key
- * has no name (`isTest` is then false). `before`: the bench lines up to the instruction that violates the property.
+ * A counterexample. `steps`: the number of changes of inputs. `cycles`: the time of the violation. `isAllowed`: true if the properties text
+ * allows these changes. `text`: a test, or bench lines if a pressed key has no name (`isTest` is then false). `before`: the bench lines up
+ * to the instruction that violates the property.
  * @typedef {{ steps: number, cycles: number, isAllowed: boolean, isTest: boolean, text: string, before: string }} Counterexample
  */
 
-/** The maximum number of cycles for minimising a counterexample. */
+/** The maximum number of cycles that the bench may run to minimise a counterexample. */
 const MINIMISING_CYCLES = 10e6;
-/** The maximum length in cycles of a counterexample that is minimised if its property has labels; each try then lists all instructions. */
+/** The maximum length, in cycles, of a counterexample to a property with labels. A longer one is not minimised, as this would be slow. */
 const MAX_LISTED_CYCLES = 1e6;
-/** The property forms whose memory depends on all events since power-on. */
+/** The property forms that depend on all events since power-on, so that a violation can be found only from the start of the walk. */
 const FORMS_WITH_MEMORY = new Set(["calls", "returns", "never for", "every", "within", "only after"]);
 
 /**
  * Returns a campaign that checks one property and allows any change of any input at any time.
  * @param {Campaign} campaign
- * @param {number} property
+ * @param {number} property the index of the property in the campaign
  * @param {Input[]} inputs
  * @returns {Campaign}
  */
@@ -45,11 +46,11 @@ function createFreeCampaign(campaign, property, inputs) {
 }
 
 /**
- * Returns steps with waits of at least one cycle, as runs on the bench require. Moves the first of several simultaneous changes to earlier
- * cycles. Returns null if there are not enough cycles before these changes.
+ * Separates simultaneous changes of inputs: returns steps with waits of at least one cycle, as runs on the bench require. Moves the first
+ * of several simultaneous changes to earlier cycles. Returns null if there are not enough cycles before these changes.
  * @param {WalkStep[]} steps
  */
-function makeSequential(steps) {
+function separateSimultaneousChanges(steps) {
   /** @type {WalkStep[]} */
   const sequentialSteps = [];
   let missingCycles = 0;
@@ -62,7 +63,7 @@ function makeSequential(steps) {
 }
 
 /**
- * Splits a step if its wait is too long for one run of the bench.
+ * Splits a step into several steps if its wait is too long for one run of the bench.
  * @param {WalkStep} step
  * @returns {WalkStep[]}
  */
@@ -73,7 +74,7 @@ function splitLongWait(step) {
 }
 
 /**
- * Splits a number of cycles into the lengths of runs.
+ * Splits a number of cycles into the lengths of consecutive runs, each of at most MAX_RUN_CYCLES cycles.
  * @param {number} cycles
  */
 function splitCycles(cycles) {
@@ -83,9 +84,9 @@ function splitCycles(cycles) {
 }
 
 /**
- * Returns the steps whose changes are before a time.
+ * Returns the steps in which an input changes before a given time.
  * @param {WalkStep[]} steps
- * @param {number} time
+ * @param {number} time the time, in cycles from the start of the walk
  */
 function stepsBefore(steps, time) {
   let end = 0;
@@ -95,48 +96,49 @@ function stepsBefore(steps, time) {
   });
 }
 
-/** Replays the values of the prover for one property. */
+/** Replays the prover's counterexample to one property. */
 class Replay {
   /**
    * @param {Subject} subject
    * @param {Campaign} campaign
-   * @param {number} property
-   * @param {string} mistake the word of the mistake that the property excludes; "" for other properties
+   * @param {number} property the index of the property in the campaign
+   * @param {string} mistake the word for the common mistake that the property excludes; "" for other properties
    */
   constructor(subject, campaign, property, mistake) {
     this.subject = subject;
     this.mistake = mistake;
     this.allowedCampaign = campaign;
     this.freeCampaign = createFreeCampaign(campaign, property, listInputs(subject));
-    this.down = initialDownInputs(this.freeCampaign);
+    this.initialDown = initialDownInputs(this.freeCampaign);
     const [{ form, guards }] = this.freeCampaign.properties;
-    /** True if the watcher cannot report a violation of the property, because the property excludes a mistake. */
-    this.isMistake = form === "mistake";
+    /** True if the property excludes a common mistake that only `cyclesToMistake` can detect. */
+    this.excludesMistake = form === "mistake";
     this.needsWholeWalk = FORMS_WITH_MEMORY.has(form) || guards.length > 0;
   }
 
   /**
-   * Returns the start of a walk, with initial memories.
-   * @param {Uint8Array} file
+   * Returns the start of a walk: the session, the positions of the inputs, and the initial memory of the property.
+   * @param {Uint8Array} file the session file at the start
    * @returns {import("../explore/walk_watcher.js").WalkStart}
    */
   createStart(file) {
-    return { file, time: 0, down: this.down, memories: [this.freeCampaign.properties[0].from(0, this.down.length)] };
+    const { initialDown } = this;
+    return { file, time: 0, down: initialDown, memories: [this.freeCampaign.properties[0].from(0, initialDown.length)] };
   }
 
   /**
-   * Returns the violation to which input values lead; null if the bench does not confirm it.
+   * Returns the violation that happens if the program reads these input values; null if the bench does not confirm it.
    * @param {number[]} values
    * @returns {Violation | null}
    */
   findViolation(values) {
     const { subject, freeCampaign, needsWholeWalk } = this;
-    const { steps, time, file, rest: remainingCycles } = replayValues(subject, freeCampaign.inputs, values);
-    if (this.isMistake) {
+    const { steps, time, file, remainingCycles } = replayValues(subject, freeCampaign.inputs, values);
+    if (this.excludesMistake) {
       const cycles = cyclesToMistake(subject, file, this.mistake, remainingCycles);
       return cycles < 0 ? null : { property: 0, steps, time: time + cycles };
     }
-    // An additional cycle starts the instruction at a label.
+    // One more cycle is added, in which the instruction at a label starts.
     const waits = splitCycles(remainingCycles + 1).map((wait) => ({ wait, kind: /** @type {const} */ ("none"), input: -1 }));
     const broken = needsWholeWalk ? this.findViolationTime(subject.file, [...steps.flatMap(splitLongWait), ...waits])
       : this.findViolationTime(file, waits);
@@ -166,15 +168,15 @@ class Replay {
   }
 
   /**
-   * Minimises a violation if its changes can happen one after another.
+   * Minimises a violation if this is possible. Resolves to the violation with the fewest steps that was found.
    * @param {Violation} violation
    * @param {() => Promise<void>} yieldToMessages
    */
   async minimise(violation, yieldToMessages) {
     const { subject, freeCampaign } = this;
-    const steps = makeSequential(violation.steps);
+    const steps = separateSimultaneousChanges(violation.steps);
     const isLong = violation.time > MAX_LISTED_CYCLES && freeCampaign.properties.some((property) => listAddresses(property).length > 0);
-    if (!steps || this.isMistake || isLong) return violation;
+    if (!steps || this.excludesMistake || isLong) return violation;
     const start = this.createStart(subject.file);
     const minimiser = new Minimiser(subject, freeCampaign, start, { ...violation, steps }, MINIMISING_CYCLES, yieldToMessages);
     return await minimiser.minimise() || violation;
@@ -188,13 +190,14 @@ class Replay {
     const { allowedCampaign, freeCampaign } = this;
     const inputIndexes = freeCampaign.inputs.map(({ down }) => allowedCampaign.inputs.findIndex((input) => input.down === down));
     const allowedSteps = steps.map((step) => ({ ...step, input: step.kind === "none" ? -1 : inputIndexes[step.input] }));
-    const rest = allowedSteps.reduce((left, { wait }) => left - wait, time);
+    const remainingCycles = allowedSteps.reduce((left, { wait }) => left - wait, time);
     const isChecked = time > allowedCampaign.begin || allowedCampaign.begin === 0;
     return isChecked && allowedSteps.every(({ kind, input }) => kind === "none" || input >= 0)
-      && areAllowed(allowedCampaign, [...allowedSteps, { wait: rest, kind: "none", input: -1 }]);
+      && areAllowed(allowedCampaign, [...allowedSteps, { wait: remainingCycles, kind: "none", input: -1 }]);
   }
 
   /**
+   * Returns a violation as a counterexample, with its test or its bench lines.
    * @param {Violation} violation
    * @returns {Counterexample}
    */
@@ -208,7 +211,8 @@ class Replay {
   }
 
   /**
-   * Returns the bench lines up to the instruction that violates the property, or up to its second cycle if an input changes before it.
+   * Returns the bench lines up to the instruction that violates the property. If an input changes between its two cycles, the lines end
+   * before the second cycle.
    * @param {Violation} violation
    */
   linesBefore(violation) {
@@ -222,13 +226,13 @@ class Replay {
 }
 
 /**
- * Returns the minimised counterexample to which input values lead; null if the bench does not confirm it.
+ * Resolves to the minimised counterexample that results if the program reads these input values; null if the bench does not confirm it.
  * @param {Subject} subject
  * @param {Campaign} campaign
- * @param {number} property the number of the property
- * @param {number[]} values the values that the program reads, in this order
+ * @param {number} property the index of the property in the campaign
+ * @param {number[]} values the input values, in the order in which the program reads them
  * @param {() => Promise<void>} yieldToMessages
- * @param {string} [mistake] the word of the mistake that the property excludes
+ * @param {string} [mistake] the word for the common mistake that the property excludes
  */
 export async function replayCounterexample(subject, campaign, property, values, yieldToMessages, mistake = "") {
   const replay = new Replay(subject, campaign, property, mistake);

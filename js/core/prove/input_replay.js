@@ -1,5 +1,5 @@
-// Converts the input values in a counterexample of the prover to steps of keys and TEST. Runs the program on the bench. Before each read of
-// an input, sets the keys or TEST so that the program reads the next value.
+// Converts the input values in a counterexample of the prover to steps that press keys, release keys or set TEST. For this, it runs the
+// program on the bench. Before each instruction that reads an input, it sets the keys or TEST so that the program reads the next value.
 
 import { readCounter, readRun } from "../bench/answers.js";
 import { indices } from "../bench/numbers.js";
@@ -10,7 +10,7 @@ import { MAX_ENABLED } from "../debug/breakpoints.js";
 import { MAX_RUN_CYCLES } from "../engine/key_queue.js";
 import { RDR } from "../engine/rom_codes.js";
 import { createInput, createTestInput, listKeyInputs } from "../explore/search_inputs.js";
-import { PAUSE } from "./question.js";
+import { DEFAULT_PAUSE } from "./question.js";
 
 /**
  * @typedef {import("../explore/search_inputs.js").Input} Input
@@ -19,7 +19,7 @@ import { PAUSE } from "./question.js";
  */
 
 /**
- * Returns whether an instruction is a JCN with TEST among its conditions.
+ * Returns whether an instruction is a JCN that reads the TEST pin.
  * @param {number} code
  */
 const readsTest = (code) => (code & 0xF1) === 0x11;
@@ -39,7 +39,7 @@ export function listInputs({ names: { face, board } }) {
   return [...keys, createTestInput(face)];
 }
 
-/** A session that reads given input values. */
+/** A session in which the program is made to read given input values. */
 class ValueReplay {
   /**
    * @param {Subject} subject
@@ -49,7 +49,8 @@ class ValueReplay {
     this.subject = subject;
     this.inputs = inputs;
     this.file = subject.file.slice();
-    this.down = inputs.map(({ isDown }) => isDown);
+    /** For each input, whether it is down now. */
+    this.downInputs = inputs.map(({ isDown }) => isDown);
     this.cyclesSinceChange = 0;
     /** @type {WalkStep[]} */
     this.steps = [];
@@ -72,7 +73,7 @@ class ValueReplay {
     return this.subject.engine.serve(this.file, lines, this.file).answers;
   }
 
-  /** Returns the code of the next instruction if its first cycle is next and it reads an input; otherwise -1. */
+  /** Returns the opcode of the next instruction if the instruction reads an input and no second cycle is pending; otherwise -1. */
   nextReadCode() {
     const { counter, owed } = readCounter(this.subject.engine.ask(this.file, "regs\n").answers[0]);
     const code = this.subject.codes[parseInt(counter, 16)];
@@ -80,13 +81,13 @@ class ValueReplay {
   }
 
   /**
-   * Moves an input down or up.
+   * Presses or releases a key, or sets the TEST pin, if the input is not in this position yet.
    * @param {number} index
    * @param {boolean} isDown
    */
   moveInput(index, isDown) {
-    if (this.down[index] === isDown) return;
-    this.down[index] = isDown;
+    if (this.downInputs[index] === isDown) return;
+    this.downInputs[index] = isDown;
     this.serve(`${isDown ? this.inputs[index].down : this.inputs[index].up}\n`);
     this.steps.push({ wait: this.cyclesSinceChange, kind: isDown ? "down" : "up", input: index });
     this.cyclesSinceChange = 0;
@@ -102,7 +103,7 @@ class ValueReplay {
   }
 
   /**
-   * Sets the keys so that the program reads a value at the selected port: for each 1 bit, presses a key in a driven row.
+   * Sets the keys so that the program reads a value at the selected port. For each 1 bit, presses a key in a driven row.
    * @param {number} value
    */
   setKeys(value) {
@@ -121,7 +122,7 @@ class ValueReplay {
   }
 
   /**
-   * Runs for a number of cycles. Returns the cycles of the run and the reason for its stop.
+   * Runs the program for at most `count` cycles. Returns the number of cycles that it ran, and the reason why it stopped.
    * @param {number} count
    */
   run(count) {
@@ -131,9 +132,9 @@ class ValueReplay {
     return { cycles, end };
   }
 
-  /** Runs to the next read of an input, at most PAUSE cycles. Returns false if the program cannot continue. */
+  /** Runs to the next instruction that reads an input, for at most DEFAULT_PAUSE cycles. Returns false if the program cannot continue. */
   runToRead() {
-    for (let left = PAUSE; left > 0 && this.nextReadCode() < 0;) {
+    for (let left = DEFAULT_PAUSE; left > 0 && this.nextReadCode() < 0;) {
       const { cycles, end } = this.run(Math.min(left, this.readAddresses.length <= MAX_ENABLED ? MAX_RUN_CYCLES : 1));
       left -= cycles;
       if (end === "code" || end === "") return false;
@@ -143,7 +144,7 @@ class ValueReplay {
 
   /**
    * Sets the inputs for the next cycle.
-   * @param {number} value the value that the next cycle reads; 0 if the cycle does not read an input
+   * @param {number} value the value that the program reads in the next cycle; 0 if the cycle does not read an input
    */
   setInputs(value) {
     const code = this.nextReadCode();
@@ -153,12 +154,12 @@ class ValueReplay {
 }
 
 /**
- * Returns the steps with which the program reads given values one after the other.
+ * Returns the steps that make the program read given input values, one after the other.
  * @param {Subject} subject
  * @param {Input[]} inputs all inputs of the board
  * @param {number[]} values
- * @returns {{ steps: WalkStep[], time: number, file: Uint8Array, rest: number }} the steps, their total wait, the session file after the
- *   last step, and the number of cycles from there to the end, in which the violation must happen
+ * @returns {{ steps: WalkStep[], time: number, file: Uint8Array, remainingCycles: number }} the steps; the cycles up to the last step; the
+ *   session file after the last step; and the number of cycles after the last step, in which the violation must happen
  */
 export function replayValues(subject, inputs, values) {
   const replay = new ValueReplay(subject, inputs);
@@ -173,5 +174,6 @@ export function replayValues(subject, inputs, values) {
   });
   const unbreakLines = replay.readAddresses.map((address) => `unbreak ${address}\n`).join("");
   if (replay.readAddresses.length <= MAX_ENABLED) subject.engine.serve(file, unbreakLines, file);
-  return { steps: replay.steps, time: replay.steps.reduce((sum, { wait }) => sum + wait, 0), file, rest: replay.cyclesSinceChange };
+  const time = replay.steps.reduce((sum, { wait }) => sum + wait, 0);
+  return { steps: replay.steps, time, file, remainingCycles: replay.cyclesSinceChange };
 }

@@ -1,5 +1,5 @@
-// The mistakes that the prover searches for in every program, even without a properties text. Also checks whether a session on the bench
-// makes such a mistake.
+// The common mistakes, for which the prover checks every program, even without a properties text. Also checks whether the program in a
+// bench session makes such a mistake.
 
 import { parseState, parsePorts, parseRegisters } from "../bench/state_line.js";
 import { indices } from "../bench/numbers.js";
@@ -13,11 +13,12 @@ import * as say from "../../words/prove.js";
  * @typedef {import("../explore/properties.js").Property} Property
  * @typedef {import("../explore/subject.js").Subject} Subject
  *
- * A mistake: its word in a question, and the property that excludes it.
+ * A common mistake: the word for it in a question, and the property that excludes it.
  * @typedef {{ word: keyof typeof say.MISTAKES, property: Property }} Mistake
  *
- * The state on which mistakes depend: the board, the address and code of the next instruction, DCL, and the value of the register pair P0.
- * `source` is the SRC byte of the ROMs, and `banks` are the SRC bytes of the RAM banks, by bank number.
+ * The state that decides whether the next instruction makes a mistake. `address` and `code`: the address and the opcode of the instruction;
+ * `dcl`: the selected RAM bank; `pair`: the value of register pair P0; `source`: the byte of the last SRC, which selects the ROM port;
+ * `banks`: the byte of the last SRC to each RAM bank, by bank number.
  * @typedef {{ board: Board, address: number, code: number, dcl: number, pair: number, source: number,
  *   banks: Map<number, number> }} MachineState
  */
@@ -28,18 +29,19 @@ const RAM_OPCODES = new Set([0xE0, 0xE1, ...indices(4).map((k) => 0xE4 + k), 0xE
 const isFin = (/** @type {number} */ code) => (code & 0xF1) === 0x30;
 /** Returns whether an instruction has two words: JCN, FIM, JUN, JMS or ISZ. */
 const hasTwoWords = (/** @type {number} */ code) => [1, 4, 5, 7].includes(code >> 4) || (code & 0xF1) === 0x20;
-/** The maximum number of cycles to check. */
+/** The maximum number of cycles of a session that are checked for a mistake. */
 const MAX_CHECKED_CYCLES = 200000;
-/** The number of cycles to check per call of the bench. */
+/** The number of cycles that one call of the bench runs. */
 const CHUNK_CYCLES = 500;
 
 /** @type {(board: Board, chip: number) => string} returns the port of a ROM as in the board text; "" if the board lacks it */
 const portMarks = ({ roms }, chip) => (roms.find((rom) => Number(rom.chip) === chip) || { port: "" }).port;
-/** @type {(board: Board, address: number) => boolean} returns whether the board lacks the ROM with an address */
+/** @type {(board: Board, address: number) => boolean} returns whether the board lacks the ROM that contains an address */
 const lacksRom = (board, address) => portMarks(board, address >> 8) === "";
 
 /**
- * The functions that check whether the next instruction makes a mistake. A search detects the other mistakes with its property forms.
+ * The functions that check whether the next instruction makes a mistake. The mistakes that are not listed here have property forms
+ * (SEARCH_FORMS), so a search detects them.
  * @type {Partial<Record<keyof typeof say.MISTAKES, (state: MachineState) => boolean>>}
  */
 const MISTAKE_CHECKS = {
@@ -57,7 +59,7 @@ const MISTAKE_CHECKS = {
 };
 
 /**
- * Returns the machine state in an answer.
+ * Parses the machine state in an answer of the bench.
  * @param {Subject} subject
  * @param {string} answer the answer to `state`
  * @returns {MachineState & { isSecondCyclePending: boolean }}
@@ -81,7 +83,7 @@ function parseMachineState({ codes, names: { board } }, answer) {
  * Returns the number of cycles up to the first instruction that makes a mistake; -1 if there is none within the given number of cycles.
  * @param {Subject} subject
  * @param {Uint8Array} file the session file at the start
- * @param {string} word the word of the mistake
+ * @param {string} word the word for the mistake, such as `ram`
  * @param {number} cycles
  */
 export function cyclesToMistake(subject, file, word, cycles) {
@@ -100,11 +102,11 @@ export function cyclesToMistake(subject, file, word, cycles) {
   return -1;
 }
 
-/** The property forms of the mistakes that a search also detects, by word. */
+/** The property forms of those mistakes that a search also detects, by the word for the mistake. */
 const SEARCH_FORMS = { code: "code", call: "calls", return: "returns" };
 
 /**
- * Returns all mistakes, in report order.
+ * Returns all common mistakes, in the order in which they are reported.
  * @returns {Mistake[]}
  */
 export function allMistakes() {

@@ -1,5 +1,5 @@
-// Judges properties one after the other: asks the prover and derives a verdict from its answers. The properties of the text come first,
-// then the mistakes that every program is checked for. Callbacks ask the prover and confirm counterexamples.
+// Decides properties one after the other: asks the prover, and derives a verdict from its answers. The properties of the text come first.
+// The common mistakes, for which every program is checked, follow. Callbacks ask the prover and confirm counterexamples.
 
 import { formatSteps } from "../explore/report.js";
 import { replayCounterexample } from "./counterexample.js";
@@ -25,24 +25,26 @@ import * as say from "../../words/prove.js";
  *   finds a counterexample
  * @property {(found: Counterexample, isGoal: boolean) => Promise<boolean>} confirms resolves to true if the test of a counterexample fails;
  *   for a goal, if the test passes
- * @property {(answer: NoAnswer) => string} reason returns the reason why an answer decides nothing, as text
+ * @property {(answer: NoAnswer) => string} reason returns, as text, why an answer leaves the property undecided
  * @property {() => Promise<void>} yieldToMessages yields to other tasks while a counterexample is minimised
  */
 
-/** The answers that a question with fewer properties also gets, because its search finds the same states in the same order. */
+/**
+ * The answers to a combined question that also apply to each property: a search for one property visits the same states in the same order.
+ */
 const FINAL_ANSWERS = new Set(["more", "full"]);
 
 /**
- * Creates the verdict that a property is proved.
+ * Returns the verdict that a property is proved.
  * @param {Property} property
  * @param {number} states
  * @param {boolean} bySets
  * @returns {Verdict}
  */
-const createProof = (property, states, bySets) => ({ kind: "proved", states, bySets, leftOut: omittedGuards(property) });
+const createProvedVerdict = (property, states, bySets) => ({ kind: "proved", states, bySets, leftOut: omittedGuards(property) });
 
 /**
- * Returns the reason why a property is not decided if the bench does not confirm its counterexample.
+ * Returns the reason why a property is not decided when the bench does not confirm its counterexample.
  * @param {Property} property
  */
 function explainUnconfirmed(property) {
@@ -64,24 +66,24 @@ export class PropertyJudge {
     this.all = campaign.properties.filter(({ line }) => line > 0)
       .map((property) => ({ property, propertyQuestion: createQuestion(property, campaign, subject) }));
     this.mistakes = allMistakes();
-    /** The number of properties and mistakes that have a verdict. */
+    /** The number of properties and common mistakes that have a verdict. */
     this.count = 0;
     /** @type {Answer | null} the answer about all combined questions; null before the prover was asked */
     this.jointAnswer = null;
-    /** @type {Verdict | null} the verdict, proved by sets of states, that no mistake can occur; null for none */
+    /** @type {Verdict | null} the verdict, proved by sets of states, that the program makes no common mistake; null if it is not proved */
     this.noMistakeVerdict = null;
-    /** @type {Answer | null} the answer about all mistakes together; null before the prover was asked */
+    /** @type {Answer | null} the answer about all common mistakes together; null before the prover was asked */
     this.anyMistakeAnswer = null;
   }
 
-  /** The number of properties and mistakes. */
+  /** The number of properties and common mistakes. */
   get total() {
     return this.all.length + this.mistakes.length;
   }
 
   /**
-   * Returns the text of a property or mistake.
-   * @param {number} index the number of the property, from 0
+   * Returns the text of a property or of a common mistake.
+   * @param {number} index the index in the list of all properties and common mistakes
    */
   textOf(index) {
     const { all, mistakes } = this;
@@ -95,7 +97,7 @@ export class PropertyJudge {
   }
 
   /**
-   * Judges the next property or mistake. Resolves to null after the last one.
+   * Decides the next property or common mistake. Resolves to null after the last one.
    * @returns {Promise<JudgedProperty | null>}
    */
   async next() {
@@ -107,6 +109,7 @@ export class PropertyJudge {
   }
 
   /**
+   * Decides a property of the text. The verdict is `open` if the prover does not support the property.
    * @param {{ property: Property, propertyQuestion: PropertyQuestion }} each
    * @returns {Promise<JudgedProperty>}
    */
@@ -116,7 +119,8 @@ export class PropertyJudge {
   }
 
   /**
-   * Judges a mistake. First asks the prover about all mistakes together. If one of them is possible, asks about this mistake separately.
+   * Decides whether the program can make a common mistake. First asks the prover about all common mistakes together. If one of them is
+   * possible, asks about this one separately.
    * @param {import("./mistakes.js").Mistake} mistake
    * @returns {Promise<JudgedProperty>}
    */
@@ -128,12 +132,12 @@ export class PropertyJudge {
     if (!this.anyMistakeAnswer) this.anyMistakeAnswer = await this.calls.ask(anyMistakeQuestion);
     const answer = this.anyMistakeAnswer.kind === "fails" ? await this.calls.ask(question) : this.anyMistakeAnswer;
     const verdict = await this.createVerdict(property, answer, { ...this.campaign, properties: [property] }, word);
-    return { property, verdict: await this.completeVerdict(property, verdict, question) };
+    return { property, verdict: await this.retryOpenVerdict(property, verdict, question) };
   }
 
   /**
-   * Resolves to the verdict that a property is proved by sets of states, or to null. A proof by sets of states cannot count cycles or
-   * presses.
+   * Tries to prove a property by sets of states. Resolves to the verdict, or to null if this fails. A proof by sets of states cannot count
+   * cycles or presses.
    * @param {Property} property
    * @param {Question} question
    * @returns {Promise<Verdict | null>}
@@ -141,20 +145,20 @@ export class PropertyJudge {
   async proveBySets(property, question) {
     if (needsCounting(question)) return null;
     const answer = await this.calls.askBySets(question);
-    return answer.kind === "holds" ? createProof(property, answer.states, true) : null;
+    return answer.kind === "holds" ? createProvedVerdict(property, answer.states, true) : null;
   }
 
   /**
-   * Resolves to a verdict; if it is open, to the verdict by sets of states if there is one.
+   * Tries a proof by sets of states if a verdict is open. Resolves to the new verdict if the proof succeeds, otherwise to the old one.
    * @param {Property} property
    * @param {Verdict} verdict
    * @param {Question} question
    */
-  async completeVerdict(property, verdict, question) {
+  async retryOpenVerdict(property, verdict, question) {
     return (verdict.kind === "open" && await this.proveBySets(property, question)) || verdict;
   }
 
-  /** Judges all properties and mistakes. Resolves to their verdicts. */
+  /** Decides all properties and common mistakes. Resolves to their verdicts. */
   async judgeAll() {
     const judged = [];
     for (let each = await this.next(); each; each = await this.next()) judged.push(each);
@@ -162,13 +166,14 @@ export class PropertyJudge {
   }
 
   /**
+   * Asks the prover about a property. Resolves to the verdict.
    * @param {Property} property
    * @param {Question} question
    * @returns {Promise<Verdict>}
    */
   async judge(property, question) {
     const verdict = await this.createVerdict(property, await this.askAbout(property, question), this.campaign, "");
-    return this.completeVerdict(property, verdict, question);
+    return this.retryOpenVerdict(property, verdict, question);
   }
 
   /**
@@ -176,11 +181,11 @@ export class PropertyJudge {
    * @param {Property} property
    * @param {Answer} answer
    * @param {Campaign} campaign a campaign that contains the property
-   * @param {string} mistake the word of the mistake that the property excludes; "" for other properties
+   * @param {string} mistake the word for the common mistake that the property excludes; "" for other properties
    * @returns {Promise<Verdict>}
    */
   async createVerdict(property, answer, campaign, mistake) {
-    if (answer.kind === "holds") return createProof(property, answer.states, false);
+    if (answer.kind === "holds") return createProvedVerdict(property, answer.states, false);
     if (answer.kind !== "fails") return { kind: "open", words: this.calls.reason(answer) };
     const { subject, calls } = this;
     const found = await replayCounterexample(subject, campaign, campaign.properties.indexOf(property), answer.values, calls.yieldToMessages,
@@ -191,7 +196,8 @@ export class PropertyJudge {
   }
 
   /**
-   * Asks about a property. First asks the combined question if possible. If its answer does not decide the property, asks separately.
+   * Asks the prover about a property. First asks the combined question about several properties, if possible. If the answer does not decide
+   * this property, asks about it separately.
    * @param {Property} property
    * @param {Question} question
    */

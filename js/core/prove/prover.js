@@ -1,4 +1,4 @@
-// Proves properties in a separate worker. The worker does not respond while it asks the prover a question, which can take long.
+// Proves properties in a separate worker. While the prover works on a question, which can take long, the worker does not respond.
 
 import { TaskWorker } from "../bench/task_worker.js";
 
@@ -8,8 +8,8 @@ import { TaskWorker } from "../bench/task_worker.js";
  * @typedef {import("../explore/sliced_search.js").ExploredTexts} ExploredTexts
  * @typedef {import("./bounded_proof.js").JudgedLine} JudgedLine
  *
- * The progress: the verdicts so far, the number of all properties and mistakes, and the number of states that the current question has
- * searched without a result.
+ * The progress of a proof. `judged`: the verdicts so far; `count`: the number of properties and common mistakes to check; `states`: the
+ * number of states that the prover has searched for the current question without a result.
  * @typedef {{ judged: JudgedLine[], count: number, states: number }} Progress
  */
 
@@ -20,7 +20,7 @@ export class Prover extends TaskWorker {
   }
 
   /**
-   * Judges all properties, unless the user cancels. Resolves to the way in which the work ended.
+   * Decides all properties, unless the user cancels. Resolves to the result of the task, which says how it ended.
    * @param {ExploredTexts} texts
    * @param {number} maxStates the maximum number of states per question
    * @param {AbortSignal} signal
@@ -30,19 +30,19 @@ export class Prover extends TaskWorker {
   prove(texts, maxStates, signal, report) {
     return this.runTask(signal, async (bench) => {
       const { faults, count } = await bench.call("prove", [texts, maxStates]);
-      if (faults.length === 0) await judgeAll(bench, count, report);
+      if (faults.length === 0) await reportVerdicts(bench, count, report);
       return faults;
     });
   }
 }
 
 /**
- * Judges all properties and reports each verdict.
+ * Asks the worker for the verdicts on all properties and reports each verdict.
  * @param {Bench} bench
- * @param {number} count the number of all properties and mistakes
+ * @param {number} count the number of properties and common mistakes to check
  * @param {(progress: Progress) => void} report
  */
-async function judgeAll(bench, count, report) {
+async function reportVerdicts(bench, count, report) {
   /** @type {JudgedLine[]} */
   const judged = [];
   report({ judged, count, states: 0 });

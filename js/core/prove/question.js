@@ -1,10 +1,10 @@
-// Formats questions for the prover and parses its answers. The prover (crates/mcs_prove) reads the board and the program as a session does,
-// and searches all states that the program can reach with any inputs.
+// Formats questions for the prover and parses its answers. The prover (crates/mcs_prove) parses the board and the program in the same way
+// as a session. Then it searches all states that the program can reach with any inputs.
 //
 // A list of conjunctions (`Comparisons[]`, cells.js) is a condition: it is true if all comparisons in at least one conjunction are true.
 
 import { UnsupportedQuestion, listComparisons } from "./condition_comparisons.js";
-import { IMPOSSIBLE_COMPARISONS, counterComparisons } from "./cells.js";
+import { IMPOSSIBLE_COMPARISONS, addressComparisons } from "./cells.js";
 import { formatKey } from "../board/key_place.js";
 import { isJin, isReturn } from "../engine/rom_codes.js";
 import { listKeyInputs } from "../explore/search_inputs.js";
@@ -30,26 +30,26 @@ import * as say from "../../words/prove.js";
  * key up and then down, one key after the other.
  * @typedef {{ opens: Comparisons[], keys: MatrixKey[] }} Presses
  *
- * A question. `nevers`: the condition that must never be true; `mistakes`: the words of the mistakes that must never be made; `stopwatch`
- * and `presses`: the time limit and the required presses, null for none.
+ * A question. `nevers`: the condition that must never be true; `mistakes`: the words for the common mistakes that the program must never
+ * make; `stopwatch` and `presses`: the time limit and the required presses, null for none.
  * @typedef {{ nevers: Comparisons[], mistakes: string[], stopwatch: Stopwatch | null, presses: Presses | null }} Question
  *
- * The question about a property, or the reason why the prover cannot be asked.
+ * The question about a property, or the reason why the prover does not support the property.
  * @typedef {{ question: Question, words: "" } | { question: null, words: string }} PropertyQuestion
  *
- * An answer of the prover, except a refusal:
+ * An answer of the prover that is not an error:
  * - `holds`: no reachable state violates the question; `states` is the number of reachable states;
  * - `fails`: `values` are the input values that the program reads up to a violation;
- * - `more`: there are more states than the bound;
+ * - `more`: there are more states than the limit `most`;
  * - `lost`: the search failed;
- * - `full`: there is no memory for more than `states` states (0 if not even for the first state).
+ * - `full`: the memory is full after `states` states (0 if there is not enough memory for the first state).
  * @typedef {{ kind: "more" } | { kind: "lost" } | { kind: "full", states: number }} NoAnswer
  * @typedef {{ kind: "holds", states: number } | { kind: "fails", values: number[] } | NoAnswer} Answer
  *
  * The limits of a question:
  * - `most`: the maximum number of states; `memory`: the maximum memory for them in MB (0 for all memory);
  * - `sets`: the maximum number of sets of states; with 0, the prover searches single states;
- * - `pause`: the number of cycles without a read of an input after which the prover counts another state.
+ * - `pause`: a number of cycles; the prover counts another state when the program has read no input for this long.
  *
  * A search runs at most `most` times `pause` cycles. A proof by sets of states is not a search: the prover computes for each address the
  * values that each register can have.
@@ -57,22 +57,23 @@ import * as say from "../../words/prove.js";
  */
 
 /** The default `pause` of a question, in cycles. */
-export const PAUSE = 1000000;
+export const DEFAULT_PAUSE = 1000000;
 /** The maximum number of sets of states in a proof by sets. */
 export const MAX_SETS = 100000;
-/** The bound on the number of states for the first question. */
+/** The maximum number of states in the first try of a question. Later tries have higher limits. */
 const FIRST_BOUND = 10000;
-/** The maximum limit of a stopwatch, in cycles. */
+/** The highest time limit that a stopwatch can have, in cycles. */
 export const MAX_TIME = 16777214;
 /** The maximum number of presses in a property. */
 export const MAX_PRESSES = 100;
 /** The program counter at power-on. */
 const POWER_ON_ADDRESS = 0;
-/** @type {Question} a question without any requirement */
+/** @type {Question} the question that nothing violates; other questions add requirements to it */
 const EMPTY_QUESTION = { nevers: [], mistakes: [], stopwatch: null, presses: null };
 
 /**
- * Returns increasing bounds on the number of states. Each bound is twice the previous one, and the last one is `maxBound`.
+ * Returns increasing limits on the number of states, for repeated tries of a question. Each limit is twice the previous one. The last one
+ * is `maxBound`.
  * @param {number} maxBound
  * @param {number} [firstBound]
  */
@@ -83,15 +84,15 @@ export function boundsUpTo(maxBound, firstBound = FIRST_BOUND) {
 }
 
 /**
- * Creates the question whether a condition is ever true.
+ * Creates the question whether a condition can ever become true.
  * @param {Comparisons[]} nevers
  * @returns {Question}
  */
 export const neverQuestion = (nevers) => ({ ...EMPTY_QUESTION, nevers });
 
 /**
- * Creates the question whether the program ever makes certain mistakes.
- * @param {string[]} mistakes the words of the mistakes
+ * Creates the question whether the program can make certain common mistakes.
+ * @param {string[]} mistakes the words for the mistakes
  * @returns {Question}
  */
 export const mistakeQuestion = (mistakes) => ({ ...EMPTY_QUESTION, mistakes });
@@ -104,14 +105,15 @@ export const needsCounting = ({ stopwatch, presses }) => stopwatch !== null || p
 
 /**
  * Returns whether the question about a property must be asked separately. All other questions are combined into one question. A property
- * with guards is not combined, because it often fails without its guards, and one failure leaves all properties undecided.
+ * with guards is asked separately, because it often fails without its guards. In a combined question, one failure leaves all properties
+ * undecided.
  * @param {Property} property
  * @param {Question} question
  */
 export const needsSeparateQuestion = ({ isGoal, guards }, question) => isGoal || guards.length > 0 || needsCounting(question);
 
 /**
- * Combines several questions without a stopwatch and presses into one.
+ * Combines several questions into one. The questions must have no stopwatch and no presses.
  * @param {Question[]} questions
  * @returns {Question}
  */
@@ -120,13 +122,13 @@ export function jointQuestion(questions) {
 }
 
 /**
- * Returns the condition that these lists form. If there are no lists, it is an impossible condition.
+ * Returns the given list of conjunctions, or a list with one conjunction that is never true if the given list is empty.
  * @param {Comparisons[]} lists
  */
-const orImpossible = (lists) => (lists.length > 0 ? lists : [IMPOSSIBLE_COMPARISONS]);
+const orImpossibleCondition = (lists) => (lists.length > 0 ? lists : [IMPOSSIBLE_COMPARISONS]);
 
 /**
- * Creates the question whether a stopwatch ever exceeds its limit. Throws UnsupportedQuestion if the limit is too high.
+ * Creates the question whether a stopwatch can exceed its limit. Throws UnsupportedQuestion if the limit is too high.
  * @param {Comparisons[]} begins
  * @param {Comparisons[]} ends
  * @param {number} limit
@@ -134,7 +136,7 @@ const orImpossible = (lists) => (lists.length > 0 ? lists : [IMPOSSIBLE_COMPARIS
  */
 function timeQuestion(begins, ends, limit) {
   if (limit > MAX_TIME) throw new UnsupportedQuestion(say.timeIsLong(formatNumber(MAX_TIME)));
-  return { ...EMPTY_QUESTION, stopwatch: { begins: orImpossible(begins), ends: orImpossible(ends), within: limit } };
+  return { ...EMPTY_QUESTION, stopwatch: { begins: orImpossibleCondition(begins), ends: orImpossibleCondition(ends), within: limit } };
 }
 
 /**
@@ -150,7 +152,7 @@ function findMatrixKey(face, name) {
 
 /**
  * Creates the question whether a condition becomes true only after certain presses. Throws UnsupportedQuestion if the prover cannot count
- * these presses. Between the two cycles of an instruction, the condition has the value that it has after the second cycle.
+ * these presses. The condition is evaluated as if no second cycle were pending.
  * @param {Property} property
  * @param {Subject} subject
  * @returns {Question}
@@ -159,42 +161,42 @@ function pressQuestion({ condition, address, keys }, { names: { board, face }, c
   if (keys.length > MAX_PRESSES) throw new UnsupportedQuestion(say.hasManyPresses(MAX_PRESSES));
   // JIN and BBL can jump from the label to itself in one cycle. The prover would not detect that the label is reached again.
   if (!condition && (isJin(codes[address]) || isReturn(codes[address]))) throw new UnsupportedQuestion(say.LABEL_REPEATS);
-  const opens = condition ? listComparisons(condition, true, board, true) : [counterComparisons(address)];
-  return { ...EMPTY_QUESTION, presses: { opens: orImpossible(opens), keys: keys.map((name) => findMatrixKey(face, name)) } };
+  const opens = condition ? listComparisons(condition, true, board, true) : [addressComparisons(address)];
+  return { ...EMPTY_QUESTION, presses: { opens: orImpossibleCondition(opens), keys: keys.map((name) => findMatrixKey(face, name)) } };
 }
 
 /**
- * Creates the question whether the condition of a property is ever true, or whether its label is ever reached.
+ * Creates the question whether the condition of a property can become true, or whether the program can reach its label.
  * @param {Property} property
  * @param {Board} board
  */
-function neverMet({ condition, address }, board) {
-  return neverQuestion(condition ? listComparisons(condition, true, board) : [counterComparisons(address)]);
+function neverMetQuestion({ condition, address }, board) {
+  return neverQuestion(condition ? listComparisons(condition, true, board) : [addressComparisons(address)]);
 }
 
 /**
  * The functions that create the question about a property, by property form. The functions omit guards that depend on earlier events. This
- * is sound, because a property without its guards requires more.
+ * is sound, because the property without its guards is stricter.
  * @type {Record<string, (property: Property & { condition: Condition }, board: Board, subject: Subject) => Question>}
  */
 const QUESTIONS_BY_FORM = {
-  never: neverMet,
+  never: neverMetQuestion,
   always: ({ condition }, board) => neverQuestion(listComparisons(condition, false, board)),
   at: ({ condition, address }, board) => (
-    neverQuestion(listComparisons(condition, false, board).map((comparisons) => [...counterComparisons(address), ...comparisons]))),
+    neverQuestion(listComparisons(condition, false, board).map((comparisons) => [...addressComparisons(address), ...comparisons]))),
   "only after": (property, _board, subject) => pressQuestion(property, subject),
-  reach: neverMet,
-  "reach at": ({ address }) => neverQuestion([counterComparisons(address)]),
+  reach: neverMetQuestion,
+  "reach at": ({ address }) => neverQuestion([addressComparisons(address)]),
   "never for": ({ condition, limit }, board) => (
     timeQuestion(listComparisons(condition, true, board, true), listComparisons(condition, false, board, true), limit)),
   // The program counter is 000 at power-on, so the stopwatch starts there. If address 000 is reached again, the stopwatch already runs.
   every: ({ address, limit }) => (
-    timeQuestion([counterComparisons(POWER_ON_ADDRESS), counterComparisons(address)], [counterComparisons(address)], limit)),
-  within: ({ start, address, limit }) => timeQuestion([counterComparisons(start)], [counterComparisons(address)], limit),
+    timeQuestion([addressComparisons(POWER_ON_ADDRESS), addressComparisons(address)], [addressComparisons(address)], limit)),
+  within: ({ start, address, limit }) => timeQuestion([addressComparisons(start)], [addressComparisons(address)], limit),
 };
 
 /**
- * Returns the question about a property without its guards, or the reason why the prover cannot be asked.
+ * Returns the question about a property without its guards, or the reason why the prover does not support the property.
  * @param {Property} property
  * @param {Campaign} campaign
  * @param {Subject} subject
@@ -219,14 +221,14 @@ export function createQuestion(property, { from }, subject) {
 export const omittedGuards = ({ guards }) => say.guardsNamed(new Set(guards.map(({ kind }) => kind)));
 
 /**
- * Returns the lines for a condition: each conjunction starts with a line that contains only a word.
+ * Returns the lines for a condition. The lines of each conjunction follow a line that contains only `word`.
  * @param {string} word
  * @param {Comparisons[]} lists
  */
 const conditionLines = (word, lists) => lists.flatMap((all) => [word, ...all]);
 
 /**
- * Returns the lines for the requirement that a key is read up, and then down.
+ * Returns the lines that require the program to read a key up and then down.
  * @param {MatrixKey} key
  */
 const keyPressLines = (key) => ["up", "down"].map((level) => [level, formatKey(key)].join(" "));
@@ -238,7 +240,7 @@ const keyPressLines = (key) => ["up", "down"].map((level) => [level, formatKey(k
  * @param {QuestionLimits} limits
  */
 export function questionText({ board, program }, { nevers, mistakes, stopwatch, presses }, limits) {
-  const { most: maxStates, memory = 0, sets = 0, pause = PAUSE } = limits;
+  const { most: maxStates, memory = 0, sets = 0, pause = DEFAULT_PAUSE } = limits;
   const optionalLimits = Object.entries({ memory, sets }).filter(([, number]) => number > 0);
   const limitLines = [["most", maxStates], ...optionalLimits, ["pause", pause]].map((words) => words.join(" "));
   const texts = [`wire\n${sentText(board, "#")}.`, `asm\n${sentText(program, ";")}.`];
@@ -250,11 +252,11 @@ export function questionText({ board, program }, { nevers, mistakes, stopwatch, 
   return `${[...limitLines, ...texts, ...neverLines, ...mistakeLines, ...stopwatchLines, ...pressLines, "prove"].join("\n")}\n`;
 }
 
-/** @type {[RegExp, NoAnswer][]} */
-const OTHER_ANSWERS = [[/^too many$/, { kind: "more" }], [/^gave up$/, { kind: "lost" }], [/^no 90$/, { kind: "full", states: 0 }]];
+/** @type {[RegExp, NoAnswer][]} the answers that contain no variable numbers, each with the pattern of its line */
+const FIXED_ANSWERS = [[/^too many$/, { kind: "more" }], [/^gave up$/, { kind: "lost" }], [/^no 90$/, { kind: "full", states: 0 }]];
 
 /**
- * Parses an answer of the prover. Returns null for a refusal and for any other text.
+ * Parses an answer of the prover. Returns null for an error and for any unknown text.
  * @param {string} text
  * @returns {Answer | null}
  */
@@ -266,6 +268,6 @@ export function readAnswer(text) {
   if (values !== undefined) return { kind: "fails", values: values.split(" ").slice(1).map(Number) };
   const [, stateCount] = /^no room (\d+)$/.exec(line) || [];
   if (stateCount) return { kind: "full", states: Number(stateCount) };
-  const [, other = null] = OTHER_ANSWERS.find(([form]) => form.test(line)) || [];
+  const [, other = null] = FIXED_ANSWERS.find(([form]) => form.test(line)) || [];
   return other;
 }

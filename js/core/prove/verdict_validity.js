@@ -16,8 +16,8 @@ function normalizedLines(text) {
 }
 
 /**
- * Returns the lines on which a verdict depends, except the property itself. A proof covers all inputs and starts at power-on, so it depends
- * only on `from` lines.
+ * Returns the settings in a properties text on which a verdict depends. A proof is valid for all inputs and starts at power-on, so it
+ * depends only on `from` lines.
  * @param {string[]} lines
  * @param {boolean} isProof
  */
@@ -26,9 +26,9 @@ function relevantSettings(lines, isProof) {
 }
 
 /**
- * Returns whether a verdict on a property remains valid for changed texts.
+ * Returns whether a verdict on a property is still valid after the texts have changed.
  * @param {JudgedLine} judged
- * @param {ProvedTexts} oldTexts the texts for which the verdict was given
+ * @param {ProvedTexts} oldTexts the texts to which the verdict applies
  * @param {ProvedTexts} newTexts
  */
 export function isStillValid({ text, line, verdict }, oldTexts, newTexts) {

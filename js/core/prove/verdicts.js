@@ -10,7 +10,8 @@ import * as say from "../../words/prove.js";
  * @typedef {import("./counterexample.js").Counterexample} Counterexample
  *
  * The verdict on a property:
- * - `proved`: `states` is the number of states or, if `bySets` is true, of sets of states; `leftOut` names the guards that the proof omits;
+ * - `proved`: `states` is the number of states in the proof, or of sets of states if `bySets` is true; `leftOut` names the guards that the
+ *   proof omits;
  * - `found`: there is a counterexample; for a goal, a sequence of steps that reaches the goal;
  * - `open`: the property is not decided; `words` is the reason.
  * @typedef {{ kind: "proved", states: number, bySets: boolean, leftOut: string }} ProvedVerdict
@@ -19,7 +20,7 @@ import * as say from "../../words/prove.js";
  */
 
 /**
- * Returns whether a property is proved, or a goal can be reached.
+ * Returns whether the verdict is the desired one: the property is proved, or the goal can be reached.
  * @param {JudgedProperty} judged
  */
 function hasExpectedResult({ property: { isGoal }, verdict }) {
@@ -34,7 +35,7 @@ export function formatStateCount({ states, bySets }) {
   return bySets ? formatQuantity(states, say.SET, say.SETS) : formatQuantity(states, say.STATE);
 }
 
-/** @type {(judged: JudgedProperty) => string} returns the remark after the property text */
+/** @type {(judged: JudgedProperty) => string} returns the verdict as text, for the end of the TAP line */
 function formatRemark({ property: { isGoal }, verdict }) {
   if (verdict.kind === "open") return say.notDecided(verdict.words);
   if (verdict.kind === "proved") return (isGoal ? say.neverReached : say.proved)(formatStateCount(verdict), verdict.leftOut);
@@ -53,7 +54,7 @@ function formatTapLines(judged, index, file) {
   if (verdict.kind !== "found") return lines;
   const { isTest, text, cycles, steps } = verdict.found;
   lines.push("  ---", `  message: ${yamlString(say.foundBy(formatSteps(steps), formatNumber(cycles), property.isGoal))}`);
-  // A mistake that every program is checked for has no line.
+  // A common mistake, for which every program is checked, has no line in the properties file.
   if (property.line > 0) lines.push(`  at: ${yamlString(`${file}:${property.line}`)}`);
   lines.push(`  ${isTest ? "test" : "session"}: |`);
   return [...lines, ...text.trimEnd().split("\n").map((line) => `    ${line}`), "  ..."];

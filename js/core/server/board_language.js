@@ -21,32 +21,34 @@ import * as say from "../../words/server.js";
  * @typedef {import("./token_codes.js").ColouredWord} ColouredWord
  */
 
-/** The symbol kind and completion kind of the protocol. */
-const OBJECT = 19;
+/** The protocol's kind for the symbols of a board, and its kind for completions. */
+const OBJECT_SYMBOL = 19;
 const PROPERTY_COMPLETION = 10;
 
 export class BoardLanguage {
   /**
    * @param {TextBench} bench
    * @param {Map<string, Map<string, string>>} tables the manual's descriptions of board keys, by table name
-   * @param {(number: number) => string} refusalMessage returns the message of a refusal
+   * @param {(number: number) => string} refusalMessage returns the message for an error number of the bench
    */
   constructor(bench, tables, refusalMessage) {
     this.parts = PARTS.board;
     this.tables = tables;
-    this.allFaults = new TextErrorFinder(bench.queries(), { instructions: new Map(), tables }, refusalMessage);
+    this.errorFinder = new TextErrorFinder(bench.queries(), { instructions: new Map(), tables }, refusalMessage);
   }
 
   /**
+   * Finds the errors in a board text.
    * @param {OpenText} openText
-   * @param {() => boolean} isWanted
+   * @param {() => boolean} isWanted returns false if the result is no longer needed
    */
-  async faults({ text }, isWanted) {
-    const found = await this.allFaults.findInBoard(text, isWanted);
+  async findErrors({ text }, isWanted) {
+    const found = await this.errorFinder.findInBoard(text, isWanted);
     return found && { ...found, faults: [...found.faults, ...findFrontPanelErrors(text)] };
   }
 
   /**
+   * Returns the help for a board key, or the description of the port line that a value names; null for any other position.
    * @param {OpenText} openText
    * @param {Position} position
    */
@@ -100,7 +102,7 @@ export class BoardLanguage {
    * @param {string} trigger
    */
   completion({ lines }, { line, character }, trigger) {
-    // After a blank, the editor sends a request automatically. The answer is empty unless a value starts there.
+    // The editor sends a request automatically when the user types a blank. The answer is empty unless a value starts after the blank.
     const lineStart = lines[line].slice(Math.max(0, character - 9), character);
     if (trigger === " " && !/=[ \t]*$/.test(lineStart)) return { from: character, to: character, list: [] };
     const found = completeBoard(lines, line, character, this.tables);
@@ -119,7 +121,7 @@ export class BoardLanguage {
       const lastLine = entry.keys.reduce((most, { line, value }) => Math.max(most, line, value.line), entry.line);
       const range = { start: rangeInLine(entry.line, entry.from, 0).start, end: rangeInLine(lastLine, 0, lines[lastLine - 1].length).end };
       const selectionRange = rangeInLine(entry.line, entry.from, entry.to);
-      return { name: partName(entry), kind: OBJECT, detail: faceText ? faceText.text : "", range, selectionRange };
+      return { name: partName(entry), kind: OBJECT_SYMBOL, detail: faceText ? faceText.text : "", range, selectionRange };
     });
   }
 

@@ -1,4 +1,5 @@
-// Finds the tables of a board text that define chips and chains, and the values that refer to these, such as the port line of a lamp.
+// Finds the tables of a board text that define chips and chains, and the values that refer to such a table, such as the port line of a
+// lamp.
 
 import { readBoardText } from "../text/board_reader.js";
 import * as say from "../../words/server.js";

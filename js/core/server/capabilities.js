@@ -1,7 +1,7 @@
 // Defines the capabilities of the server, and reads the client capabilities that the server uses.
 
 import { getField } from "./framing.js";
-import { MODIFIERS, TYPES } from "./token_codes.js";
+import { TOKEN_MODIFIERS, TOKEN_TYPES } from "./token_codes.js";
 
 /**
  * The capabilities of a client:
@@ -14,7 +14,8 @@ import { MODIFIERS, TYPES } from "./token_codes.js";
  *   folders: string[] }} Client
  */
 
-const INCREMENTAL = 2;
+/** The protocol's number for a client that sends only the changed parts of a text. */
+const INCREMENTAL_SYNC = 2;
 /** The name of the client's command that shows references. */
 export const SHOW_REFERENCES = "editor.action.showReferences";
 /** The name of the server's command that runs a test. */
@@ -64,7 +65,7 @@ export function capabilitiesFor({ pullsDiagnostics }) {
   const diagnostics = { identifier: "mcs4", interFileDependencies: true, workspaceDiagnostics: false };
   return {
     positionEncoding: "utf-16",
-    textDocumentSync: { openClose: true, change: INCREMENTAL },
+    textDocumentSync: { openClose: true, change: INCREMENTAL_SYNC },
     hoverProvider: true,
     definitionProvider: true,
     referencesProvider: true,
@@ -84,7 +85,7 @@ export function capabilitiesFor({ pullsDiagnostics }) {
     selectionRangeProvider: true,
     inlayHintProvider: true,
     callHierarchyProvider: true,
-    semanticTokensProvider: { legend: { tokenTypes: TYPES, tokenModifiers: MODIFIERS }, full: { delta: true }, range: true },
+    semanticTokensProvider: { legend: { tokenTypes: TOKEN_TYPES, tokenModifiers: TOKEN_MODIFIERS }, full: { delta: true }, range: true },
     ...(pullsDiagnostics ? { diagnosticProvider: diagnostics } : {}),
   };
 }

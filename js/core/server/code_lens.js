@@ -1,5 +1,5 @@
-// Converts code lenses to the protocol's format. A code lens is a command above a line. A click on it runs a test on the server, or shows
-// references if the client has a command for references.
+// Converts code lenses to the protocol's format. A code lens is a clickable text above a line. A click runs a test on the server, or shows
+// references if the client has a command for this.
 
 import { RUN_TEST, SHOW_REFERENCES } from "./capabilities.js";
 
@@ -9,11 +9,11 @@ import { RUN_TEST, SHOW_REFERENCES } from "./capabilities.js";
  * Returns a code lens in the protocol's format.
  * @param {Lens} lens
  * @param {string} uri
- * @param {Set<string>} commands the commands of the client
+ * @param {Set<string>} commands the names of the commands that the client offers for code lenses
  */
 export function toCodeLens({ range, title, references, test }, uri, commands) {
   if (test !== null) return { range, command: { title, command: RUN_TEST, arguments: [uri, test] } };
   if (!references || references.length === 0 || !commands.has(SHOW_REFERENCES)) return { range, command: { title, command: "" } };
-  const places = references.map((each) => ({ uri, range: each }));
-  return { range, command: { title, command: SHOW_REFERENCES, arguments: [uri, range.start, places] } };
+  const locations = references.map((each) => ({ uri, range: each }));
+  return { range, command: { title, command: SHOW_REFERENCES, arguments: [uri, range.start, locations] } };
 }

@@ -12,8 +12,8 @@ import * as say from "../../words/server.js";
 /**
  * @typedef {number | string | null} Id the id of a request
  *
- * A request that has no response yet. If the client cancels the request, the server responds at once. Long work checks `isCancelled` and
- * ends.
+ * A request that has no response yet. If the client cancels the request, the server responds at once. A long-running handler must check
+ * `isCancelled` and end early.
  * @typedef {{ isCancelled: boolean }} PendingRequest
  *
  * A request handler. It returns the result, or a promise of the result.
@@ -27,12 +27,15 @@ import * as say from "../../words/server.js";
 const ERROR = 1;
 const INFORMATION = 3;
 
-/** @param {any} id */
+/**
+ * Returns whether a value can be the id of a request.
+ * @param {any} id
+ */
 function isId(id) {
   return typeof id === "string" || typeof id === "number" || id === null;
 }
 
-/** @type {PendingRequest} for notification handlers; notifications cannot be cancelled */
+/** @type {PendingRequest} the argument of notification handlers, because notifications cannot be cancelled */
 const UNCANCELLABLE_REQUEST = { isCancelled: false };
 
 export class Connection extends MessageStream {
@@ -45,7 +48,7 @@ export class Connection extends MessageStream {
     this.end = end;
     /** @type {Handlers} */
     this.handlers = { requests: {}, notifications: {} };
-    /** @type {"new" | "open" | "shut"} */
+    /** @type {"new" | "open" | "shut"} the state: before `initialize`, between `initialize` and `shutdown`, or after `shutdown` */
     this.state = "new";
     /** @type {Map<Id, PendingRequest>} the requests without a response */
     this.pendingRequests = new Map();
@@ -104,7 +107,7 @@ export class Connection extends MessageStream {
     }
     const pending = { isCancelled: false };
     this.pendingRequests.set(id, pending);
-    // The connection handles the messages of a chunk in their order, so the state must change before the first `await`.
+    // The next message may be served as soon as this function awaits, so the state must change before.
     if (method === "initialize") this.state = "open";
     if (method === "shutdown") this.state = "shut";
     try {
@@ -140,7 +143,7 @@ export class Connection extends MessageStream {
    */
   async serveNotification(method, params) {
     if (method === "exit") {
-      // The response to a `shutdown` in the same chunk is written first.
+      // If a `shutdown` request arrived just before, its response must be written before the process ends.
       if (this.pendingRequests.size > 0) await null;
       this.end(this.state === "shut" ? 0 : 1);
       return;
@@ -159,7 +162,7 @@ export class Connection extends MessageStream {
   }
 
   /**
-   * Sends the message of an error that does not belong to a request to the client's log.
+   * Writes an error message to the client's log, for an error that does not belong to a request.
    * @param {string} words
    */
   logMessage(words) {

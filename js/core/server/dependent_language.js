@@ -25,15 +25,15 @@ import * as say from "../../words/server.js";
  * @typedef {{ board: NamedText, program: NamedText, tests: NamedText[] }} DependencyTexts
  */
 
-/** The completion kinds of the protocol. */
+/** The protocol's completion kinds for keywords and for values. */
 const KEYWORD_COMPLETION = 14;
 const VALUE_COMPLETION = 12;
 
 /**
- * Adds a range to an error: the word at the column of the error, or the whole line if the column is unknown. Removes the column from the
- * message if the range shows it.
+ * Returns an error with a range: the word at its column, or the whole line if the column is unknown. Removes the column from the message,
+ * because the range shows it.
  * @param {string[]} lines
- * @param {{ line: number, column: number, words: string }} fault the line counts from 1, the column from 0; the column is -1 if unknown
+ * @param {{ line: number, column: number, words: string }} fault the error; its line counts from 1, its column from 0 (-1 if unknown)
  * @returns {ShownFault}
  */
 export function locateError(lines, { line, column, words: fullMessage }) {
@@ -67,13 +67,13 @@ export class DependentLanguage {
   constructor(engine, findDependencies) {
     this.engine = engine;
     this.findDependencies = findDependencies;
-    /** @type {{ texts: Texts, prepared: ReturnType<typeof prepareTests> } | null} the last prepared texts, with the result */
+    /** @type {{ texts: Texts, prepared: ReturnType<typeof prepareTests> } | null} the texts and the result of the last preparation */
     this.lastPrepared = null;
   }
 
   /**
-   * Prepares a board and a program for tests. Returns a session with both and their names, or else their errors. For the texts of the last
-   * call, returns the last result again.
+   * Prepares a board and a program for tests. Returns a session with both and their names, or else their errors. If the texts are those of
+   * the last call, returns the same result again.
    * @param {Texts} texts
    */
   prepareTexts(texts) {
@@ -99,7 +99,7 @@ export class DependentLanguage {
   }
 
   /**
-   * Returns the names of keys, lamps and labels, even if the board or program has errors.
+   * Returns the names of keys, lamps and labels that a text can use, even if the board or the program has errors.
    * @param {OpenText} openText
    * @returns {TestNames}
    */

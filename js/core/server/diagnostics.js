@@ -9,14 +9,16 @@ import * as say from "../../words/server.js";
  * @typedef {import("../text/sendable_text.js").Fault} Fault
  * @typedef {import("./lsp_protocol.js").Range} Range
  *
- * An error or a warning in any text. It is a warning if it has no number and `isError` is not true.
+ * An error or a warning in any kind of text. It is a warning if its number is 0 and `isError` is not true.
  * @typedef {Fault & { isError?: boolean }} ShownFault
  * @typedef {{ range: Range, severity: number, code?: number, source: string, message: string }} Diagnostic
  */
 
+/** The severities of diagnostics in the protocol. */
 const ERROR = 1;
 const WARNING = 2;
 const INFORMATION = 3;
+/** The name of the program that reports the diagnostics. */
 const SOURCE = "mcs4";
 
 /**
@@ -30,15 +32,15 @@ export function toDiagnostic({ number, line, from, to, words, isError = number >
 }
 
 /**
- * Returns the diagnostics of a text. If the text has, or can have, more errors than are listed, the last diagnostic says so.
+ * Returns the diagnostics of a text. If the text has, or can have, more errors than the list, the last diagnostic says so.
  * @param {ShownFault[]} faults
- * @param {boolean} isWhole false if the text can contain more errors
+ * @param {boolean} isWhole false if the text can contain errors that `faults` lacks
  * @returns {Diagnostic[]}
  */
 export function toDiagnostics(faults, isWhole) {
   const diagnostics = faults.slice(0, MAX_ERRORS).map(toDiagnostic);
-  const isMore = faults.length > MAX_ERRORS || (!isWhole && faults.length > 1);
-  if (!isMore) return diagnostics;
+  const hasMore = faults.length > MAX_ERRORS || (!isWhole && faults.length > 1);
+  if (!hasMore) return diagnostics;
   const { range } = diagnostics[diagnostics.length - 1];
   return [...diagnostics, { range, severity: INFORMATION, source: SOURCE, message: say.MAY_BE_MORE }];
 }

@@ -4,7 +4,7 @@ import * as say from "../../words/server.js";
 
 /** The maximum length of a message body in bytes. The reader skips a longer message. */
 export const MAX_MESSAGE = 16777216;
-/** The maximum length of a skipped message body in bytes. A longer message ends the stream with an error. */
+/** The maximum length, in bytes, of a message body that the reader skips. A longer message ends the stream with an error. */
 export const MAX_SKIPPED = 16 * MAX_MESSAGE;
 /** The maximum header length in bytes. */
 const MAX_HEADER = 4096;
@@ -16,7 +16,7 @@ const CONTENT_LENGTH = /^content-length[ \t]*:[ \t]*(\d{1,12})[ \t]*$/i;
  * @typedef {{ text: string } | { tooLong: number }} ReceivedMessage
  */
 
-/** The error for a malformed stream, in which the reader cannot find the next message. */
+/** The error that is thrown for a malformed stream, in which the reader cannot find the next message. */
 export class StreamError extends Error {}
 
 /**
@@ -43,7 +43,7 @@ export class MessageReader {
     this.size = 0;
   }
 
-  /** An error message if the received bytes end within a message; "" if they end between messages. */
+  /** An error message if the bytes received so far end within a message; "" if they end between messages. */
   get incomplete() {
     if (this.missingBytes > 0) return say.messageIncomplete(this.size - this.missingBytes, this.size);
     return this.header === "" ? "" : say.HEAD_INCOMPLETE;
@@ -62,7 +62,7 @@ export class MessageReader {
       at += count;
       if (this.missingBytes < 0) break;
       this.missingBytes -= count;
-      if (this.missingBytes === 0) yield this.end();
+      if (this.missingBytes === 0) yield this.finishMessage();
     }
   }
 
@@ -87,10 +87,10 @@ export class MessageReader {
   }
 
   /**
-   * Ends a message and returns it.
+   * Returns the message whose last byte was read, and prepares the reader for the next header.
    * @returns {ReceivedMessage}
    */
-  end() {
+  finishMessage() {
     const { body, size } = this;
     this.missingBytes = -1;
     this.body = null;

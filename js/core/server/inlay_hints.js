@@ -1,4 +1,5 @@
-// Creates the inlay hints for a program: the address and the cycles at the end of a line, and the values after names.
+// Creates the inlay hints for a program, which an editor shows in its lines: the address and the cycles at the end of a line, and the
+// values after names.
 
 import { hex } from "../bench/numbers.js";
 import { splitStatement } from "../text/assembly.js";

@@ -1,5 +1,5 @@
-// The interface of a language: the requests that an editor can send about its texts. A language implements only the methods that it
-// supports.
+// The interface of a language: an object that answers an editor's requests about one kind of text, such as programs or boards. A language
+// implements only the methods that it supports.
 
 /**
  * @typedef {import("../text/completion.js").Completion} Completion
@@ -13,10 +13,10 @@
  * @typedef {import("./lsp_protocol.js").TextEdit} TextEdit
  * @typedef {import("./token_codes.js").ColouredWord} ColouredWord
  *
- * The errors in a text. `isWhole` is false if the text can contain more errors.
+ * The errors in a text. `isWhole` is false if the text can contain errors that `faults` lacks.
  * @typedef {{ faults: import("./diagnostics.js").ShownFault[], isWhole: boolean }} FoundFaults
  *
- * The help at a position, as plain text and in Markdown.
+ * The help at a position, as plain text (`words`) and in Markdown.
  * @typedef {{ words: string, markdown: string, range?: Range }} Hover
  * @typedef {CompletionItem & { kind: number, documentation?: string }} CompletedWord
  * @typedef {{ name: string, kind: number, detail: string, range: Range, selectionRange: Range }} DocumentSymbol
@@ -25,18 +25,19 @@
  * @typedef {{ signatures: Signature[], activeSignature: number, activeParameter: number }} SignatureHelp
  * @typedef {{ range: Range, target: string, tooltip: string }} DocumentLink
  *
- * A code lens: its title above a line, and either the references that a click shows, or the name of the test that a click runs. The unused
- * one of `references` and `test` is null.
+ * A code lens: a title above a line. A click shows the references, or runs the test with the name `test`; one of the two is null.
  * @typedef {{ range: Range, title: string, references: Range[] | null, test: string | null }} Lens
  *
- * A routine of a program. `Call` is a calling or called routine, with the ranges of the calls.
+ * A routine of a program, in the protocol's format.
  * @typedef {{ name: string, detail: string, range: Range, selectionRange: Range }} Routine
+ *
+ * A calling or called routine, with the ranges of the calls.
  * @typedef {{ routine: Routine, ranges: Range[] }} Call
  *
  * @typedef {object} Language
  * @property {Parts} parts the rules for folding a text
- * @property {(openText: OpenText, isWanted: () => boolean) => Promise<FoundFaults | undefined>} faults resolves to undefined if `isWanted`
- *   returns false during the check
+ * @property {(openText: OpenText, isWanted: () => boolean) => Promise<FoundFaults | undefined>} findErrors resolves to undefined if
+ *   `isWanted` returns false during the check
  * @property {(openText: OpenText, position: Position) => Hover | null} [hover]
  * @property {(openText: OpenText, position: Position) => Range | Location | null} [definition] returns a Range if the
  *   target is in the same text

@@ -29,11 +29,11 @@ import * as say from "../../words/server.js";
  * @typedef {import("./diagnostics.js").ShownFault} ShownFault
  * @typedef {import("./language.js").Language} Language
  *
- * The functions of the host: `readFile` returns the text of a file, `pause` yields to other tasks.
+ * The functions that the process provides: `readFile` returns the text of a file, and `pause` yields to other tasks.
  * @typedef {{ readFile: import("./text_kinds.js").ReadText, pause: () => Promise<void> }} Host
  *
- * An open text with its errors and diagnostics. `checkedEdits` is the number of edits before the last completed check, -1 before the first
- * check. `check` resolves at the end of the current check.
+ * An open text with its errors and diagnostics. `checkedEdits` is the number of edits that the last completed check has taken into account,
+ * -1 before the first check. `check` resolves when the current check ends.
  * @typedef {{ open: OpenText, faults: ShownFault[], diagnostics: Diagnostic[], checkedEdits: number, check: Promise<void> }} CheckedText
  */
 
@@ -41,8 +41,8 @@ export class LanguageServer {
   /**
    * @param {Connection} connection
    * @param {import("../engine/engine_host.js").EngineHost} engine
-   * @param {{ refusals: Record<string, string>, manual: import("../help/manual.js").ManualSection[] }} data the refusal texts and the
-   *   manual
+   * @param {{ refusals: Record<string, string>, manual: import("../help/manual.js").ManualSection[] }} data the bench's error messages, by
+   *   number, and the manual
    * @param {Host} host
    */
   constructor(connection, engine, { refusals, manual }, host) {
@@ -76,10 +76,10 @@ export class LanguageServer {
     };
   }
 
-  // --- the texts
+  // --- open texts and files
 
   /**
-   * Returns the open text for a request; throws ProtocolError if the text is not open.
+   * Returns the open text that a request names; throws ProtocolError if the text is not open.
    * @param {any} params
    * @returns {CheckedText}
    */
@@ -176,7 +176,7 @@ export class LanguageServer {
     const { open: openText } = this.requestedText(params);
     this.texts.delete(openText.uri);
     if (!this.client.pullsDiagnostics) this.connection.notify("textDocument/publishDiagnostics", { uri: openText.uri, diagnostics: [] });
-    this.checkDependents((uri) => this.isAffectedBy(openText.uri, uri));
+    this.checkDependents((uri) => this.affectsErrorsIn(openText.uri, uri));
   }
 
   /** @param {string} uri the URI of a program */
@@ -196,16 +196,16 @@ export class LanguageServer {
   // --- errors
 
   /**
-   * Returns whether a changed text affects the errors of another text. The errors of a program depend on its board. The errors of tests and
-   * properties depend on board, program and tests.
+   * Returns whether a changed text affects the errors in another text. The errors in a program depend on its board. The errors in tests and
+   * properties depend on the board, the program and other tests.
    * @param {string} uri the URI of the changed text
    * @param {string} other the URI of the other text
    */
-  isAffectedBy(uri, other) {
+  affectsErrorsIn(uri, other) {
     if (isProjectFile(uri)) return true;
     const text = this.texts.get(other);
     if (!text || uri === other) return false;
-    // A program does not depend on another program, so this search for projects is often unnecessary.
+    // A program does not depend on another program, so the search for its board is often unnecessary.
     const dependsOnProgram = isTestFile(text.open) || isPropertyFile(text.open);
     if (!dependsOnProgram) return !NON_BOARD_FILES.test(uri) && this.findBoard(other).uri === uri;
     const { board, program, tests } = findDependencies(other, (each, folder) => this.readText(each, folder));
@@ -219,11 +219,11 @@ export class LanguageServer {
   checkWithDependents(text) {
     text.check = this.checkText(text);
     const { uri } = text.open;
-    this.checkDependents((other) => this.isAffectedBy(uri, other));
+    this.checkDependents((other) => this.affectsErrorsIn(uri, other));
   }
 
   /**
-   * Checks the open texts again that depend on another text.
+   * Checks those open texts again that depend on a changed text.
    * @param {(uri: string) => boolean} isDependent returns whether the text at a URI depends on the changed text
    */
   checkDependents(isDependent) {
@@ -236,7 +236,7 @@ export class LanguageServer {
   }
 
   /**
-   * Waits until a text is checked with all its edits, including edits that arrive during the wait.
+   * Waits until a text has been checked with all its edits, including edits that arrive meanwhile.
    * @param {CheckedText} text
    */
   async waitForCheck(text) {
@@ -259,7 +259,7 @@ export class LanguageServer {
       if (!found || !isWanted()) return;
       Object.assign(text, { faults: found.faults, diagnostics: toDiagnostics(found.faults, found.isWhole), checkedEdits: edits });
       this.publish(text);
-      // The assembler runs now, so that the first hover is fast.
+      // The program is assembled now, so that the first hover is fast.
       if (found.faults.length === 0 && this.findLanguage(openText) === this.program) this.program.assembleProgram(openText);
     } catch (thrown) {
       Object.assign(text, { faults: [], diagnostics: [], checkedEdits: edits });
@@ -276,21 +276,22 @@ export class LanguageServer {
   }
 
   /**
+   * Finds the errors in a text. Resolves to undefined if `isWanted` returns false during the check.
    * @param {OpenText} openText
-   * @param {() => boolean} isWanted
+   * @param {() => boolean} isWanted returns false if the result is no longer needed
    */
   async findErrors(openText, isWanted) {
     const tooLong = lengthError(openText);
     const isKnown = isProgram(openText) || isBoard(openText) || isTestFile(openText) || isPropertyFile(openText);
     if (tooLong) return { faults: isKnown ? [tooLong] : [], isWhole: true };
     const language = this.findLanguage(openText);
-    return language ? language.faults(openText, isWanted) : { faults: [], isWhole: true };
+    return language ? language.findErrors(openText, isWanted) : { faults: [], isWhole: true };
   }
 
   // --- tests
 
   /**
-   * Runs a test and shows its result. After a failure, the text also has a diagnostic until the next edit.
+   * Runs a test and shows its result. If the test fails, adds a diagnostic to the text, which stays until the next edit.
    * @param {string} uri
    * @param {string} name
    * @param {import("./connection.js").PendingRequest} pending

@@ -4,8 +4,8 @@ import { getField } from "./framing.js";
 import * as say from "../../words/server.js";
 
 /**
- * @typedef {{ line: number, character: number }} Position a position; both numbers count from 0, and `character` counts UTF-16 code units
- *   like JavaScript
+ * @typedef {{ line: number, character: number }} Position a position in a text; both numbers count from 0, and `character` counts UTF-16
+ *   code units, as JavaScript does
  * @typedef {{ start: Position, end: Position }} Range
  * @typedef {{ range: Range, newText: string }} TextEdit
  * @typedef {{ uri: string, range: Range }} Location
@@ -21,7 +21,7 @@ export const REQUEST_FAILED = -32803;
 export const CONTENT_MODIFIED = -32801;
 export const REQUEST_CANCELLED = -32800;
 
-/** An error that rejects a request. */
+/** The error that a request handler throws to reject the request. */
 export class ProtocolError extends Error {
   /**
    * @param {number} code
@@ -56,6 +56,7 @@ export function needText(value, parameterName) {
 }
 
 /**
+ * Checks that a value is a position; throws ProtocolError for any other value.
  * @param {any} value
  * @returns {Position}
  */
@@ -68,6 +69,7 @@ export function needPosition(value) {
 }
 
 /**
+ * Checks that a value is a range; throws ProtocolError for any other value.
  * @param {any} value
  * @returns {Range}
  */

@@ -28,7 +28,7 @@ export class MessageStream {
   }
 
   /**
-   * Reports a message that is cut off at the end of the stream. Returns the error message, "" if no message is cut off.
+   * Reports a message that is cut off by the end of the stream. Returns the error message, "" if no message is cut off.
    * @returns {string}
    */
   reportIncomplete() {

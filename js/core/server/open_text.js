@@ -22,7 +22,7 @@ export class OpenText {
     this.lines = text.split(LINE_END);
     /** The number of edits. */
     this.edits = 0;
-    /** @type {{ text: string, edits: number } | null} the last result of the getter `text`, and the number of edits at that time */
+    /** @type {{ text: string, edits: number } | null} the last result of the getter `text`, and the number of edits before it */
     this.cachedText = null;
   }
 
@@ -38,7 +38,7 @@ export class OpenText {
   }
 
   /**
-   * Returns the nearest valid position in the text.
+   * Returns the position itself if it is in the text, or else the nearest position in the text.
    * @param {Position} position
    * @returns {Position}
    */

@@ -1,4 +1,4 @@
-// Finds the call hierarchy of a program, and creates the code lenses with call counts above labels.
+// Finds the routines of a program and the calls between them. Creates the code lenses above labels, which show the numbers of calls.
 
 import { Routines } from "../text/routines.js";
 import { rangeInLine } from "./lsp_protocol.js";
@@ -13,8 +13,8 @@ import * as say from "../../words/server.js";
  * @typedef {import("./lsp_protocol.js").Range} Range
  */
 
-/** @type {(place: CallPlace) => Range} returns the range of a call */
-const placeRange = ({ line, from, to }) => rangeInLine(line + 1, from, to);
+/** @type {(place: CallPlace) => Range} returns the range of a call in the text */
+const callRange = ({ line, from, to }) => rangeInLine(line + 1, from, to);
 
 export class ProgramCalls {
   /**
@@ -44,7 +44,7 @@ export class ProgramCalls {
    * @returns {Call[]}
    */
   toCalls(calls) {
-    return calls.map(({ routine, places }) => ({ routine: this.toRoutine(routine), ranges: places.map(placeRange) }));
+    return calls.map(({ routine, places }) => ({ routine: this.toRoutine(routine), ranges: places.map(callRange) }));
   }
 
   /**
@@ -57,8 +57,9 @@ export class ProgramCalls {
   }
 
   /**
-   * @param {string} name
-   * @param {number} line
+   * Returns the routine with a name or at a line, in the protocol's format; null if there is none.
+   * @param {string} name the name, "" for none
+   * @param {number} line the line number from 0
    */
   routine(name, line) {
     const found = this.findRoutine(name, line);

@@ -15,7 +15,7 @@ import { describeDirective, describeInstruction, describeRegister } from "../tex
  *   meaningOf: (name: string) => string }} CompletionContext
  */
 
-/** The completion kinds of the protocol. */
+/** The protocol's completion kinds for labels, registers, keywords, constants and JCN conditions. */
 const FUNCTION_COMPLETION = 3;
 const VARIABLE_COMPLETION = 6;
 const KEYWORD_COMPLETION = 14;

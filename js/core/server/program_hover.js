@@ -1,5 +1,5 @@
-// Creates the hover for a program: the manual's description of an instruction, or the meaning and the comment of a name; and the address of
-// the line.
+// Creates the hover text for a word in a program. For an instruction, it is the manual's description; for a name, its meaning and its
+// comment. The address of the line follows.
 
 import { NUMBER, findDefinedNames, splitStatement, wordAt } from "../text/assembly.js";
 import { parseOperandKinds } from "../text/program_words.js";
@@ -14,8 +14,8 @@ import * as say from "../../words/server.js";
  * @typedef {import("./language.js").Hover} Hover
  * @typedef {import("./lsp_protocol.js").Position} Position
  *
- * The context of a hover: the manual's instructions and JCN conditions, functions for the meaning and the value of a name, and a function
- * that describes the address of a line ("" if unknown).
+ * The data for a hover: the manual's instructions and JCN conditions, functions that return the meaning and the value of a name, and a
+ * function that describes the address of a line ("" if it is unknown).
  * @typedef {{ instructions: Map<string, Instruction>, conditions: Map<number, string>, meaningOf: (name: string) => string,
  *   valueOf: (name: string) => number | undefined, describeLine: (line: number) => string }} HoverContext
  */
@@ -24,7 +24,7 @@ import * as say from "../../words/server.js";
 const MAX_LINES = 12;
 
 /**
- * Returns the comment of a name: the comment lines above a label, and the comment on the line of the definition.
+ * Returns the comment that describes a name: the comment lines above a label, and the comment on the line of the definition.
  * @param {string[]} lines
  * @param {string} name
  * @returns {string[]}
@@ -48,8 +48,8 @@ export function findNameComment(lines, name) {
 function describeCondition(text, word, { instructions, conditions, valueOf }) {
   const { head, operands } = splitStatement(text);
   const instruction = head && instructions.get(head.text.toUpperCase());
-  const place = operands.findIndex(({ from }) => from === word.from);
-  if (!instruction || parseOperandKinds(instruction.form)[place] !== "c") return "";
+  const operandIndex = operands.findIndex(({ from }) => from === word.from);
+  if (!instruction || parseOperandKinds(instruction.form)[operandIndex] !== "c") return "";
   const value = NUMBER.test(word.text) ? Number(word.text) : valueOf(word.text);
   const words = value === undefined ? undefined : conditions.get(value);
   return words && value !== undefined ? say.conditionIs(value, words) : "";
@@ -78,14 +78,14 @@ export function programHover(lines, { line, character }, context) {
   const helpText = helpForProgram(lines, line, character, context.instructions, context.meaningOf);
   const word = wordAt(text, character);
   const condition = word ? describeCondition(text, word, context) : "";
-  const place = context.describeLine(line + 1);
+  const lineText = context.describeLine(line + 1);
   const instruction = word && context.instructions.get(word.text.toUpperCase());
   const comment = word && !instruction ? findNameComment(lines, word.text) : [];
   const markdown = [
     instruction ? instructionTable(instruction) : escapeMarkdown(helpText), escapeMarkdown(condition),
-    comment.length > 0 ? formatBlock(comment) : "", escapeMarkdown(place),
+    comment.length > 0 ? formatBlock(comment) : "", escapeMarkdown(lineText),
   ].filter((each) => each !== "").join("\n\n");
   const range = word && (helpText !== "" || condition !== "") ? { range: rangeInLine(line + 1, word.from, word.to) } : {};
-  const plainTexts = [helpText, condition, comment.join("\n"), place].filter((each) => each !== "");
+  const plainTexts = [helpText, condition, comment.join("\n"), lineText].filter((each) => each !== "");
   return plainTexts.length === 0 ? null : { words: plainTexts.join("\n\n"), markdown, ...range };
 }

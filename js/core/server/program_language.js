@@ -29,35 +29,35 @@ import * as say from "../../words/server.js";
  *   bytes of ROM
  */
 
-/** The symbol kinds of the protocol. */
+/** The protocol's symbol kinds for labels and for constants. */
 const FUNCTION = 12;
 const CONSTANT = 14;
 /** @type {Record<string, string>} the protocol's token types, by kind of word */
 const TOKEN_TYPES = { comment: "comment", instruction: "keyword", directive: "macro", register: "variable", number: "number" };
 
 /**
- * Returns the ranges of the names in the operands of a program, by name.
+ * Returns the ranges in which each name is an operand, by name.
  * @param {string[]} lines
  * @returns {Map<string, Range[]>}
  */
 function operandRanges(lines) {
   /** @type {Map<string, Range[]>} */
-  const places = new Map();
+  const rangesByName = new Map();
   lines.forEach((text, line) => {
     for (const { text: word, from, to } of splitStatement(text).operands) {
-      const knownRanges = places.get(word) || [];
+      const knownRanges = rangesByName.get(word) || [];
       knownRanges.push(rangeInLine(line + 1, from, to));
-      places.set(word, knownRanges);
+      rangesByName.set(word, knownRanges);
     }
   });
-  return places;
+  return rangesByName;
 }
 
 export class ProgramLanguage {
   /**
    * @param {TextBench} bench
    * @param {ManualSection[]} manual
-   * @param {(number: number) => string} refusalMessage returns the message of a refusal
+   * @param {(number: number) => string} refusalMessage returns the message for an error number of the bench
    * @param {(uri: string) => string | null} findBoardText returns the board text of a program
    * @param {() => Promise<void>} pause yields to other tasks
    */
@@ -69,18 +69,19 @@ export class ProgramLanguage {
     this.refusalMessage = refusalMessage;
     this.findBoardText = findBoardText;
     this.pause = pause;
-    /** @type {{ text: string, program: AssembledProgram | null } | null} the last text that was passed to the assembler, with
-     *   the result */
+    /** @type {{ text: string, program: AssembledProgram | null } | null} the text and the result of the last assembly; `program` is null
+     *   if the text has errors */
     this.lastAssembled = null;
     this.isInstruction = (/** @type {string} */ word) => this.instructions.has(word);
     this.isHeadWord = (/** @type {string} */ word) => this.instructions.has(word) || DIRECTIVES.includes(word);
   }
 
   /**
+   * Finds the errors in a program.
    * @param {OpenText} openText
-   * @param {() => boolean} isWanted
+   * @param {() => boolean} isWanted returns false if the result is no longer needed
    */
-  faults({ uri, text }, isWanted) {
+  findErrors({ uri, text }, isWanted) {
     const board = this.findBoardText(uri);
     /** @type {<Result>(ask: () => Result) => Promise<Result>} */
     const askBench = async (ask) => {
@@ -88,14 +89,14 @@ export class ProgramLanguage {
       this.bench.setBoard(board);
       return ask();
     };
-    const allFaults = new TextErrorFinder({
+    const errorFinder = new TextErrorFinder({
       wiring: async () => null,
       errors: (sent) => askBench(() => this.bench.errors(sent)),
       refuse: (sent) => askBench(() => this.bench.programRefusal(sent)),
       map: (sent) => askBench(() => this.bench.read(sent).map),
       roms: () => askBench(() => this.bench.boardSession.roms),
     }, { instructions: this.instructions, tables: new Map() }, this.refusalMessage);
-    return allFaults.findInProgram(text, isWanted);
+    return errorFinder.findInProgram(text, isWanted);
   }
 
   /**
@@ -269,7 +270,8 @@ export class ProgramLanguage {
   }
 
   /**
-   * Returns the column ranges for a growing selection in a line: the operands, the statement, the statement with its label, the comment.
+   * Returns the column ranges in a line to which an editor can expand the selection: the operands, the statement, the statement with its
+   * label, and the comment.
    * @param {OpenText} openText
    * @param {Position} position
    * @returns {[number, number][]}
@@ -282,7 +284,10 @@ export class ProgramLanguage {
     return [...starts.map((from) => /** @type {[number, number]} */ ([from, end])), [comment, text.length]];
   }
 
-  /** @param {OpenText} openText */
+  /**
+   * Returns the call hierarchy of a program.
+   * @param {OpenText} openText
+   */
   calls(openText) {
     const program = this.assembleProgram(openText);
     return new ProgramCalls(openText.lines, program && program.map);
@@ -312,9 +317,12 @@ export class ProgramLanguage {
     return this.calls(openText).callees(nameAt(openText.lines, line, character), line);
   }
 
-  /** @param {OpenText} openText */
+  /**
+   * Returns a code lens for each label, which shows the number of its uses.
+   * @param {OpenText} openText
+   */
   lenses(openText) {
-    const places = operandRanges(openText.lines);
-    return this.calls(openText).lenses((name) => places.get(name) || []);
+    const rangesByName = operandRanges(openText.lines);
+    return this.calls(openText).lenses((name) => rangesByName.get(name) || []);
   }
 }

@@ -11,6 +11,7 @@ import { rangeInLine } from "./lsp_protocol.js";
  * @typedef {import("./open_text.js").OpenText} OpenText
  */
 
+/** The protocol's symbol kind for a file. */
 const FILE = 1;
 
 export class ProjectLanguage {
@@ -20,8 +21,11 @@ export class ProjectLanguage {
     this.readText = readText;
   }
 
-  /** @param {OpenText} openText */
-  async faults({ uri, text }) {
+  /**
+   * Finds the errors in a project file.
+   * @param {OpenText} openText
+   */
+  async findErrors({ uri, text }) {
     return { faults: findProjectErrors(uri, text, this.readText), isWhole: true };
   }
 

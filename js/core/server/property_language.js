@@ -16,11 +16,11 @@ import { colouredWords } from "./token_codes.js";
  * @typedef {import("./lsp_protocol.js").Position} Position
  */
 
-/** The symbol kind of the protocol. */
+/** The protocol's symbol kind for a property. */
 const PROPERTY = 7;
 /** Matches a line with a property. */
 const PROPERTY_LINE = /^(never|always|at|after|every|reach|model|while|once|@\S+|.*\bonly after)\b/;
-/** Matches a line `from STATE of FILE`. */
+/** Matches a line `from STATE of FILE`, which begins the search at a state that a test saves. */
 const STATE_OF_FILE = /^([ \t]*from[ \t]+\S+[ \t]+of[ \t]+)(\S.*)$/;
 
 export class PropertyLanguage extends DependentLanguage {
@@ -37,8 +37,11 @@ export class PropertyLanguage extends DependentLanguage {
     this.readText = readText;
   }
 
-  /** @param {OpenText} openText */
-  async faults({ uri, lines, text }) {
+  /**
+   * Finds the errors in a property file. If the board or the program has an error, reports only that.
+   * @param {OpenText} openText
+   */
+  async findErrors({ uri, lines, text }) {
     const dependencies = this.findDependencies(uri);
     const dependencyError = this.dependencyError(dependencies);
     if (dependencyError) return { faults: [dependencyError], isWhole: true };
@@ -48,8 +51,8 @@ export class PropertyLanguage extends DependentLanguage {
   }
 
   /**
-   * Returns the board and the program in the form that a search for counterexamples uses. If both texts are those of the previous call,
-   * returns its result again.
+   * Returns the board and the program in the form that a search for counterexamples uses. If both texts are those of the last call, returns
+   * the same result again.
    * @param {string} boardText
    * @param {string} programText
    */

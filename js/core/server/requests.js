@@ -1,5 +1,5 @@
-// The handlers of all requests, by method name. A handler checks the parameters, calls the language of the text (language.js), and converts
-// the answer to the protocol's format.
+// The handlers of all requests, by method name. A handler checks the parameters, calls the handler object for the kind of text (its
+// `Language`, language.js), and converts the answer to the protocol's format.
 
 import { capabilitiesFor, readClient, RUN_TEST } from "./capabilities.js";
 import { toCodeLens } from "./code_lens.js";
@@ -21,15 +21,16 @@ import * as say from "../../words/server.js";
  * @typedef {import("./lsp_protocol.js").Position} Position
  */
 
+/** The protocol's symbol kind for a routine. */
 const FUNCTION = 12;
-const WHOLE_TEXT = { start: { line: 0, character: 0 }, end: { line: Number.MAX_SAFE_INTEGER, character: 0 } };
+const WHOLE_TEXT_RANGE = { start: { line: 0, character: 0 }, end: { line: Number.MAX_SAFE_INTEGER, character: 0 } };
 const MAX_TAB_SIZE = 16;
 
 /**
  * Reads the formatting options: the tab size, and whether to indent with blanks instead of tabs.
  * @param {any} options the options of the request
  */
-function readLayout(options) {
+function readFormattingOptions(options) {
   const tabSize = getField(options, "tabSize");
   const isSize = Number.isInteger(tabSize) && tabSize >= 1 && tabSize <= MAX_TAB_SIZE;
   return { tabSize: isSize ? tabSize : 8, insertSpaces: getField(options, "insertSpaces") !== false };
@@ -90,7 +91,7 @@ export class Requests {
   // --- requests about a text
 
   /**
-   * Calls a function with the language (language.js) of the text that a request names.
+   * Calls a function with the text that a request names, and with the language (language.js) of this text.
    * @template Result
    * @param {any} params
    * @param {(language: Language, openText: OpenText) => Result} ask
@@ -110,7 +111,7 @@ export class Requests {
       "textDocument/codeAction": (params) => this.codeAction(params),
       "textDocument/codeLens": (params) => this.askLanguage(params, (language, openText) => (
         (language.lenses ? language.lenses(openText) : []).map((lens) => toCodeLens(lens, openText.uri, this.server.client.commands)))),
-      "textDocument/formatting": (params) => this.format(params, WHOLE_TEXT),
+      "textDocument/formatting": (params) => this.format(params, WHOLE_TEXT_RANGE),
       "textDocument/rangeFormatting": (params) => this.format(params, needRange(getField(params, "range"))),
       "textDocument/documentLink": (params) => this.askLanguage(params, (language, openText) => (
         language.links ? language.links(openText) : [])),
@@ -128,7 +129,8 @@ export class Requests {
   /**
    * Serves a request for semantic tokens.
    * @param {any} params
-   * @param {(openText: OpenText, words: import("./token_codes.js").ColouredWord[]) => object} ask
+   * @param {(openText: OpenText, words: import("./token_codes.js").ColouredWord[]) => object} ask returns the response for the words to
+   *   colour
    */
   colours(params, ask) {
     return this.askLanguage(params, (language, openText) => ask(openText, language.colours ? language.colours(openText) : []));
@@ -139,7 +141,7 @@ export class Requests {
    * @param {import("./lsp_protocol.js").Range} range
    */
   format(params, range) {
-    const layout = readLayout(getField(params, "options"));
+    const layout = readFormattingOptions(getField(params, "options"));
     return this.askLanguage(params, (language, openText) => (language.format ? language.format(openText, range, layout) : null));
   }
 
@@ -169,7 +171,7 @@ export class Requests {
   // --- requests about a position in a text
 
   /**
-   * Calls the language of a text with the requested position.
+   * Calls a function with the position that a request names, and with the text and its language.
    * @template Result
    * @param {any} params
    * @param {(language: Language, openText: OpenText, position: Position) => Result} ask
@@ -254,14 +256,14 @@ export class Requests {
     return {
       "textDocument/prepareCallHierarchy": (params) => this.askAtPosition(params, (language, openText, position) => {
         const routine = language.routine ? language.routine(openText, position) : null;
-        return routine && [this.item(routine, openText.uri)];
+        return routine && [this.toCallItem(routine, openText.uri)];
       }),
       "callHierarchy/incomingCalls": (params) => this.askAtItem(params, (language, openText, position) => (
         (language.callers ? language.callers(openText, position) : []).map(({ routine, ranges }) => (
-          { from: this.item(routine, openText.uri), fromRanges: ranges })))),
+          { from: this.toCallItem(routine, openText.uri), fromRanges: ranges })))),
       "callHierarchy/outgoingCalls": (params) => this.askAtItem(params, (language, openText, position) => (
         (language.callees ? language.callees(openText, position) : []).map(({ routine, ranges }) => (
-          { to: this.item(routine, openText.uri), fromRanges: ranges })))),
+          { to: this.toCallItem(routine, openText.uri), fromRanges: ranges })))),
     };
   }
 
@@ -270,12 +272,12 @@ export class Requests {
    * @param {Routine} routine
    * @param {string} uri
    */
-  item(routine, uri) {
+  toCallItem(routine, uri) {
     return { ...routine, kind: FUNCTION, uri };
   }
 
   /**
-   * Calls the language of a text with the position of a call hierarchy item.
+   * Calls a function with the position of the call hierarchy item that a request names, and with the text and its language.
    * @template Result
    * @param {any} params
    * @param {(language: Language, openText: OpenText, position: Position) => Result} ask

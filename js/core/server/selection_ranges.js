@@ -1,5 +1,5 @@
-// Finds selection ranges, the steps of a growing selection: the word, larger ranges in its line, the line, the folding ranges around
-// the line, and the whole text.
+// Finds the ranges for an editor command that expands the selection step by step: from the word to larger ranges in its line, the line, the
+// folding ranges around the line, and the whole text.
 
 import { wordAt } from "../text/assembly.js";
 import { findFolds } from "./folding_ranges.js";
@@ -12,11 +12,11 @@ import { findFolds } from "./folding_ranges.js";
  */
 
 /**
- * Returns whether a range contains another range and is larger.
+ * Returns whether a range contains another range and is larger than it.
  * @param {Range} outer
  * @param {Range} inner
  */
-function isLarger(outer, inner) {
+function properlyContains(outer, inner) {
   const isBefore = (/** @type {Position} */ one, /** @type {Position} */ other) => (
     one.line < other.line || (one.line === other.line && one.character <= other.character));
   const isSame = isBefore(inner.start, outer.start) && isBefore(outer.end, inner.end);
@@ -30,7 +30,7 @@ function isLarger(outer, inner) {
  * @param {Parts} parts
  * @returns {Range[]}
  */
-function enclosingParts(lines, line, parts) {
+function enclosingRanges(lines, line, parts) {
   const folds = findFolds(lines, parts).filter(({ startLine, endLine }) => startLine <= line && line <= endLine);
   const ranges = [...folds, { startLine: 0, endLine: lines.length - 1 }];
   return ranges.sort((one, other) => one.endLine - one.startLine - other.endLine + other.startLine).map(({ startLine, endLine }) => (
@@ -38,7 +38,7 @@ function enclosingParts(lines, line, parts) {
 }
 
 /**
- * Returns the ranges around a position. Each range links to the next larger range.
+ * Returns the smallest selection range around a position. Each selection range links to the next larger one (`parent`).
  * @param {string[]} lines
  * @param {Position} position
  * @param {[number, number][]} columnRanges the column ranges of the language in the line
@@ -55,8 +55,8 @@ export function selectionRangeAt(lines, { line, character }, columnRanges, parts
     .map(([from, to]) => ({ start: { line, character: from }, end: { line, character: to } }));
   /** @type {Range[]} */
   const nestedRanges = [];
-  for (const range of [...containingRanges, ...enclosingParts(lines, line, parts)]) {
-    if (nestedRanges.length === 0 || isLarger(range, nestedRanges[nestedRanges.length - 1])) nestedRanges.push(range);
+  for (const range of [...containingRanges, ...enclosingRanges(lines, line, parts)]) {
+    if (nestedRanges.length === 0 || properlyContains(range, nestedRanges[nestedRanges.length - 1])) nestedRanges.push(range);
   }
   const [outermost, ...inner] = nestedRanges.reverse();
   /** @type {SelectionRange} */

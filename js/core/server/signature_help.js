@@ -1,4 +1,4 @@
-// Creates signature help: while the user types operands, the form of the statement and the current operand.
+// Creates the signature help that an editor shows while the user types operands: the form of the statement, and the current operand.
 
 import { splitStatement } from "../text/assembly.js";
 import { parseOperandKinds, describeOperand } from "../text/program_words.js";
@@ -29,7 +29,7 @@ function createSignature(label, documentation, operands) {
 
 /**
  * Returns the signature of a directive.
- * @param {string} words the description; it starts with the form and a colon
+ * @param {string} words the description of the directive, which starts with its form and a colon
  * @param {string} kind the letter that the manual uses for the kind of operand
  */
 function directiveSignature(words, kind) {

@@ -14,11 +14,11 @@ import * as say from "../../words/server.js";
  * @typedef {import("./open_text.js").OpenText} OpenText
  * @typedef {import("./lsp_protocol.js").Position} Position
  *
- * The first line of a test, or of steps that tests share. `line` counts from 0. `from` and `to` are the columns of the name.
+ * The first line of a test, or of shared steps. `line` counts from 0; `from` and `to` are the first column and the end of the name.
  * @typedef {{ kind: "test" | "steps", name: string, line: number, from: number, to: number }} TestHead
  */
 
-/** The symbol kinds of the protocol. */
+/** The protocol's symbol kinds for tests and for shared steps. */
 const METHOD = 6;
 const FUNCTION = 12;
 const HEAD_LINE = /^([ \t]*)(test|steps)([ \t]+)(\S.*)$/;
@@ -49,8 +49,11 @@ export class TestLanguage extends DependentLanguage {
     this.forms = testForms(manual);
   }
 
-  /** @param {OpenText} openText */
-  async faults({ uri, lines, text }) {
+  /**
+   * Finds the errors in a test file. If the board or the program has an error, reports only that.
+   * @param {OpenText} openText
+   */
+  async findErrors({ uri, lines, text }) {
     const dependencies = this.findDependencies(uri);
     const dependencyError = this.dependencyError(dependencies);
     if (dependencyError) return { faults: [dependencyError], isWhole: true };

@@ -1,4 +1,5 @@
-// Runs a test on request of an editor. The tests that save its start states run first. Open texts are used as the editor shows them.
+// Runs a test when an editor requests it. If the test begins at a state that another test saves, that test runs first. For an open text,
+// uses the text in the editor, not the file.
 
 import { CancelledError } from "../bench/bench_errors.js";
 import { runTests } from "../testing/test_suite.js";
@@ -12,7 +13,8 @@ import * as say from "../../words/server.js";
  * @typedef {import("./diagnostics.js").ShownFault} ShownFault
  * @typedef {import("./open_text.js").OpenText} OpenText
  *
- * The result of a test: a message, whether the test passed, and the error in the failed line with the URI of its text (null for none).
+ * The result of a test: a message, whether the test passed, and the error in the line that failed, with the URI of its text (null for
+ * none).
  * @typedef {{ words: string, hasPassed: boolean, failure: { uri: string, fault: ShownFault } | null }} TestResult
  */
 
@@ -26,7 +28,7 @@ const notRunResult = (words) => ({ words, hasPassed: false, failure: null });
 export class TestRuns {
   /**
    * @param {import("../engine/engine_host.js").EngineHost} engine
-   * @param {(number: number) => string} refusalMessage returns the message of a refusal
+   * @param {(number: number) => string} refusalMessage returns the message for an error number of the bench
    * @param {(uri: string) => DependencyTexts} findDependencies
    * @param {() => Promise<void>} pause yields to other tasks
    */
@@ -72,7 +74,7 @@ export class TestRuns {
    * Runs one test; throws ProtocolError if the run is cancelled.
    * @param {import("../testing/test_suite.js").TestedTexts} texts
    * @param {() => Promise<boolean>} mayContinue
-   * @param {{ name: string, source: string }} only
+   * @param {{ name: string, source: string }} only the name of the test, and the URI of its file
    */
   async runOneTest(texts, mayContinue, only) {
     try {
@@ -83,6 +85,7 @@ export class TestRuns {
   }
 
   /**
+   * Returns the message for an error because of which the test cannot run.
    * @param {import("../testing/test_preparation.js").TextFault} fault
    * @param {DependencyTexts} dependencies
    */

@@ -10,7 +10,7 @@ import { ALL_ROMS, textRefusal, readProgram } from "../engine/program_check.js";
  * @typedef {import("../engine/engine_host.js").EngineHost} Engine
  * @typedef {import("../engine/program_check.js").Program} Program
  *
- * A session with a board: the board text (null for none), the session bytes, and the numbers of the ROMs.
+ * A session with a board: the board text (null for none), the bytes of the session file, and the numbers of the ROMs.
  * @typedef {{ text: string | null, file: Uint8Array, roms: Set<number> }} BoardSession
  */
 
@@ -46,7 +46,7 @@ export class TextBench {
   }
 
   /**
-   * Returns the refusal of bench lines; null if the bench accepts the lines.
+   * Returns the error with which the bench rejects lines; null if the bench accepts the lines.
    * @param {Uint8Array} file the session file
    * @param {string} lines
    */
@@ -71,7 +71,7 @@ export class TextBench {
   }
 
   /**
-   * Returns the refusal of a program on the current board; null if the bench accepts the program.
+   * Returns the error with which the bench rejects a program on the current board; null if the bench accepts the program.
    * @param {string} text the result of `sentText`
    */
   programRefusal(text) {
@@ -79,7 +79,7 @@ export class TextBench {
   }
 
   /**
-   * Returns the queries of this bench as callbacks for AllFaultsOfTexts.
+   * Returns the queries of this bench as callbacks for TextErrorFinder.
    * @returns {import("../text/text_error_finder.js").FaultQueries}
    */
   queries() {
@@ -103,7 +103,7 @@ export class TextBench {
   }
 
   /**
-   * Returns the `map` answers and the bytes of a program. For the text of the last call, returns the last result again.
+   * Returns the `map` answers and the bytes of a program. If the text is that of the last call, returns the same result again.
    * @param {string} sent the result of `sentText`
    * @returns {Program}
    */

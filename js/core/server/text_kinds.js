@@ -1,4 +1,4 @@
-// Determines the kind of a text (program, board, tests, properties, project file), and finds its project, board and program.
+// Determines the kind of a text (program, board, tests, properties or project file), and finds its project, board and program.
 
 import { LONGEST_PROJECT_FILE, PROJECT_FILE, listNamedFiles, readProjectToml } from "../project/project_toml.js";
 import { readBoardText } from "../text/board_reader.js";
@@ -9,8 +9,8 @@ import * as say from "../../words/server.js";
  * @typedef {import("./open_text.js").OpenText} OpenText
  * @typedef {import("../text/sendable_text.js").Fault} Fault
  *
- * Returns the text of a file; null if the file cannot be read or is outside `folder`. `folder` is the folder of the project that names the
- * file, "" for none.
+ * A function that returns the text of a file, or null if the file cannot be read or is outside `folder`. `folder` is the folder of the
+ * project that names the file, "" for none.
  * @typedef {(uri: string, folder: string) => string | null} ReadText
  *
  * The URIs of a project folder and its files.
@@ -26,11 +26,11 @@ import * as say from "../../words/server.js";
 const TEST_FILES = /\.test$/i;
 const PROPERTY_FILES = /\.props$/i;
 /** Matches the names of files that are not programs. */
-const OTHER_FILES = /\.(test|props|txt|mcsp|mcs|md|json|toml|[ch])$/i;
+const NON_PROGRAM_FILES = /\.(test|props|txt|mcsp|mcs|md|json|toml|[ch])$/i;
 const TOML_FILES = /\.toml$/i;
 /** Matches the names of files that cannot be boards. */
 export const NON_BOARD_FILES = /\.(asm|4004|test|props)$/i;
-/** The names of tables that occur only in boards. */
+/** The names of the TOML tables that occur only in boards. */
 const BOARD_TABLES = ["rom", "ram", "chain", "lamp"];
 
 /** The maximum number of folders to search for a project, upwards from the folder of the text. */
@@ -53,7 +53,10 @@ export function parentFolder(uri) {
   return uri.replace(/[^/]*$/, "");
 }
 
-/** @param {string} uri */
+/**
+ * Returns whether a URI is that of a project file.
+ * @param {string} uri
+ */
 export function isProjectFile(uri) {
   return uri.endsWith(`/${PROJECT_FILE}`);
 }
@@ -86,8 +89,8 @@ export function findProjectErrors(uri, text, readText) {
 }
 
 /**
- * Finds the project of a text: the nearest folder with a valid project file, upwards from the folder of the text. Returns null if there is
- * none.
+ * Returns the project of a text. Searches the folder of the text and the folders above it, and uses the first one with a valid project
+ * file. Returns null if there is none.
  * @param {string} uri
  * @param {ReadText} readText
  * @returns {Project | null}
@@ -118,7 +121,7 @@ export function projectInFolder(folder, readText) {
 }
 
 /**
- * Finds the board of a program: the board of the project, or else `board.toml` in the folder of the program.
+ * Returns the board of a program: the board that the project names, or else `board.toml` in the folder of the program.
  * @param {string} uri
  * @param {ReadText} readText
  * @returns {NamedBoard}
@@ -129,8 +132,8 @@ export function findBoard(uri, readText) {
 }
 
 /**
- * Finds the files that a test or property file depends on: the files of the project; or else, in the same folder, `board.toml` and the
- * program with the same base name. `tests` are the test files of the project up to this file.
+ * Returns the files that a test or property file depends on: the files of the project; or else, in the same folder, `board.toml` and the
+ * program with the same base name. `tests` are the project's test files up to this one, because its tests can use their saved states.
  * @param {string} uri
  * @param {ReadText} readText
  * @returns {Dependencies}
@@ -164,7 +167,7 @@ export function isBoard({ uri, language, text }) {
  * @param {OpenText} openText
  */
 export function isProgram({ uri, language }) {
-  return language !== "toml" && !OTHER_FILES.test(uri);
+  return language !== "toml" && !NON_PROGRAM_FILES.test(uri);
 }
 
 /**

@@ -1,12 +1,14 @@
-// Encodes semantic tokens: the words that editors colour, with their kinds.
+// Encodes semantic tokens of the language server protocol: the words that an editor shall colour, with their kinds.
 
 /**
  * A word to colour: its line and columns (from 0), its token type, and whether it is a definition or a constant.
  * @typedef {{ line: number, from: number, to: number, type: string, isDeclaration?: boolean, isReadonly?: boolean }} ColouredWord
  */
 
-export const TYPES = ["comment", "function", "variable", "enumMember", "keyword", "macro", "number", "string", "property", "class"];
-export const MODIFIERS = ["declaration", "readonly"];
+/** The token types that the server uses, in the order of their numbers in the encoding. */
+export const TOKEN_TYPES = ["comment", "function", "variable", "enumMember", "keyword", "macro", "number", "string", "property", "class"];
+/** The token modifiers that the server uses, in the order of their bits in the encoding. */
+export const TOKEN_MODIFIERS = ["declaration", "readonly"];
 
 /** @type {Record<string, string>} the protocol's token types, by style of the page's editor */
 const TYPES_BY_STYLE = {
@@ -25,8 +27,8 @@ export function colouredWords(lines, colours) {
 }
 
 /**
- * Encodes each word as five numbers: the line distance to the previous word, the column distance to the previous word in the same line, the
- * length, the type, and the modifiers.
+ * Encodes each word as five numbers: the number of lines after the previous word; the number of columns after the previous word in the same
+ * line; the length; the type; and the modifiers.
  * @param {ColouredWord[]} words
  * @returns {number[]}
  */
@@ -36,19 +38,19 @@ export function encodeTokens(words) {
   return inOrder.filter((word) => word.to > word.from).flatMap((word) => {
     const columns = word.line === line ? word.from - from : word.from;
     const modifiers = (word.isDeclaration ? 1 : 0) + (word.isReadonly ? 2 : 0);
-    const code = [word.line - line, columns, word.to - word.from, TYPES.indexOf(word.type), modifiers];
+    const code = [word.line - line, columns, word.to - word.from, TOKEN_TYPES.indexOf(word.type), modifiers];
     [line, from] = [word.line, word.from];
     return code;
   });
 }
 
 /**
- * Returns the edits that change an encoding into another one: no edit if they are equal, or else one edit that replaces a range.
+ * Returns the edits that change one encoding into another: no edit if they are equal, or else one edit that replaces a range of numbers.
  * @param {number[]} before
  * @param {number[]} after
  * @returns {{ start: number, deleteCount: number, data: number[] }[]}
  */
-export function codeEdits(before, after) {
+export function tokenEdits(before, after) {
   const minLength = Math.min(before.length, after.length);
   let [start, suffix] = [0, 0];
   while (start < minLength && before[start] === after[start]) start += 1;

@@ -1,6 +1,6 @@
 // Stores the last semantic tokens that were sent for each text, so that an editor can request only the changes.
 
-import { codeEdits, encodeTokens } from "./token_codes.js";
+import { tokenEdits, encodeTokens } from "./token_codes.js";
 
 /**
  * @typedef {import("./open_text.js").OpenText} OpenText
@@ -19,7 +19,7 @@ export class TokenMemory {
   }
 
   /**
-   * Stores the tokens of a text. Returns the new result id.
+   * Stores the tokens that a response contains. Returns the id of the response.
    * @param {string} uri
    * @param {number[]} data
    */
@@ -43,16 +43,17 @@ export class TokenMemory {
   }
 
   /**
-   * Returns the changes since the last result. If `previousId` is not the id of the last result for the text, returns all tokens.
+   * Returns the changes of the tokens since the last response. If `previousId` is not the id of the last response for the text, returns all
+   * tokens.
    * @param {OpenText} openText
    * @param {ColouredWord[]} words
-   * @param {unknown} previousId the result id
+   * @param {unknown} previousId the id of the response that the client has
    */
   changedTokens(openText, words, previousId) {
     const lastResponse = this.sentTokens.get(openText.uri);
     if (!lastResponse || lastResponse.resultId !== previousId) return this.allTokens(openText, words);
     const encodedTokens = encodeTokens(words);
-    return { resultId: this.store(openText.uri, encodedTokens), edits: codeEdits(lastResponse.data, encodedTokens) };
+    return { resultId: this.store(openText.uri, encodedTokens), edits: tokenEdits(lastResponse.data, encodedTokens) };
   }
 
   /**

@@ -1,4 +1,4 @@
-// Workspace symbols: finds the names that match a query, in the open texts and their projects.
+// Workspace symbols of the language server protocol: finds the names that match a query, in the open texts and their projects.
 
 import { decodeFileName } from "./dependent_language.js";
 
@@ -11,8 +11,8 @@ import { decodeFileName } from "./dependent_language.js";
 const MAX_NAMES = 512;
 
 /**
- * Compares a name with a query, ignoring the case of letters. Returns true if a name of one word contains the letters of the query in
- * order, or if a name of several words contains the query as a whole.
+ * Returns whether a name matches a query, ignoring case. A name of one word must contain the letters of the query in their order. A name of
+ * several words must contain the query as a whole.
  * @param {string} name
  * @param {string} query
  */

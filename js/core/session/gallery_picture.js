@@ -1,5 +1,5 @@
-// Draws the picture of an example in the gallery: a small front panel, from the board text. The program does not run for the picture, so
-// the picture shows the first lamp of each colour as on, and sample digits on a display.
+// Draws the picture of an example for the gallery: the front panel that the board text describes. The program does not run for the picture.
+// Therefore the picture shows the first lamp of each colour as on, and sample digits on a display.
 
 import { partLines } from "../bench/part_lines.js";
 import { Face } from "../board/face.js";
@@ -16,8 +16,9 @@ import { indices } from "../bench/numbers.js";
  * @typedef {{ width: number, height: number, shapes: Shape[] }} GalleryPicture
  */
 
-/** The width of the picture, and the distance between shapes, in picture units. */
-const WIDTH = 120;
+/** The width of the picture, in picture units. */
+const PICTURE_WIDTH = 120;
+/** The distance between shapes, in picture units. */
 const GAP = 4;
 /** The positions of the pips of a die, in lamp order: column and row, from 0 to 2. */
 const PIPS = [[0, 0], [2, 0], [0, 1], [1, 1], [2, 1], [0, 2], [2, 2]];
@@ -29,6 +30,7 @@ class Drawing {
     this.parts = partLines(text);
     /** @type {Shape[]} */
     this.shapes = [];
+    /** The y position at which the next shape is drawn. */
     this.bottom = GAP;
     /** @type {Set<string>} the colours in which the picture already shows a lamp as on */
     this.litColours = new Set();
@@ -76,7 +78,7 @@ class Drawing {
     const height = 24;
     const colour = (this.face.colours.get(first) || { text: "red" }).text;
     const text = indices(rows).map((at) => String((at + 1) % 10)).join("");
-    this.shapes.push({ kind: "display", x: GAP, y: this.bottom, width: WIDTH - 2 * GAP, height, digits: text, colour });
+    this.shapes.push({ kind: "display", x: GAP, y: this.bottom, width: PICTURE_WIDTH - 2 * GAP, height, digits: text, colour });
     this.bottom += height + GAP;
   }
 
@@ -88,8 +90,8 @@ class Drawing {
     if (cells.length === 0) return;
     const columns = Math.max(...cells.map(({ column }) => column)) + 1;
     const rows = Math.max(...cells.map(({ row }) => row)) + 1;
-    const pitch = Math.min(16, (WIDTH - 2 * GAP) / columns);
-    const left = (WIDTH - columns * pitch) / 2;
+    const pitch = Math.min(16, (PICTURE_WIDTH - 2 * GAP) / columns);
+    const left = (PICTURE_WIDTH - columns * pitch) / 2;
     for (const { lamp, column, row } of cells) {
       this.drawLamp(lamp, left + (column + 0.5) * pitch, this.bottom + (row + 0.5) * pitch, pitch * 0.36);
     }
@@ -108,8 +110,8 @@ class Drawing {
       .filter(({ legend }) => legend !== "");
     if (keys.length === 0) return;
     const columns = Math.max(...keys.map(({ column }) => column)) + 1;
-    const width = Math.min(30, (WIDTH - 2 * GAP) / columns);
-    const left = (WIDTH - columns * width) / 2;
+    const width = Math.min(30, (PICTURE_WIDTH - 2 * GAP) / columns);
+    const left = (PICTURE_WIDTH - columns * width) / 2;
     const height = Math.min(14, width);
     for (const { row, column, legend } of keys) {
       const [x, y] = [left + column * width + 1, this.bottom + row * height + 1];
@@ -130,5 +132,5 @@ export function galleryPicture(boardText) {
   drawing.drawGrid(drawing.face.grid.filter(({ lamp }) => lamp < drawing.lampCount));
   drawing.drawOtherLamps();
   drawing.drawKeys();
-  return { width: WIDTH, height: Math.max(40, drawing.bottom), shapes: drawing.shapes };
+  return { width: PICTURE_WIDTH, height: Math.max(40, drawing.bottom), shapes: drawing.shapes };
 }

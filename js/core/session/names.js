@@ -1,4 +1,4 @@
-// Makes names from other people safe to show, so that a name in a link cannot imitate texts of the page.
+// Makes names that other people have chosen safe to show, so that a name in a link cannot imitate texts of the page.
 
 /** The maximum length of a name, in characters. */
 const MAX_NAME_LENGTH = 60;

@@ -1,5 +1,5 @@
-// Determines the contents of a file that the user chooses or drops: a project, a session, a board, a program, tests, properties, bench
-// lines, or a ROM image. Checks the first bytes, then the file name, then the text.
+// Determines what a file contains that the user chooses or drops: a project, a session, a board, a program, tests, properties, bench lines
+// or a ROM image. Checks the first bytes, then the file name, then the text.
 
 import { readInputs } from "../bench/inputs.js";
 import { PROJECT_FILE } from "../project/project_toml.js";
@@ -10,16 +10,17 @@ import { isProject } from "./project_file.js";
 import * as say from "../../words/session.js";
 
 /**
- * The texts in a file, null for each kind of text that the file lacks. `lines` are the bench lines that define no text. `isGuess` is true
- * if the file counts as a program only because neither its name nor its text shows another kind.
+ * The texts in a file; null for each kind of text that the file lacks. `lines` contains the bench lines that set neither the board nor the
+ * program. `isGuess` is true if the file is read as a program only because neither its name nor its text shows another kind.
  * @typedef {{ board: string | null, program: string | null, tests: string | null, properties: string | null, lines: string,
  *   isGuess?: boolean }} FileTexts
  *
+ * The contents of a file. `bytes` are the bytes of a ROM image, by address.
  * @typedef {{ kind: "project" } | { kind: "session" } | { kind: "texts", texts: FileTexts } | { kind: "image", bytes: Int16Array }}
  *   FileContents
  */
 
-/** The error for a file that the bench cannot use. The message gives the reason. */
+/** The error that is thrown for a file that the bench cannot use. Its message gives the reason. */
 export class UnusableFile extends Error {}
 
 /** The first bytes of a session file. */
@@ -30,7 +31,7 @@ const BOARD_FILES = /\.toml$/i;
 const TEST_FILES = /\.test$/i;
 const PROPERTY_FILES = /\.props$/i;
 const PROGRAM_FILES = /\.(asm|s|src|a4|4004)$/i;
-/** Matches file names that do not determine the kind of text. */
+/** Matches the names of text files that can contain any kind of text. */
 const TEXT_FILES = /(^[^.]*|\.(txt|text))$/i;
 
 /**
@@ -43,7 +44,7 @@ function unusableFile(reason) {
 }
 
 /**
- * Decodes a text as UTF-8, or else as Windows-1252. Returns null if the bytes are no text.
+ * Decodes a text as UTF-8, or else as Windows-1252. Returns null if the bytes are not a text.
  * @param {Uint8Array} bytes
  */
 function decodeText(bytes) {
@@ -57,7 +58,7 @@ function decodeText(bytes) {
 }
 
 /**
- * Returns the texts in bench lines (the last text of each kind), and the other lines.
+ * Returns the texts in bench lines (the last board and the last program), and the other lines.
  * @param {string} script
  * @returns {FileTexts}
  */
@@ -97,7 +98,7 @@ function readTexts(name, text) {
  * @param {string} text
  * @returns {FileContents}
  */
-function openText(name, text) {
+function readTextFile(name, text) {
   if (name === PROJECT_FILE) throw new UnusableFile(say.NAMES_FILES);
   const kinds = [HEX_FILES, BOARD_FILES, PROGRAM_FILES, TEST_FILES, PROPERTY_FILES, TEXT_FILES];
   if (!kinds.some((ending) => ending.test(name)) && !/^\s*(:|S)[0-9A-F]{9}/i.test(text)) {
@@ -126,6 +127,6 @@ export function readOpenedFile(name, bytes) {
   if (magic === SESSION_MAGIC || /\.mcs$/i.test(name)) return { kind: "session" };
   if (IMAGE_FILES.test(name)) return { kind: "image", bytes: readBytes(bytes) };
   const text = decodeText(bytes);
-  if (text !== null && text.trim() !== "") return openText(name, text);
+  if (text !== null && text.trim() !== "") return readTextFile(name, text);
   throw unusableFile(text === null ? say.NOT_A_TEXT : say.EMPTY);
 }

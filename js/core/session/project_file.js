@@ -1,5 +1,5 @@
-// Reads and writes project files. A project file is a text file that contains a session file, its name, and the texts in the editors. The
-// manual ("A project file") describes its lines. project_parts.js writes the same contents as files in a folder.
+// Reads and writes project files. A project file is a text file that contains the name of a project, the texts in the editors, and a
+// session file. The manual ("A project file") describes its lines. project_parts.js writes the same contents as files in a folder.
 
 import { checksum } from "./checksum.js";
 import { shortName } from "./names.js";
@@ -13,28 +13,30 @@ import * as say from "../../words/session.js";
  * @typedef {{ name: string, boardText: string, programText: string, testText?: string, propertiesText?: string }} Texts
  * @typedef {import("../debug/breakpoints.js").SavedBreakpoint} SavedBreakpoint
  *
- * The name and the texts of a project, with the breakpoints and watch expressions in their stored form.
- * @typedef {Texts & { breakpoints?: SavedBreakpoint[], watched?: string[] }} DebuggedTexts
- * @typedef {DebuggedTexts & { file: Uint8Array }} Project
+ * The name and the texts of a project, with the breakpoints and watch expressions in the form in which they are saved.
+ * @typedef {Texts & { breakpoints?: SavedBreakpoint[], watched?: string[] }} TextsWithBreakpoints
  *
- * The word that introduces a text, on a line of its own.
+ * The contents of a project file; `file` contains the bytes of the session file.
+ * @typedef {TextsWithBreakpoints & { file: Uint8Array }} Project
+ *
+ * The word in the line before a text, which says what text follows.
  * @typedef {"wire" | "asm" | "test" | "properties"} Word
  */
 
 const FIRST_LINE = "fethsaim project 1";
-/** The line that ends a text in a project file. Bench lines use the same line. */
+/** The line that ends a text in a project file, as in bench lines. */
 const DOT = ".";
 const LAST_LINE = "end";
 const CHECKSUM_LINE = /^cksum \d+$/;
-/** The number of session file bytes in each line. A project file omits lines with only zeros. */
+/** The number of bytes of the session file in each line. A line with only zeros is omitted. */
 const BYTES_PER_LINE = 16;
-/** The maximum size of a project file in bytes. The largest texts and sessions need much less. */
+/** The maximum size of a project file in bytes. Even the longest texts and sessions need much less. */
 export const MAX_PROJECT_BYTES = 4 << 20;
 
-/** The error for bytes that are not a project. The message gives the reason. */
+/** The error that is thrown for bytes that are not a project. Its message gives the reason. */
 export class InvalidProject extends Error {}
 
-/** The error for a project text that is longer than the editors accept. */
+/** The error that is thrown for a text in a project that is longer than the editors accept. */
 export class TextTooLong extends InvalidProject {}
 
 /**
@@ -52,7 +54,7 @@ export function tooLongMessage({ boardText, programText, testText = "", properti
 // --- writing ---
 
 /**
- * Returns the project lines of a text. Adds a dot to each line that consists of dots, so that this line does not end the text.
+ * Returns the lines of a project file for a text. Adds a dot to each line that consists of dots, so that this line does not end the text.
  * @param {Word} word
  * @param {string} text
  */
@@ -72,7 +74,7 @@ function unendedLine(word, text) {
 }
 
 /**
- * Returns the project lines of a session file.
+ * Returns the lines of a project file for a session file.
  * @param {Uint8Array} file
  */
 function sessionLines(file) {
@@ -105,7 +107,7 @@ function toOneLine(text) {
 
 /**
  * Returns the lines for the name, the breakpoints, the watch expressions and the texts.
- * @param {DebuggedTexts} texts
+ * @param {TextsWithBreakpoints} texts
  */
 export function projectLines({ name, boardText, programText, testText = "", propertiesText = "", breakpoints = [], watched = [] }) {
   const [board, program, tests, properties] = [boardText, programText, testText, propertiesText].map(removeCarriageReturns);
@@ -135,7 +137,7 @@ export function isProject(bytes) {
   return /^\uFEFF?fethsaim project /.test(new TextDecoder("utf-8", { ignoreBOM: true }).decode(bytes.subarray(0, 40)));
 }
 
-/** Reads the lines of a project file. */
+/** The lines of a project file, and the index of the next line to read. */
 export class Lines {
   /** @param {string} text */
   constructor(text) {
@@ -195,8 +197,8 @@ function checkEnvelope(text) {
 }
 
 /**
- * Reads the lines before the first text: the name, the breakpoints and the watch expressions. `unended` contains the words of the texts
- * that do not end with a line feed.
+ * Reads the lines before the first text: the name, the breakpoints and the watch expressions. In the result, `unended` contains the words
+ * of the texts that do not end with a line feed.
  * @param {Lines} lines
  */
 function readHead(lines) {
@@ -231,19 +233,19 @@ function readText(lines, word, unended) {
 }
 
 /**
- * Reads the name, the texts, the breakpoints and the watch expressions. Throws if a text is too long for the editors.
+ * Reads the name, the texts, the breakpoints and the watch expressions. Throws TextTooLong if a text is too long for the editors.
  * @param {Lines} lines
- * @param {boolean} [acceptsLong] true to accept longer texts
- * @returns {DebuggedTexts}
+ * @param {boolean} [acceptsLongTexts] true to accept longer texts
+ * @returns {TextsWithBreakpoints}
  */
-export function readTexts(lines, acceptsLong = false) {
+export function readTexts(lines, acceptsLongTexts = false) {
   const { name, unended, breakpoints, watched } = readHead(lines);
   const [boardText, programText] = [readText(lines, "wire", unended), readText(lines, "asm", unended)];
   const [testText, propertiesText] = (/** @type {Word[]} */ (["test", "properties"])).map((word) => (
     lines.next === word ? readText(lines, word, unended) : ""));
   const texts = { name, boardText, programText, testText, propertiesText };
   const message = tooLongMessage(texts);
-  if (message && !acceptsLong) throw new TextTooLong(message);
+  if (message && !acceptsLongTexts) throw new TextTooLong(message);
   const withBreakpoints = breakpoints.length > 0 ? { ...texts, breakpoints: limitBreakpoints(breakpoints) } : texts;
   return watched.length > 0 ? { ...withBreakpoints, watched } : withBreakpoints;
 }
@@ -273,10 +275,10 @@ function readFile(lines, size) {
  * Returns the contents of a project file. Throws if the bytes are not a project.
  * @param {Uint8Array} bytes
  * @param {number} size the size of a session file in bytes
- * @param {boolean} [acceptsLong] true to accept texts that are too long for the editors
+ * @param {boolean} [acceptsLongTexts] true to accept texts that are too long for the editors
  * @returns {Project}
  */
-export function readProject(bytes, size, acceptsLong = false) {
+export function readProject(bytes, size, acceptsLongTexts = false) {
   if (bytes.length > MAX_PROJECT_BYTES) throw new InvalidProject(say.TOO_MANY_BYTES);
   if (bytes.includes(0)) throw new InvalidProject(say.CONTAINS_NUL);
   const text = decodeUtf8(bytes);
@@ -284,7 +286,7 @@ export function readProject(bytes, size, acceptsLong = false) {
   const lines = new Lines(text);
   lines.take();
   if (CHECKSUM_LINE.test(lines.next)) lines.take();
-  const texts = readTexts(lines, acceptsLong);
+  const texts = readTexts(lines, acceptsLongTexts);
   const file = readFile(lines, size);
   if (lines.next !== LAST_LINE) throw lines.fault(say.END_OF_FILE);
   lines.take();

@@ -1,4 +1,4 @@
-// Converts a project to files in a folder, which other programs can edit, and reads the breakpoints and watch expressions in such files.
+// Converts a project to files in a folder, which other programs can edit. Parses the files with the breakpoints and the watch expressions.
 
 import { joinLines } from "../bench/inputs.js";
 import { parseBreakpoint, formatBreakpoints } from "../debug/breakpoint_lines.js";
@@ -14,7 +14,7 @@ import * as say from "../../words/session.js";
  * @typedef {{ name: string, content: string | Uint8Array }} ProjectPart
  */
 
-/** The names of the files in a project folder. In a folder without a project file, these names identify the texts. */
+/** The names of the files in a project folder. If a folder has no `mcs4.toml`, its texts are found by these names. */
 export const PROJECT_FILE_NAMES = {
   project: "mcs4.toml", board: "board.toml", program: "program.asm", tests: "program.test", properties: "program.props",
   breakpoints: "breakpoints", values: "values", session: "session.mcs", name: "name",

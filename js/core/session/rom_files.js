@@ -11,12 +11,12 @@ import * as say from "../../words/session.js";
  * The callbacks that RomFiles needs.
  * @typedef {object} RomCalls
  * @property {(lines: string) => Promise<string[]>} ask Resolves to the bench's answers to queries.
- * @property {(lines: string) => Promise<string | null>} act Serves lines that change the session. Resolves to the first answer. If the call
- *   fails, reports the error and resolves to null.
- * @property {() => Promise<void>} stop Pauses time; resolves after time is paused.
+ * @property {(lines: string) => Promise<string | null>} act Serves lines that change the session. Resolves to the first answer. If the
+ *   lines cannot be served, reports the error and resolves to null.
+ * @property {() => Promise<void>} stop Pauses time. Resolves when time is paused.
  */
 
-/** The error for a ROM image that needs a ROM that the board lacks. The message names this ROM. */
+/** The error that is thrown for a ROM image that needs a ROM that the board lacks. Its message names this ROM. */
 export class MissingRom extends Error {}
 
 export class RomFiles {
@@ -31,8 +31,8 @@ export class RomFiles {
   }
 
   /**
-   * Loads an image into ROM and changes nothing else. Resolves to a message. Resolves to "" if the call fails, because `act` reports the
-   * error. Throws MissingRom if the board lacks a ROM that the image needs.
+   * Loads an image into ROM and changes nothing else. Resolves to a message about it, or to "" if `act` has reported an error. Throws
+   * MissingRom if the board lacks a ROM that the image needs.
    * @param {string} name the name of the file
    * @param {Int16Array} bytes
    */
@@ -50,7 +50,7 @@ export class RomFiles {
     return answer === null ? "" : say.bytesInRom(formatQuantity(count, "byte"), name, count === 1, hex(firstAddress, 3));
   }
 
-  /** Resolves to the bytes of all ROMs on the board. The answer to `list` can extend beyond a ROM; such bytes are removed. */
+  /** Resolves to the bytes of all ROMs on the board. The answer to `list` can extend beyond a ROM; the bytes beyond it are removed. */
   async bytes() {
     const chips = await this.chips();
     const allBytes = parseRomBytes(await this.calls.ask(listQueries(PAGE_NUMBERS.filter((page) => chips.includes(page)))));

@@ -1,4 +1,4 @@
-// Summarises a board and a program: a title, and the numbers of chips, lamps and keys.
+// Summarises a session for lists: a title, and the numbers of chips, lamps and keys on the board.
 
 import { formatQuantity } from "../bench/numbers.js";
 import { Face } from "../board/face.js";
