@@ -1,4 +1,4 @@
-// Formats coverage: as source text with a count before each line, for a terminal, and in the LCOV format, for other programs.
+// Formats coverage in two ways: for a terminal, as source text with a count before each line; for other programs, in the LCOV format.
 
 import { formatCoverageSummary } from "./coverage.js";
 import * as say from "../../words/testing.js";
@@ -7,11 +7,11 @@ import * as say from "../../words/testing.js";
  * @typedef {import("./coverage.js").Coverage} Coverage
  * @typedef {import("./coverage.js").LineCoverage} LineCoverage
  *
- * The source of a program, and the number of lines before it in its file.
+ * The source text of a program. `before` is the number of lines before this text in its file.
  * @typedef {{ text: string, before: number }} ProgramText
  */
 
-/** Widths in characters. */
+/** The tab width, and the widths of the report columns, in characters. */
 const TAB_WIDTH = 8;
 const COUNT_WIDTH = 10;
 const WAYS_WIDTH = 13;
@@ -58,7 +58,7 @@ export function coverageText(coverage, { text, before }) {
   return `${[...rows, ...summaryLines].join("\n")}\n`;
 }
 
-/** @type {(name: string, values: (string | number)[]) => string} returns a line in the LCOV format */
+/** @type {(name: string, values: (string | number)[]) => string} returns a line of an LCOV file */
 const formatRecord = (name, values) => `${name}:${values.join(",")}`;
 
 /**

@@ -1,4 +1,5 @@
-// Lists the last instructions of a session under test, one line each, as in a trace. Repeats the last cycles on a copy of an earlier state.
+// Lists the last instructions that a test executed, one trace line per instruction. Repeats the last cycles from a copy of an earlier
+// state.
 
 import { runLines } from "../engine/key_queue.js";
 import { InstructionTexts } from "../trace/instruction_texts.js";
@@ -13,11 +14,11 @@ import * as say from "../../words/testing.js";
  * @typedef {import("./test_session.js").TestSession} TestSession
  */
 
-/** The maximum number of listed instructions, without the next instruction. */
+/** The maximum number of listed instructions, not counting the next instruction. */
 const MAX_INSTRUCTIONS = 12;
 
 /**
- * Returns the start of the listed cycles: the index of the first listed action (`at`), and the number of its cycles to skip (`from`).
+ * Returns where the list starts: the index of the first listed action (`at`), and the number of cycles of this action to skip (`from`).
  * @param {TestAction[]} actions
  */
 function findListedPart(actions) {
@@ -32,7 +33,7 @@ function findListedPart(actions) {
 }
 
 /**
- * Returns the lines of the last instructions and commands, and the line of the next instruction.
+ * Returns trace lines for the last instructions and commands of a test, followed by a line for the next instruction.
  * @param {TestSession} session
  * @param {{ board: Board, map: SourceMap }} names
  * @returns {string[]}

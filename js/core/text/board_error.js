@@ -1,4 +1,4 @@
-// Describes the error that the bench reports for a board text. The bench reports a table and a key, the parser of board texts finds their
+// Describes the error that the bench reports for a board text. The bench names a table and a key. The parser of board texts finds their
 // position, and the manual describes the valid values of each key.
 
 import { PART_KEYS, LINE_NAMES, MAX_PARTS, MAX_COLUMNS, BITS_PER_CHIP, VALUE_RANGES, boardLines } from "../bench/board_form.js";
@@ -15,11 +15,11 @@ import * as say from "../../words/text.js";
  * @typedef {import("./board_reader.js").Value} Value
  * @typedef {import("./sendable_text.js").Fault} Fault
  *
- * The table and the key with the error; null if the text does not contain them.
+ * The table (`entry`) and the key that contain an error. Each is null if the text does not contain it.
  * @typedef {{ entry: Entry | null, key: Key | null }} WrongPart
  */
 
-/** The refusal numbers for board texts. */
+/** The numbers of the refusals that concern board texts. */
 const NOT_TOML = 20;
 const UNKNOWN_KEY = 21;
 const MISSING_KEY = 22;
@@ -37,7 +37,7 @@ const LINE_KEYS = ["clock", "data", "line", "columns"];
  */
 const formatHeader = (kind) => (kind === "keys" ? "[keys]" : `[[${kind}]]`);
 
-/** Finds the position and the message of an error. */
+/** Finds the position of an error in a board text, and composes its message. */
 class BoardErrorText {
   /**
    * @param {BoardText} text
@@ -60,7 +60,7 @@ class BoardErrorText {
     return this.text.entries.filter(({ table }) => table.replace(/[[\]]/g, "") === section);
   }
 
-  /** @returns {WrongPart} the part that contains the error */
+  /** @returns {WrongPart} the table and key that contain the error */
   findWrongPart() {
     const { section, index, key: name } = this.error;
     const key = (/** @type {Key[]} */ keys) => keys.find((each) => each.name === name) || null;
@@ -151,7 +151,7 @@ class BoardErrorText {
   }
 
   /**
-   * Returns a message with the reason why the board does not have a line or chain.
+   * Returns a message that explains why the board does not have a line or chain.
    * @param {string} name
    */
   explainMissingLine(name) {
@@ -166,7 +166,7 @@ class BoardErrorText {
   }
 
   /**
-   * Returns a message about the chain bits that the rows of the key matrix need.
+   * Returns a message that says how many bits of a chain the rows of the key matrix need.
    * @param {Entry} entry
    */
   explainRows({ keys }) {
@@ -208,7 +208,7 @@ class BoardErrorText {
   }
 
   /**
-   * Returns an error that covers the whole line named by the bench.
+   * Returns an error whose range is the whole line that the bench names.
    * @param {string} words
    * @returns {Fault}
    */

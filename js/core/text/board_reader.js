@@ -1,5 +1,5 @@
-// Parses the TOML subset of board texts, with the position of each key and value. After an error, the parser continues with the next line.
-// The bench alone decides whether a text is valid. This parser explains why the bench rejects a text.
+// Parses the subset of TOML in which board texts are written, with the position of each key and value. After an error, the parser continues
+// with the next line. Only the bench decides whether a text is valid. This parser helps to explain why the bench rejects a text.
 
 import { VALUE_RANGES } from "../bench/board_form.js";
 import { tomlWords } from "./toml_words.js";
@@ -10,19 +10,19 @@ import * as say from "../../words/text.js";
  * @typedef {import("./toml_words.js").TomlWord} TomlWord
  * @typedef {string | number | boolean | Value[] | Entry} Inner
  *
- * The end of a word: its line, and the index after its last character.
+ * The end of a word: its line number, and the index after its last character (`to`).
  * @typedef {{ line: number, to: number }} End
  *
- * A value with its position and end. The position of an array or table is its opening bracket. `whole` is false for a number that is not
- * written as an integer.
+ * A value (`inner`) with its position. `line`, `from` and `to` are the position of the value; for an array or table, of its opening
+ * bracket. `end` is the end of the whole value. `whole` is false for a number that is not written as an integer.
  * @typedef {{ inner: Inner, whole: boolean, line: number, from: number, to: number, end: End }} Value
  * @typedef {{ name: string, line: number, from: number, to: number, value: Value }} Key
  *
- * A table with its position and its keys. Only an inline table has an end.
+ * A table: its name, the position of its header, and its keys. Only an inline table has an `end`.
  * @typedef {{ table: string, line: number, from: number, to: number, keys: Key[], end?: End }} Entry
  *
- * The contents of a text: its tables (`entries`), the keys before the first table header (`keys`), the keys among them whose values are not
- * tables (`others`), and the errors.
+ * The contents of a text. `entries` are its tables. `keys` are the keys before the first table header; `others` are those of them whose
+ * values are not tables. `faults` are the errors.
  * @typedef {{ entries: Entry[], others: Key[], keys: Key[], faults: Fault[] }} BoardText
  */
 
@@ -67,19 +67,22 @@ export class BoardReader {
     return this.words[this.at];
   }
 
-  /** @returns {End} the end of the last word read */
+  /** @returns {End} the end of the last word that was read */
   get lastEnd() {
     const { line, to } = this.words[this.at - 1];
     return { line, to };
   }
 
-  /** @param {string} mark */
+  /**
+   * Returns whether the next word is a given punctuation mark.
+   * @param {string} mark
+   */
   isMark(mark) {
     return this.word.kind === "punctuation" && this.word.text === mark;
   }
 
   /**
-   * Consumes a mark. Throws if the next word is not this mark.
+   * Reads a punctuation mark. Throws if the next word is not this mark.
    * @param {string} mark
    * @param {string} words the error message
    */
@@ -88,7 +91,7 @@ export class BoardReader {
     this.at += 1;
   }
 
-  /** Reads the text. After an error, it continues on the next line. */
+  /** Reads the whole text. After an error, continues on the next line. */
   read() {
     while (this.at < this.words.length) {
       const startIndex = this.at;
@@ -151,7 +154,7 @@ export class BoardReader {
   }
 
   /**
-   * Adds inline tables. Returns false if the value is neither a table nor an array of tables.
+   * Adds the inline tables in a value to the tables of the text. Returns false if the value is neither a table nor an array of tables.
    * @param {string} name
    * @param {Inner} inner
    */
@@ -224,7 +227,7 @@ export class BoardReader {
     throw new NotToml(this.word, say.needsQuotes(text));
   }
 
-  /** Skips line ends. */
+  /** Skips the ends of lines. */
   skipEnds() {
     while (this.at < this.words.length - 1 && this.word.kind === "end") this.at += 1;
   }

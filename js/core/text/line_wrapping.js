@@ -1,4 +1,4 @@
-// Breaks paragraphs into lines of a maximum width, between words.
+// Wraps paragraphs into lines of a maximum width.
 
 /**
  * Wraps a paragraph. A word that is longer than the width gets its own line.

@@ -1,5 +1,5 @@
-// Finds all errors in a program. The bench reports line numbers and refusal numbers. This module adds the wrong word in each line, and a
-// message.
+// Finds all errors in a program. The bench reports the line number and the refusal number of each error. This module adds the wrong word in
+// the line, and a message.
 
 import { findDefinedNames, splitStatement } from "./assembly.js";
 import { hex } from "../bench/numbers.js";
@@ -15,8 +15,8 @@ import * as say from "../../words/text.js";
  * @typedef {import("./program_words.js").WordError} WordError
  * @typedef {import("./sendable_text.js").Fault} Fault
  *
- * The errors in the lines of a program. `isWhole` is false if the bench has not checked all lines. `rest` is a refusal of the program
- * without a line number (42: the board lacks a ROM).
+ * The errors in a program. `faults` are the errors in its lines. `isWhole` is false if the bench has not checked all lines. `rest` is an
+ * error that belongs to no particular line, such as error 42 (the board lacks a ROM); otherwise null.
  * @typedef {{ faults: Fault[], isWhole: boolean, rest: Refusal | null }} AllFaults
  */
 
@@ -24,7 +24,7 @@ import * as say from "../../words/text.js";
 export const MISSING_ROM = 42;
 
 /**
- * Creates an error in a line. Its range is the wrong word, or all code of the line.
+ * Creates an error in a line. The range of the error is the wrong word, or all code of the line if no word is known.
  * @param {string} source the text of the line
  * @param {number} lineNumber the line number
  * @param {WordError | null} error
@@ -99,7 +99,7 @@ export function findMissingRoms(lines, map, roms) {
 }
 
 /**
- * Returns whether a text is probably not a program, because every checked code line has an error.
+ * Returns whether a text is probably not a program. This is assumed if every checked line with code has an error.
  * @param {string} program
  * @param {AllFaults} found
  */

@@ -1,22 +1,24 @@
-// Formats a program: labels at the margin, then columns for instructions, operands and comments. Changes only blanks and tabs, and only in
-// lines with a valid form, so the assembled bytes stay the same.
+// Formats a program: labels start at the margin, and instructions, operands and comments are aligned in columns. Changes only blanks and
+// tabs, and only in lines with a valid form, so the assembled bytes stay the same.
 
 import { MAX_LINE_LENGTH } from "../bench/inputs.js";
 import { STORED_LIMIT, LONGEST_TEXT, sentText, trimBlanks } from "./sendable_text.js";
 import * as say from "../../words/text.js";
 
 /**
- * The format of gaps: blanks only, or as many tabs as possible. Tab stops are at multiples of `tabSize`.
+ * The format of gaps. If `insertSpaces` is true, gaps contain only blanks; otherwise as many tabs as possible. Tab stops are at multiples
+ * of `tabSize`.
  * @typedef {{ tabSize: number, insertSpaces: boolean }} Layout
  *
- * The parts of a line: a name defined with `=` and its value, or a label and a statement. A missing part is "".
+ * The parts of a line: either a name defined with `=` and its value, or a label and a statement. A missing part is "". `indent` is the
+ * current column of the comment.
  * @typedef {{ name: string, value: string, label: string, head: string, operands: string, comment: string, indent: number }} CutLine
  *
  * A change: the new text, and the range in the line that it replaces (from 0).
  * @typedef {{ line: number, from: number, to: number, text: string }} Change
  */
 
-/** The columns of statements, operands and comments. */
+/** The columns at which statements, operands and comments start. */
 const STATEMENT_COLUMN = 8;
 const OPERAND_COLUMN = 12;
 const COMMENT_COLUMN = 24;
@@ -30,7 +32,7 @@ const DEFINITION = /^([A-Za-z_]\w*)[ \t]*=[ \t]*(\w+)$/;
 const CODE = /^(?:([A-Za-z_]\w*)[ \t]*:[ \t]*)?(?:([A-Za-z]\w*)(?:[ \t]+(\w+(?:[ \t]*,[ \t]*\w+)*))?)?$/;
 
 /**
- * Returns the column after a text.
+ * Returns the column at which a text ends.
  * @param {string} text
  * @param {number} column the column at which the text starts
  * @param {Layout} layout
@@ -76,8 +78,8 @@ function splitLine(line, isHead, layout) {
 }
 
 /**
- * Returns a width for each line: for a definition, the length of the longest name in its block of consecutive definitions; 0 for any other
- * line.
+ * Returns the name width of each line. For a definition, this is the length of the longest name in its block of consecutive definitions.
+ * For any other line, it is 0.
  * @param {(CutLine | null)[]} lines
  */
 function nameWidths(lines) {
@@ -106,10 +108,10 @@ function formatCode({ name, value, label, head, operands }, width, layout) {
 }
 
 /**
- * Returns the column of a comment.
- * @param {number} end the end column of the code before the comment, 0 for none
+ * Returns the column at which a comment starts in the formatted line.
+ * @param {number} end the column at which the code before the comment ends; 0 if there is no code
  * @param {number} indent the current column of the comment
- * @param {number} last the column of the comment in the previous line, 0 if there is none in a comment column
+ * @param {number} last the column of the comment in the previous line; 0 if that line has no aligned comment
  */
 function commentColumn(end, indent, last) {
   if (end > 0) return Math.max(COMMENT_COLUMN, Math.ceil((end + 2) / COMMENT_STEP) * COMMENT_STEP);
@@ -153,7 +155,7 @@ export function findLayoutError(lines) {
 /**
  * Returns the changes between two versions of a text, one per changed line. A change omits the common prefix and suffix.
  * @param {string[]} before
- * @param {string[]} after the new lines, as many as the old lines
+ * @param {string[]} after the new lines; there are as many new lines as old lines
  * @returns {Change[]}
  */
 export function findLineChanges(before, after) {

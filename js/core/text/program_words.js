@@ -18,7 +18,8 @@ import * as say from "../../words/text.js";
  */
 
 /**
- * The operand kinds by the letters in the manual's table, with the maximum values.
+ * The operand kinds, by the letters that the manual uses for them. `what` describes an operand of this kind, and `most` is its maximum
+ * value.
  * @type {Record<string, { what: string, most: number }>}
  */
 const OPERANDS = {
@@ -32,14 +33,14 @@ const OPERANDS = {
 
 /**
  * Returns the description of an operand kind.
- * @param {string} kind the letters in the manual's table
+ * @param {string} kind the letters that the manual uses for the kind
  */
 export function describeOperand(kind) {
   return OPERANDS[kind].what;
 }
 
 /**
- * Converts a number in the syntax of another assembler. Returns the number in the bench's syntax and a message; null for any other text.
+ * Converts a number in the syntax of another assembler. Returns the number in the bench's syntax, with a message; null for any other text.
  * @param {string} text
  * @returns {{ number: string, words: string } | null}
  */
@@ -72,7 +73,7 @@ function describeNumberError(text) {
 }
 
 /**
- * Returns the replacement for a number in the syntax of another assembler; an empty list for any other text.
+ * Returns a list with the replacement for a number in the syntax of another assembler; an empty list for any other text.
  * @param {string} text
  */
 function numberFixes(text) {
@@ -92,7 +93,7 @@ function createError(word, words, cures) {
 }
 
 /**
- * Returns the reason why a word cannot be a name, or "".
+ * Returns the reason why a word cannot be a name; "" if it can.
  * @param {string} text
  * @param {KnownWords} facts
  */
@@ -108,7 +109,7 @@ function describeNameError(text, { instructions }) {
 /**
  * Returns the error in an operand; null if there is none.
  * @param {string} head the mnemonic or directive
- * @param {string} kind the operand kind: the letters in the manual's table
+ * @param {string} kind the letters that the manual uses for the operand kind
  * @param {Word} word
  * @param {KnownWords} facts
  * @param {boolean} isFirst
@@ -176,7 +177,7 @@ function isHead(word, instructions) {
 }
 
 /**
- * Returns the fix for an instruction of another assembler. A JCN condition needs a comma before the address.
+ * Returns an instruction of another assembler as a fix in the bench's syntax, in which a JCN condition needs a comma before the address.
  * @param {string} instructionText
  */
 function formatFix(instructionText) {
@@ -203,7 +204,7 @@ function findDirectiveError(head, operands, facts) {
 }
 
 /**
- * Returns the error in a line with a form that the assembler does not accept.
+ * Returns the error in a line whose form the assembler does not accept.
  * @param {Parts} parts
  * @param {KnownWords} facts
  * @returns {WordError | null}
@@ -278,7 +279,7 @@ function findUnknownName({ operands }, { names }) {
 }
 
 /**
- * Returns the error in a line; null if the refusal message is sufficient.
+ * Returns the error in a program line that the bench rejects; null if the general message of the refusal is sufficient.
  * @param {string} line
  * @param {number} number the refusal number
  * @param {KnownWords} facts

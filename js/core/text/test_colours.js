@@ -3,13 +3,13 @@
 import { KEYWORDS } from "../conditions/parser.js";
 
 /**
- * The style of a range in a line.
+ * A range of columns in a line, and its style.
  * @typedef {{ from: number, to: number, style: string }} ColouredRange
  */
 
 /**
- * A language:
- * - `first` matches the words that can start a line; `otherKeywords` are all other keywords;
+ * The description of a language:
+ * - `first` matches the keywords that can start a line; `otherKeywords` matches all other keywords;
  * - `nameKeyword` is the word before a name that extends to the end of the line;
  * - `uncommentedStart` matches the first words of lines without comments;
  * - `startsWithCondition` is true if a line can start with a condition.
@@ -52,7 +52,7 @@ function chooseStyle(word, isFirst, { first, otherKeywords, startsWithCondition 
  * @param {typeof TESTS} language
  */
 function isComment(rest, first, language) {
-  // After key names, the comment mark can itself be a key name.
+  // In a line with key names, the comment mark can itself be the name of a key.
   return /^[#;]/.test(rest) && (first === "" || (!language.uncommentedStart.test(first) && /^[#;](\s|$)/.test(rest)));
 }
 

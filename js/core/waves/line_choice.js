@@ -1,4 +1,4 @@
-// Finds the lines of a recording for the arguments of a command.
+// Finds the lines of a recording that the arguments of a command request.
 
 import { createBoardLines, createValueLine } from "./wave_lines.js";
 import * as say from "../../words/waves.js";
@@ -7,7 +7,8 @@ import * as say from "../../words/waves.js";
  * @typedef {import("../bench/answers.js").Board} Board
  * @typedef {import("./wave_lines.js").WaveLine} WaveLine
  *
- * The lines of a board and the requested values, and the indexes of the requested lines among them, in request order (`chosen`).
+ * A choice of lines. `lines` are all lines of a board, and the requested values. `chosen` are the indexes of the requested lines in
+ * `lines`, in the order of the request.
  * @typedef {{ lines: WaveLine[], chosen: number[] }} LineChoice
  */
 
@@ -20,7 +21,7 @@ const isBit = ({ kind }) => kind === "level" || kind === "key" || kind === "test
 const isOffered = (line) => isBit(line) || line.kind === "pc" || line.kind === "label";
 
 /**
- * Returns the names of the board's lines.
+ * Returns the names of the lines that a user can request.
  * @param {Board} board
  * @param {string} text the board text, for the names
  * @param {boolean} hasLabels
@@ -30,7 +31,7 @@ export function listRequestableNames(board, text, hasLabels) {
 }
 
 /**
- * Returns the plain name of a lamp or key, `lamp0` or `key2.3`; "" for any other line.
+ * Returns the name of a lamp or key by its number, such as `lamp0` or `key2.3`; "" for any other line.
  * @param {WaveLine} line
  * @param {number} number the lamp number
  */
@@ -40,7 +41,7 @@ function plainName({ group, places }, number) {
 }
 
 /**
- * Returns the indexes of the lines for a word: a single line, or all lines of a group.
+ * Returns the indexes of the lines that a word requests: a single line, or all lines of a group.
  * @param {WaveLine[]} lines
  * @param {string} word
  */
@@ -52,8 +53,8 @@ function lineIndices(lines, word) {
 }
 
 /**
- * Returns the lines for words; without words, all one-bit lines of the board. Throws UnknownLineError if a word matches no line, or if two
- * words request the same line.
+ * Returns the lines that words request; without words, all one-bit lines of the board. Throws UnknownLineError if a word matches no line,
+ * or if two words request the same line.
  * @param {Board} board
  * @param {string} text the board text, for the names
  * @param {boolean} hasLabels

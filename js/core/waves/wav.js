@@ -8,13 +8,13 @@ const HEAD_BYTES = 44;
 const FORMAT_BYTES = 16;
 /** The sample values for the two levels of the line. */
 const LEVELS = { high: 0x2020, low: -0x2020 };
-/** The offsets of the names in the file header. */
+/** The offsets of the four-letter tags in the file header. */
 const LETTERS = { riff: 0, kind: 8, format: 12, data: 36 };
 const PCM = 1;
 const CHANNELS = 1;
 
 /**
- * Writes an ASCII name.
+ * Writes an ASCII tag into the file.
  * @param {Uint8Array} bytes
  * @param {number} at
  * @param {string} letters
@@ -27,8 +27,8 @@ function putLetters(bytes, at, letters) {
 
 /**
  * Returns the WAV file for a signal line.
- * @param {number} level the level at the start
- * @param {number[]} edges the cycles before each edge
+ * @param {number} level the level of the line at the start
+ * @param {number[]} edges the number of cycles before each edge
  * @param {number} cycles
  */
 export function createWav(level, edges, cycles) {
