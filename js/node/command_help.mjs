@@ -19,7 +19,7 @@ export function splitParagraphs(text) {
 }
 
 /**
- * Returns the command lines that a command accepts, as its usage shows them.
+ * Returns the usage lines of a command: the forms of the command line that it accepts.
  * @param {string} name
  */
 export function usageLines(name) {
@@ -51,7 +51,7 @@ export function optionRows(name) {
   return [...rows, ["-h, --help", say.HELP_OPTION]];
 }
 
-/** @type {(head: string, rows: string[][]) => string} formats a list with a heading: each entry has its description below it */
+/** @type {(head: string, rows: string[][]) => string} formats a list with a heading; the description of each entry is below the entry */
 const formatList = (head, rows) => `${head}\n${rows.map(([word, does]) => `${INDENT}${word}\n${foldText(does, DEEP_INDENT)}`).join("\n")}`;
 
 /** @type {(head: string, lines: string[]) => string} */
@@ -79,7 +79,7 @@ export function commandsByGroup() {
 }
 
 /**
- * Returns the help of mcs4 itself.
+ * Returns the help of `mcs4` itself.
  * @param {string} top the folder of mcs4; "" omits the location of the manual
  */
 export function mcs4Help(top) {

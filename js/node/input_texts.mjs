@@ -1,20 +1,21 @@
-// Reads the texts that a command's arguments name: files, pipes, or `-` for standard input.
+// Reads the texts that the arguments of a command name: files, pipes, or standard input (`-`).
 import { closeSync, openSync } from "node:fs";
 import { CommandError } from "./output.mjs";
 import { readStream, readUserFile, statInput } from "./user_files.mjs";
 import { noAnswers } from "../words/commands.js";
 
-/** The maximum sizes, in bytes, of a session script, of answers, and of a single text. */
+/** The maximum sizes of a session script, of the bench's answers, and of a single text, in bytes. */
 export const MAX_SCRIPT = 16777216;
 export const MAX_ANSWERS = 67108864;
 export const MAX_TEXT_BYTES = 1048576;
 export const STANDARD_INPUT = 0;
 const UTF8_MARK = Buffer.from([0xEF, 0xBB, 0xBF]);
-/** @type {Record<string, string>} the encodings by their byte order marks in hexadecimal; PowerShell writes UTF-16 */
+/** @type {Record<string, string>} the encodings, by byte order mark in hexadecimal; PowerShell writes UTF-16 */
 const UTF_16 = { fffe: "utf-16le", feff: "utf-16be" };
 
 /**
- * The text of a board or a program, with the name of its file, the number of file lines before the text, and the file's encoding.
+ * The text of a board or a program, from a file. `name` is the name of the file, `before` the number of lines before the text in the file, and
+ * `encoding` the encoding of the file.
  * @typedef {{ name: string, text: string, before: number, encoding: BufferEncoding }} GivenText
  */
 
@@ -56,7 +57,7 @@ export class InputTexts {
   }
 
   /**
-   * Returns the contents of the file, pipe or standard input that an argument names. Throws an error if it is empty.
+   * Returns the contents of the file, pipe or standard input that an argument names. Throws an error if there is nothing in it.
    * @param {string} name
    * @param {number} maxBytes the maximum number of bytes
    */
@@ -87,7 +88,7 @@ export class InputTexts {
   }
 
   /**
-   * Returns a tests or properties text.
+   * Returns the text of a tests file or properties file.
    * @param {string} name
    */
   source(name) {
@@ -95,7 +96,8 @@ export class InputTexts {
   }
 
   /**
-   * Returns the text of a board (`wire`) or a program (`asm`): the whole file, or the first such text in a session script.
+   * Returns the text of a board (`wire`) or of a program (`asm`). This is the whole file; if the file is a session script, it is the text of the
+   * first such command.
    * @param {string} name
    * @param {"wire" | "asm"} word
    * @returns {GivenText}

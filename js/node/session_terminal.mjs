@@ -1,5 +1,5 @@
-// `mcs4 new` and `mcs4 open` at a terminal. The native program executes the lines. The answers go to standard output as they arrive. The prompt and
-// all messages go to standard error.
+// Runs `mcs4 new` and `mcs4 open` at a terminal. The native program executes the lines. The answers go to standard output as they arrive. The prompt
+// and all messages go to standard error.
 import { joinLines } from "../core/bench/inputs.js";
 import { SessionPrompt } from "../core/prompt/bench_prompt.js";
 import { BEGINNING } from "../words/session_prompt.js";

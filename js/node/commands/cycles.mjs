@@ -1,4 +1,4 @@
-// `mcs4 cycles`: prints the duration of runs in answers, in machine cycles.
+// `mcs4 cycles`: prints the durations of the runs in the bench's answers, in machine cycles.
 import { joinLines } from "../../core/bench/inputs.js";
 import { runTimes } from "../../core/time/run_times.js";
 import { FIRST_AND_LAST, notALine } from "../../words/commands.js";
@@ -10,7 +10,7 @@ import { CommandError, UsageError, print } from "../output.mjs";
 const LINE_NUMBER = /^\d{1,9}$/;
 
 /**
- * Parses the range of answer lines to add up. `last` is 0 for all lines from `first`.
+ * Parses the range of answer lines whose runs are added up. `last` is 0 for all lines from `first` on.
  * @param {string[]} words
  */
 function parseRange(words) {

@@ -1,4 +1,4 @@
-// `mcs4 explore`: searches for key sequences that break a property, with the modules of js/core/explore. The search uses the WebAssembly module
+// `mcs4 explore`: searches for key sequences that violate a property, with the modules of js/core/explore. The search uses the WebAssembly module
 // from the page.
 import { join } from "node:path";
 import { hasExpectedResult, formatTap, formatReportTests } from "../../core/explore/report.js";

@@ -43,7 +43,7 @@ async function resolveNames({ folder, source }, words) {
 }
 
 /**
- * Serves lines. Returns the lines of their answers.
+ * Serves lines. Resolves to the lines of their answers.
  * @param {SessionProcess} session
  * @param {string} lines
  */
@@ -55,7 +55,7 @@ async function readAnswers(session, lines) {
 }
 
 /**
- * Reads the board and the program. Throws an error if the board differs from the session's board, or the program from the contents of its ROM.
+ * Reads the board and the program. Throws an error if they differ from the session's board or from the contents of its ROM.
  * @param {SessionProcess} session
  * @param {string} name the session's file name
  * @param {{ board: GivenText, program: GivenText | null }} texts
@@ -96,7 +96,7 @@ async function drawFrame(terminal, panel, screen) {
 }
 
 /**
- * Handles typed keys until the next frame is due. While time is paused, a frame is due after each key.
+ * Handles typed keys until the next frame is due. While the session is paused, a frame is due after each key.
  * @param {PanelTerminal} terminal
  * @param {Panel} panel
  * @param {number} nextFrameTime the time of the next frame, in milliseconds

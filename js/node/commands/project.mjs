@@ -18,7 +18,7 @@ const SESSION_BEGINS = "MCS4BEN1";
 const LIST_KINDS = /** @type {const} */ (["tests", "properties"]);
 
 /**
- * Calls `operation` and returns its result. If a text is not a valid project, throws an error that names the file.
+ * Calls `operation` and returns its result. If a text is not a valid project, throws an error with the name of the file.
  * @template Result
  * @param {string} name
  * @param {() => Result} operation
@@ -44,7 +44,7 @@ function writeProjectFiles(name, folder) {
 // --- join ---
 
 /**
- * Reads a file in a folder. Throws an error if a link leads out of the folder.
+ * Returns the contents of a file in a folder. Throws an error if a link leads out of the folder.
  * @param {string} folder
  * @param {string} name the path of the file, including the folder
  */
@@ -109,7 +109,7 @@ async function readSession(folder, names, texts) {
 }
 
 /**
- * Returns the name of the project in a folder: the first line of its name file, or the folder's name.
+ * Returns the name of the project in a folder: the first line of its name file, or else the name of the folder.
  * @param {string} folder
  */
 function projectName(folder) {

@@ -13,7 +13,8 @@ import { describeRefusal } from "../rejected_texts.mjs";
 const OPENING_LINES = /^session \d+\n/;
 
 /**
- * Prints answers as they arrive and returns null. If the first line is not a session's opening, prints nothing and returns that line.
+ * Prints answers as they arrive, and resolves to null. If the first line does not say that the session is open, prints nothing and resolves to that
+ * line.
  * @param {import("node:stream").Readable} stream
  */
 async function printAnswers(stream) {
@@ -30,7 +31,7 @@ async function printAnswers(stream) {
 }
 
 /**
- * Serves bytes in a session and prints the answers. Returns the exit status.
+ * Serves the bytes of a script in a session, and prints the answers. Resolves to the exit status.
  * @param {string} session the session's file name
  * @param {Buffer} bytes
  */

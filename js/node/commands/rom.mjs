@@ -32,7 +32,7 @@ function chooseFormat(action, values) {
 }
 
 /**
- * Parses an image. Returns its bytes, placed from an address.
+ * Parses a ROM image. Returns its bytes, which start at an address.
  * @param {ImageFormat} form
  * @param {Buffer} file
  * @param {number} address
@@ -89,7 +89,7 @@ function printQueries(words) {
 }
 
 /**
- * Returns the bytes of a range from answers. A later answer overrides an earlier one.
+ * Returns the bytes of a range, which the answers contain. A later answer overrides an earlier one.
  * @param {string} answers
  * @param {{ first: number, count: number }} range
  */
