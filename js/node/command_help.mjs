@@ -1,5 +1,5 @@
 // The help of commands for a terminal, generated from the command table and from js/words/commands.js.
-import { wrapText as foldedTo } from "../core/text/line_wrapping.js";
+import { wrapText } from "../core/text/line_wrapping.js";
 import * as say from "../words/commands.js";
 import { COMMANDS } from "./commands/table.mjs";
 
@@ -8,7 +8,7 @@ const INDENT = "  ";
 const DEEP_INDENT = INDENT.repeat(3);
 
 /** @type {(text: string, first?: string, otherIndent?: string) => string} */
-const foldText = (text, first = "", otherIndent = first) => foldedTo(text, WIDTH, first, otherIndent);
+const foldText = (text, first = "", otherIndent = first) => wrapText(text, WIDTH, first, otherIndent);
 
 /**
  * Returns the paragraphs of a text, each joined into one line.

@@ -29,8 +29,8 @@ import { readUserText, writeUserFile } from "./user_files.mjs";
 /** The time in milliseconds for which the search runs before it checks the clock and signals. */
 const SLICE_TIME = 50;
 /** The maximum sizes of a test file and of a report, in bytes. */
-const MAX_TESTS = 1048576;
-const MAX_REPORT = 16777216;
+const MAX_TEST_BYTES = 1048576;
+const MAX_REPORT_BYTES = 16777216;
 /** The environment variable that contains the name of a job's settings file. */
 const JOB_VARIABLE = "MCS4_EXPLORE_JOB";
 
@@ -46,7 +46,7 @@ function readStartTests({ from }, name) {
   if (!from) return "";
   const file = from.file ? join(dirname(name), from.file) : `${name.replace(/\.props$/, "")}.test`;
   try {
-    return readUserText(file, MAX_TESTS);
+    return readUserText(file, MAX_TEST_BYTES);
   } catch ({ message }) {
     throw new CommandError(say.testsMustSave(name, from.line, message, from.state));
   }
@@ -164,7 +164,7 @@ class Exploration {
 
 /** Returns the report of another search. Throws an error if the file is not a report. */
 function readReport(name) {
-  const text = readUserText(name, MAX_REPORT);
+  const text = readUserText(name, MAX_REPORT_BYTES);
   try {
     const report = JSON.parse(text);
     if (report.form === "explore 1") return report;
@@ -205,7 +205,7 @@ export async function exploreTexts(settings) {
 /** Returns the settings of this process if it is a job of another process, otherwise null. */
 export function jobSettings() {
   const name = process.env[JOB_VARIABLE];
-  return name ? JSON.parse(readUserText(name, 2 * MAX_REPORT)) : null;
+  return name ? JSON.parse(readUserText(name, 2 * MAX_REPORT_BYTES)) : null;
 }
 
 /**

@@ -5,8 +5,8 @@ import { readStream, readUserFile, statInput } from "./user_files.mjs";
 import { noAnswers } from "../words/commands.js";
 
 /** The maximum sizes of a session script, of the bench's answers, and of a single text, in bytes. */
-export const MAX_SCRIPT = 16777216;
-export const MAX_ANSWERS = 67108864;
+export const MAX_SCRIPT_BYTES = 16777216;
+export const MAX_ANSWERS_BYTES = 67108864;
 export const MAX_TEXT_BYTES = 1048576;
 export const STANDARD_INPUT = 0;
 const UTF8_MARK = Buffer.from([0xEF, 0xBB, 0xBF]);
@@ -103,7 +103,7 @@ export class InputTexts {
    * @returns {GivenText}
    */
   text(name, word) {
-    const bytes = this.read(name, MAX_SCRIPT);
+    const bytes = this.read(name, MAX_SCRIPT_BYTES);
     const { text, encoding } = decodeText(bytes);
     const lines = text.split(/\r\n?|\n/);
     const beginIndex = lines.findIndex((line) => line.replace(/[ \t]+$/, "") === word);
@@ -118,7 +118,7 @@ export class InputTexts {
 
   /** Returns the text on standard input. */
   lines() {
-    return decodeText(this.readStandardInput(MAX_SCRIPT));
+    return decodeText(this.readStandardInput(MAX_SCRIPT_BYTES));
   }
 
   /**
@@ -126,8 +126,8 @@ export class InputTexts {
    * @param {string} command the command that reads the answers
    */
   answers(command) {
-    if (this.readStandardInput(MAX_ANSWERS).length === 0) throw new CommandError(noAnswers(command));
-    return decodeText(this.readStandardInput(MAX_ANSWERS)).text.split("\n").slice(0, -1).map((line) => line.replace(/\r$/, ""));
+    if (this.readStandardInput(MAX_ANSWERS_BYTES).length === 0) throw new CommandError(noAnswers(command));
+    return decodeText(this.readStandardInput(MAX_ANSWERS_BYTES)).text.split("\n").slice(0, -1).map((line) => line.replace(/\r$/, ""));
   }
 
   /**
@@ -135,6 +135,6 @@ export class InputTexts {
    * @param {string} name
    */
   script(name) {
-    return decodeText(this.read(name, MAX_SCRIPT)).text;
+    return decodeText(this.read(name, MAX_SCRIPT_BYTES)).text;
   }
 }

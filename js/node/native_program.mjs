@@ -18,7 +18,7 @@ import {
  *
  * The result of the search for a program. `program` is its path ("" if there is none), and `fault` is the reason why there is none. `isUnsupported`
  * is true if the program is not available for this system.
- * @typedef {{ program: string, fault: string, isUnsupported: boolean }} Found
+ * @typedef {{ program: string, fault: string, isUnsupported: boolean }} FoundProgram
  */
 
 const SIGNAL_STATUSES = /** @type {const} */ ({ SIGHUP: 129, SIGINT: 130, SIGTERM: 143 });
@@ -33,7 +33,7 @@ const hasStarter = existsSync(join(TOP, "tools/lib/start.sh"));
  * Runs a script that uses the starter (tools/lib/start.sh). The script prints the path of a program, or the reason why there is none. Returns null if
  * the starter or the shell is missing.
  * @param {string} script
- * @returns {Found | null}
+ * @returns {FoundProgram | null}
  */
 function runStarter(script) {
   if (!hasStarter) return null;
@@ -44,10 +44,10 @@ function runStarter(script) {
   return { program, fault, isUnsupported: program === "" && isUnsupported === "1" };
 }
 
-/** @returns {Found} the result if the starter cannot run: an editor extension does not contain it, and Windows has no shell for it */
+/** @returns {FoundProgram} the result if the starter cannot run: an editor extension does not contain it, and Windows has no shell for it */
 const noProgramResult = () => ({ program: "", fault: hasStarter ? notForSystem(type(), process.arch) : NO_PROGRAM_IN_COPY, isUnsupported: true });
 
-/** @type {Found | null} the cached result of the search for the program */
+/** @type {FoundProgram | null} the cached result of the search for the program */
 let foundProgram = null;
 
 /** Returns the program that the environment variable MCS4 names, or the program that ./mcs4 starts. Builds the latter if necessary. */

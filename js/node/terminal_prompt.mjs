@@ -7,7 +7,7 @@ import { constants } from "node:os";
 import { createInterface } from "node:readline";
 import { PassThrough } from "node:stream";
 import { escapeControls } from "../core/text/control_escapes.js";
-import { QUOTED, wrapMessage } from "../core/text/line_wrapping.js";
+import { UNWRAPPED_PREFIX, wrapMessage } from "../core/text/line_wrapping.js";
 import { MAX_LINES, PromptHistory } from "./prompt_history.mjs";
 import { isDumb, makePainter } from "./terminal.mjs";
 
@@ -16,7 +16,7 @@ import { isDumb, makePainter } from "./terminal.mjs";
  * end of the line that they replace. `interrupt` stops the line in progress, and returns false if it cannot be stopped. `drop` discards incomplete
  * input and returns a message about it.
  * @typedef {{ label: string, isEnded: boolean, take: (line: string) => Promise<boolean>,
- *   complete: (line: string) => Promise<[string[], string]>, interrupt: () => boolean, drop: () => string }} PromptOfLines
+ *   complete: (line: string) => Promise<[string[], string]>, interrupt: () => boolean, drop: () => string }} LinePrompt
  */
 
 /**
@@ -41,7 +41,7 @@ const DEFAULT_WIDTH = 80;
 const MIN_WIDTH = 20;
 
 /** The input stream of readline. It receives the input of the terminal piece by piece. */
-class Keys extends PassThrough {
+class KeyStream extends PassThrough {
   isTTY = true;
 
   setRawMode(isRaw) {
@@ -57,7 +57,7 @@ function replaceControlCharacters(text) {
 
 export class TerminalPrompt {
   /**
-   * @param {PromptOfLines} prompt
+   * @param {LinePrompt} prompt
    * @param {TerminalCalls} calls
    */
   constructor(prompt, { output, onServed = () => {}, onLeave = () => {}, onReturn = () => {} }) {
@@ -75,7 +75,7 @@ export class TerminalPrompt {
     this.hasInputEnded = false;
     this.hasEnded = false;
     this.status = 0;
-    this.keys = new Keys();
+    this.keys = new KeyStream();
     this.terminal = createInterface({
       input: this.keys, output, terminal: !this.isDumb, history: this.history.lines, historySize: MAX_LINES, crlfDelay: Infinity,
       completer: (line, callback) => this.complete(line, callback),
@@ -101,7 +101,7 @@ export class TerminalPrompt {
   complain(words) {
     const lines = wrapMessage(escapeControls(words), this.width).split("\n");
     const paint = this.paint(RED);
-    this.output.write(`${lines.map((line) => (line.startsWith(QUOTED) ? line : paint(line))).join("\n")}\n`);
+    this.output.write(`${lines.map((line) => (line.startsWith(UNWRAPPED_PREFIX) ? line : paint(line))).join("\n")}\n`);
   }
 
   // --- running the prompt ---

@@ -91,7 +91,7 @@ export async function countCycles({ name, Counting, checkNames = () => {}, repor
  * @param {{ folder?: string, session?: string }} values
  * @param {string[]} givenNames
  */
-export function testOrCount(tool, { folder, session }, givenNames) {
+export function runTestsOrSession(tool, { folder, session }, givenNames) {
   if (session === undefined) return runTestCommand(tool, folder, givenNames);
   if (folder !== undefined) throw new UsageError(excludeEachOther("-C", "--session"));
   return countCycles(tool, session, givenNames);

@@ -91,5 +91,5 @@ export function computeCoverage(recorder, map) {
 export function formatCoverageSummary({ instructions, run, ways, waysRun }) {
   /** @type {(part: number, all: number) => string} */
   const percent = (part, all) => (all > 0 ? ` (${formatTenths((100 * part) / all)} %)` : "");
-  return say.covered([run, instructions, waysRun, ways], percent(run, instructions), percent(waysRun, ways));
+  return say.coverageSummary([run, instructions, waysRun, ways], percent(run, instructions), percent(waysRun, ways));
 }

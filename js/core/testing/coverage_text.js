@@ -49,7 +49,7 @@ export function coverageText(coverage, { text, before }) {
   const lineCoverage = new Map(coverage.lines.map((each) => [each.line, each]));
   const rows = text.replace(/\n$/, "").split("\n").map((source, at) => formatRow(source, lineCoverage.get(at + 1)));
   const never = coverage.never.map(({ from, to }) => (from === to ? `${from + before}` : say.fromTo(from + before, to + before)));
-  const oneDirection = coverage.lines.filter(isOneDirection).map(({ line, taken }) => say.wayOf(line + before, taken > 0));
+  const oneDirection = coverage.lines.filter(isOneDirection).map(({ line, taken }) => say.describeDirection(line + before, taken > 0));
   const summaryLines = [
     "", formatCoverageSummary(coverage),
     ...(never.length > 0 ? [say.neverRun(never.join(", "), never.length > 1 || never[0].includes(" "))] : []),

@@ -4,7 +4,7 @@
 import { runLines } from "../engine/key_queue.js";
 import { InstructionTexts } from "../trace/instruction_texts.js";
 import { TraceLines } from "../trace/trace_lines.js";
-import { SHOWN_CYCLES } from "./test_session.js";
+import { LISTABLE_CYCLES } from "./test_session.js";
 import * as say from "../../words/testing.js";
 
 /**
@@ -22,7 +22,7 @@ const MAX_INSTRUCTIONS = 12;
  * @param {TestAction[]} actions
  */
 function findListedPart(actions) {
-  let cyclesLeft = SHOWN_CYCLES;
+  let cyclesLeft = LISTABLE_CYCLES;
   let listedPart = { at: actions.length, from: 0 };
   for (let at = actions.length - 1; at >= 0 && cyclesLeft > 0; at--) {
     const { cycles } = actions[at];
@@ -48,7 +48,7 @@ export function lastInstructions(session, { board, map }) {
   engine.serve(file, laterActions.slice(0, firstAction).map(formatActionLines).join("") + (from > 0 ? runLines(from) : ""), file);
   let elapsed = storedState.elapsed + laterActions.slice(0, firstAction).reduce((sum, { cycles }) => sum + cycles, from);
   const trace = new TraceLines(engine, board, new InstructionTexts({ map, source: null }));
-  const lines = trace.secondCycle(file, elapsed);
+  const lines = trace.secondCycleLines(file, elapsed);
   laterActions.slice(firstAction).forEach(({ line, cycles }, at) => {
     const actionCycles = at === 0 ? cycles - from : cycles;
     if (line === "run") lines.push(...trace.runLines(file, actionCycles, elapsed));
@@ -56,6 +56,6 @@ export function lastInstructions(session, { board, map }) {
     engine.serve(file, line === "run" ? runLines(actionCycles) : `${line}\n`, file);
     elapsed += actionCycles;
   });
-  const last = [...lines.slice(-MAX_INSTRUCTIONS), say.isNext(trace.next(session.file, elapsed))];
+  const last = [...lines.slice(-MAX_INSTRUCTIONS), say.nextInstructionLine(trace.next(session.file, elapsed))];
   return last.flatMap((each) => each.split("\n"));
 }

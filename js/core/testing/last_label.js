@@ -71,6 +71,6 @@ export function describeLastLabel(session, map, { address, text }) {
   const labelText = passedLabel && namedLabel ? say.lastLabel(namedLabel.name, formatAge(passedLabel)) : "";
   if (address < 0) return labelText;
   const passedAddress = findLastPassed(session, new Set([address]));
-  const passText = passedAddress ? say.passedLast(formatAge(passedAddress)) : say.NOT_PASSED;
-  return say.wasPassed(labelText, text.startsWith("@") ? text : `pc ${address}`, passText);
+  const passText = passedAddress ? say.lastPassedAgo(formatAge(passedAddress)) : say.NOT_PASSED;
+  return say.lastLabelAndCondition(labelText, text.startsWith("@") ? text : `pc ${address}`, passText);
 }

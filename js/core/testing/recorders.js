@@ -48,7 +48,7 @@ export class ExecutionRecorder {
   }
 
   /** True if the recorder records cycles, calls and key times. */
-  get keepsTimes() {
+  get recordsTimes() {
     return true;
   }
 
@@ -75,9 +75,9 @@ export class ExecutionRecorder {
   take(answers, elapsed, askAll) {
     const callCount = this.count(answers.takeCounts());
     const lines = answers.takeTrace().lines;
-    if (this.lastPress.key !== "") this.followLamps(answers.takeTrace().lines, elapsed);
+    if (this.lastPress.key !== "") this.trackLampChanges(answers.takeTrace().lines, elapsed);
     // The short trace omits a JMS or BBL that does not change the return addresses.
-    this.followCalls(lines.length === callCount ? lines : askAll().takeTrace().lines, elapsed);
+    this.trackCalls(lines.length === callCount ? lines : askAll().takeTrace().lines, elapsed);
   }
 
   /**
@@ -91,7 +91,7 @@ export class ExecutionRecorder {
       this.startCounts[address] += begun;
       this.jumpCounts[address] += Math.max(0, jumped);
       this.cycleCounts[address] += instructionCycles(code) * begun;
-      if (isCall(code)) this.findCalls(jumpTarget(this.codes, address)).times += begun;
+      if (isCall(code)) this.getCallCounts(jumpTarget(this.codes, address)).times += begun;
       if (isCall(code) || isReturn(code)) callCount += begun;
     }
     return callCount;
@@ -102,7 +102,7 @@ export class ExecutionRecorder {
    * @param {number} address
    * @returns {CallCounts}
    */
-  findCalls(address) {
+  getCallCounts(address) {
     const found = this.calls.get(address) || { times: 0, withCalls: 0, longest: 0 };
     this.calls.set(address, found);
     return found;
@@ -114,7 +114,7 @@ export class ExecutionRecorder {
    * @param {string[]} lines
    * @param {number} elapsed
    */
-  followCalls(lines, elapsed) {
+  trackCalls(lines, elapsed) {
     for (const line of lines) {
       const { cycles, address } = parseTraceLine(line);
       const code = this.codes[address];
@@ -134,7 +134,7 @@ export class ExecutionRecorder {
     const endedCall = this.openCalls.pop();
     if (!endedCall || this.openCalls.some(({ at }) => at === endedCall.at)) return;
     const cycles = Math.max(0, time - endedCall.startTime);
-    const calls = this.findCalls(endedCall.at);
+    const calls = this.getCallCounts(endedCall.at);
     calls.withCalls += cycles;
     calls.longest = Math.max(calls.longest, cycles);
   }
@@ -145,7 +145,7 @@ export class ExecutionRecorder {
    * @param {string[]} lines
    * @param {number} elapsed
    */
-  followLamps(lines, elapsed) {
+  trackLampChanges(lines, elapsed) {
     if (lines.length === 0) return;
     const [first, last] = [lines[0], lines[lines.length - 1]].map((line) => elapsed + parseTraceLine(line).cycles + 1);
     if (this.lastPress.first === 0) this.lastPress.first = first;
@@ -158,12 +158,12 @@ export class ExecutionRecorder {
    * @param {number} elapsed
    */
   recordPress(key, elapsed) {
-    this.endKey();
+    this.finishLastPress();
     this.lastPress = { key, pressed: elapsed, first: 0, last: 0 };
   }
 
   /** Adds the last key press to the key times. */
-  endKey() {
+  finishLastPress() {
     const { key, pressed, first, last } = this.lastPress;
     if (key === "") return;
     const times = this.keys.get(key) || { presses: 0, answered: 0, first: 0, last: 0 };
@@ -191,14 +191,14 @@ export class ExecutionRecorder {
    */
   end(elapsed) {
     while (this.openCalls.length > 0) this.endInnermostCall(elapsed);
-    this.endKey();
+    this.finishLastPress();
     this.total += elapsed;
   }
 }
 
 /** Records only how often each instruction starts and jumps, for coverage. */
 export class LineRecorder extends ExecutionRecorder {
-  get keepsTimes() {
+  get recordsTimes() {
     return false;
   }
 
@@ -215,7 +215,7 @@ export class LineRecorder extends ExecutionRecorder {
 
 /** Records nothing and sends no queries. */
 export class NullRecorder extends ExecutionRecorder {
-  get keepsTimes() {
+  get recordsTimes() {
     return false;
   }
 

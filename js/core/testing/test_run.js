@@ -133,10 +133,10 @@ export class TestRun {
     if (action.kind === "do") {
       const [first] = action.steps;
       const file = !first || first.source.name === source.name ? "" : source.name;
-      return this.runSteps(session, action.steps, [say.stepsOfLine(action.name, line, file), ...enclosing]);
+      return this.runSteps(session, action.steps, [say.describeSharedSteps(action.name, line, file), ...enclosing]);
     }
     for (let turn = 1; turn <= action.times; turn++) {
-      const failure = await this.runSteps(session, action.steps, [say.turnOf(turn, action.times, line), ...enclosing]);
+      const failure = await this.runSteps(session, action.steps, [say.describeTurn(turn, action.times, line), ...enclosing]);
       if (failure) return failure;
       await this.yieldToMessages();
     }
@@ -204,7 +204,7 @@ export class TestRun {
    * @param {TestSession} session
    */
   describeStop({ counter }) {
-    return say.beforeCode(this.addressText(counter));
+    return say.beforeInvalidOpcode(this.addressText(counter));
   }
 
   /**
@@ -224,12 +224,12 @@ export class TestRun {
    */
   chooseKey(session, { word, place, probe, keys }) {
     const value = parseInt(rowValues(new ForecastAnswers(session.ask(`trace 1 ${probe}\n`)).takeTrace().row)[0], 16);
-    const valueText = say.isAnd(place, value);
-    if (keys.length > 0) return { key: keys[value], words: say.hasKeys(valueText, word, formatQuantity(keys.length, "key")) };
+    const valueText = say.placeValueAnd(place, value);
+    if (keys.length > 0) return { key: keys[value], words: say.valueHasKeys(valueText, word, formatQuantity(keys.length, "key")) };
     const boardKeys = listNamedKeys(this.prepared.names.face);
     const digit = hex(value, 1);
     const key = boardKeys.get(String(value)) || boardKeys.get(digit);
-    return { key, words: say.hasNoKey(valueText, value, value > 9 ? say.norKey(digit) : "") };
+    return { key, words: say.valueHasNoKey(valueText, value, value > 9 ? say.orDigitKey(digit) : "") };
   }
 
   /**

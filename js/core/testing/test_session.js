@@ -23,7 +23,7 @@ import { ForecastAnswers, parseTraceLine, rowValues } from "../engine/forecast_a
  */
 
 /** The number of cycles, at the end of a test, whose instructions can be listed. */
-export const SHOWN_CYCLES = 26;
+export const LISTABLE_CYCLES = 26;
 
 export class TestSession {
   /**
@@ -117,7 +117,7 @@ export class TestSession {
    * @param {number} cycles the number of cycles, at most MAX_RUN_CYCLES
    */
   runPiece(cycles) {
-    if (cycles >= SHOWN_CYCLES) this.spareBuffer.set(this.file);
+    if (cycles >= LISTABLE_CYCLES) this.spareBuffer.set(this.file);
     const { recorder, engine, file, printout, previousFile } = this;
     const printoutQueries = printout ? printout.queries(cycles) : "";
     const lines = `${printoutQueries}${recorder.queries(cycles)}run ${cycles}\nregs\n`;
@@ -132,7 +132,7 @@ export class TestSession {
     [this.file, this.previousFile] = [previousFile, file];
     this.readRegistersFrom(answers.take());
     this.lastRunCycles = run.cycles;
-    if (run.cycles >= SHOWN_CYCLES) {
+    if (run.cycles >= LISTABLE_CYCLES) {
       const { file: old } = this.storedState;
       this.storedState = { file: this.spareBuffer, elapsed: this.elapsed, laterActions: [] };
       this.spareBuffer = old;
@@ -155,7 +155,7 @@ export class TestSession {
 
   /** Subtracts the second cycle of the last instruction from the recorded cycles, because this cycle will not run. */
   subtractLastCycle() {
-    if (this.lastRunCycles === 0 || !this.recorder.keepsTimes) return;
+    if (this.lastRunCycles === 0 || !this.recorder.recordsTimes) return;
     const before = this.lastRunCycles > 1 ? `run ${this.lastRunCycles - 1}\n` : "";
     const answers = this.engine.ask(this.previousFile, `${before}trace 1\n`).answers.slice(before === "" ? 0 : 1);
     const [line] = new ForecastAnswers(answers).takeTrace().lines;

@@ -49,7 +49,7 @@ const MAX_REPETITIONS = 100000;
 const MAX_LINES = 1000000;
 
 /** The error for an invalid line, with the column at which the error starts. */
-class BadLine extends Error {
+class InvalidLineError extends Error {
   /**
    * @param {string} words
    * @param {number} column the column from 0; -1 if unknown
@@ -61,13 +61,13 @@ class BadLine extends Error {
 }
 
 /**
- * Throws a BadLine.
+ * Throws a InvalidLineError.
  * @param {string} words
  * @param {number} [column]
  * @returns {never}
  */
 function fail(words, column = -1) {
-  throw new BadLine(words, column);
+  throw new InvalidLineError(words, column);
 }
 
 /**
@@ -150,7 +150,7 @@ class TestReader {
       try {
         this.readLine(line, at + 1);
       } catch (fault) {
-        if (!(fault instanceof BadLine)) throw fault;
+        if (!(fault instanceof InvalidLineError)) throw fault;
         const column = fault.column < 0 ? -1 : fault.column + originalLines[at].length - originalLines[at].trimStart().length;
         this.addFault(at + 1, fault.message, Math.min(column, originalLines[at].trimEnd().length - 1));
         // If a text does not start like a test text, one error is sufficient.
@@ -226,7 +226,7 @@ class TestReader {
     this.currentShared = null;
     this.steps = [];
     this.tests.push({ textNumber: this.textNumber, name, line, from: "", steps: this.steps });
-    if (name === "") fail(say.TEST_NAME);
+    if (name === "") fail(say.TEST_NAME_MISSING);
   }
 
   /**
@@ -240,7 +240,7 @@ class TestReader {
     const { source } = this;
     this.currentShared = { source, name, line, steps: this.steps, lines: 0 };
     this.sharedSteps.set(name, this.currentShared);
-    if (name === "") fail(say.STEPS_NAME);
+    if (name === "") fail(say.STEPS_NAME_MISSING);
     if (previous) fail(say.stepsDefinedTwice(name, previous.line, previous.source.name === source.name ? "" : previous.source.name));
   }
 
@@ -404,7 +404,7 @@ class TestReader {
    */
   failForKey(name, word) {
     const keyNames = [...this.keys.keys()].join(" ");
-    const what = word.length > name.length ? say.nor(name, word) : name;
+    const what = word.length > name.length ? say.nameNorWord(name, word) : name;
     return fail(say.noKey(what, keyNames));
   }
 
@@ -430,7 +430,7 @@ class TestReader {
     const cycles = parseWholeDuration(time.split(/[ \t]+/));
     if (cycles < 1) fail(say.WITHIN_SYNTAX);
     const condition = this.readCondition(conditionText.slice(startColumn), startColumn);
-    if (condition.needs.includes("cycles")) fail(say.NO_CYCLES);
+    if (condition.needs.includes("cycles")) fail(say.CYCLES_NOT_ALLOWED);
     return { kind: "until", condition, cycles };
   }
 

@@ -125,6 +125,6 @@ export function programTexts(program, addresses) {
  */
 export function describeAssembled({ size, left }, counter) {
   const first = left.length > 0 ? `0x${hex(left[0], 3)}` : "";
-  const stay = say.stays(formatQuantity(left.length, "byte"), left.length === 1, first);
-  return say.assembled(formatQuantity(size, "byte"), left.length > 0 ? ` ${stay}` : "", counter);
+  const stay = say.bytesRemaining(formatQuantity(left.length, "byte"), left.length === 1, first);
+  return say.bytesAssembled(formatQuantity(size, "byte"), left.length > 0 ? ` ${stay}` : "", counter);
 }

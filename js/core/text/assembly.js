@@ -57,7 +57,7 @@ function splitOperands(line, from, to) {
 
 /** @type {Map<string, Parts>} the split lines, by line; a cache, because each edit splits the whole text again */
 const cache = new Map();
-const MAX_CACHED = 8192;
+const MAX_CACHED_LINES = 8192;
 const MAX_CACHED_LENGTH = 255;
 
 /**
@@ -69,7 +69,7 @@ export function splitStatement(line) {
   if (line.length > MAX_CACHED_LENGTH) return splitLine(line);
   const before = cache.get(line);
   if (before) return before;
-  if (cache.size >= MAX_CACHED) cache.clear();
+  if (cache.size >= MAX_CACHED_LINES) cache.clear();
   const parts = splitLine(line);
   cache.set(line, parts);
   return parts;

@@ -25,7 +25,7 @@ const UNKNOWN_KEY = 21;
 const MISSING_KEY = 22;
 const BAD_VALUE = 23;
 const DUPLICATE = 24;
-const LACKS_LINE = 25;
+const MISSING_LINE = 25;
 const WRONG_DIRECTION = 26;
 const TOO_MANY = 27;
 /** The keys whose values are signal lines. */
@@ -43,13 +43,13 @@ class BoardErrorText {
    * @param {BoardText} text
    * @param {BoardError} error
    * @param {Map<string, Map<string, string>>} tables the manual's keys and their values, by table
-   * @param {(number: number) => string} wordsOf returns the message of a refusal
+   * @param {(number: number) => string} messageFor returns the message of a refusal
    */
-  constructor(text, error, tables, wordsOf) {
+  constructor(text, error, tables, messageFor) {
     this.text = text;
     this.error = error;
     this.tables = tables;
-    this.messageFor = wordsOf;
+    this.messageFor = messageFor;
     this.parts = collectParts(text.entries);
     this.lines = new Map(boardLines(this.parts).map((line) => [line.name, line]));
   }
@@ -112,7 +112,7 @@ class BoardErrorText {
     return value.inner.find(({ inner }) => {
       const line = this.lines.get(String(inner));
       if (number === BAD_VALUE) return !LINE_NAMES.has(String(inner));
-      return number === LACKS_LINE ? !line : number === WRONG_DIRECTION && line && !line.isInput;
+      return number === MISSING_LINE ? !line : number === WRONG_DIRECTION && line && !line.isInput;
     }) || value;
   }
 
@@ -124,12 +124,12 @@ class BoardErrorText {
    */
   formatMessage(entry, key, value) {
     const { number, section, key: name } = this.error;
-    if (number === MISSING_KEY) return say.lacks(section, name);
+    if (number === MISSING_KEY) return say.lacksKeys(section, name);
     if (number === BAD_VALUE) return this.explainValues(value);
     if (number === TOO_MANY) return name === "" ? say.mostTables(MAX_PARTS[section], section) : say.mostColumns(MAX_COLUMNS);
     if (!entry || !key || !value) return this.messageFor(number);
     if (number === DUPLICATE) return say.alreadyThere(`${name} ${value.inner}`, this.findFirstLine(entry, key));
-    if (number === LACKS_LINE) return name === "rows" ? this.explainRows(entry) : this.explainMissingLine(String(value.inner));
+    if (number === MISSING_LINE) return name === "rows" ? this.explainRows(entry) : this.explainMissingLine(String(value.inner));
     const { kind = "" } = this.lines.get(String(value.inner)) || {};
     return name === "columns" ? say.needsInput(String(value.inner)) : say.needsOutput(name, String(value.inner), kind === "bit");
   }
@@ -146,7 +146,7 @@ class BoardErrorText {
     if (isLine) return say.noLineName(String(inner));
     if (typeof inner === "string" && `${section}.${key}` in VALUE_RANGES && /^\d+$/.test(inner)) return say.withoutQuotes(key, inner);
     if (key) return values ? say.keyMustBe(key, values) : this.messageFor(BAD_VALUE);
-    if (section !== "keys" && index === 0) return say.several(section);
+    if (section !== "keys" && index === 0) return say.tableArraySyntax(section);
     return section === "keys" ? say.ONE_MATRIX : say.mustBeTable(section);
   }
 
@@ -160,9 +160,10 @@ class BoardErrorText {
     if (kind === "") return say.noChain(name, chains.length);
     if (kind === "rom") return say.noSuchRom(name, number);
     const bank = banks.find((each) => String(each.bank) === number);
-    if (kind === "ram") return bank && Number(chip) >= bank.chips ? say.bankHas(name, number, bank.chips) : say.noSuchBank(name, number);
+    if (kind === "ram" && bank && Number(chip) >= bank.chips) return say.noChipInBank(name, number, bank.chips);
+    if (kind === "ram") return say.noSuchBank(name, number);
     const chain = chains[Number(number)];
-    return chain ? say.chainHas(name, number, BITS_PER_CHIP * chain.chips - 1) : say.noChain(number, chains.length);
+    return chain ? say.noBitInChain(name, number, BITS_PER_CHIP * chain.chips - 1) : say.noChain(number, chains.length);
   }
 
   /**
@@ -199,7 +200,7 @@ class BoardErrorText {
     const { section, key: name } = this.error;
     const known = section === "" ? Object.keys(PART_KEYS) : PART_KEYS[section];
     const suggestions = findSimilarWords(name, known);
-    const instead = formatSuggestion(suggestions) || say.whichHas(known.join(", "));
+    const instead = formatSuggestion(suggestions) || say.whichHasKeys(known.join(", "));
     const message = section === "" ? say.noPart(name, instead) : say.noKeyOf(name, section, instead);
     const place = key || entry;
     const fault = place ? faultAt(UNKNOWN_KEY, place, message) : this.createLineFault(message);
@@ -224,11 +225,11 @@ class BoardErrorText {
  * @param {string} text the text, with the same positions as the original
  * @param {BoardError} error
  * @param {Map<string, Map<string, string>>} tables the manual's keys and their values, by table
- * @param {(number: number) => string} wordsOf returns the message of a refusal
+ * @param {(number: number) => string} messageFor returns the message of a refusal
  * @returns {Fault}
  */
-export function createBoardError(text, error, tables, wordsOf) {
-  const fault = new BoardErrorText(readBoardText(text), error, tables, wordsOf).createFault();
+export function createBoardError(text, error, tables, messageFor) {
+  const fault = new BoardErrorText(readBoardText(text), error, tables, messageFor).createFault();
   const line = text.split("\n")[fault.line - 1] || "";
   return { ...fault, to: Math.min(fault.to, line.length) };
 }

@@ -8,14 +8,14 @@ import * as say from "../../words/text.js";
 /**
  * @typedef {import("./sendable_text.js").Fault} Fault
  * @typedef {import("./toml_words.js").TomlWord} TomlWord
- * @typedef {string | number | boolean | Value[] | Entry} Inner
+ * @typedef {string | number | boolean | Value[] | Entry} PlainValue
  *
  * The end of a word: its line number, and the index after its last character (`to`).
  * @typedef {{ line: number, to: number }} End
  *
  * A value (`inner`) with its position. `line`, `from` and `to` are the position of the value; for an array or table, of its opening
  * bracket. `end` is the end of the whole value. `whole` is false for a number that is not written as an integer.
- * @typedef {{ inner: Inner, whole: boolean, line: number, from: number, to: number, end: End }} Value
+ * @typedef {{ inner: PlainValue, whole: boolean, line: number, from: number, to: number, end: End }} Value
  * @typedef {{ name: string, line: number, from: number, to: number, value: Value }} Key
  *
  * A table: its name, the position of its header, and its keys. Only an inline table has an `end`.
@@ -33,7 +33,7 @@ const MAX_DEPTH = 32;
 const INTEGER = /^[+-]?(0|[1-9](_?\d)*)$|^0x[0-9A-Fa-f](_?[0-9A-Fa-f])*$|^0o[0-7]+$|^0b[01]+$/;
 
 /** The error for a word that is not valid TOML. */
-class NotToml extends Error {
+class TomlSyntaxError extends Error {
   /**
    * @param {TomlWord} word
    * @param {string} words
@@ -87,7 +87,7 @@ export class BoardReader {
    * @param {string} words the error message
    */
   expectMark(mark, words) {
-    if (!this.isMark(mark)) throw new NotToml(this.word, this.word.fault || words);
+    if (!this.isMark(mark)) throw new TomlSyntaxError(this.word, this.word.fault || words);
     this.at += 1;
   }
 
@@ -98,10 +98,10 @@ export class BoardReader {
       try {
         this.readStatement();
       } catch (fault) {
-        if (!(fault instanceof NotToml)) throw fault;
+        if (!(fault instanceof TomlSyntaxError)) throw fault;
         const { line, from, to } = fault.word;
         this.faults.push({ number: NOT_TOML, line, from, to, words: fault.message });
-        this.at = this.lineAfter(line, startIndex);
+        this.at = this.findNextLineStart(line, startIndex);
       }
     }
   }
@@ -111,7 +111,7 @@ export class BoardReader {
    * @param {number} line
    * @param {number} startIndex the index of the first word in the statement with the error
    */
-  lineAfter(line, startIndex) {
+  findNextLineStart(line, startIndex) {
     let at = startIndex;
     while (at < this.words.length && !(this.words[at].kind === "end" && this.words[at].line >= line)) at += 1;
     return at + 1;
@@ -128,7 +128,7 @@ export class BoardReader {
     const isArray = this.words[this.at + 1].text === "[" && this.words[this.at + 1].kind === "punctuation";
     this.at += isArray ? 2 : 1;
     const name = this.word;
-    if (name.kind !== "bare" && name.kind !== "string") throw new NotToml(name, say.TABLE_SYNTAX);
+    if (name.kind !== "bare" && name.kind !== "string") throw new TomlSyntaxError(name, say.TABLE_SYNTAX);
     this.at += 1;
     this.expectMark("]", say.bracketMissing(isArray ? `[[${name.text}]]` : `[${name.text}]`));
     if (isArray) this.expectMark("]", say.bracketMissing(`[[${name.text}]]`));
@@ -138,7 +138,7 @@ export class BoardReader {
   }
 
   endLine() {
-    if (this.word.kind !== "end") throw new NotToml(this.word, this.word.fault || say.LINE_ENDS);
+    if (this.word.kind !== "end") throw new TomlSyntaxError(this.word, this.word.fault || say.LINE_ENDS);
     this.at += 1;
   }
 
@@ -156,7 +156,7 @@ export class BoardReader {
   /**
    * Adds the inline tables in a value to the tables of the text. Returns false if the value is neither a table nor an array of tables.
    * @param {string} name
-   * @param {Inner} inner
+   * @param {PlainValue} inner
    */
   addTables(name, inner) {
     if (Array.isArray(inner)) {
@@ -173,7 +173,7 @@ export class BoardReader {
   /** @returns {Key} */
   readKey() {
     const name = this.word;
-    if (name.kind !== "bare" && name.kind !== "string") throw new NotToml(name, name.fault || say.KEY_SYNTAX);
+    if (name.kind !== "bare" && name.kind !== "string") throw new TomlSyntaxError(name, name.fault || say.KEY_SYNTAX);
     this.at += 1;
     this.expectMark("=", say.equalsMissing(name.text));
     return { name: name.text, line: name.line, from: name.from, to: name.to, value: this.readValue(name.text) };
@@ -189,8 +189,8 @@ export class BoardReader {
     const range = { line, from, to };
     if (this.isMark("[")) return { inner: this.readNested(() => this.readArray(key)), whole: true, ...range, end: this.lastEnd };
     if (this.isMark("{")) return { inner: this.readNested(() => this.readTable()), whole: true, ...range, end: this.lastEnd };
-    if (kind === "end") throw new NotToml(this.word, say.valueMissing(key));
-    if (kind === "punctuation" || kind === "bad") throw new NotToml(this.word, fault || say.noValue(text));
+    if (kind === "end") throw new TomlSyntaxError(this.word, say.valueMissing(key));
+    if (kind === "punctuation" || kind === "bad") throw new TomlSyntaxError(this.word, fault || say.noValue(text));
     const inner = this.parseScalar(kind, text);
     this.at += 1;
     return { inner, whole: typeof inner !== "number" || INTEGER.test(text), ...range, end: { line, to } };
@@ -203,7 +203,7 @@ export class BoardReader {
    * @returns {Read}
    */
   readNested(read) {
-    if (this.depth === MAX_DEPTH) throw new NotToml(this.word, say.tooDeep(MAX_DEPTH));
+    if (this.depth === MAX_DEPTH) throw new TomlSyntaxError(this.word, say.tooDeep(MAX_DEPTH));
     this.depth += 1;
     try {
       return read();
@@ -216,15 +216,15 @@ export class BoardReader {
    * Returns the value of a string, number or boolean. Throws for any other word.
    * @param {string} kind
    * @param {string} text
-   * @returns {Inner}
+   * @returns {PlainValue}
    */
   parseScalar(kind, text) {
     if (kind === "string") return text;
     if (INTEGER.test(text)) return Number(text.replace(/_/g, ""));
     if (text === "true" || text === "false") return text === "true";
     if (/^[+-]?\d+(\.\d+)?([eE][+-]?\d+)?$/.test(text) && !/^[+-]?0\d/.test(text)) return Number(text);
-    if (/^0\d+$/.test(text)) throw new NotToml(this.word, say.hasLeadingZero(text));
-    throw new NotToml(this.word, say.needsQuotes(text));
+    if (/^0\d+$/.test(text)) throw new TomlSyntaxError(this.word, say.hasLeadingZero(text));
+    throw new TomlSyntaxError(this.word, say.needsQuotes(text));
   }
 
   /** Skips the ends of lines. */
@@ -241,11 +241,11 @@ export class BoardReader {
     this.at += 1;
     const values = [];
     for (this.skipEnds(); !this.isMark("]"); this.skipEnds()) {
-      if (this.word.kind === "end") throw new NotToml(opened, say.NO_BRACKET);
+      if (this.word.kind === "end") throw new TomlSyntaxError(opened, say.NO_BRACKET);
       values.push(this.readValue(key));
       this.skipEnds();
       if (this.isMark(",")) this.at += 1;
-      else if (!this.isMark("]")) throw new NotToml(this.word, this.word.fault || say.COMMA_OF_VALUES);
+      else if (!this.isMark("]")) throw new TomlSyntaxError(this.word, this.word.fault || say.COMMA_OF_VALUES);
     }
     this.at += 1;
     return values;
@@ -257,10 +257,10 @@ export class BoardReader {
     this.at += 1;
     const keys = [];
     while (!this.isMark("}")) {
-      if (this.word.kind === "end") throw new NotToml(this.word, say.NO_BRACE);
+      if (this.word.kind === "end") throw new TomlSyntaxError(this.word, say.NO_BRACE);
       keys.push(this.readKey());
       if (this.isMark(",")) this.at += 1;
-      else if (!this.isMark("}")) throw new NotToml(this.word, this.word.fault || say.COMMA_OF_KEYS);
+      else if (!this.isMark("}")) throw new TomlSyntaxError(this.word, this.word.fault || say.COMMA_OF_KEYS);
     }
     this.at += 1;
     return { table: "", line, from, to, keys, end: this.lastEnd };
@@ -284,10 +284,10 @@ export function readBoardText(text) {
  * @param {Entry[]} entries
  */
 export function collectParts(entries) {
-  /** @type {(table: string) => Map<string, Inner>[]} */
+  /** @type {(table: string) => Map<string, PlainValue>[]} */
   const findTables = (table) => entries.filter((entry) => entry.table === table).map(({ keys }) => (
     new Map(keys.map(({ name, value }) => [name, value.inner]))));
-  /** @type {(table: string, values: Map<string, Inner>) => number} */
+  /** @type {(table: string, values: Map<string, PlainValue>) => number} */
   const countChips = (table, values) => Math.min(VALUE_RANGES[`${table}.chips`].to, Number(values.get("chips")) || 0);
   return {
     roms: findTables("rom").map((values) => ({ chip: Number(values.get("chip")), port: String(values.get("port")) })),

@@ -45,23 +45,23 @@ function createFault(source, lineNumber, error, number, messageFor) {
  * @param {string[]} lines the program lines
  * @param {import("../bench/text_check_answers.js").LineError} error
  * @param {KnownWords} facts
- * @param {(number: number) => string} wordsOf returns the message of a refusal
+ * @param {(number: number) => string} messageFor returns the message of a refusal
  * @returns {Fault}
  */
-export function createLineError(lines, { line, number }, facts, wordsOf) {
+export function createLineError(lines, { line, number }, facts, messageFor) {
   const text = lines[line - 1];
-  return createFault(text, line, explainProgramLine(text, number, facts), number, wordsOf);
+  return createFault(text, line, explainProgramLine(text, number, facts), number, messageFor);
 }
 
 /**
  * Resolves to the errors in a program. Lines that cannot be sent to the bench are replaced by empty lines.
  * @param {string} program
  * @param {Map<string, Instruction>} instructions
- * @param {(number: number) => string} wordsOf returns the message of a refusal
+ * @param {(number: number) => string} messageFor returns the message of a refusal
  * @param {Pick<import("./text_error_finder.js").FaultQueries, "errors" | "refuse">} queries
  * @returns {Promise<AllFaults>}
  */
-export async function findProgramFaults(program, instructions, wordsOf, queries) {
+export async function findProgramFaults(program, instructions, messageFor, queries) {
   const textFaults = findLineFaults(program, ";");
   if (textFaults.some(({ number }) => number === TEXT_TOO_LONG)) return { faults: textFaults, isWhole: false, rest: null };
   const lines = alignedText(program, ";").split("\n");
@@ -70,7 +70,7 @@ export async function findProgramFaults(program, instructions, wordsOf, queries)
   const errors = await queries.errors(sent);
   /** @type {KnownWords} */
   const facts = { instructions, names: findDefinedNames(lines) };
-  const found = errors.map((error) => createLineError(lines, error, facts, wordsOf));
+  const found = errors.map((error) => createLineError(lines, error, facts, messageFor));
   const faults = [...textFaults, ...found].sort((one, other) => one.line - other.line || one.from - other.from);
   const rest = faults.length === 0 ? await queries.refuse(sent) : null;
   return { faults, isWhole: errors.length < MAX_ERRORS, rest };

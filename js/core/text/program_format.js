@@ -12,7 +12,7 @@ import * as say from "../../words/text.js";
  *
  * The parts of a line: either a name defined with `=` and its value, or a label and a statement. A missing part is "". `indent` is the
  * current column of the comment.
- * @typedef {{ name: string, value: string, label: string, head: string, operands: string, comment: string, indent: number }} CutLine
+ * @typedef {{ name: string, value: string, label: string, head: string, operands: string, comment: string, indent: number }} SplitLine
  *
  * A change: the new text, and the range in the line that it replaces (from 0).
  * @typedef {{ line: number, from: number, to: number, text: string }} Change
@@ -59,11 +59,11 @@ function formatGap(from, to, { tabSize, insertSpaces }) {
 /**
  * Splits a line into its parts. Returns null if the form of the line is invalid.
  * @param {string} line
- * @param {(word: string) => boolean} isHead returns whether a statement can start with an upper-case word
+ * @param {(word: string) => boolean} canStartStatement returns whether a statement can start with an upper-case word
  * @param {Layout} layout
- * @returns {CutLine | null}
+ * @returns {SplitLine | null}
  */
-function splitLine(line, isHead, layout) {
+function splitLine(line, canStartStatement, layout) {
   const mark = line.indexOf(";");
   const code = trimBlanks(mark < 0 ? line : line.slice(0, mark));
   const empty = { name: "", value: "", label: "", head: "", operands: "" };
@@ -72,7 +72,7 @@ function splitLine(line, isHead, layout) {
   const definition = DEFINITION.exec(code);
   if (definition) return { ...empty, ...rest, name: definition[1], value: definition[2] };
   const found = CODE.exec(code);
-  if (!found || (found[2] && !isHead(found[2].toUpperCase()))) return null;
+  if (!found || (found[2] && !canStartStatement(found[2].toUpperCase()))) return null;
   const operands = (found[3] || "").split(",").map(trimBlanks).join(", ");
   return { ...empty, ...rest, label: found[1] || "", head: found[2] || "", operands };
 }
@@ -80,7 +80,7 @@ function splitLine(line, isHead, layout) {
 /**
  * Returns the name width of each line. For a definition, this is the length of the longest name in its block of consecutive definitions.
  * For any other line, it is 0.
- * @param {(CutLine | null)[]} lines
+ * @param {(SplitLine | null)[]} lines
  */
 function nameWidths(lines) {
   const widths = lines.map((each) => (each ? each.name.length : 0));
@@ -91,7 +91,7 @@ function nameWidths(lines) {
 
 /**
  * Returns the formatted code of a line.
- * @param {CutLine} line
+ * @param {SplitLine} line
  * @param {number} width the length of the longest name in the block of definitions
  * @param {Layout} layout
  */
@@ -122,12 +122,12 @@ function commentColumn(end, indent, last) {
 /**
  * Returns the formatted lines of a program.
  * @param {string[]} lines
- * @param {(word: string) => boolean} isHead returns whether a statement can start with an upper-case word
+ * @param {(word: string) => boolean} canStartStatement returns whether a statement can start with an upper-case word
  * @param {Layout} layout
  * @returns {string[]}
  */
-export function formatProgramLines(lines, isHead, layout) {
-  const parts = lines.map((line) => splitLine(line, isHead, layout));
+export function formatProgramLines(lines, canStartStatement, layout) {
+  const parts = lines.map((line) => splitLine(line, canStartStatement, layout));
   const widths = nameWidths(parts);
   let lastCommentColumn = 0;
   return parts.map((line, at) => {

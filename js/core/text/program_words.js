@@ -22,7 +22,7 @@ import * as say from "../../words/text.js";
  * value.
  * @type {Record<string, { what: string, most: number }>}
  */
-const OPERANDS = {
+const OPERAND_KINDS = {
   Pk: { what: say.PAIR_OPERAND, most: 0 },
   Rk: { what: say.REGISTER_OPERAND, most: 0 },
   c: { what: say.CONDITION_OPERAND, most: 15 },
@@ -36,7 +36,7 @@ const OPERANDS = {
  * @param {string} kind the letters that the manual uses for the kind
  */
 export function describeOperand(kind) {
-  return OPERANDS[kind].what;
+  return OPERAND_KINDS[kind].what;
 }
 
 /**
@@ -55,7 +55,7 @@ function foreignNumber(text) {
   if (hexadecimal) return { number, words: say.isHexadecimal(number) };
   if (binary) return { number, words: say.isBinary(number) };
   if (letter) return { number, words: say.isLetter(letter[2], number) };
-  return { number, words: say.withoutMark(number) };
+  return { number, words: say.withoutNumberSign(number) };
 }
 
 /**
@@ -116,7 +116,7 @@ function describeNameError(text, { instructions }) {
  * @returns {WordError | null}
  */
 function findOperandError(head, kind, word, facts, isFirst) {
-  const { what } = OPERANDS[kind];
+  const { what } = OPERAND_KINDS[kind];
   const expectation = isFirst ? say.takes(head, what) : say.takesAfterComma(head, what);
   const { text } = word;
   if (kind === "Pk" && PAIR.test(text)) return null;
@@ -152,9 +152,9 @@ function findHeadError({ label, operands }, head, { instructions }) {
   if (upperCaseWord === "WPM") return { word: head, words: say.NO_WPM };
   const definition = operands.length === 1 && NAME.test(head.text) && /^(?:EQU|SET)\s+(.*)$/i.exec(operands[0].text);
   if (definition) return { word: operands[0], words: say.nameGetsNumber(head.text, definition[1]), cures: [`= ${definition[1]}`] };
-  const replacement = say.ELSEWHERE.get(upperCaseWord);
+  const replacement = say.OTHER_ASSEMBLER_WORDS.get(upperCaseWord);
   const isName = !label && NAME.test(head.text);
-  if (isName && operands.length > 0 && isHead(operands[0].text.split(/\s/)[0], instructions)) {
+  if (isName && operands.length > 0 && canStartStatement(operands[0].text.split(/\s/)[0], instructions)) {
     return createError(head, say.noInstruction(head.text, say.labelSyntax(head.text)), [`${head.text}:`]);
   }
   const isAlone = isName && operands.length === 0;
@@ -171,7 +171,7 @@ function findHeadError({ label, operands }, head, { instructions }) {
  * @param {string} word
  * @param {KnownWords["instructions"]} instructions
  */
-function isHead(word, instructions) {
+function canStartStatement(word, instructions) {
   const upper = word.toUpperCase();
   return instructions.has(upper) || DIRECTIVES.includes(upper);
 }
@@ -230,7 +230,7 @@ function findFormError(parts, facts) {
     if (found) return found;
   }
   const extra = operands[kinds.length];
-  const wanted = kinds.map((kind) => OPERANDS[kind].what).join(say.AND_AFTER);
+  const wanted = kinds.map((kind) => OPERAND_KINDS[kind].what).join(say.AND_AFTER);
   return { word: extra || head, words: say.takesNoMore(upperCaseWord, wanted, Boolean(extra)) };
 }
 
@@ -241,18 +241,18 @@ function findFormError(parts, facts) {
  * @returns {WordError | null}
  */
 function findValueError({ head, operands, defines, label }, { instructions }) {
-  if (defines) return { word: operands[0] || label, words: say.NUMBER_OF_NAME };
+  if (defines) return { word: operands[0] || label, words: say.NAME_VALUE_RANGE };
   if (!head) return null;
   const upperCaseWord = head.text.toUpperCase();
   const instruction = instructions.get(upperCaseWord);
   const kinds = instruction ? parseOperandKinds(instruction.form) : operands.map(() => (upperCaseWord === "ORG" ? "t" : "b"));
-  const values = operands.map((word, at) => ({ word, kind: OPERANDS[kinds[at] || "b"] })).filter(({ kind }) => kind.most > 0);
+  const values = operands.map((word, at) => ({ word, kind: OPERAND_KINDS[kinds[at] || "b"] })).filter(({ kind }) => kind.most > 0);
   const tooLarge = values.find(({ word, kind }) => NUMBER.test(word.text) && Number(word.text) > kind.most);
   const namedOperand = values.find(({ word }) => NAME.test(word.text));
   const found = tooLarge || namedOperand;
   if (!found) return null;
   const what = upperCaseWord === "ORG" ? say.ORG_ADDRESS : found.kind.what;
-  return { word: found.word, words: say.takesBut(upperCaseWord, what, tooLarge ? "" : say.isMore(found.word.text)) };
+  return { word: found.word, words: say.takesOperands(upperCaseWord, what, tooLarge ? "" : say.extraOperandNote(found.word.text)) };
 }
 
 /**

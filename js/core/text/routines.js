@@ -162,7 +162,7 @@ export class Routines {
    * @param {number} line
    * @returns {Routine[]}
    */
-  routinesWith(line) {
+  routinesContaining(line) {
     const inside = this.routines.filter((each) => this.reachedLines(each.line).has(line));
     if (inside.length > 0) return inside;
     const above = [...this.names].filter(([, at]) => at - 1 <= line && !this.parts[at - 1].defines).pop();
@@ -180,7 +180,7 @@ export class Routines {
     const callersByLine = new Map();
     for (const call of this.callsIn(this.statements.keys())) {
       if (call.target !== callee) continue;
-      for (const routine of this.routinesWith(call.line)) {
+      for (const routine of this.routinesContaining(call.line)) {
         const known = callersByLine.get(routine.line) || { routine, places: [] };
         known.places.push(call);
         callersByLine.set(routine.line, known);

@@ -41,13 +41,13 @@ export class TextErrorFinder {
    * @param {FaultQueries} queries
    * @param {{ instructions: Map<string, Instruction>, tables: Map<string, Map<string, string>> }} manual the instructions, and the
    *   descriptions of board text values, by table and key
-   * @param {(number: number) => string} wordsOf returns the message of a refusal
+   * @param {(number: number) => string} messageFor returns the message of a refusal
    */
-  constructor(queries, { instructions, tables }, wordsOf) {
+  constructor(queries, { instructions, tables }, messageFor) {
     this.queries = queries;
     this.instructions = instructions;
     this.tables = tables;
-    this.messageFor = wordsOf;
+    this.messageFor = messageFor;
   }
 
   /**

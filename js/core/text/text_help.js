@@ -26,7 +26,7 @@ export function describeInstruction(instruction) {
  * @param {Instruction} instruction
  */
 export function describeEffect({ does }) {
-  return /\bCY\b|carry|borrow/.test(does) ? does : `${does}${say.CARRY_STAYS}`;
+  return /\bCY\b|carry|borrow/.test(does) ? does : `${does}${say.CARRY_UNCHANGED}`;
 }
 
 /**

@@ -17,8 +17,8 @@ import * as say from "../../words/trace.js";
  */
 
 /** The length of the first piece, and of all other pieces, in cycles. A short first piece shows the first lines soon. */
-const FIRST_PIECE = 500;
-const PIECE = 10000;
+const FIRST_PIECE_CYCLES = 500;
+const PIECE_CYCLES = 10000;
 /** The word in a `run` answer that means that all cycles ran. */
 const RAN_TO_END = "end";
 
@@ -94,8 +94,8 @@ export class SessionTrace {
     const { engine, board } = this;
     const trace = new TraceLines(engine, board, new InstructionTexts(names));
     let stop = { at: from, end };
-    yield trace.secondCycle(state, from);
-    for (let piece = FIRST_PIECE; stop.at < to && stop.end === end; piece = PIECE) {
+    yield trace.secondCycleLines(state, from);
+    for (let piece = FIRST_PIECE_CYCLES; stop.at < to && stop.end === end; piece = PIECE_CYCLES) {
       const count = Math.min(piece, to - stop.at);
       yield trace.runLines(state, count, stop.at);
       const run = await runState(engine, state, count, this.yieldToMessages);

@@ -23,8 +23,8 @@ import * as say from "../../words/trace.js";
  */
 
 /** The number of index registers in the main query, which also asks for the program counter, the accumulator and the carry. */
-const SHOWN_REGISTERS = 13;
-const MAIN_PLACES = ["pc", "acc", "cy", ...indices(SHOWN_REGISTERS).map((at) => `r${at}`)];
+const MAIN_REGISTER_COUNT = 13;
+const MAIN_PLACES = ["pc", "acc", "cy", ...indices(MAIN_REGISTER_COUNT).map((at) => `r${at}`)];
 /** The character indexes in a row of MAIN_PLACES, which has the form ` PPP A C R R ..`. */
 const ROW_INDICES = { pc: 1, acc: 5, cy: 7, registers: 9 };
 
@@ -35,7 +35,7 @@ const ROW_INDICES = { pc: 1, acc: 5, cy: 7, registers: 9 };
  */
 function formatRegisterChanges(row, previousRow) {
   let changes = "";
-  for (let at = 0; at < SHOWN_REGISTERS; at++) {
+  for (let at = 0; at < MAIN_REGISTER_COUNT; at++) {
     const digit = row[ROW_INDICES.registers + 2 * at];
     if (digit !== previousRow[ROW_INDICES.registers + 2 * at]) changes += ` r${at} ${digit}`;
   }
@@ -77,7 +77,7 @@ export class TraceLines {
    * @param {State} state
    * @param {number} elapsed the number of cycles before the line
    */
-  secondCycle(state, elapsed) {
+  secondCycleLines(state, elapsed) {
     const [answer] = this.engine.ask(state, "state\n").answers;
     if (stateValue(answer, "owed") !== "1") return [];
     return [`${this.texts.plainLine(elapsed, say.SECOND_CYCLE)}acc ${stateValue(answer, "acc")} cy ${stateValue(answer, "cy")}`];
@@ -95,7 +95,7 @@ export class TraceLines {
     const executedAddresses = countAnswers.takeCounts().map(({ address }) => address);
     texts.readInstructions(engine, state, executedAddresses);
     const codes = new Set(executedAddresses.map((address) => texts.codes[address]));
-    const places = tracePlaces(board, SHOWN_REGISTERS, (code) => codes.has(code));
+    const places = tracePlaces(board, MAIN_REGISTER_COUNT, (code) => codes.has(code));
     const groups = indices(Math.ceil(places.length / MAX_PLACES)).map((at) => places.slice(at * MAX_PLACES, (at + 1) * MAX_PLACES));
     const queries = [...groups.map((group) => group.map(({ name }) => name)), MAIN_PLACES];
     const questions = queries.map((names) => `trace ${cycles} ${names.join(" ")}\n`).join("");

@@ -53,7 +53,7 @@ export function findLastRise(clock, moment) {
  * @param {number} after the moment up to which the track is already computed
  * @param {number} end the end of the recording
  */
-export function deriveShift({ clock, data, rise }, track, after, end) {
+export function extendShiftTrack({ clock, data, rise }, track, after, end) {
   const edges = clock.moments.all;
   let lastRise = rise;
   const addRest = (/** @type {number} */ until) => {
@@ -108,7 +108,7 @@ function findOneBits(value, from, to) {
  * @param {WaveLine} line
  * @param {number} value a value in the track of the key scan
  */
-export function readScan({ places, columns, width }, value) {
+export function parseScan({ places, columns, width }, value) {
   const rows = findOneBits(value, columns, width);
   const activeColumns = findOneBits(value, 0, columns);
   const keys = rows.length === 1 ? activeColumns.map((column) => places[rows[0] * columns + column]) : [];
@@ -121,7 +121,7 @@ export function readScan({ places, columns, width }, value) {
  * @param {number} value
  */
 export function scanText(line, value) {
-  const { rows, columns, keys } = readScan(line, value);
+  const { rows, columns, keys } = parseScan(line, value);
   if (rows.length === 0) return say.NO_ROW;
   const rowText = say.rowsDriven(rows);
   if (columns.length === 0) return rowText;

@@ -16,9 +16,9 @@ import * as say from "../../words/waves.js";
 export class UnknownLineError extends Error {}
 
 /** @type {(line: WaveLine) => boolean} returns whether a line is a one-bit line of the board */
-const isBit = ({ kind }) => kind === "level" || kind === "key" || kind === "test";
+const isOneBitLine = ({ kind }) => kind === "level" || kind === "key" || kind === "test";
 /** @type {(line: WaveLine) => boolean} returns whether the user can request a line by its name or group */
-const isOffered = (line) => isBit(line) || line.kind === "pc" || line.kind === "label";
+const canBeRequested = (line) => isOneBitLine(line) || line.kind === "pc" || line.kind === "label";
 
 /**
  * Returns the names of the lines that a user can request.
@@ -27,7 +27,7 @@ const isOffered = (line) => isBit(line) || line.kind === "pc" || line.kind === "
  * @param {boolean} hasLabels
  */
 export function listRequestableNames(board, text, hasLabels) {
-  return createBoardLines(board, text, hasLabels).filter(isOffered).map(({ name }) => name);
+  return createBoardLines(board, text, hasLabels).filter(canBeRequested).map(({ name }) => name);
 }
 
 /**
@@ -35,7 +35,7 @@ export function listRequestableNames(board, text, hasLabels) {
  * @param {WaveLine} line
  * @param {number} number the lamp number
  */
-function plainName({ group, places }, number) {
+function numberedName({ group, places }, number) {
   if (group === "lamps") return `lamp${number}`;
   return group === "keys" ? `key${places[0]}` : "";
 }
@@ -47,9 +47,9 @@ function plainName({ group, places }, number) {
  */
 function lineIndices(lines, word) {
   const lamps = lines.findIndex(({ group }) => group === "lamps");
-  const addLineNames = lines.findIndex((line, at) => line.name === word || plainName(line, at - lamps) === word);
+  const addLineNames = lines.findIndex((line, at) => line.name === word || numberedName(line, at - lamps) === word);
   if (addLineNames >= 0) return [addLineNames];
-  return lines.flatMap((line, at) => (isOffered(line) && line.group === word ? [at] : []));
+  return lines.flatMap((line, at) => (canBeRequested(line) && line.group === word ? [at] : []));
 }
 
 /**
@@ -64,7 +64,7 @@ function lineIndices(lines, word) {
 export function chooseLines(board, text, hasLabels, words) {
   const lines = createBoardLines(board, text, hasLabels);
   const all = lines.map((_, at) => at);
-  if (words.length === 0) return { lines, chosen: all.filter((at) => isBit(lines[at])) };
+  if (words.length === 0) return { lines, chosen: all.filter((at) => isOneBitLine(lines[at])) };
   /** @type {Set<number>} */
   const chosen = new Set();
   for (const word of words) {

@@ -64,7 +64,7 @@ export class LiveWaves {
     const { trigger } = this.choice;
     const triggerText = triggerMoment < 0 ? "" : say.triggerWasAt(formatNumber(triggerMoment));
     if (over === "trigger") return say.recorded(this.lengthText, triggerText);
-    if (over !== "") return say.recordedUntil(this.lengthText || say.NOTHING, say.ENDS[over] || over, triggerText);
+    if (over !== "") return say.recordedUntil(this.lengthText || say.NOTHING, say.END_REASONS[over] || over, triggerText);
     if (triggerMoment >= 0) return say.recordsAfter(triggerText);
     const statusText = waves.cycles === 0 ? say.RECORDS_SOON : say.RECORDS;
     return `${statusText}${trigger ? say.waitsFor(trigger) : ""}`;

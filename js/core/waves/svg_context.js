@@ -1,7 +1,7 @@
 // Creates an SVG file through the drawing methods of a canvas context. Implements only the methods that the drawing of waves needs.
 
 /** The width of a character in pixels; the font is monospaced. */
-const CHARACTER = 7.25;
+const CHARACTER_WIDTH = 7.25;
 /** @type {Record<string, string>} the SVG text anchors, by canvas `textAlign` */
 const ANCHORS = { left: "start", center: "middle", right: "end" };
 
@@ -110,7 +110,7 @@ export class SvgContext {
 
   /** @param {string} text */
   measureText(text) {
-    return { width: text.length * CHARACTER };
+    return { width: text.length * CHARACTER_WIDTH };
   }
 
   /** @param {number[]} lengths */

@@ -16,7 +16,7 @@ const PART_LINES = 100000;
  * The letters of the codes that identify lines in the file. No value in a VCD file starts with one of these letters, so a program that
  * skips an unknown kind of value still reads the following lines correctly.
  */
-const LETTERS = "ACDEFGHIJKLMNOPQSTUVWY";
+const CODE_LETTERS = "ACDEFGHIJKLMNOPQSTUVWY";
 
 /**
  * Returns the short code that identifies a signal line in the file.
@@ -24,7 +24,8 @@ const LETTERS = "ACDEFGHIJKLMNOPQSTUVWY";
  */
 function lineCode(number) {
   let text = "";
-  for (let rest = number; rest >= 0; rest = Math.floor(rest / LETTERS.length) - 1) text = LETTERS[rest % LETTERS.length] + text;
+  const { length } = CODE_LETTERS;
+  for (let rest = number; rest >= 0; rest = Math.floor(rest / length) - 1) text = CODE_LETTERS[rest % length] + text;
   return text;
 }
 

@@ -2,7 +2,7 @@
 // recording of a running session grows at its end and drops cycles at its start. A moment is a time, counted in cycles.
 
 import { ADDRESS_COUNT } from "../bench/rom_bytes.js";
-import { deriveShift, findLastRise, scanText, shiftText } from "./decoders.js";
+import { extendShiftTrack, findLastRise, scanText, shiftText } from "./decoders.js";
 import { NumberQueue, countUpTo } from "./number_queue.js";
 import { Track, emptyTrack } from "./track.js";
 import { valueText } from "./wave_words.js";
@@ -175,7 +175,7 @@ export class Waves {
     const tracks = members.map((member) => this.tracks[member]);
     if (kind === "shift") {
       const [clock, data] = tracks;
-      deriveShift({ clock, data, rise: this.findRiseBefore(line, after) }, track, after, this.cycles);
+      extendShiftTrack({ clock, data, rise: this.findRiseBefore(line, after) }, track, after, this.cycles);
     }
     if (kind === "port" || kind === "scan") this.extendPortTrack(tracks, track, after);
     if (kind !== "pc" && kind !== "label") return;

@@ -2,7 +2,7 @@
 // `@LABEL`.
 
 import { parseNumber } from "../bench/numbers.js";
-import { isDecoder, readScan } from "./decoders.js";
+import { isDecoder, parseScan } from "./decoders.js";
 import { countUpTo } from "./number_queue.js";
 import { findLineByName } from "./trigger.js";
 import * as say from "../../words/waves.js";
@@ -127,7 +127,7 @@ function parseValue(name, sign, value, waves, markedLine) {
  */
 function parseKeySearch(decoder, line, sign, key) {
   if (sign !== "=" || !decoder.places.includes(key)) return searchError(say.isDecoded(decoder.name));
-  return { search: { line, matches: (value) => readScan(decoder, value).keys.includes(key), each: false }, fault: "" };
+  return { search: { line, matches: (value) => parseScan(decoder, value).keys.includes(key), each: false }, fault: "" };
 }
 
 /**

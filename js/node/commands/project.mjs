@@ -12,8 +12,8 @@ import { endOnSignals, rejectedTextsError, startEngine } from "../native_program
 import { CommandError, UsageError } from "../output.mjs";
 import { isInside, checkOutputFile, readUserFile, statInput, writeNewFiles, writeUserFile } from "../user_files.mjs";
 
-const PROJECT_BEGINS = "fethsaim project ";
-const SESSION_BEGINS = "MCS4BEN1";
+const PROJECT_HEADER = "fethsaim project ";
+const SESSION_HEADER = "MCS4BEN1";
 /** The kinds of texts that a folder can have several of. A project file can have only one of each. */
 const LIST_KINDS = /** @type {const} */ (["tests", "properties"]);
 
@@ -96,7 +96,7 @@ async function readSession(folder, names, texts) {
   if (existsSync(name)) {
     const bytes = readFileIn(folder, name);
     if (!bytes.equals(readFileIn(folder, name))) throw new CommandError(say.inUse(name));
-    if (bytes.length === SESSION_BYTES && bytes.toString("latin1").startsWith(SESSION_BEGINS)) return bytes;
+    if (bytes.length === SESSION_BYTES && bytes.toString("latin1").startsWith(SESSION_HEADER)) return bytes;
     throw new CommandError(say.noSessionFile(name));
   }
   const engine = await startEngine();
@@ -139,7 +139,7 @@ function readList(folder, part, parse) {
  */
 async function joinFiles(folder, name) {
   if (!statInput(folder)?.isDirectory()) throw new CommandError(say.noFolder(folder));
-  checkOutputFile(name, PROJECT_BEGINS, say.NO_PROJECT, []);
+  checkOutputFile(name, PROJECT_HEADER, say.NO_PROJECT, []);
   const names = await textPaths(folder);
   const [boardText, programText, testText, propertiesText] = [names.board, names.program, names.tests, names.properties]
     .map((path) => (path === "" ? "" : readText(folder, path)));

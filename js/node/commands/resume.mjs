@@ -5,7 +5,7 @@ import { parseRefusal } from "../../core/bench/answers.js";
 import { compareWithScript } from "../../core/bench/script_progress.js";
 import { changedMeanwhile, notBegun, sessionRefused, sessionWasRefused } from "../../words/commands.js";
 import { checkArguments } from "../arguments.mjs";
-import { InputTexts, MAX_TEXT_BYTES, MAX_SCRIPT } from "../input_texts.mjs";
+import { InputTexts, MAX_TEXT_BYTES, MAX_SCRIPT_BYTES } from "../input_texts.mjs";
 import { yieldToMessages, openSession, programPath, startEngine } from "../native_program.mjs";
 import { CommandError, printBytes, printError } from "../output.mjs";
 import { describeRefusal } from "../rejected_texts.mjs";
@@ -55,7 +55,7 @@ async function serveBytes(session, bytes) {
  * @param {Buffer} bytes
  * @param {number} lines the number of lines to skip
  */
-function afterLines(bytes, lines) {
+function skipLines(bytes, lines) {
   let offset = 0;
   for (let remaining = lines; remaining > 0 && offset < bytes.length; remaining--) {
     const lineEnd = bytes.indexOf("\n", offset);
@@ -69,7 +69,7 @@ export async function run(_, positionals) {
   checkArguments(positionals, ["SCRIPT", "SESSION"]);
   const [scriptName, session] = positionals;
   const texts = new InputTexts();
-  const bytes = texts.read(scriptName, MAX_SCRIPT);
+  const bytes = texts.read(scriptName, MAX_SCRIPT_BYTES);
   const sessionBytes = texts.read(session, MAX_TEXT_BYTES);
   // If there is no native program, fail before anything else.
   programPath();
@@ -79,5 +79,5 @@ export async function run(_, positionals) {
   );
   if (words !== "") throw new CommandError(notBegun(session, scriptName, words, differingLines));
   if (!texts.read(session, MAX_TEXT_BYTES).equals(sessionBytes)) throw new CommandError(changedMeanwhile(session));
-  return serveBytes(session, afterLines(bytes, lines));
+  return serveBytes(session, skipLines(bytes, lines));
 }

@@ -7,7 +7,7 @@ import { NotARecord, NotAnImage, readBytes, readHex, writeHex } from "../../core
 import { createByteTexts } from "../../core/text/asm_texts.js";
 import * as say from "../../words/commands.js";
 import { checkArguments } from "../arguments.mjs";
-import { InputTexts, MAX_ANSWERS, MAX_TEXT_BYTES, STANDARD_INPUT } from "../input_texts.mjs";
+import { InputTexts, MAX_ANSWERS_BYTES, MAX_TEXT_BYTES, STANDARD_INPUT } from "../input_texts.mjs";
 import { CommandError, UsageError, print, printBytes } from "../output.mjs";
 import { readStream } from "../user_files.mjs";
 
@@ -114,7 +114,7 @@ function printImage(form, words) {
   const range = parseRange(words);
   const { first, count } = range;
   if (form === "binary" && process.stdout.isTTY) throw new CommandError(say.NO_TERMINAL);
-  const answers = readStream(STANDARD_INPUT, "-", MAX_ANSWERS);
+  const answers = readStream(STANDARD_INPUT, "-", MAX_ANSWERS_BYTES);
   if (answers.length === 0) throw new CommandError(say.NO_ANSWERS);
   const bytes = readAnswerBytes(answers.toString("latin1"), range);
   if (form === "hex") print(writeHex(bytes));
