@@ -71,7 +71,7 @@ export async function resolveFileNames(folder, words) {
   if (!project) return words;
   if (words.length > 0) return [project.board, project.program, ...words];
   const properties = projectFiles(project, "properties");
-  if (properties.length > 1) throw new CommandError(say.oneText(project.file, properties));
+  if (properties.length > 1) throw new CommandError(say.nameOneFile(project.file, properties));
   return [project.board, project.program, ...properties];
 }
 

@@ -127,7 +127,7 @@ export async function runCommand(name, words, load = COMMANDS[name].load) {
  * @param {string} word
  */
 async function rejectCommand(word) {
-  const names = [...Object.keys(COMMANDS), ...Object.keys(say.MCS4_COMPLETED)];
+  const names = [...Object.keys(COMMANDS), ...Object.keys(say.BUILT_IN_COMPLETIONS)];
   printErrorLines("mcs4", say.noCommand(word, await findSuggestions(word, names)));
   return WRONG_ARGUMENTS_STATUS;
 }
@@ -143,7 +143,7 @@ async function printHelp([name, ...extraWords]) {
     printError(`${mcs4Usage()}\n`);
     return WRONG_ARGUMENTS_STATUS;
   }
-  const isAboutMcs4 = name === undefined || Object.hasOwn(say.MCS4_COMPLETED, name);
+  const isAboutMcs4 = name === undefined || Object.hasOwn(say.BUILT_IN_COMPLETIONS, name);
   if (!isAboutMcs4 && !Object.hasOwn(COMMANDS, name)) return rejectCommand(name);
   const { TOP } = await import("./top_folder.mjs");
   try {

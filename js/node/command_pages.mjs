@@ -85,7 +85,7 @@ function listCompletions() {
       ...Object.keys(options).map((option) => `--${option}`),
       "--help"],
   }));
-  const builtIn = Object.entries(say.MCS4_COMPLETED).map(([name, does]) => ({ name, does, words: /** @type {string[]} */ ([]) }));
+  const builtIn = Object.entries(say.BUILT_IN_COMPLETIONS).map(([name, does]) => ({ name, does, words: /** @type {string[]} */ ([]) }));
   const names = [...builtIn, ...commands].map(({ name }) => name);
   return [...builtIn.map((word) => (word.name === "help" ? { ...word, words: [...names, "refusals"] } : word)), ...commands];
 }

@@ -99,7 +99,7 @@ class Exploration {
   announceModel({ command, properties }) {
     if (command === "" || !this.settings.allowsModel) return;
     const { line } = properties.find(({ form }) => form === "model");
-    printError(`# ${say.runsModel(this.names.properties, line, command)}\n`);
+    printError(`# ${say.runsModelCommand(this.names.properties, line, command)}\n`);
   }
 
   /** Resolves to true if `mcs4 test` confirms the test for a counterexample. Repeats the run once if Ctrl-C stopped it. */
@@ -128,14 +128,14 @@ class Exploration {
       await yieldToMessages();
     }
     const { user, system } = process.cpuUsage(startUsage);
-    for (const test of run.unconfirmedTests) printError(`explore: ${say.notSeenToFail(test)}`);
+    for (const test of run.unconfirmedTests) printError(`explore: ${say.testDoesNotFail(test)}`);
     const sums = createHash("sha256").update(JSON.stringify(texts)).digest("hex");
     return run.report({ names, sums, seconds: (user + system) / 1e6, isStopped });
   }
 
   /** Prints a counterexample as soon as it is found. */
   printCounterexample(property, { steps }) {
-    printError(`# ${say.wasFound(propertyLocation(property, { names: this.names }), property.text, property.isGoal, formatSteps(steps))}\n`);
+    printError(`# ${say.foundLine(propertyLocation(property, { names: this.names }), property.text, property.isGoal, formatSteps(steps))}\n`);
   }
 
   /** Runs one search in another process. Resolves to its exit status and the file name of its report. */
@@ -171,7 +171,7 @@ function readReport(name) {
   } catch {
     // The error is thrown below.
   }
-  throw new CommandError(say.noReport(name));
+  throw new CommandError(say.notAReport(name));
 }
 
 /**

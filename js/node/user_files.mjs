@@ -318,7 +318,7 @@ function readBeginning(name, count) {
  */
 export function checkOutputFile(name, begin, reason, inputs) {
   const stat = withFileError(`cannot write ${name}`, () => statSync(name, { throwIfNoEntry: false }));
-  if (inputs.some((input) => isSameFile(name, input))) throw new UserFileError(say.isRead(name));
+  if (inputs.some((input) => isSameFile(name, input))) throw new UserFileError(say.isInputFile(name));
   if (stat && stat.isDirectory()) throw new UserFileError(say.isFolder(name));
   withFileError(`cannot write ${name}`, () => {
     if (stat && !stat.isFile()) return accessSync(name, constants.W_OK);
@@ -326,7 +326,7 @@ export function checkOutputFile(name, begin, reason, inputs) {
     if (!isWritable(dirname(target))) throw new UserFileError(say.noFolderToWrite(name));
     return stat && checkWritable(target, stat);
   });
-  if (stat && stat.isFile() && stat.size > 0 && readBeginning(name, begin.length) !== begin) throw new UserFileError(say.isForeign(name, reason));
+  if (stat && stat.isFile() && stat.size > 0 && readBeginning(name, begin.length) !== begin) throw new UserFileError(say.isOtherKind(name, reason));
 }
 
 // --- new files in a folder ---

@@ -80,7 +80,7 @@ async function removeCommands(session, count) {
   const bytes = engine.bytesOf(state);
   const commands = Number(engine.ask(state, "seq\n").opened.slice("session ".length));
   const offsets = commitOffsets(bytes);
-  if (count === 0) return say.howFarBack(commands, offsets.length);
+  if (count === 0) return say.describeRemovableCommands(commands, offsets.length);
   if (count > offsets.length) throw new CommandError(say.logIsShorter(session, offsets.length, commands, count));
   const offset = offsets[offsets.length - count];
   const shortenedBytes = Uint8Array.from(bytes);

@@ -1,7 +1,7 @@
 // `mcs4 cover`: prints how often each line of a program ran.
 import { LineRecorder } from "../../core/testing/recorders.js";
 import { coverageText, lcovText } from "../../core/testing/coverage_text.js";
-import { NO_LCOV } from "../../words/commands.js";
+import { NOT_AN_LCOV_FILE } from "../../words/commands.js";
 import { print } from "../output.mjs";
 import { runTestsOrSession } from "../test_commands.mjs";
 import { checkOutputFile, writeUserFile } from "../user_files.mjs";
@@ -15,7 +15,7 @@ export function run({ folder, lcov, session }, positionals) {
     name: "cover",
     Counting: LineRecorder,
     checkNames: (names) => {
-      if (lcov !== undefined) checkOutputFile(lcov, LCOV_BEGIN, NO_LCOV, names);
+      if (lcov !== undefined) checkOutputFile(lcov, LCOV_BEGIN, NOT_AN_LCOV_FILE, names);
     },
     report: ({ coverage }, program) => {
       print(coverageText(coverage, program));

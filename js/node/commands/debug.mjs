@@ -16,7 +16,7 @@ import { TerminalPrompt } from "../terminal_prompt.mjs";
 import { checkOutputFile, statInput, writeUserFile } from "../user_files.mjs";
 import { TerminalView } from "../terminal_view.mjs";
 import { SAVED_HEAD } from "../../words/prompt.js";
-import { NO_BREAKPOINTS_FILE, noSessionToDebug } from "../../words/commands.js";
+import { NOT_A_BREAKPOINTS_FILE, noSessionToDebug } from "../../words/commands.js";
 
 const isInteractive = process.stdin.isTTY === true && process.stdout.isTTY === true;
 
@@ -72,7 +72,7 @@ async function debugFiles(names) {
     read: (name) => readDecodedFile(expandTilde(name), MAX_TEXT_BYTES).text,
     write: (name, text) => {
       const file = expandTilde(name);
-      checkOutputFile(file, SAVED_HEAD, NO_BREAKPOINTS_FILE, [names.board, names.program, names.session].filter(Boolean));
+      checkOutputFile(file, SAVED_HEAD, NOT_A_BREAKPOINTS_FILE, [names.board, names.program, names.session].filter(Boolean));
       writeUserFile(file, text);
     },
     files: fileNames,

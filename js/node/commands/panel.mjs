@@ -7,7 +7,7 @@ import { missingParts } from "../../core/board/face_board.js";
 import { sortByLine } from "../../core/board/face.js";
 import { Panel } from "../../core/panel/terminal_panel.js";
 import { Screen, fitsPanel, middleRows } from "../../core/panel/screen.js";
-import { otherBoard } from "../../words/commands.js";
+import { boardDiffers } from "../../words/commands.js";
 import { noteOfBoard } from "../../words/panel.js";
 import { checkArguments, findProject } from "../arguments.mjs";
 import { readBoardAndFace } from "../board_file.mjs";
@@ -65,7 +65,7 @@ async function readTexts(session, name, texts) {
   const { board, face, answers } = await readBoardAndFace(engine, texts.board);
   const boardDifferences = differingLines(await readAnswers(session, "board\n"), answers);
   const { name: boardName } = texts.board;
-  if (boardDifferences.length > 0) throw new CommandError([`${otherBoard(boardName)} (< ${name}, > ${boardName})`, ...boardDifferences].join("\n"));
+  if (boardDifferences.length > 0) throw new CommandError([`${boardDiffers(boardName)} (< ${name}, > ${boardName})`, ...boardDifferences].join("\n"));
   const { program } = texts;
   const map = program && await readCheckedMap(engine, parseRomCodes(await readAnswers(session, listQueries(PAGE_NUMBERS))), program);
   endEngine();

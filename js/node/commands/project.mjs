@@ -139,7 +139,7 @@ function readList(folder, part, parse) {
  */
 async function joinFiles(folder, name) {
   if (!statInput(folder)?.isDirectory()) throw new CommandError(say.noFolder(folder));
-  checkOutputFile(name, PROJECT_HEADER, say.NO_PROJECT, []);
+  checkOutputFile(name, PROJECT_HEADER, say.NOT_A_PROJECT, []);
   const names = await textPaths(folder);
   const [boardText, programText, testText, propertiesText] = [names.board, names.program, names.tests, names.properties]
     .map((path) => (path === "" ? "" : readText(folder, path)));

@@ -3,7 +3,7 @@ import { spawn } from "node:child_process";
 import { once } from "node:events";
 import { parseRefusal } from "../../core/bench/answers.js";
 import { compareWithScript } from "../../core/bench/script_progress.js";
-import { changedMeanwhile, notBegun, sessionRefused, sessionWasRefused } from "../../words/commands.js";
+import { changedMeanwhile, scriptDoesNotMatch, sessionRefused, sessionWasRefused } from "../../words/commands.js";
 import { checkArguments } from "../arguments.mjs";
 import { InputTexts, MAX_TEXT_BYTES, MAX_SCRIPT_BYTES } from "../input_texts.mjs";
 import { yieldToMessages, openSession, programPath, startEngine } from "../native_program.mjs";
@@ -77,7 +77,7 @@ export async function run(_, positionals) {
   const { lines, words, differing: differingLines } = await compareWithScript(
     engine, await openSession(engine, texts, session), bytes.toString("latin1"), yieldToMessages,
   );
-  if (words !== "") throw new CommandError(notBegun(session, scriptName, words, differingLines));
+  if (words !== "") throw new CommandError(scriptDoesNotMatch(session, scriptName, words, differingLines));
   if (!texts.read(session, MAX_TEXT_BYTES).equals(sessionBytes)) throw new CommandError(changedMeanwhile(session));
   return serveBytes(session, skipLines(bytes, lines));
 }

@@ -71,7 +71,7 @@ function parseRange(words) {
   checkArguments(words, ["FIRST", "COUNT"]);
   const [first, count] = words.map(parseNumber);
   if (Number.isNaN(first) || Number.isNaN(count)) throw new UsageError(say.NUMBERS_OF_RANGE);
-  if (first >= ADDRESS_COUNT || count < 1 || first + count > ADDRESS_COUNT) throw new UsageError(say.RANGE);
+  if (first >= ADDRESS_COUNT || count < 1 || first + count > ADDRESS_COUNT) throw new UsageError(say.BYTE_RANGE_SYNTAX);
   return { first, count };
 }
 

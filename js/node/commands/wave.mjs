@@ -49,7 +49,7 @@ async function resolveNames({ folder, board, names }) {
 async function checkBoard(engine, boardFile, wantedAnswers) {
   const { faults, answers } = wireBoard(engine, boardFile.text);
   if (faults.length > 0) throw await rejectedTextsError(engine, { board: boardFile }, faults);
-  if (answers.join() !== wantedAnswers.join()) throw new CommandError(say.otherBoard(boardFile.name));
+  if (answers.join() !== wantedAnswers.join()) throw new CommandError(say.boardDiffers(boardFile.name));
   const nameErrors = findNameErrors(new Face(boardFile.text), readBoard(answers));
   if (nameErrors.length > 0) throw await rejectedTextsError(engine, { board: boardFile }, nameErrors);
 }
@@ -168,7 +168,7 @@ export async function run(values, words) {
   const [session, word, ...lines] = words;
   const cycles = isList ? 0 : parseCount("CYCLES", word, MAX_CYCLES);
   const names = await resolveNames(values);
-  if (wav !== undefined) checkOutputFile(wav, WAV_HEADER, say.NO_WAV, names.board === undefined ? [session] : [session, names.board]);
+  if (wav !== undefined) checkOutputFile(wav, WAV_HEADER, say.NOT_A_WAV_FILE, names.board === undefined ? [session] : [session, names.board]);
   const openedSession = await openWiredSession(session, wav === undefined ? names : { ...names, program: undefined });
   const { board, program } = openedSession;
   if (isList) print(listRequestableNames(board, readBoardText(openedSession), program !== null).map((name) => `${name}\n`).join(""));
