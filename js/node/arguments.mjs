@@ -4,7 +4,7 @@ import * as say from "../words/commands.js";
 import { CommandError, UsageError } from "./output.mjs";
 
 const PROJECT_FILE = "mcs4.toml";
-/** The names of arguments that are not file names and may be empty. */
+/** The names of the arguments that may be empty, because they are not file names. */
 const NON_FILE_ARGUMENTS = new Set(["CYCLES", "N", "KEYS", "FIRST", "LAST", "COUNT"]);
 
 /**
@@ -39,7 +39,7 @@ export function parseCount(name, word, max) {
  * arguments, otherwise null.
  * @param {string | undefined} folder
  * @param {string[]} words
- * @param {number} neededCount the number of arguments with which the command does not need a project
+ * @param {number} neededCount the number of arguments from which on the command needs no project
  */
 export async function findProject(folder, words, neededCount) {
   if (folder === undefined && (words.length >= neededCount || !existsSync(PROJECT_FILE))) return null;
@@ -71,11 +71,11 @@ export async function resolveFileNames(folder, words) {
   if (!project) return words;
   if (words.length > 0) return [project.board, project.program, ...words];
   const properties = projectFiles(project, "properties");
-  if (properties.length > 1) throw new CommandError(say.oneText(project.file, properties));
+  if (properties.length > 1) throw new CommandError(say.nameOneFile(project.file, properties));
   return [project.board, project.program, ...properties];
 }
 
-/** Returns a promise that never resolves. Used by commands that end the process themselves. */
+/** Returns a promise that never resolves, for commands that end the process themselves. */
 export function waitForExit() {
   return new Promise(() => {});
 }

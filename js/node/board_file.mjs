@@ -1,4 +1,4 @@
-// Reads the board file of a command: the board as the bench wires it, and its front panel. Errors name the file and the line.
+// Reads the board file of a command: the board as the bench wires it, and its front panel. Error messages contain the file name and the line number.
 import { readBoard } from "../core/bench/answers.js";
 import { Face } from "../core/board/face.js";
 import { findNameErrors, wireBoard } from "../core/testing/test_preparation.js";
@@ -10,7 +10,7 @@ import { CommandError } from "./output.mjs";
 /** @typedef {import("./input_texts.mjs").GivenText} GivenText */
 
 /**
- * Reads a board and its front panel. Returns both, and the bench's answer lines to `board`.
+ * Reads a board and its front panel. Resolves to both, and to the bench's answer lines to `board`.
  * @param {import("../core/engine/engine_host.js").EngineHost} engine
  * @param {GivenText} boardFile
  */
@@ -24,7 +24,7 @@ export async function readBoardAndFace(engine, boardFile) {
 }
 
 /**
- * Returns the session lines that press a sequence of keys. Throws a CommandError if the front panel lacks one of them.
+ * Returns the session lines that press a sequence of keys. Throws a CommandError if the front panel lacks one of the keys.
  * @param {Face} face
  * @param {string} boardName
  * @param {string} keys

@@ -1,16 +1,18 @@
-// Child processes of the Node tools. Most children have their own process group, so that a signal from the tool also reaches the processes that the
+// The child processes of the Node tools. Most children have their own process group. A signal from the tool then also reaches the processes that the
 // child has started.
 import { processes } from "./lazy_child_process.mjs";
 
 /** The maximum output of a child in characters. A child that prints more is terminated. */
 const MAX_OUTPUT = 1048576;
-/** An environment variable that children receive. A command with this variable suppresses messages that each user should see only once. */
+/**
+ * An environment variable that is set for children. A command that has this variable suppresses the messages that each user should see only once.
+ */
 export const IS_RUN_BY_COMMAND = "MCS4_IS_RUN_BY_COMMAND";
-/** Windows has no process groups. */
+/** True if the system has process groups, which Windows has not. */
 const HAS_GROUPS = process.platform !== "win32";
 /**
- * The time in milliseconds after which a child that ignores SIGTERM is killed. A copy of this tool gets more time, because it must end its own
- * children.
+ * The time in milliseconds after which a child that ignores SIGTERM is killed. A child that is a copy of this tool gets more time, because it must
+ * first end its own children.
  */
 const KILL_DELAYS = { command: 1000, tool: 10000 };
 
@@ -54,7 +56,7 @@ function trackChild(child, hasGroup) {
 }
 
 /**
- * Runs a command with an input. Resolves to its exit status or signal, and its output. Terminates a command that prints too much.
+ * Runs a command with the given input. Resolves to the command's exit status or signal, and its output. Terminates a command that prints too much.
  * @param {string} command
  * @param {string[]} words
  * @param {string} [input]
@@ -81,7 +83,7 @@ export async function runCommand(command, words, input = "") {
 
 /**
  * Runs this command again in another process, without its arguments. Resolves to the exit status, or to null if a signal ended the process. Both
- * processes are in one group, so Ctrl-C reaches both.
+ * processes are in the same group, so Ctrl-C reaches both.
  * @param {Record<string, string | undefined>} env
  */
 export async function rerunCommand(env) {

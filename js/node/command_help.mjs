@@ -1,5 +1,5 @@
 // The help of commands for a terminal, generated from the command table and from js/words/commands.js.
-import { wrapText as foldedTo } from "../core/text/line_wrapping.js";
+import { wrapText } from "../core/text/line_wrapping.js";
 import * as say from "../words/commands.js";
 import { COMMANDS } from "./commands/table.mjs";
 
@@ -8,7 +8,7 @@ const INDENT = "  ";
 const DEEP_INDENT = INDENT.repeat(3);
 
 /** @type {(text: string, first?: string, otherIndent?: string) => string} */
-const foldText = (text, first = "", otherIndent = first) => foldedTo(text, WIDTH, first, otherIndent);
+const foldText = (text, first = "", otherIndent = first) => wrapText(text, WIDTH, first, otherIndent);
 
 /**
  * Returns the paragraphs of a text, each joined into one line.
@@ -19,7 +19,7 @@ export function splitParagraphs(text) {
 }
 
 /**
- * Returns the command lines that a command accepts, as its usage shows them.
+ * Returns the usage lines of a command: the forms of the command line that it accepts.
  * @param {string} name
  */
 export function usageLines(name) {
@@ -51,7 +51,7 @@ export function optionRows(name) {
   return [...rows, ["-h, --help", say.HELP_OPTION]];
 }
 
-/** @type {(head: string, rows: string[][]) => string} formats a list with a heading: each entry has its description below it */
+/** @type {(head: string, rows: string[][]) => string} formats a list with a heading; the description of each entry is below the entry */
 const formatList = (head, rows) => `${head}\n${rows.map(([word, does]) => `${INDENT}${word}\n${foldText(does, DEEP_INDENT)}`).join("\n")}`;
 
 /** @type {(head: string, lines: string[]) => string} */
@@ -79,7 +79,7 @@ export function commandsByGroup() {
 }
 
 /**
- * Returns the help of mcs4 itself.
+ * Returns the help of `mcs4` itself.
  * @param {string} top the folder of mcs4; "" omits the location of the manual
  */
 export function mcs4Help(top) {

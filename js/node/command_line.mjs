@@ -1,5 +1,5 @@
-// Parses a command's arguments as the command table describes them, runs the command, and reports errors. The exit status is 0 for success, 1 for an
-// error or a failed test, and 2 for wrong arguments.
+// Parses the arguments of a command as described in the command table, runs the command, and reports errors. The exit status is 0 for success, 1 for
+// an error or a failed test, and 2 for wrong arguments.
 import { parseArgs } from "node:util";
 import * as say from "../words/commands.js";
 import { COMMANDS } from "./commands/table.mjs";
@@ -16,7 +16,7 @@ const WRONG_ARGUMENTS_STATUS = 2;
 const HELP_OPTION = { type: "boolean", short: "h" };
 
 /**
- * Returns the words that are most similar to a mistyped word. Loads the module that finds them on the first call.
+ * Resolves to the words that are most similar to a mistyped word. Loads the module that finds them on the first call.
  * @param {string} word
  * @param {string[]} words
  */
@@ -26,7 +26,7 @@ async function findSuggestions(word, words) {
 }
 
 /**
- * Returns the error for an unknown option.
+ * Resolves to the error for an unknown option.
  * @param {string} word the option as typed
  * @param {Command["options"]} options
  */
@@ -54,7 +54,7 @@ async function checkOption({ name, rawName, value, inlineValue }, options) {
 }
 
 /**
- * Parses a command's arguments.
+ * Resolves to the options and the other arguments of a command. Throws a UsageError if they are wrong.
  * @param {Command} command
  * @param {string[]} words
  * @returns {Promise<{ values: Values, positionals: string[] }>}
@@ -82,7 +82,7 @@ function printErrorLines(name, message) {
 }
 
 /**
- * Reports an error and returns the exit status. Rethrows unexpected errors.
+ * Reports an error and resolves to the exit status. Rethrows an unexpected error.
  * @param {string} name
  * @param {unknown} error
  */
@@ -101,7 +101,7 @@ async function reportError(name, error) {
 }
 
 /**
- * Runs a command with its arguments. Returns the exit status.
+ * Runs a command with its arguments. Resolves to the exit status.
  * @param {string} name
  * @param {string[]} words
  * @param {Command["load"]} [load]
@@ -123,11 +123,11 @@ export async function runCommand(name, words, load = COMMANDS[name].load) {
 }
 
 /**
- * Reports an unknown command. Returns the exit status.
+ * Reports an unknown command. Resolves to the exit status.
  * @param {string} word
  */
 async function rejectCommand(word) {
-  const names = [...Object.keys(COMMANDS), ...Object.keys(say.MCS4_COMPLETED)];
+  const names = [...Object.keys(COMMANDS), ...Object.keys(say.BUILT_IN_COMPLETIONS)];
   printErrorLines("mcs4", say.noCommand(word, await findSuggestions(word, names)));
   return WRONG_ARGUMENTS_STATUS;
 }
@@ -143,7 +143,7 @@ async function printHelp([name, ...extraWords]) {
     printError(`${mcs4Usage()}\n`);
     return WRONG_ARGUMENTS_STATUS;
   }
-  const isAboutMcs4 = name === undefined || Object.hasOwn(say.MCS4_COMPLETED, name);
+  const isAboutMcs4 = name === undefined || Object.hasOwn(say.BUILT_IN_COMPLETIONS, name);
   if (!isAboutMcs4 && !Object.hasOwn(COMMANDS, name)) return rejectCommand(name);
   const { TOP } = await import("./top_folder.mjs");
   try {
@@ -155,7 +155,7 @@ async function printHelp([name, ...extraWords]) {
 }
 
 /**
- * Runs the `mcs4` command line. Returns the exit status.
+ * Runs a command line of `mcs4`. Resolves to the exit status.
  * @param {string[]} words
  */
 export async function runLine([name = "", ...words]) {

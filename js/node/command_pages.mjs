@@ -1,5 +1,5 @@
-// Generates the installed help files: `node command_pages.mjs FOLDER`. Writes help texts for systems without Node (help/), manual pages (man/) and
-// shell completions (completions/) to the folder. tools/ship calls this script.
+// Generates the help files that are installed with mcs4: `node command_pages.mjs FOLDER`. Writes help texts for systems without Node (help/), manual
+// pages (man/) and shell completions (completions/) to the folder. tools/ship calls this script.
 import { mkdirSync, writeFileSync } from "node:fs";
 import { join } from "node:path";
 import * as say from "../words/commands.js";
@@ -33,7 +33,7 @@ const formatTaggedRows = (rows) => rows.flatMap(([tag, does]) => [".TP", `.B ${e
 const insertBetween = (lines, separator) => lines.flatMap((line, index) => (index > 0 ? [separator, line] : [line]));
 /** @type {(text: string) => string[]} */
 const formatParagraphs = (text) => insertBetween(splitParagraphs(text).map(escapeRoff), ".PP");
-/** @type {(lines: string[]) => string[][]} splits lines such as `0: all was done.` into the exit status and its meaning */
+/** @type {(lines: string[]) => string[][]} splits each line, such as `0: all was done.`, into the exit status and its meaning */
 const statusRows = (lines) => lines.map((line) => [line.slice(0, 1), line.slice(2)]);
 
 /**
@@ -76,7 +76,7 @@ function mcs4ManualPage() {
 
 // --- completions ---
 
-/** Returns all words that can follow `mcs4`. Each has its description and the words that can follow it. */
+/** Returns the words that can follow `mcs4`, each with its description and with the words that can follow it. */
 function listCompletions() {
   const commands = Object.entries(COMMANDS).map(([name, { options, usage }]) => ({
     name,
@@ -85,7 +85,7 @@ function listCompletions() {
       ...Object.keys(options).map((option) => `--${option}`),
       "--help"],
   }));
-  const builtIn = Object.entries(say.MCS4_COMPLETED).map(([name, does]) => ({ name, does, words: /** @type {string[]} */ ([]) }));
+  const builtIn = Object.entries(say.BUILT_IN_COMPLETIONS).map(([name, does]) => ({ name, does, words: /** @type {string[]} */ ([]) }));
   const names = [...builtIn, ...commands].map(({ name }) => name);
   return [...builtIn.map((word) => (word.name === "help" ? { ...word, words: [...names, "refusals"] } : word)), ...commands];
 }

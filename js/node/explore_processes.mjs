@@ -1,4 +1,4 @@
-// The search of `mcs4 explore`: one search in this process, or several jobs in separate processes. `mcs4 test` confirms each counterexample.
+// The search of `mcs4 explore`. Runs one search in this process, or several jobs in separate processes. `mcs4 test` must confirm each counterexample.
 import { createHash } from "node:crypto";
 import { writeFileSync } from "node:fs";
 import { dirname, join } from "node:path";
@@ -19,7 +19,9 @@ import { readUserText, writeUserFile } from "./user_files.mjs";
 /**
  * @typedef {import("./input_texts.mjs").GivenText} GivenText
  *
- * The settings of a search, including its texts. `folder` is a temporary folder. `report` is the file to which a job writes its report.
+ * The settings of a search. `seconds` is its duration, `jobs` the number of processes, and `seed` the seed of its random numbers. `allowsModel` is
+ * true if the search may run the model command of the properties file. `folder` is a temporary folder. `report` is the file to which a job writes its
+ * report.
  * @typedef {{ seconds: number, jobs: number, seed: number, allowsModel: boolean, folder: string,
  *   texts: { board: GivenText, program: GivenText, properties: { name: string, text: string } }, report?: string }} Settings
  */
@@ -27,15 +29,16 @@ import { readUserText, writeUserFile } from "./user_files.mjs";
 /** The time in milliseconds for which the search runs before it checks the clock and signals. */
 const SLICE_TIME = 50;
 /** The maximum sizes of a test file and of a report, in bytes. */
-const MAX_TESTS = 1048576;
-const MAX_REPORT = 16777216;
+const MAX_TEST_BYTES = 1048576;
+const MAX_REPORT_BYTES = 16777216;
 /** The environment variable that contains the name of a job's settings file. */
 const JOB_VARIABLE = "MCS4_EXPLORE_JOB";
 
 let isStopped = false;
 
 /**
- * Returns the test text from which a campaign starts. The campaign names the file, or the file is next to the properties.
+ * Returns the text of the tests that save the start state of a campaign. The campaign names the file of the tests; otherwise it is the `.test` file
+ * next to the properties.
  * @param {{ from: { file: string, line: number, state: string } | null }} campaign
  * @param {string} name the name of the properties file
  */
@@ -43,13 +46,16 @@ function readStartTests({ from }, name) {
   if (!from) return "";
   const file = from.file ? join(dirname(name), from.file) : `${name.replace(/\.props$/, "")}.test`;
   try {
-    return readUserText(file, MAX_TESTS);
+    return readUserText(file, MAX_TEST_BYTES);
   } catch ({ message }) {
     throw new CommandError(say.testsMustSave(name, from.line, message, from.state));
   }
 }
 
-/** Asks a model (a command) about key sequences. Resolves to its answers, one line for each sequence. */
+/**
+ * Asks a model about key sequences. The model is a command that reads them. Resolves to its answers (`shown`), one line for each sequence, or to an
+ * error message (`fault`).
+ */
 async function askModel(command, keySequences) {
   const { status, stdout, stderr, signal } = await runCommand("sh", ["-c", command], `${keySequences.join("\n")}\n`);
   const lines = stdout.split("\n").slice(0, -1);
@@ -58,7 +64,7 @@ async function askModel(command, keySequences) {
   return { shown: lines, fault: lines.length === keySequences.length ? "" : say.modelPrinted(lines.length, keySequences.length) };
 }
 
-/** The search for one campaign, that is, one properties file. */
+/** The search of one campaign. A campaign consists of the properties in one file. */
 class Exploration {
   /**
    * @param {Engine} engine
@@ -72,7 +78,10 @@ class Exploration {
     this.files = { board: join(settings.folder, "board_text"), program: join(settings.folder, "program_text") };
   }
 
-  /** Reads the texts. Resolves to the subject of the search, its initial state, and all texts on which the result depends. */
+  /**
+   * Reads the texts. Resolves to the subject of the search (the board and its program), the campaign, the initial state, and all texts on which the
+   * result depends.
+   */
   async readTexts() {
     const { engine, settings: { texts: { board, program, properties } } } = this;
     const { prepared, faults: textErrors } = prepareTests(engine, { boardText: board.text, programText: program.text });
@@ -86,14 +95,14 @@ class Exploration {
     return { ...preparation, texts: [board.text, program.text, properties.text, testText] };
   }
 
-  /** Prints a model's command before it runs for the first time. */
+  /** Prints the command of a model before it runs for the first time. */
   announceModel({ command, properties }) {
     if (command === "" || !this.settings.allowsModel) return;
     const { line } = properties.find(({ form }) => form === "model");
-    printError(`# ${say.runsModel(this.names.properties, line, command)}\n`);
+    printError(`# ${say.runsModelCommand(this.names.properties, line, command)}\n`);
   }
 
-  /** Resolves to true if `mcs4 test` confirms a test. If Ctrl-C has stopped the run, the run is repeated once. */
+  /** Resolves to true if `mcs4 test` confirms the test for a counterexample. Repeats the run once if Ctrl-C stopped it. */
   async confirm(test, isGoal) {
     const name = join(this.settings.folder, `find.${process.pid}.test`);
     writeFileSync(name, test);
@@ -104,7 +113,7 @@ class Exploration {
     return false;
   }
 
-  /** Searches with one seed. Resolves to the report. */
+  /** Runs one search, with the seed in the settings. Resolves to the report. */
   async search({ subject, campaign, texts }) {
     const { settings: { seconds, seed, allowsModel }, names } = this;
     const model = allowsModel ? (keySequences) => askModel(campaign.command, keySequences) : null;
@@ -119,17 +128,17 @@ class Exploration {
       await yieldToMessages();
     }
     const { user, system } = process.cpuUsage(startUsage);
-    for (const test of run.unconfirmedTests) printError(`explore: ${say.notSeenToFail(test)}`);
+    for (const test of run.unconfirmedTests) printError(`explore: ${say.testDoesNotFail(test)}`);
     const sums = createHash("sha256").update(JSON.stringify(texts)).digest("hex");
     return run.report({ names, sums, seconds: (user + system) / 1e6, isStopped });
   }
 
   /** Prints a counterexample as soon as it is found. */
   printCounterexample(property, { steps }) {
-    printError(`# ${say.wasFound(propertyLocation(property, { names: this.names }), property.text, property.isGoal, formatSteps(steps))}\n`);
+    printError(`# ${say.foundLine(propertyLocation(property, { names: this.names }), property.text, property.isGoal, formatSteps(steps))}\n`);
   }
 
-  /** Runs one search in another process. Resolves to the exit status and the name of the report. */
+  /** Runs one search in another process. Resolves to its exit status and the file name of its report. */
   async runJob(seed) {
     const { settings } = this;
     const report = join(settings.folder, `report.${seed}`);
@@ -153,20 +162,20 @@ class Exploration {
   }
 }
 
-/** Reads the report of another search. Throws an error if the file is not a report. */
+/** Returns the report of another search. Throws an error if the file is not a report. */
 function readReport(name) {
-  const text = readUserText(name, MAX_REPORT);
+  const text = readUserText(name, MAX_REPORT_BYTES);
   try {
     const report = JSON.parse(text);
     if (report.form === "explore 1") return report;
   } catch {
     // The error is thrown below.
   }
-  throw new CommandError(say.noReport(name));
+  throw new CommandError(say.notAReport(name));
 }
 
 /**
- * Combines the reports of searches with the same texts. Throws an error if the texts differ.
+ * Returns the combined report of several searches. Throws an error if the searches had different texts.
  * @param {string[]} names
  */
 export function mergeReports(names) {
@@ -196,7 +205,7 @@ export async function exploreTexts(settings) {
 /** Returns the settings of this process if it is a job of another process, otherwise null. */
 export function jobSettings() {
   const name = process.env[JOB_VARIABLE];
-  return name ? JSON.parse(readUserText(name, 2 * MAX_REPORT)) : null;
+  return name ? JSON.parse(readUserText(name, 2 * MAX_REPORT_BYTES)) : null;
 }
 
 /**

@@ -1,5 +1,5 @@
 // The lock (`flock`) of a session file. The native program holds the lock while it serves the file. Other tools read the file only while no process
-// holds the lock. The holder is found through /proc.
+// holds the lock. /proc names the process that holds the lock.
 import { spawnSync } from "node:child_process";
 import { readFileSync, statSync } from "node:fs";
 import { CommandError } from "./output.mjs";
@@ -8,7 +8,7 @@ import { sessionInUse } from "../words/adapter.js";
 
 /** The exit status of `flock` if another process holds the lock. */
 const LOCKED_STATUS = 75;
-/** Matches a lock in /proc/locks, with its process and the device and inode of the file. */
+/** Matches a lock in /proc/locks. Captures the process that holds it, and the device and inode of the file. */
 const FLOCK_LINE = /^\d+: FLOCK +\w+ +\w+ +(\d+) +([0-9a-f]+):([0-9a-f]+):(\d+) /;
 
 /** @param {string} name the name of a file in /proc */
@@ -30,13 +30,14 @@ function findLockHolders(name) {
     const [, process, major, minor, inode] = FLOCK_LINE.exec(line) || [];
     return Number(inode) === ino ? [{ process: Number(process), device: [major, minor].map((part) => parseInt(part, 16)) }] : [];
   });
-  // The device number is composed as makedev(3) does. On some file systems, the device of a lock differs from the device of its file.
+  // Compose the device number as makedev(3) does. On some file systems, the device of a lock differs from the device of its file.
   const deviceLocks = locks.filter(({ device: [major, minor] }) => dev === ((major & 0xFFF) * 256) + (minor & 0xFF) + ((minor & 0xFFF00) * 4096));
   return (deviceLocks.length > 0 ? deviceLocks : locks).map(({ process }) => process).filter((process) => process > 0);
 }
 
 /**
- * Returns the command line and process id of the holder of a file's lock, or "" if there is none or it is not visible.
+ * Returns the command line and id of the process that holds the lock of a file. Returns "" if there is no such process, or if this user cannot see
+ * it.
  * @param {string} name
  */
 export function findLockHolder(name) {
@@ -59,7 +60,7 @@ export function readUnlocked(name, maxBytes) {
     { maxBuffer: maxBytes + 1, stdio: ["ignore", "pipe", "ignore"] });
   if (status === LOCKED_STATUS) throw new CommandError(sessionInUse(name, findLockHolder(name)));
   if (!error && status === 0) return new Uint8Array(stdout);
-  // Without the `flock` command, look for a lock in /proc. If the contents have changed since the first read, the file is in use, too.
+  // Without the `flock` command, look for a lock in /proc. The file is also in use if its contents have changed since the first read.
   const holder = findLockHolder(name);
   if (holder !== "" || !bytes.equals(readUserFile(name, maxBytes))) throw new CommandError(sessionInUse(name, holder));
   return new Uint8Array(bytes);

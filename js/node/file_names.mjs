@@ -22,7 +22,8 @@ function isFolder(name) {
 }
 
 /**
- * Returns the paths that start with `begin`. A folder's path ends with a slash. Hidden files are included only if `begin` has their dot.
+ * Returns the paths that start with `begin`. The path of a folder ends with a slash. Hidden files are included only if `begin` includes their initial
+ * dot.
  * @param {string} begin
  */
 export function fileNames(begin) {

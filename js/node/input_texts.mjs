@@ -1,20 +1,21 @@
-// Reads the texts that a command's arguments name: files, pipes, or `-` for standard input.
+// Reads the texts that the arguments of a command name: files, pipes, or standard input (`-`).
 import { closeSync, openSync } from "node:fs";
 import { CommandError } from "./output.mjs";
 import { readStream, readUserFile, statInput } from "./user_files.mjs";
 import { noAnswers } from "../words/commands.js";
 
-/** The maximum sizes, in bytes, of a session script, of answers, and of a single text. */
-export const MAX_SCRIPT = 16777216;
-export const MAX_ANSWERS = 67108864;
+/** The maximum sizes of a session script, of the bench's answers, and of a single text, in bytes. */
+export const MAX_SCRIPT_BYTES = 16777216;
+export const MAX_ANSWERS_BYTES = 67108864;
 export const MAX_TEXT_BYTES = 1048576;
 export const STANDARD_INPUT = 0;
 const UTF8_MARK = Buffer.from([0xEF, 0xBB, 0xBF]);
-/** @type {Record<string, string>} the encodings by their byte order marks in hexadecimal; PowerShell writes UTF-16 */
+/** @type {Record<string, string>} the encodings, by byte order mark in hexadecimal; PowerShell writes UTF-16 */
 const UTF_16 = { fffe: "utf-16le", feff: "utf-16be" };
 
 /**
- * The text of a board or a program, with the name of its file, the number of file lines before the text, and the file's encoding.
+ * The text of a board or a program, from a file. `name` is the name of the file, `before` the number of lines before the text in the file, and
+ * `encoding` the encoding of the file.
  * @typedef {{ name: string, text: string, before: number, encoding: BufferEncoding }} GivenText
  */
 
@@ -56,7 +57,7 @@ export class InputTexts {
   }
 
   /**
-   * Returns the contents of the file, pipe or standard input that an argument names. Throws an error if it is empty.
+   * Returns the contents of the file, pipe or standard input that an argument names. Throws an error if there is nothing in it.
    * @param {string} name
    * @param {number} maxBytes the maximum number of bytes
    */
@@ -87,7 +88,7 @@ export class InputTexts {
   }
 
   /**
-   * Returns a tests or properties text.
+   * Returns the text of a tests file or properties file.
    * @param {string} name
    */
   source(name) {
@@ -95,13 +96,14 @@ export class InputTexts {
   }
 
   /**
-   * Returns the text of a board (`wire`) or a program (`asm`): the whole file, or the first such text in a session script.
+   * Returns the text of a board (`wire`) or of a program (`asm`). This is the whole file; if the file is a session script, it is the text of the
+   * first such command.
    * @param {string} name
    * @param {"wire" | "asm"} word
    * @returns {GivenText}
    */
   text(name, word) {
-    const bytes = this.read(name, MAX_SCRIPT);
+    const bytes = this.read(name, MAX_SCRIPT_BYTES);
     const { text, encoding } = decodeText(bytes);
     const lines = text.split(/\r\n?|\n/);
     const beginIndex = lines.findIndex((line) => line.replace(/[ \t]+$/, "") === word);
@@ -116,7 +118,7 @@ export class InputTexts {
 
   /** Returns the text on standard input. */
   lines() {
-    return decodeText(this.readStandardInput(MAX_SCRIPT));
+    return decodeText(this.readStandardInput(MAX_SCRIPT_BYTES));
   }
 
   /**
@@ -124,8 +126,8 @@ export class InputTexts {
    * @param {string} command the command that reads the answers
    */
   answers(command) {
-    if (this.readStandardInput(MAX_ANSWERS).length === 0) throw new CommandError(noAnswers(command));
-    return decodeText(this.readStandardInput(MAX_ANSWERS)).text.split("\n").slice(0, -1).map((line) => line.replace(/\r$/, ""));
+    if (this.readStandardInput(MAX_ANSWERS_BYTES).length === 0) throw new CommandError(noAnswers(command));
+    return decodeText(this.readStandardInput(MAX_ANSWERS_BYTES)).text.split("\n").slice(0, -1).map((line) => line.replace(/\r$/, ""));
   }
 
   /**
@@ -133,6 +135,6 @@ export class InputTexts {
    * @param {string} name
    */
   script(name) {
-    return decodeText(this.read(name, MAX_SCRIPT)).text;
+    return decodeText(this.read(name, MAX_SCRIPT_BYTES)).text;
   }
 }

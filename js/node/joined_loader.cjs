@@ -1,8 +1,9 @@
-// Loads the joined file of a command, which starts faster than the modules from which tools/join_commands.mjs has built the file. A joined file is
-// used only if its checksum matches the sources in the tree. Checksums are slow to compute, so the user's cache stores the sizes and times of the
-// sources. While these are unchanged, the checksum is not computed again. (tools/lib/start.sh does the same for the program.)
+// Loads the joined file of a command: a single file that tools/join_commands.mjs has built from the command's modules, and that starts faster than
+// these. A joined file is used only if its checksum matches the sources in the tree. Checksums are slow to compute, so the user's cache stores the
+// sizes and times of the sources. While these are unchanged, the checksum is not computed again. (tools/lib/start.sh does the same for the native
+// program.)
 //
-// Compiling a joined file takes a tenth of the startup time. The cache therefore also stores the compiled code of each command, for the version that
+// Compiling a joined file takes a tenth of the startup time. The cache therefore also stores the compiled code of each command, in the version that
 // ran last.
 "use strict";
 const {
@@ -18,23 +19,23 @@ const OWNER_ONLY_MODE = 0o700;
 const OWNER_ONLY_FILE_MODE = 0o600;
 const OTHERS_ACCESS_BITS = 0o077;
 /**
- * Files that changed within this time, in milliseconds, are not cached. On a file system with a resolution of seconds, their next change might not be
- * visible.
+ * The age in milliseconds up to which a file is too new to be cached. On a file system that records times in whole seconds, the next change of such a
+ * file might not change its time.
  */
 const RECENT_CHANGE_TIME = 3000;
 /** The length of the header before the compiled code, in bytes. */
 const HEADER_LENGTH = 80;
 /**
- * The kind of a run: "done" if the command did its work, "asked" if the command only printed its help or an error, and so compiled fewer functions.
+ * The kind of a run: "done" if the command did its work; "asked" if it only printed its help or an error, so that fewer functions were compiled.
  * @typedef {"done" | "asked"} RunKind
  */
 /** @type {RunKind[]} */
 const RUN_KINDS = ["done", "asked"];
-/** The highest exit status of a command that has done its work. */
+/** The highest exit status of a run of the kind "done". */
 const MAX_DONE_STATUS = 1;
 
 /**
- * Returns the checksum of the concatenated contents of files. Loads node:crypto here, because that module is slow to load and rarely needed.
+ * Returns the checksum of the concatenated contents of files. Loads node:crypto only here, because that module is slow to load and rarely needed.
  * @param {string[]} names
  */
 function hashFiles(names) {
@@ -53,7 +54,7 @@ function belongsToUser(name) {
   return stat !== undefined && stat.isDirectory() && (!process.getuid || stat.uid === process.getuid());
 }
 
-/** Returns mcs4's private cache folder, or "" if there cannot be one. Creates the folder if necessary. */
+/** Returns the path of mcs4's private cache folder, and creates the folder if necessary. Returns "" if it cannot be created. */
 function cacheFolder() {
   const { XDG_CACHE_HOME = "", HOME = "", LOCALAPPDATA = "" } = process.env;
   const cache = IS_WINDOWS ? LOCALAPPDATA : XDG_CACHE_HOME.startsWith("/") ? XDG_CACHE_HOME : /^\/./.test(HOME) ? join(HOME, ".cache") : "";
@@ -70,7 +71,7 @@ function cacheFolder() {
 }
 
 /**
- * Returns the sizes and times of files as one text, and whether any of the files has changed within RECENT_CHANGE.
+ * Returns the sizes and times of files as one text, and whether any of the files changed less than RECENT_CHANGE_TIME ago.
  * @param {string[]} names
  */
 function fileStamps(names) {
@@ -80,7 +81,7 @@ function fileStamps(names) {
 }
 
 /**
- * Writes a cache file atomically. Ignores errors, because the next start can compute or compile again.
+ * Writes a cache file atomically. Ignores errors, because the next start can compute the contents again.
  * @param {string} path the path of the file
  * @param {...(string | Uint8Array)} parts
  */
@@ -101,7 +102,7 @@ function writeToCache(path, ...parts) {
 }
 
 /**
- * Returns true if files have a checksum, or if their sizes and times are the same as when the checksum was last verified.
+ * Returns true if files have the given checksum. Does not compute it if their sizes and times are the same as when the checksum was last verified.
  * @param {string} folder the cache folder; "" for none
  * @param {string} name the name of a command
  * @param {string[]} files
@@ -118,7 +119,10 @@ function areUnchanged(folder, name, files, checksum) {
   return true;
 }
 
-/** @type {(checksum: string, kind: RunKind, length: number) => string} the header of compiled code: source checksum, kind and length */
+/**
+ * @type {(checksum: string, kind: RunKind, length: number) => string} returns the header of a file with compiled code: the checksum of the source,
+ * the kind of the run, and the length of the code
+ */
 const codeHeader = (checksum, kind, length) => `${checksum} ${kind} ${length}\n`.padEnd(HEADER_LENGTH);
 
 /**
@@ -174,7 +178,7 @@ function loadJoined(file, path, checksum) {
 }
 
 /**
- * Returns the checksum of a joined file with its sources, or "" if the joined file was built from other sources.
+ * Returns the checksum of a joined file and its sources. Returns "" if the joined file was built from other sources.
  * @param {string} folder the cache folder; "" for none
  * @param {string} name the name of a command
  * @param {string} file

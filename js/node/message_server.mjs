@@ -1,5 +1,5 @@
-// The code that `mcs4 lsp` and `mcs4 dap` share. Passes the bytes of standard input to a connection. When no further message can arrive, the process
-// ends and prints the reason on standard error.
+// The code that `mcs4 lsp` and `mcs4 dap` share. Passes the bytes of standard input to a connection. When no further message can arrive, prints the
+// reason on standard error and ends the process.
 import { isatty } from "node:tty";
 import { escapeControls } from "../core/text/control_escapes.js";
 import { WAITS_FOR_EDITOR } from "../words/commands.js";
@@ -10,7 +10,7 @@ const MESSAGE_TIMEOUT = 10000;
 const STDIN = 0;
 
 /**
- * Explains to a user at a terminal that the command waits for an editor. An editor starts the command without a terminal.
+ * If standard input is a terminal, explains that the command waits for an editor. An editor starts the command without a terminal.
  * @param {string} name the command's name
  */
 export function explainAtTerminal(name) {
@@ -18,7 +18,7 @@ export function explainAtTerminal(name) {
 }
 
 /**
- * Returns a function that ends the process after all output is written. The arguments of the function are the exit status and the reason.
+ * Returns a function that ends the process after all output has been written. The arguments of this function are the exit status and the reason.
  * @param {string} name the command's name
  * @returns {(status: number, words?: string) => void}
  */

@@ -1,4 +1,4 @@
-// The proved WebAssembly module as the commands' engine, for systems without a native program. Each user sees a message about that once.
+// Starts the proved WebAssembly module as the engine of the commands, on systems without a native program. Each user sees a message about this once.
 /* global WebAssembly */
 import { closeSync, existsSync, openSync } from "node:fs";
 import { join } from "node:path";
@@ -11,8 +11,8 @@ import { readPageModule } from "./page_parts.mjs";
 const OWNER_ONLY_MODE = 0o600;
 
 /**
- * Returns true at the first call for each user, and records the call in the cache. Returns false if it cannot be recorded, as tools/lib/start.sh
- * does.
+ * Returns true if this user has not used the module before, and records the use in the cache. Returns false if the use cannot be recorded, as
+ * tools/lib/start.sh does.
  */
 function recordFirstUse() {
   try {
@@ -28,7 +28,7 @@ function recordFirstUse() {
 
 /**
  * Starts the module. Returns the engine.
- * @param {string} words the message about the use of the module and its reason; "" for no message
+ * @param {string} words a message that says why the module is used; "" for no message
  */
 export function startModule(words) {
   const engine = new Engine(new WebAssembly.Module(readPageModule()));

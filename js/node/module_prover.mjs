@@ -4,8 +4,8 @@ import { startModule } from "./module_engine.mjs";
 const SIGNALS = /** @type {const} */ (["SIGHUP", "SIGINT", "SIGTERM"]);
 
 /**
- * Returns a function that answers the questions of `mcs4 prove`. The module is called once for a search, and no signal handler can run during the
- * call. The handlers are therefore removed, so that a signal ends the process immediately.
+ * Returns a function that answers the questions of `mcs4 prove`. A whole search is a single call of the module, during which no signal handler can
+ * run. The handlers are therefore removed, so that a signal ends the process immediately.
  * @returns {(question: string) => string}
  */
 export function makeModuleProver() {

@@ -1,12 +1,12 @@
-// The native program as an engine that hosts sessions, with blocking system calls. js/core/engine/engine_host.js describes the interface.
+// An engine that uses the native program to run sessions, with blocking system calls. js/core/engine/engine_host.js describes the interface.
 //
-// A state is a token: the index of a node in a tree. A node stores its parent, and the commands that lead from the parent to it. Each running process
-// is at one state. The lines that a process serves move it to the next state. To reach a state without a process, the engine starts a process on the
-// nearest copy of a session file above the state in the tree, and repeats the commands since then. Files are therefore copied only when a state is
-// needed for the second time.
+// A state is represented by a token: the index of a node in a tree. A node stores its parent, and the commands that lead from the parent to it. Each
+// running process is at one state. When a process serves lines, it moves to another state. To reach a state without a process, the engine starts a
+// process on the nearest copy of a session file above the state in the tree, and repeats the commands since then. Files are therefore copied only
+// when a state is needed for the second time.
 //
-// A shell starts the program for each session, which takes a tenth of the time of a fork by Node. Node and the program communicate over named pipes.
-// All files are in a private folder of the user. The shell removes the folder when Node has ended, even after a signal.
+// A shell starts a program for each session, ten times as fast as Node could start it. Node and the program communicate over named pipes. All files
+// are in a private folder of the user. The shell removes this folder when Node has ended, even after a signal.
 import {
   closeSync, constants, copyFileSync, openSync, readFileSync, readSync, renameSync, rmSync, writeFileSync, writeSync,
 } from "node:fs";
@@ -24,25 +24,25 @@ import { TOP } from "./top_folder.mjs";
  * @typedef {import("../core/engine/engine_host.js").EngineHost} EngineHost
  * @typedef {import("../core/engine/engine_host.js").State} State
  *
- * A node of the tree. `copy` is the path of its session file, "" if there is none. `count` is the session's number of commands, -1 if it is not known
- * yet.
+ * A node of the tree. `copy` is the path of a copy of its session file; "" if there is none. `count` is the number of commands in the session; -1 if
+ * it is not known yet.
  * @typedef {{ parent: number, commands: string, copy: string, count: number }} StateNode
  *
- * An analysis of session lines: the commands among them, including their texts, and the number of `seq` lines. `isWhole` is true if the last line and
- * the last text are complete.
+ * An analysis of session lines. `commands` are the commands among them, including their texts, without the queries. `seqs` is the number of `seq`
+ * lines. `isWhole` is true if the last line and the last text are complete.
  * @typedef {{ commands: string, seqs: number, isWhole: boolean }} LineAnalysis
  */
 
 /** The maximum number of processes, each at one state. */
 const MAX_PROCESSES = 3;
-/** The maximum number of copies that the engine makes on its own, in addition to those that `keep` requests. */
+/** The maximum number of copies that the engine makes by itself, in addition to the copies that calls of `keep` request. */
 const MAX_COPIES = 32;
 /** The minimum number of bytes that a pipe accepts while nobody reads from it. */
 const PIPE_CAPACITY = 4096;
 const BUFFER_SIZE = 1 << 16;
 const TOKEN_SIZE = 4;
 export const SESSION_BYTES = 163856;
-/** The maximum number of cached analyses. The same lines are often served repeatedly. */
+/** The maximum number of cached analyses. They are cached because the same lines are often served repeatedly. */
 const MAX_ANALYSES = 500;
 
 /** An error of the program itself: it is missing, does not answer, or has ended. */
@@ -71,8 +71,8 @@ function analyse(lines) {
 }
 
 /**
- * Splits lines into pieces that fit into a pipe, so that no write blocks forever. A piece is longer only if it is a single text, which the program
- * reads completely before it answers.
+ * Splits lines into pieces that fit into a pipe, so that no write blocks forever. Only a piece that is a single text can be longer, because the
+ * program reads a whole text before it answers.
  * @param {string} lines
  */
 function splitForPipe(lines) {
@@ -95,8 +95,8 @@ function splitForPipe(lines) {
 // --- processes ---
 
 /**
- * The main loop of the shell script. Each line of the control pipe starts a program: `new` or `open`, the name of the session file, and the slot
- * number of the pipes to use.
+ * The main loop of the shell script. Each line from the control pipe starts a program. The line consists of `new` or `open`, the name of the session
+ * file, and the slot number of the pipes to use.
  */
 const SHELL_LOOP = `while read -r word name slot; do
     eval "ended=\\\${pid$slot-}"
@@ -106,11 +106,11 @@ const SHELL_LOOP = `while read -r word name slot; do
 done < "$folder/control"
 if [ -e "$folder" ]; then rm -rf -- "$folder"; fi`;
 
-/** The shell's name, which precedes the shell's messages. */
+/** The name of the shell, with which its messages start. */
 const SHELL = "starter";
-/** The shell's exit status if no program is named and start.sh does not know one. */
+/** The exit status of the shell if no program is given and start.sh does not know one. */
 const UNKNOWN_PROGRAM = 3;
-/** The shell script: finds the program if none is named, creates the pipes, starts the loop, and prints the program's path. */
+/** The shell script. It finds the program if none is given, creates the pipes, starts the loop, and prints the path of the program. */
 const SHELL_SCRIPT = `trap "" HUP INT TERM
 program=$1 top=$2 folder=$3
 shift 3
@@ -123,7 +123,7 @@ mkfifo -- "$@" || exit 1
 } > /dev/null 2>> "$folder/words" &
 printf %s "$program"`;
 
-/** The shell that starts programs, and its folder. */
+/** The shell that starts the programs, and its folder. */
 class Starter {
   /** @param {string} program the program's path; "" for the program that ./mcs4 starts, if it is known without comparing sources */
   constructor(program) {
@@ -133,8 +133,8 @@ class Starter {
     const pipes = ["control", ...this.freeSlots.flatMap((slot) => [`in${slot}`, `out${slot}`])].map((name) => join(this.folder, name));
     const { status, signal, stdout } = processes().spawnSync(
       "/bin/sh", ["-c", SHELL_SCRIPT, SHELL, program, TOP, this.folder, ...pipes], { encoding: "utf8", stdio: ["ignore", "pipe", "ignore"] });
-    // A signal to the process group, such as Ctrl-C, can end the shell before it ignores signals. This process has received the same signal, so end
-    // in the same way.
+    // A signal to the process group, such as Ctrl-C, can end the shell before the shell ignores signals. This process has received the same signal,
+    // so end it in the same way.
     if (signal) {
       removeFolder(this.folder);
       process.exit(128 + system.signals[signal]);
@@ -147,7 +147,7 @@ class Starter {
   }
 
   /**
-   * Starts the program on a session file. Returns the slot number of its pipes, and the open pipes.
+   * Starts a program on a session file. Returns the slot number of its pipes, and the open pipes.
    * @param {"new" | "open"} word
    * @param {string} name
    */
@@ -157,7 +157,7 @@ class Starter {
     return { slot, input: openSync(join(this.folder, `in${slot}`), "w"), output: openSync(join(this.folder, `out${slot}`), "r") };
   }
 
-  /** The program's lines on standard error, without the shell's messages and without lines that name this folder. */
+  /** The lines that the programs wrote to standard error, without the shell's messages and without lines that name this folder. */
   get words() {
     const lines = readFileSync(join(this.folder, "words"), "latin1").split("\n");
     return lines.filter((line) => line !== "" && !line.startsWith(`${SHELL}: `) && !line.includes(this.folder));
@@ -191,7 +191,7 @@ class Session {
     this.count = this.readOpening();
   }
 
-  /** Reads the first answer line. Returns the session's number of commands. Throws an error if the session could not be opened. */
+  /** Reads the first answer line. Returns the number of commands in the session. Throws an error if the session could not be opened. */
   readOpening() {
     const line = this.readUntil((text) => text.endsWith("\n")).trimEnd();
     if (this.hasEnded || !/^session \d+$/.test(line)) {
@@ -202,7 +202,7 @@ class Session {
     return Number(line.slice("session ".length));
   }
 
-  /** Returns the error for a program whose first line is not one of mcs4's. */
+  /** Returns the error for a program whose first line shows that it is not the native program of mcs4. */
   makeNoAnswerError() {
     const { program, words } = this.starter;
     return new ProgramError([...words, `${program} does not answer; MCS4 names the program where it is not the mcs4 at the top`].join("\n"));
@@ -228,8 +228,8 @@ class Session {
   }
 
   /**
-   * Serves lines. Returns the lines of their answers. A `seq` line follows the lines, because its answer marks the end. If the lines contain `seq`
-   * themselves, those answers are counted, too.
+   * Serves lines. Returns the lines of their answers. Sends a `seq` line after the lines, because its answer marks the end. If the lines themselves
+   * contain `seq`, counts these answers, too.
    * @param {string} lines
    */
   exchange(lines) {
@@ -277,7 +277,7 @@ class Session {
     return this.readUntil(isWhole);
   }
 
-  /** Empties the input pipe after a program has ended early, because the next program with this pipe must not read the remaining lines. */
+  /** Empties the input pipe of a program that has ended early, so that the next program with this pipe does not read the remaining lines. */
   emptyInput() {
     const pipe = openSync(join(this.starter.folder, `in${this.slot}`), constants.O_RDONLY | constants.O_NONBLOCK);
     try {
@@ -289,7 +289,7 @@ class Session {
     }
   }
 
-  /** Closes the input, so that the program ends, and waits for the program's end. */
+  /** Closes the input so that the program ends, and waits until it has ended. */
   end() {
     if (this.hasEnded) this.emptyInput();
     closeSync(this.input);
@@ -322,7 +322,7 @@ export class NativeEngine {
     this.states = [{ parent: -1, commands: "", copy: "", count: 0 }];
     /** @type {Session[]} the running sessions, most recently used first */
     this.sessions = [];
-    /** @type {number[]} the states with copies that `keep` did not request, oldest first */
+    /** @type {number[]} the states with copies that the engine made by itself, oldest first */
     this.automaticCopies = [];
     this.fileCount = 0;
     /** @type {Map<string, LineAnalysis>} */
@@ -398,7 +398,7 @@ export class NativeEngine {
     return this.writeIndex(new Uint8Array(this.size), this.addState({ parent: -1, commands: "", copy, count: -1 }));
   }
 
-  /** The message that the folder for temporary files has no room for a session, or "" if it has room. */
+  /** A message that the folder for temporary files has no room for a session; "" if it has room. */
   get noRoomMessage() {
     const { folder, root } = this.starter;
     const room = join(folder, "room");
@@ -523,7 +523,8 @@ export class NativeEngine {
   }
 
   /**
-   * Returns the path of the nearest copy at a state or above it ("" for a new session), and the commands from there to the state.
+   * Returns the path of the nearest copy at a state or above it in the tree ("" for a new session), and the commands that lead from this copy to the
+   * state.
    * @param {number} number the index of the state
    */
   commandsTo(number) {
@@ -534,7 +535,7 @@ export class NativeEngine {
   }
 
   /**
-   * Stores a copy of a state that had to be rebuilt, so that reaching it again needs no commands. Only the last MAX_COPIES copies are stored.
+   * Stores a copy of a state that had to be rebuilt, so that it need not be rebuilt again. Keeps only the last MAX_COPIES copies.
    * @param {number} number the index of the state
    * @param {string} file
    */

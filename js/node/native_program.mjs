@@ -1,5 +1,5 @@
-// Finds the native program that serves sessions for commands, and starts the engine. The engine uses that program, or the proved WebAssembly module
-// if there is no program for this system. Also has steps that many commands share, such as opening a session and reading a program.
+// Finds the native program that serves sessions for commands, and starts the engine. The engine uses this program, or the proved WebAssembly module
+// if there is no program for this system. This module also has functions that many commands share, such as opening a session and reading a program.
 import { existsSync } from "node:fs";
 import { type } from "node:os";
 import { join } from "node:path";
@@ -16,9 +16,9 @@ import {
 /**
  * @typedef {import("../core/engine/engine_host.js").EngineHost} EngineHost
  *
- * The result of the search for a program: its path ("" if there is none), and the reason why there is none. `isUnsupported` is true if the program is
- * not available for this system.
- * @typedef {{ program: string, fault: string, isUnsupported: boolean }} Found
+ * The result of the search for a program. `program` is its path ("" if there is none), and `fault` is the reason why there is none. `isUnsupported`
+ * is true if the program is not available for this system.
+ * @typedef {{ program: string, fault: string, isUnsupported: boolean }} FoundProgram
  */
 
 const SIGNAL_STATUSES = /** @type {const} */ ({ SIGHUP: 129, SIGINT: 130, SIGTERM: 143 });
@@ -30,10 +30,10 @@ const IS_WINDOWS = process.platform === "win32";
 const hasStarter = existsSync(join(TOP, "tools/lib/start.sh"));
 
 /**
- * Runs a script of the starter. The script prints a program's path, or the reason why there is none. Returns null if the starter or the shell is
- * missing.
+ * Runs a script that uses the starter (tools/lib/start.sh). The script prints the path of a program, or the reason why there is none. Returns null if
+ * the starter or the shell is missing.
  * @param {string} script
- * @returns {Found | null}
+ * @returns {FoundProgram | null}
  */
 function runStarter(script) {
   if (!hasStarter) return null;
@@ -44,13 +44,13 @@ function runStarter(script) {
   return { program, fault, isUnsupported: program === "" && isUnsupported === "1" };
 }
 
-/** @returns {Found} the result without a starter: an editor extension has none, and Windows has no shell */
+/** @returns {FoundProgram} the result if the starter cannot run: an editor extension does not contain it, and Windows has no shell for it */
 const noProgramResult = () => ({ program: "", fault: hasStarter ? notForSystem(type(), process.arch) : NO_PROGRAM_IN_COPY, isUnsupported: true });
 
-/** @type {Found | null} the cached result of the search for the program */
+/** @type {FoundProgram | null} the cached result of the search for the program */
 let foundProgram = null;
 
-/** Returns the program that the variable MCS4 names, or the program that ./mcs4 starts. Builds that program first if necessary. */
+/** Returns the program that the environment variable MCS4 names, or the program that ./mcs4 starts. Builds the latter if necessary. */
 function findProgram() {
   if (process.env.MCS4) return { program: process.env.MCS4, fault: "", isUnsupported: false };
   foundProgram ||= runStarter(FIND_PROGRAM) || noProgramResult();
@@ -65,7 +65,8 @@ export function programPath() {
 }
 
 /**
- * Returns the prover's path: the program that MCS4_PROVE names, a local build, or the shipped program. Returns "" if there is none for this system.
+ * Returns the path of the prover: the program that the environment variable MCS4_PROVE names, a local build, or the shipped program. Returns "" if
+ * there is none for this system.
  */
 export function proverPath() {
   const { MCS4_PROVE: proverName } = process.env;
@@ -110,7 +111,7 @@ export function endEngine() {
 let signalAction = null;
 
 /**
- * Makes signals end the process through `endProcess`, so that unfinished files are removed.
+ * Registers signal handlers that end the process through `endProcess`, so that unfinished files are removed.
  * @param {(status: number) => void} [endProcess] ends the process with an exit status
  */
 export function endOnSignals(endProcess = process.exit) {
@@ -121,20 +122,20 @@ export function endOnSignals(endProcess = process.exit) {
 }
 
 /**
- * Returns the message that the folder for temporary files has no room for a session. Returns "" if it has room or if no native engine was started.
+ * Returns a message that the folder for temporary files has no room for a session. Returns "" if it has room, or if no native engine was started.
  */
 export function noRoomMessage() {
   return nativeEngine ? nativeEngine.noRoomMessage : "";
 }
 
 /**
- * Returns the state of a session file. The engine works on a copy of the file. Errors name the file.
+ * Resolves to the state of a session file. The engine works on a copy of the file. Error messages contain the name of the file.
  * @param {EngineHost} engine
  * @param {import("./input_texts.mjs").InputTexts} texts
  * @param {string} session the session's file name
  */
 export async function openSession(engine, texts, session) {
-  // A pipe without a writer would block the process forever, and signals could not end it. In addition, the file is read twice.
+  // A pipe without a writer would block the process forever, and signals could not end it. Also, the file is read twice, which a pipe does not allow.
   if (statInput(session)?.isFIFO()) throw new CommandError(`cannot read ${session}: it is not a regular file`);
   const bytes = texts.read(session, MAX_TEXT_BYTES);
   if (!bytes.equals(texts.read(session, MAX_TEXT_BYTES))) throw new CommandError(inUse(session));
@@ -150,7 +151,7 @@ export async function openSession(engine, texts, session) {
 }
 
 /**
- * Returns the error for rejected texts. Loads the modules with the messages on the first call.
+ * Resolves to the error for rejected texts. Loads the modules with the messages on the first call.
  * @param {EngineHost} engine
  * @param {ConstructorParameters<typeof import("./rejected_texts.mjs").RejectedTexts>[1]} givenTexts
  * @param {import("../core/testing/test_preparation.js").TextFault[]} faults
@@ -161,7 +162,7 @@ export async function rejectedTextsError(engine, givenTexts, faults) {
 }
 
 /**
- * Returns the source map of a program. Throws an error if the contents of ROM are not this program.
+ * Resolves to the source map of a program. Throws an error if the contents of ROM are not this program.
  * @param {EngineHost} engine
  * @param {Uint8Array} codes the contents of ROM
  * @param {import("./input_texts.mjs").GivenText} program
@@ -183,7 +184,7 @@ export async function yieldToMessages() {
 }
 
 /**
- * Assembles a program without its board, on a board with all ROM chips. Returns its source map, and the byte at each address.
+ * Assembles a program on a board with all possible ROM chips, instead of its own board. Resolves to its source map, and the byte at each address.
  * @param {EngineHost} engine
  * @param {import("./input_texts.mjs").GivenText} program
  */
@@ -195,7 +196,7 @@ export async function assembleProgram(engine, program) {
 }
 
 /**
- * Reads a program, which must match the session's ROM. Returns a function that describes an address in terms of the program's source.
+ * Reads a program, which must match the session's ROM. Resolves to a function that describes an address by its label and source line.
  * @param {import("./input_texts.mjs").InputTexts} texts
  * @param {EngineHost} engine
  * @param {string} programName

@@ -4,7 +4,7 @@ import { escapeControls } from "../core/text/control_escapes.js";
 
 const STDOUT = 1;
 const STDERR = 2;
-/** The exit status if the reader of standard output has gone: the shell's status for SIGPIPE. */
+/** The exit status if no process reads standard output any more: the status that shells use for SIGPIPE. */
 const PIPE_STATUS = 141;
 
 /** An error that ends a command with exit status 1. Each line of the message is printed after the command's name. */
@@ -31,7 +31,10 @@ function writeAll(stream, bytes) {
 
 const NOT_WRITTEN_MESSAGE = "not all was written; is there room where it goes to?";
 
-/** Throws an error if standard output is closed. Node opens another file in its place, so the starter sets the variable `is_closed`. */
+/**
+ * Throws an error if standard output is closed. Node cannot detect this, because it opens another file instead. The starter therefore sets the
+ * variable `is_closed`.
+ */
 export function checkOutput() {
   if (process.env.is_closed) throw new CommandError("standard output is closed");
 }

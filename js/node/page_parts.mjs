@@ -1,4 +1,4 @@
-// Reads from the page what the Node tools use: the proved WebAssembly module, and the data that page/build has embedded.
+// Reads the parts of the page that the Node tools use: the proved WebAssembly module, and the data that page/build has embedded.
 import { readFileSync } from "node:fs";
 import { inflateRawSync } from "node:zlib";
 

@@ -1,4 +1,4 @@
-// The panel's terminal. Draws on the whole screen and reads single keys. Restores the terminal however the panel ends.
+// The terminal of `mcs4 panel`. Draws on the whole screen and reads single keys. Restores the terminal, however the panel ends.
 import { writeSync } from "node:fs";
 import { splitKeys } from "../core/panel/terminal_keys.js";
 import { MIN_SIZE, fitsPanel } from "../core/panel/screen.js";
@@ -13,20 +13,20 @@ import { isDumb } from "./terminal.mjs";
  */
 
 const STDOUT = 1;
-/** The escape sequences that switch to the alternate screen, without cursor and line wrapping (BEGIN), and back (END). */
+/** The escape sequences that switch to the alternate screen without cursor and line wrapping (BEGIN_SEQUENCE), and back (END_SEQUENCE). */
 const BEGIN_SEQUENCE = "\x1b[?1049h\x1b[?25l\x1b[?7l\x1b[2J";
 const END_SEQUENCE = "\x1b[0m\x1b[?7h\x1b[?25h\x1b[?1049l";
 const CLEAR_SEQUENCE = "\x1b[2J";
 const PLAIN_SEQUENCE = "\x1b[0m";
 const INVERSE_SEQUENCE = "\x1b[7m";
 const MIN_SIZE_TEXT = say.columnsByRows(MIN_SIZE.columns, MIN_SIZE.rows);
-/** The minimum colour depths, in bits, for 256 colours and for 8 colours. */
+/** The minimum colour depth of a terminal, in bits, for 256 colours and for 8 colours. */
 const MIN_BITS = { colours256: 8, colours8: 4 };
-/** Each lamp colour on a terminal with 256 colours, in three levels: dim, half and full. */
+/** The codes of each lamp colour on a terminal with 256 colours, for three levels of brightness: dim, half and full. */
 const COLOURS_OF_256 = {
   red: [88, 160, 196], amber: [94, 172, 214], yellow: [100, 184, 226], green: [22, 34, 46], blue: [19, 27, 33], white: [240, 248, 231],
 };
-/** Each lamp colour on a terminal with 8 colours. Amber is yellow without the bright level. */
+/** The code of each lamp colour on a terminal with 8 colours. Amber is shown as yellow without the brightest level. */
 const COLOURS_OF_8 = { red: 31, amber: 33, yellow: 33, green: 32, blue: 34, white: 37 };
 
 /** @type {(colour: string, level: number) => string} */
@@ -35,7 +35,8 @@ const paint256 = (colour, level) => `\x1b[${level === 3 ? "1;" : ""}38;5;${COLOU
 const paint8 = (colour, level) => `\x1b[${["2;", "", colour === "amber" ? "" : "1;"][level - 1]}${COLOURS_OF_8[colour]}m`;
 
 /**
- * Returns the function that sets a lamp's colour on a terminal. Returns null if the terminal has no colours or NO_COLOR is set.
+ * Returns the function that returns the escape sequence for a lamp's colour and level. Returns null if the terminal has no colours or NO_COLOR is
+ * set.
  * @param {import("node:tty").WriteStream} output
  * @param {Record<string, string | undefined>} env
  */
@@ -57,13 +58,13 @@ export class PanelTerminal {
     if (!fitsPanel(this.size)) throw new CommandError(say.tooSmall(MIN_SIZE_TEXT, this.size.columns, this.size.rows));
     this.paint = choosePainter(stdout, env);
     this.isOn = false;
-    /** True if the terminal has gone or the panel must end. */
+    /** True if the terminal is no longer available, or if the panel must end. */
     this.isGone = false;
     /** True if the terminal could not be restored. */
     this.isLost = false;
     /** @type {TypedKey[]} the typed keys that have not been handled yet */
     this.keys = [];
-    /** @type {string[]} the rows that are on the screen */
+    /** @type {string[]} the rows that are currently on the screen */
     this.drawnRows = [];
     this.wake = () => {};
     this.onResize = () => {};
@@ -121,7 +122,7 @@ export class PanelTerminal {
     this.input.destroy();
   }
 
-  /** If the terminal could not be restored, ends the process with SIGHUP like a hangup, because Node would crash at a normal exit. */
+  /** If the terminal could not be restored, ends the process with SIGHUP, as if the terminal had hung up. Node would crash at a normal exit. */
   hangUp() {
     if (!this.isLost) return;
     process.removeAllListeners("SIGHUP");
@@ -129,7 +130,7 @@ export class PanelTerminal {
   }
 
   /**
-   * Waits until a key is typed, the terminal changes, or the time has elapsed.
+   * Waits until a key is typed, the size of the terminal changes, or the time has elapsed.
    * @param {number} milliseconds the maximum time to wait
    */
   async wait(milliseconds) {

@@ -1,7 +1,7 @@
 // The progress line of a long command on standard error, updated once per second. The line appears only on a terminal.
 import { escapeControls } from "../core/text/control_escapes.js";
 
-/** The time in milliseconds until the line appears, and between two updates. Shorter commands do not show the line. */
+/** The time in milliseconds until the line appears, and between two updates. A command that takes less time does not show the line. */
 const UPDATE_INTERVAL = 1000;
 const MILLISECONDS_PER_SECOND = 1000;
 /** The escape sequence that moves to the start of the line and clears it. */
@@ -23,7 +23,7 @@ export class ProgressLine {
 
   /**
    * Starts a step of the command.
-   * @param {(seconds: number) => string} makeText returns the text of the line for a number of seconds since the step started
+   * @param {(seconds: number) => string} makeText returns the text of the line, given the number of seconds since the step started
    */
   begin(makeText) {
     this.makeText = makeText;

@@ -1,6 +1,6 @@
-// The history of lines typed at prompts, in a private file of the user: $XDG_STATE_HOME/mcs4/history. Several prompts can add lines at the same
-// time, each under a lock. A new prompt shortens a file that has become too long. If the file cannot be created or used, readline stores the lines
-// until the prompt ends.
+// The history of lines typed at prompts, in a private file of the user: $XDG_STATE_HOME/mcs4/history. Several prompts can add lines at the same time,
+// because each of them holds a lock while it does. A new prompt shortens a file that has become too long. If the file cannot be created or used,
+// readline stores the lines until the prompt ends.
 import { closeSync, constants, existsSync, fchmodSync, fstatSync, mkdirSync, openSync, readSync, rmSync, statSync, writeSync } from "node:fs";
 import { dirname, isAbsolute, join } from "node:path";
 import { escapeControls } from "../core/text/control_escapes.js";
@@ -10,7 +10,7 @@ import { prepareReplacement } from "./user_files.mjs";
 export const MAX_LINES = 1000;
 /** The maximum length of a line in the history, in characters. */
 const MAX_LINE_LENGTH = 1000;
-/** The size in bytes above which the file is shortened, and its maximum size after that. */
+/** The size in bytes above which the file is shortened, and its maximum size after it has been shortened. */
 const MAX_BYTES = 262144;
 const SHORTENED_BYTES = 131072;
 /** The age in milliseconds after which a lock file is considered the leftover of a killed process and removed. */
@@ -40,7 +40,7 @@ function makeFolder(folder) {
   for (const name of missingFolders) mkdirSync(name, 0o700);
 }
 
-/** Opens the file, which must be a regular file that belongs to the user. Removes access by others. */
+/** Opens the file, which must be a regular file that belongs to the user. Removes the access rights of other users. */
 function openFile(name) {
   const file = openSync(name, APPEND_FLAGS, OWNER_ONLY_MODE);
   const stat = fstatSync(file);
@@ -86,7 +86,7 @@ function shortenFile(name, file) {
   if (fstatSync(file).size > MAX_BYTES) prepareReplacement(name, lastCompleteLines(readTail(file, 0), SHORTENED_BYTES)).replaceTarget();
 }
 
-/** Returns true if a terminal can show a line unchanged. A file that the user has edited can contain other lines. */
+/** Returns true if a terminal can show a line unchanged. The file can contain other lines if the user has edited it. */
 const isPrintable = (line) => line !== "" && escapeControls(line) === line;
 
 export class PromptHistory {
@@ -104,7 +104,7 @@ export class PromptHistory {
     });
   }
 
-  /** Calls `operation` with the open file, under the lock if possible. After an error, the file is not used again. */
+  /** Calls `operation` with the open file, and holds the lock during the call if possible. After an error, the file is not used again. */
   withFile(operation) {
     if (this.name === "") return;
     const lock = `${this.name}.lock`;

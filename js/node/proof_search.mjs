@@ -1,5 +1,5 @@
-// The search of `mcs4 prove`. Its questions go to the program mcs4-prove, or to the proved module if there is no such program for this system. `mcs4
-// test` must confirm each counterexample.
+// The proof search of `mcs4 prove`. Its questions go to the program mcs4-prove, or to the proved module if this program does not exist for the
+// system. `mcs4 test` must confirm each counterexample.
 import { writeFileSync } from "node:fs";
 import { join } from "node:path";
 import { PropertyJudge } from "../core/prove/property_judge.js";
@@ -18,7 +18,7 @@ import { removeFolder, temporaryFolder } from "./temporary_folders.mjs";
  * @typedef {import("./input_texts.mjs").GivenText} GivenText
  * @typedef {{ board: GivenText, program: GivenText, properties: { name: string, text: string } }} Texts
  *
- * The limits of a search: the maximum number of states, and the maximum memory for them in MB (0 for all memory).
+ * The limits of a search. `most` is the maximum number of states, and `memory` the maximum memory for them in MB (0 for all memory).
  * @typedef {{ most: number, memory: number }} Limits
  */
 
@@ -32,13 +32,13 @@ class ProofSession {
     this.texts = texts;
     this.limits = limits;
     this.program = proverPath();
-    /** @type {((question: string) => string) | null} answers a question with the module; null if the program mcs4-prove answers */
+    /** @type {((question: string) => string) | null} answers a question with the module; null if the program mcs4-prove answers the questions */
     this.module = null;
     // This handler runs before the engine's handler. Ctrl-C does not reach the search, because the search has its own process group.
     process.on("SIGINT", interruptChildren);
   }
 
-  /** Reads the texts. Resolves to the object that judges their properties. */
+  /** Reads the texts. Resolves to an object that proves or disproves their properties. */
   async begin() {
     const engine = await startEngine();
     if (this.program === "") this.module = (await import("./module_prover.mjs")).makeModuleProver();
@@ -58,7 +58,7 @@ class ProofSession {
   }
 
   /**
-   * Returns the reason why the prover's answer decides nothing.
+   * Returns the reason why an answer of the prover neither proves nor disproves a property.
    * @param {import("../core/prove/question.js").NoAnswer} answer
    */
   reason(answer) {
@@ -91,8 +91,8 @@ class ProofSession {
   }
 
   /**
-   * Resolves to true if `mcs4 test` confirms a counterexample. A counterexample in session lines needs no confirmation, because the bench has already
-   * run it.
+   * Resolves to true if `mcs4 test` confirms a counterexample. A counterexample that consists of session lines needs no confirmation, because the
+   * bench has already run it.
    * @param {import("../core/prove/counterexample.js").Counterexample} counterexample
    * @param {boolean} isGoal
    */
@@ -111,7 +111,8 @@ class ProofSession {
 }
 
 /**
- * Reads the texts and prepares the proof of their properties. The caller then judges one property at a time.
+ * Reads the texts and prepares the proof of their properties. Resolves to an object with which the caller then proves or disproves one property at a
+ * time.
  * @param {Texts} texts
  * @param {Limits} limits
  * @returns {Promise<PropertyJudge>}

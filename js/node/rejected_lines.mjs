@@ -1,4 +1,4 @@
-// The report of `mcs4 explain` about the rejected lines of a script: each line, the wrong line of its text, and the reason.
+// Creates the report of `mcs4 explain`. For each rejected line of a script, it contains the line, the wrong line in its text, and the reason.
 import { parseRefusal } from "../core/bench/answers.js";
 import { INVALID_CHARACTER, LINE_TOO_LONG, MAX_LINE_LENGTH, NOT_ASCII, opensText } from "../core/bench/inputs.js";
 import { parseNumber } from "../core/bench/numbers.js";
@@ -10,10 +10,10 @@ import { MAX_SHOWN_LENGTH, NO_FORM, RejectedTexts, spellingHint, describeRefusal
  * @typedef {import("../core/bench/script_answers.js").AnsweredInput} AnsweredInput
  */
 
-/** The kinds of texts in a script, by the word that opens the text. */
+/** The kinds of texts in a script, by the command or query that the text belongs to. */
 const TEXT_KINDS = { wire: "board", wiring: "board", asm: "program", map: "program", errors: "program" };
 
-/** @type {(line: string) => string} describes the first invalid character of a line; "" if there is none */
+/** @type {(line: string) => string} describes the first invalid character in a line; "" if there is none */
 function foreignCharacter(line) {
   const [character = ""] = INVALID_CHARACTER.exec(line) || [];
   if (character === "") return "";
@@ -25,13 +25,13 @@ export class RejectedLines {
   /**
    * @param {import("../core/engine/engine_host.js").EngineHost} engine
    * @param {string[]} lines the script's lines
-   * @param {((address: number) => string) | null} describeAddress describes an address in terms of a program's source; null without a source
+   * @param {((address: number) => string) | null} describeAddress describes an address by its label and source line; null without a source
    */
   constructor(engine, lines, describeAddress) {
     this.engine = engine;
     this.lines = lines;
     this.describeAddress = describeAddress;
-    /** The text of the last wired board. Null if the session already had a board, because its text is not known. */
+    /** The text of the current board; "" for none. It is null if the board was wired before the script, because its text is then not known. */
     this.boardText = null;
   }
 
@@ -55,7 +55,7 @@ export class RejectedLines {
   }
 
   /**
-   * Returns a report line about the address in an input, as a list. The list is empty if the input has no address or no source is known.
+   * Returns a list with the report line about the address in an input. The list is empty if the input has no address, or if no source is known.
    * @param {AnsweredInput} answeredInput
    */
   addressLines({ input: { line, words: [kind, first = "", second = ""] } }) {

@@ -1,4 +1,5 @@
-// Messages about rejected texts for a terminal: the file, the line number, the number of the refusal with its message, and the line itself.
+// Composes messages about rejected texts for a terminal. A message has the file, the line number, the number of the refusal with its meaning, and the
+// line itself.
 import { readFileSync } from "node:fs";
 import { readBoard } from "../core/bench/answers.js";
 import { readWiring } from "../core/bench/text_check_answers.js";
@@ -43,7 +44,7 @@ function readManual() {
   return { tables, instructions };
 }
 
-/** Returns the message of a refusal, by its number. */
+/** Returns the message of the refusal with a number. */
 export function describeRefusal(number) {
   if (!words) {
     const rows = readFileSync(new URL("../../tools/lib/refusals.txt", import.meta.url), "utf8").split("\n");
@@ -72,7 +73,7 @@ export class RejectedTexts {
   }
 
   /**
-   * Returns the error in a board's text, with its line and its message. Returns null if the bench does not report a line.
+   * Returns the error in the text of a board, with its line and its message. Returns null if the bench does not report a line.
    * @param {string} text
    */
   findBoardError(text) {
@@ -82,7 +83,8 @@ export class RejectedTexts {
   }
 
   /**
-   * Returns the error for the first program line that puts bytes into a ROM chip that the board does not have. Returns null if there is none.
+   * Returns the error for the first program line whose bytes belong to a ROM chip that the board does not have. Returns null if there is no such
+   * line.
    * @param {string} text
    */
   findLineWithoutRom(text) {

@@ -7,7 +7,7 @@ import { programPath } from "./native_program.mjs";
 import { CommandError } from "./output.mjs";
 import { programEnded, sessionWasRefused } from "../words/commands.js";
 
-/** The offset of an exit status that represents a signal: shells add it to the signal's number. */
+/** The number that shells add to the number of a signal to form an exit status. */
 const SIGNAL_STATUS_OFFSET = 128;
 
 /** The error of a program that has ended before it answered. */
@@ -27,7 +27,7 @@ export class SessionProcess {
     this.lines = [];
     /** The incomplete last line of the output. */
     this.partialLine = "";
-    /** The program's output on standard error, and the error if the program did not start. */
+    /** The program's output on standard error; the error message if the program did not start. */
     this.words = "";
     /** The first answer line. */
     this.openingLine = "";
@@ -87,7 +87,8 @@ export class SessionProcess {
   }
 
   /**
-   * Serves one input, or several inputs without `seq`. A `seq` line follows, because its answer marks the end, however many answers there are.
+   * Serves one input, or several inputs without `seq`. Sends a `seq` line after them, because its answer marks the end, however many answers there
+   * are.
    * @param {string} input
    * @param {(line: string) => void} onAnswer called with each answer line as it arrives
    */
@@ -117,7 +118,7 @@ export class SessionProcess {
 }
 
 /**
- * Returns an answer. A refusal is followed by its message. Loads the messages at the first refusal.
+ * Resolves to an answer; after a refusal, adds the message of the refusal. Loads the messages at the first refusal.
  * @param {string} answer
  */
 async function addRefusalMessage(answer) {
@@ -128,7 +129,7 @@ async function addRefusalMessage(answer) {
 }
 
 /**
- * Starts the program on a session file. If the program rejects the file, throws an error with the message.
+ * Starts the program on a session file. If the program rejects the file, throws an error with the program's message.
  * @param {"new" | "open"} word
  * @param {string} name
  */

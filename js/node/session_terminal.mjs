@@ -1,10 +1,10 @@
-// `mcs4 new` and `mcs4 open` at a terminal. The native program executes the lines. The answers go to standard output as they arrive. The prompt and
-// all messages go to standard error.
+// Runs `mcs4 new` and `mcs4 open` at a terminal. The native program executes the lines. The answers go to standard output as they arrive. The prompt
+// and all messages go to standard error.
 import { joinLines } from "../core/bench/inputs.js";
 import { SessionPrompt } from "../core/prompt/bench_prompt.js";
 import { BEGINNING } from "../words/session_prompt.js";
 import { fileNames, expandTilde } from "./file_names.mjs";
-import { MAX_SCRIPT, readDecodedFile } from "./input_texts.mjs";
+import { MAX_SCRIPT_BYTES, readDecodedFile } from "./input_texts.mjs";
 import { print } from "./output.mjs";
 import { readPageData } from "./page_parts.mjs";
 import { describeRefusal } from "./rejected_texts.mjs";
@@ -38,7 +38,7 @@ function makePromptCalls(program, terminal) {
     },
     print: (words) => terminal.print(words),
     complain: (words) => terminal.complain(words),
-    read: (name) => readDecodedFile(expandTilde(name), MAX_SCRIPT).text,
+    read: (name) => readDecodedFile(expandTilde(name), MAX_SCRIPT_BYTES).text,
     files: fileNames,
     errorsOf: async (word, text, board) => {
       const { findTextErrors } = await import("./text_errors.mjs");

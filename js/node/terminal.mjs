@@ -6,8 +6,8 @@ export function isDumb({ TERM = "" }) {
 }
 
 /**
- * Returns a function from the code of a colour or style to a function that applies it to a text. If the terminal has no colours, or if NO_COLOR is
- * set, texts stay unchanged.
+ * Returns a function that takes the code of a colour or style, and returns a function that applies this style to a text. If the terminal has no
+ * colours, or if NO_COLOR is set, texts stay unchanged.
  */
 export function makePainter(env) {
   const isPlain = isDumb(env) || Boolean(env.NO_COLOR);

@@ -7,16 +7,16 @@ import { constants } from "node:os";
 import { createInterface } from "node:readline";
 import { PassThrough } from "node:stream";
 import { escapeControls } from "../core/text/control_escapes.js";
-import { QUOTED, wrapMessage } from "../core/text/line_wrapping.js";
+import { UNWRAPPED_PREFIX, wrapMessage } from "../core/text/line_wrapping.js";
 import { MAX_LINES, PromptHistory } from "./prompt_history.mjs";
 import { isDumb, makePainter } from "./terminal.mjs";
 
 /**
- * The receiver of typed lines. `label` is the text of the prompt. `take` serves a line. `complete` returns the completions of a line, and the end of
- * the line that they replace. `interrupt` stops the line in progress, and returns false if it cannot be stopped. `drop` discards incomplete input and
- * returns a message about it.
+ * The receiver of typed lines. `label` is the text of the prompt. `take` serves a line. `complete` resolves to the completions of a line, and to the
+ * end of the line that they replace. `interrupt` stops the line in progress, and returns false if it cannot be stopped. `drop` discards incomplete
+ * input and returns a message about it.
  * @typedef {{ label: string, isEnded: boolean, take: (line: string) => Promise<boolean>,
- *   complete: (line: string) => Promise<[string[], string]>, interrupt: () => boolean, drop: () => string }} PromptOfLines
+ *   complete: (line: string) => Promise<[string[], string]>, interrupt: () => boolean, drop: () => string }} LinePrompt
  */
 
 /**
@@ -30,18 +30,18 @@ import { isDumb, makePainter } from "./terminal.mjs";
 
 /** The escape sequences around pasted text, and the sequences that switch them on and off (bracketed paste). */
 const PASTE_SEQUENCES = { begins: "\x1b[200~", ends: "\x1b[201~", on: "\x1b[?2004h", off: "\x1b[?2004l" };
-/** Matches the beginning of a paste mark at the end of the input so far. */
+/** Matches an incomplete paste mark at the end of the input so far. */
 const PARTIAL_MARK = /\x1b\[(2(0[01]?)?)?$/;
 const CTRL_C = "\x03";
 const BOLD = 1;
 const RED = 31;
 /** The assumed width of a terminal that does not report its width, in columns. */
 const DEFAULT_WIDTH = 80;
-/** The minimum width to which messages are folded, in columns. */
+/** The minimum width at which messages are wrapped, in columns. */
 const MIN_WIDTH = 20;
 
-/** The input stream of readline, which receives the terminal's input piece by piece. */
-class Keys extends PassThrough {
+/** The input stream of readline. It receives the input of the terminal piece by piece. */
+class KeyStream extends PassThrough {
   isTTY = true;
 
   setRawMode(isRaw) {
@@ -57,7 +57,7 @@ function replaceControlCharacters(text) {
 
 export class TerminalPrompt {
   /**
-   * @param {PromptOfLines} prompt
+   * @param {LinePrompt} prompt
    * @param {TerminalCalls} calls
    */
   constructor(prompt, { output, onServed = () => {}, onLeave = () => {}, onReturn = () => {} }) {
@@ -75,7 +75,7 @@ export class TerminalPrompt {
     this.hasInputEnded = false;
     this.hasEnded = false;
     this.status = 0;
-    this.keys = new Keys();
+    this.keys = new KeyStream();
     this.terminal = createInterface({
       input: this.keys, output, terminal: !this.isDumb, history: this.history.lines, historySize: MAX_LINES, crlfDelay: Infinity,
       completer: (line, callback) => this.complete(line, callback),
@@ -87,7 +87,7 @@ export class TerminalPrompt {
 
   // --- output ---
 
-  /** The width to which messages are folded, in columns. */
+  /** The width at which messages are wrapped, in columns. */
   get width() {
     return Math.max(MIN_WIDTH, (this.output.columns || DEFAULT_WIDTH) - 1);
   }
@@ -101,7 +101,7 @@ export class TerminalPrompt {
   complain(words) {
     const lines = wrapMessage(escapeControls(words), this.width).split("\n");
     const paint = this.paint(RED);
-    this.output.write(`${lines.map((line) => (line.startsWith(QUOTED) ? line : paint(line))).join("\n")}\n`);
+    this.output.write(`${lines.map((line) => (line.startsWith(UNWRAPPED_PREFIX) ? line : paint(line))).join("\n")}\n`);
   }
 
   // --- running the prompt ---
@@ -131,7 +131,7 @@ export class TerminalPrompt {
     terminal.on("SIGINT", () => this.dropLine());
     terminal.on("SIGTSTP", () => this.suspend());
     if (this.isDumb) process.on("SIGINT", () => (this.isBusy ? this.prompt.interrupt() : this.dropLine()));
-    // On a terminal with cursor movement, readline reads Ctrl-C as a key, so another process has sent a SIGINT.
+    // On a terminal with cursor movement, readline reads Ctrl-C as a key. A SIGINT then comes from another process.
     for (const signal of ["SIGTERM", "SIGHUP", ...(this.isDumb ? [] : ["SIGINT"])]) {
       process.on(signal, () => {
         this.status = 128 + constants.signals[signal];
@@ -166,7 +166,7 @@ export class TerminalPrompt {
     else if (!this.hasEnded) this.showNextPrompt();
   }
 
-  /** Ends the prompt after an unexpected error. The promise of `run` then rejects. */
+  /** Ends the prompt after an unexpected error, with which the promise of `run` then rejects. */
   endWithError(error) {
     const resolve = this.resolveEnd;
     this.resolveEnd = () => resolve(Promise.reject(error));
@@ -194,7 +194,7 @@ export class TerminalPrompt {
 
   // --- input ---
 
-  /** Handles input from the terminal. Ctrl-C while a line is being served stops that line and discards the input before the key. */
+  /** Handles input from the terminal. If Ctrl-C is typed while a line is being served, stops that line and discards the input before the key. */
   handleInput(text) {
     const stopIndex = this.isBusy && !this.isDumb && !this.isPasting ? text.lastIndexOf(CTRL_C) : -1;
     if (stopIndex >= 0) {
@@ -206,7 +206,7 @@ export class TerminalPrompt {
     }
   }
 
-  /** Handles waiting input, up to a line that must be served first. */
+  /** Handles waiting input, up to the first line that must be served. */
   handleWaiting() {
     while (!this.isBusy && !this.hasEnded && this.waitingInput.length > 0) {
       const unhandledText = this.handlePiece(this.waitingInput[0]);
@@ -221,7 +221,7 @@ export class TerminalPrompt {
     if (this.hasInputEnded && !this.isBusy && !this.hasEnded) this.end();
   }
 
-  /** Handles one piece of input: a paste mark, or characters up to the end of a line. Returns the rest of the input. */
+  /** Handles one piece of input: a paste mark, or characters up to the end of a line. Returns the remaining input. */
   handlePiece(text) {
     const pasteMark = this.isPasting ? PASTE_SEQUENCES.ends : PASTE_SEQUENCES.begins;
     if (text.startsWith(pasteMark)) {
@@ -272,7 +272,7 @@ export class TerminalPrompt {
     this.show();
   }
 
-  /** Handles Ctrl-Z: returns the terminal to the shell until the process continues. */
+  /** Handles Ctrl-Z: leaves the terminal to the shell until the process continues. */
   suspend() {
     this.calls.onLeave();
     this.output.write(PASTE_SEQUENCES.off);

@@ -1,5 +1,6 @@
-// The debugger's view (js/core/prompt/view.js) on a terminal. The view occupies the upper rows, and commands scroll in the rows below. On a terminal
-// that cannot move its cursor (TERM=dumb), the view is printed after each command instead. With TERM=dumb or NO_COLOR, the view has no colours.
+// Shows the debugger's view (js/core/prompt/view.js) on a terminal. The view occupies the upper rows, and commands scroll in the rows below. On a
+// terminal that cannot move its cursor (TERM=dumb), the view is printed after each command instead. With TERM=dumb or NO_COLOR, the view has no
+// colours.
 import { MIN_COLUMNS, MIN_ROWS, View, viewSize } from "../core/prompt/view.js";
 import { isDumb, makePainter } from "./terminal.mjs";
 

@@ -1,4 +1,4 @@
-// The code that `mcs4 test`, `cover` and `profile` share: runs tests, or counts over the next cycles of a session.
+// The code that `mcs4 test`, `cover` and `profile` share. It runs tests, or the next cycles of a session, and counts what is executed.
 import { runTests } from "../core/testing/test_suite.js";
 import { failureLine } from "../core/testing/tap.js";
 import { excludeEachOther, otherProgram, sessionStopped } from "../words/commands.js";
@@ -14,8 +14,8 @@ import { CommandError, UsageError, print, printError } from "./output.mjs";
  * @typedef {import("../core/testing/test_run.js").Outcome} Outcome
  * @typedef {import("./input_texts.mjs").GivenText} GivenText
  *
- * The callbacks of a command. `checkNames` checks the file names before the files are read. `outcome` formats the result of each test. `report`
- * prints the counts at the end. `Counting` is the class that counts.
+ * The description of a command. `Counting` is the class of its recorder. `checkNames` checks the file names before the files are read. `outcome`
+ * formats the result of each test. `report` prints the counts at the end.
  * @typedef {{ name: string, Counting: typeof ExecutionRecorder, checkNames?: (names: string[]) => void,
  *   outcome?: (outcome: Outcome, number: number, total: number) => string,
  *   report?: (counts: { coverage: Coverage | null, profile: Profile | null }, program: GivenText) => void }} Tool
@@ -62,7 +62,7 @@ export async function runTestCommand({ Counting, checkNames = () => {}, outcome:
 }
 
 /**
- * Runs a copy of a session for a number of cycles, and counts. Resolves to the exit status.
+ * Runs a copy of a session for a number of cycles, and reports the counts. Resolves to the exit status.
  * @param {Tool} tool
  * @param {string} session
  * @param {string[]} givenNames
@@ -86,12 +86,12 @@ export async function countCycles({ name, Counting, checkNames = () => {}, repor
 }
 
 /**
- * Counts over the next cycles of a session if one is named. Otherwise runs tests. Resolves to the exit status.
+ * Runs the next cycles of a session if one is named; otherwise runs tests. Resolves to the exit status.
  * @param {Tool} tool
  * @param {{ folder?: string, session?: string }} values
  * @param {string[]} givenNames
  */
-export function testOrCount(tool, { folder, session }, givenNames) {
+export function runTestsOrSession(tool, { folder, session }, givenNames) {
   if (session === undefined) return runTestCommand(tool, folder, givenNames);
   if (folder !== undefined) throw new UsageError(excludeEachOther("-C", "--session"));
   return countCycles(tool, session, givenNames);

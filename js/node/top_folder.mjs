@@ -1,4 +1,4 @@
-// The top folder of Fethsaim. Modules and joined files are both two folders below it, so both can use the same relative path.
+// The top folder of Fethsaim. This module and the joined files are both two folders below it, so both use the same relative path.
 import { fileURLToPath } from "node:url";
 
 export const TOP = fileURLToPath(new URL("../..", import.meta.url)).replace(/\/$/, "");

@@ -1,4 +1,4 @@
-// Access to the user's files for the Node tools. An input file must be regular and at most as large as a limit. An output file replaces its target
+// Reads and writes the user's files for the Node tools. An input file must be regular and not larger than a limit. An output file replaces its target
 // atomically, and leaves no temporary file behind.
 import { constants } from "node:fs";
 import {
@@ -23,10 +23,10 @@ const OWNER_ONLY_MODE = 0o600;
 /** The error of a file that cannot be read or written. The message contains the file's name. */
 export class UserFileError extends CommandError {}
 
-/** The reason for such an error, without the file's name. `withFileError` adds the name. */
+/** The reason for a UserFileError, without the file's name. `withFileError` adds the name. */
 class FileErrorReason extends Error {}
 
-/** @type {Record<string, string>} the messages for the system's error codes */
+/** @type {Record<string, string>} the messages, by error code of the system */
 const REASONS = {
   ENOENT: "there is no such file", EACCES: "no permission", EPERM: "no permission", ENOSPC: "no space left on the device",
   EDQUOT: "the disk quota is used up", EFBIG: "it would exceed the size limit for files", EROFS: "the file system is read-only",
@@ -58,7 +58,7 @@ function withFileError(failureText, operation) {
 // --- reading ---
 
 /**
- * Returns the stat of a file to read, or undefined if there is no such file.
+ * Returns the status (`stat`) of a file to read; undefined if there is no such file.
  * @param {string} name
  */
 export function statInput(name) {
@@ -149,8 +149,8 @@ process.on("exit", () => {
 });
 
 /**
- * Follows the symbolic links of a path, even to a file that does not exist yet. Links in /proc are not followed, because they represent a process's
- * open files.
+ * Follows the symbolic links of a path, even to a file that does not exist yet. Does not follow links in /proc, because they represent the open files
+ * of a process.
  * @param {string} name
  */
 function followLinks(name) {
@@ -213,7 +213,7 @@ export class Replacement {
 }
 
 /**
- * Throws a FileErrorReason if a target is read-only, even for root, who could replace the target.
+ * Throws a FileErrorReason if a target is read-only. Throws it even for root, who could replace the target.
  * @param {string} target
  * @param {import("node:fs").Stats} oldStat
  */
@@ -249,7 +249,7 @@ export function prepareReplacement(name, bytes) {
 }
 
 /**
- * Returns true if a name refers to a device, a pipe or a process's stream, which cannot be replaced.
+ * Returns true if a name refers to a device, a pipe or a stream of a process. None of these can be replaced.
  * @param {string} name
  */
 function isStream(name) {
@@ -318,7 +318,7 @@ function readBeginning(name, count) {
  */
 export function checkOutputFile(name, begin, reason, inputs) {
   const stat = withFileError(`cannot write ${name}`, () => statSync(name, { throwIfNoEntry: false }));
-  if (inputs.some((input) => isSameFile(name, input))) throw new UserFileError(say.isRead(name));
+  if (inputs.some((input) => isSameFile(name, input))) throw new UserFileError(say.isInputFile(name));
   if (stat && stat.isDirectory()) throw new UserFileError(say.isFolder(name));
   withFileError(`cannot write ${name}`, () => {
     if (stat && !stat.isFile()) return accessSync(name, constants.W_OK);
@@ -326,7 +326,7 @@ export function checkOutputFile(name, begin, reason, inputs) {
     if (!isWritable(dirname(target))) throw new UserFileError(say.noFolderToWrite(name));
     return stat && checkWritable(target, stat);
   });
-  if (stat && stat.isFile() && stat.size > 0 && readBeginning(name, begin.length) !== begin) throw new UserFileError(say.isForeign(name, reason));
+  if (stat && stat.isFile() && stat.size > 0 && readBeginning(name, begin.length) !== begin) throw new UserFileError(say.isOtherKind(name, reason));
 }
 
 // --- new files in a folder ---

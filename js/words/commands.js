@@ -593,7 +593,7 @@ export const MCS4_STATUS = [
   "1: an error, or a test that failed.",
   "2: wrong arguments, including a value that is not a number or is out of range.",
 ];
-export const MCS4_COMPLETED = {
+export const BUILT_IN_COMPLETIONS = {
   help: "the commands, or the usage of one",
   version: "which program is started",
 };
@@ -678,22 +678,22 @@ export const sessionStopped = (cycles, why) => `the session stopped after ${cycl
 
 // --- the files of commands ---
 
-export const NO_LCOV = "does not begin like an LCOV file (TN:)";
+export const NOT_AN_LCOV_FILE = "does not begin like an LCOV file (TN:)";
 /** @type {(name: string) => string} */
 export const isFolder = (name) => `${name} is a folder, not a file`;
 /** @type {(name: string) => string} */
-export const isRead = (name) => `${name} is an input of this command, so it is not written; name another file`;
+export const isInputFile = (name) => `${name} is an input of this command, so it is not written; name another file`;
 /** @type {(name: string, why: string) => string} */
-export const isForeign = (name, why) => `${name} exists, and ${why}; name another file, or move it away`;
+export const isOtherKind = (name, why) => `${name} exists, and ${why}; name another file, or move it away`;
 /** @type {(name: string) => string} */
 export const noFolderToWrite = (name) => `cannot write ${name}: its folder does not exist or cannot be written`;
 
 // --- wave ---
 
 export const SOUND_NEEDS_NO_NAMES = "--wav writes the sound of a line; it needs no --names";
-export const NO_WAV = "is not a WAV file";
+export const NOT_A_WAV_FILE = "is not a WAV file";
 /** @type {(board: string) => string} */
-export const otherBoard = (board) => `the session has another board than ${board}`;
+export const boardDiffers = (board) => `the session has another board than ${board}`;
 const BUZZER_COMMENT = "a comment `# buzzer rom0.3: NAME`";
 export const NO_BUZZER_GIVEN = `no line of a buzzer is given; name it, or give --board BOARD, whose text has ${BUZZER_COMMENT}`;
 /** @type {(board: string) => string} */
@@ -726,7 +726,7 @@ export const emptyName = (name) => `${name} is empty; it must have the name of t
 export const noSessionToDebug = (name) => `there is no file ${name}; mcs4 debug BOARD PROGRAM ${name} begins a session in it`;
 /** @type {(folder: string) => string} */
 export const noFolder = (folder) => `there is no folder ${folder}`;
-export const NO_PROJECT = "is not a project";
+export const NOT_A_PROJECT = "is not a project";
 /** @type {(folder: string) => string} */
 export const isNoFolder = (folder) => `${folder} exists and is not a folder`;
 /** @type {(name: string) => string} */
@@ -741,7 +741,7 @@ export const noRomAction = (word) => `'${word}' is not load, ask or save`;
 export const unsupportedFormat = (action, form) => `rom ${action} takes no --${form}`;
 export const ADDRESS_RANGE = "ADDRESS is 0 to 4095, decimal or with 0x";
 export const NUMBERS_OF_RANGE = "FIRST and COUNT are numbers, decimal or with 0x";
-export const RANGE = "FIRST is 0 to 4095, COUNT is at least 1, and 4096 is the address after the last one";
+export const BYTE_RANGE_SYNTAX = "FIRST is 0 to 4095, COUNT is at least 1, and 4096 is the address after the last one";
 /** @type {(name: string) => string} */
 export const textNoImage = (name) => (
   `${name} is a text, but not Intel HEX, S-records or BNPF; if its characters are the bytes of an image: rom load --binary`);
@@ -778,12 +778,12 @@ export const noAnswers = (command) => (
 
 // --- cycles ---
 /** @type {(word: string) => string} */
-export const notALine = (word) => `FIRST and LAST are numbers of lines, and '${word}' is not a number`;
+export const notALineNumber = (word) => `FIRST and LAST are numbers of lines, and '${word}' is not a number`;
 export const FIRST_AND_LAST = "FIRST is at least 1, and LAST is not before it";
 
 // --- explain ---
 /** @type {(words: string) => string} */
-export const otherAnswers = (words) => `these are not the answers to this script: ${words}`;
+export const answersOfOtherScript = (words) => `these are not the answers to this script: ${words}`;
 /** @type {(character: string) => string} */
 export const foreignCharacter = (character) => `: \`${character}\``;
 /** @type {(digits: string) => string} */
@@ -797,7 +797,7 @@ export const notAnswered = (line, isLast) => `line ${line} ${isLast ? "was" : "a
 
 // --- resume ---
 /** @type {(session: string, script: string, words: string, differing: string[]) => string} */
-export const notBegun = (session, script, words, differing) => [
+export const scriptDoesNotMatch = (session, script, words, differing) => [
   `${session} did not begin with ${script}: ${words}${differing.length > 0 ? ` (< ${session}, > what ${script} leads to)` : ""}`,
   ...differing,
 ].join("\n");
@@ -811,7 +811,7 @@ export const usedByAnother = (session) => `${session} is in use by another progr
 /** @type {(name: string) => string} */
 export const cannotWrite = (name) => `cannot write ${name}`;
 /** @type {(commands: number, records: number) => string} */
-export const howFarBack = (commands, records) => {
+export const describeRemovableCommands = (commands, records) => {
   if (records === 0) return `session ${commands}: its log has no commands, so it cannot go back`;
   if (records === 1) return `session ${commands}: back by 1 command, to session ${commands - 1}`;
   return `session ${commands}: back by 1 to ${records} commands, to session ${commands - 1} to ${commands - records}`;
@@ -829,13 +829,13 @@ export const wouldDiffer = (session, wanted, opened) => `${session} would not be
 export const noFolderIn = (place) => `cannot make a folder in ${place}; TMPDIR names another place for temporary files`;
 
 // --- debug ---
-export const NO_BREAKPOINTS_FILE = "does not begin like a file of breakpoints (# Breakpoints of mcs4 debug)";
+export const NOT_A_BREAKPOINTS_FILE = "does not begin like a file of breakpoints (# Breakpoints of mcs4 debug)";
 
 // --- explore ---
-export const NO_FINDS = "does not begin like a file of counterexamples (# Found by mcs4 explore)";
+export const NOT_COUNTEREXAMPLES = "does not begin like a file of counterexamples (# Found by mcs4 explore)";
 export const NO_REPORT = "is not a report of mcs4 explore";
 /** @type {(file: string, names: string[]) => string} */
-export const oneText = (file, names) => `${file} names ${names.length} texts of properties; name one of them: ${names.join(" ")}`;
+export const nameOneFile = (file, names) => `${file} names ${names.length} texts of properties; name one of them: ${names.join(" ")}`;
 /** @type {(properties: string, line: number, message: string, state: string) => string} */
 export const testsMustSave = (properties, line, message, state) => (
   `${properties}:${line}: ${message}; its tests must save the state ${state}`);
@@ -844,14 +844,14 @@ export const modelEnded = (how, words) => `the model has ended with ${how}${word
 /** @type {(lines: number, chains: number) => string} */
 export const modelPrinted = (lines, chains) => `the model has printed ${lines} lines for ${chains} lines of keys`;
 /** @type {(properties: string, line: number, command: string) => string} */
-export const runsModel = (properties, line, command) => `${properties}:${line}: --allow-model runs this command: ${command}`;
+export const runsModelCommand = (properties, line, command) => `${properties}:${line}: --allow-model runs this command: ${command}`;
 /** @type {(test: string) => string} */
-export const notSeenToFail = (test) => `mcs4 test does not see this fail, so it is not counted:\n${test}`;
+export const testDoesNotFail = (test) => `mcs4 test does not see this fail, so it is not counted:\n${test}`;
 /** @type {(place: string, text: string, isGoal: boolean, steps: string) => string} */
-export const wasFound = (place, text, isGoal, steps) => `${place}: ${text}: ${isGoal ? "reached" : "broken"} by ${steps}`;
+export const foundLine = (place, text, isGoal, steps) => `${place}: ${text}: ${isGoal ? "reached" : "broken"} by ${steps}`;
 /** @type {(status: number | null) => string} */
 export const jobEnded = (status) => `a job ended with status ${status}`;
 /** @type {(name: string) => string} */
-export const noReport = (name) => `${name} is not a report of mcs4 explore (--report)`;
+export const notAReport = (name) => `${name} is not a report of mcs4 explore (--report)`;
 /** @type {(name: string, first: string) => string} */
 export const differentTexts = (name, first) => `${name} has another board, program or properties than ${first}`;

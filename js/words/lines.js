@@ -45,13 +45,13 @@ export const LINES_BY_GROUPS = [
     ] },
 ];
 /** The form of each session line, by its first word. */
-const FORM_OF = new Map(LINES_BY_GROUPS.flatMap(({ lines }) => lines.map(([form]) => [form.split(/[ ,]/)[0], form])));
+const FORM_BY_FIRST_WORD = new Map(LINES_BY_GROUPS.flatMap(({ lines }) => lines.map(([form]) => [form.split(/[ ,]/)[0], form])));
 
 // --- bench/line_forms.js ---
 /** @type {(word: string, like: string[]) => string} */
 export const noLine = (word, like) => `${word} is not a command${didYouMean(like) || "; help shows the commands"}`;
 /** @type {(word: string) => string} */
-export const lineSyntax = (word) => `${word} is written as: ${FORM_OF.get(word)}`;
+export const lineSyntax = (word) => `${word} is written as: ${FORM_BY_FIRST_WORD.get(word)}`;
 /** @type {(word: string, like: string[]) => string} */
 export const noPlace = (word, like) => `${word} is not a place${didYouMean(like) || "; help places shows the places"}`;
 /** @type {(word: string) => string} */

@@ -99,7 +99,7 @@ export function wordsOfLastChange(name, { isFound, why, from, to, line, cycles, 
  * Returns the description of a goal.
  * @param {Goal} goal
  */
-export function wordsOfGoal(goal) {
+export function describeGoal(goal) {
   if (goal.kind === "here") return `the address ${hex(goal.address, 3)}`;
   if (goal.kind === "count") return `the end of ${goal.count.toLocaleString("en")} instructions`;
   if (goal.kind === "change") return `a change of ${goal.place}`;
@@ -112,7 +112,7 @@ export function wordsOfGoal(goal) {
  * @param {Goal} goal
  */
 export function wordsOfMove(goal) {
-  return `Running to ${wordsOfGoal(goal)}.`;
+  return `Running to ${describeGoal(goal)}.`;
 }
 
 /**
@@ -142,7 +142,7 @@ export function wordsOfStop(goal, { why, cycles, returns, change }, where, when 
   const after = `after ${formatCycles(cycles)}`;
   if (goal && why === "goal") return `${reached(goal, returns, where)}, ${after}.`;
   const reason = why === "watch" && change ? `after ${change}` : (REASONS[why] || why) + (why === "break" ? when : "");
-  return goal ? `Paused at ${where}, ${reason}, ${after}; ${wordsOfGoal(goal)} was not reached.` : `Paused at ${where}, ${reason}.`;
+  return goal ? `Paused at ${where}, ${reason}, ${after}; ${describeGoal(goal)} was not reached.` : `Paused at ${where}, ${reason}.`;
 }
 
 /**
@@ -167,7 +167,7 @@ export const stoppedAt = (where) => `Paused at ${where}.`;
  * @param {string} where
  */
 export function wordsOfHalt(goal, cycles, where) {
-  return goal ? `Paused at ${where}, after ${formatCycles(cycles)}; ${wordsOfGoal(goal)} was not reached.` : stoppedAt(where);
+  return goal ? `Paused at ${where}, after ${formatCycles(cycles)}; ${describeGoal(goal)} was not reached.` : stoppedAt(where);
 }
 
 /**
@@ -177,6 +177,6 @@ export function wordsOfHalt(goal, cycles, where) {
  * @param {string} where
  */
 export function wordsOfInterrupted(goal, ran, where) {
-  const what = `${wordsOfGoal(goal)} was ${ran ? "not reached" : "searched for, and nothing was done"}`;
+  const what = `${describeGoal(goal)} was ${ran ? "not reached" : "searched for, and nothing was done"}`;
   return `Paused at ${where}: ${what}, because the page was reloaded or another session was shown.`;
 }

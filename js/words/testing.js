@@ -2,7 +2,7 @@
 
 // --- testing/coverage.js ---
 /** @type {(counts: number[], percent: string, percentOfWays: string) => string} */
-export const covered = ([run, all, waysRun, ways], percent, percentOfWays) => (
+export const coverageSummary = ([run, all, waysRun, ways], percent, percentOfWays) => (
   `${run} of ${all} instructions were run${percent}, ${waysRun} of ${ways} branch directions${percentOfWays}`);
 
 // --- testing/coverage_text.js ---
@@ -10,7 +10,7 @@ export const NEVER = "never";
 /** @type {(from: number, to: number) => string} */
 export const fromTo = (from, to) => `${from} to ${to}`;
 /** @type {(line: number, isTaken: boolean) => string} */
-export const wayOf = (line, isTaken) => `${line} (${isTaken ? "always" : "never"} taken)`;
+export const describeDirection = (line, isTaken) => `${line} (${isTaken ? "always" : "never"} taken)`;
 /** @type {(lines: string, areMany: boolean) => string} */
 export const neverRun = (lines, areMany) => `never run: ${areMany ? "lines" : "line"} ${lines}`;
 /** @type {(lines: string, areMany: boolean) => string} */
@@ -18,7 +18,7 @@ export const oneDirectionOnly = (lines, areMany) => `only one way: ${areMany ? "
 
 // --- testing/last_instructions.js ---
 /** @type {(row: string) => string} */
-export const isNext = (row) => `${row}comes next`;
+export const nextInstructionLine = (row) => `${row}comes next`;
 
 // --- testing/last_label.js ---
 /** @type {(cycles: number) => string} */
@@ -26,9 +26,9 @@ export const cyclesAgo = (cycles) => `${cycles} cycle${cycles === 1 ? "" : "s"} 
 /** @type {(label: string, ago: string) => string} */
 export const lastLabel = (label, ago) => `; the last label passed is ${label}, ${ago}`;
 /** @type {(last: string, what: string, when: string) => string} */
-export const wasPassed = (last, what, when) => `${last}; ${what} was ${when}`;
+export const lastLabelAndCondition = (last, what, when) => `${last}; ${what} was ${when}`;
 /** @type {(ago: string) => string} */
-export const passedLast = (ago) => `passed last ${ago}`;
+export const lastPassedAgo = (ago) => `passed last ${ago}`;
 export const NOT_PASSED = "not passed in this test";
 
 // --- testing/profile_text.js ---
@@ -60,21 +60,21 @@ export const stateMissing = (state, test) => `the state ${state} is missing, bec
 /** @type {(line: number, file: string) => string} a reference to a line in this text, or in another file */
 const placeOf = (line, file) => (file ? `${file}:${line}` : `line ${line}`);
 /** @type {(name: string, line: number, file: string) => string} */
-export const stepsOfLine = (name, line, file) => `the steps ${name} of ${placeOf(line, file)}`;
+export const describeSharedSteps = (name, line, file) => `the steps ${name} of ${placeOf(line, file)}`;
 /** @type {(turn: number, times: number, line: number) => string} */
-export const turnOf = (turn, times, line) => `turn ${turn} of ${times} of line ${line}`;
+export const describeTurn = (turn, times, line) => `turn ${turn} of ${times} of line ${line}`;
 /** @type {(cycles: number, why: string) => string} */
 export const runStopped = (cycles, why) => `the run stopped after ${cycles} cycles ${why}`;
 /** @type {(address: string) => string} */
-export const beforeCode = (address) => `before a code that is not an instruction, at ${address}`;
+export const beforeInvalidOpcode = (address) => `before a code that is not an instruction, at ${address}`;
 /** @type {(place: string, value: number) => string} */
-export const isAnd = (place, value) => `${place} is ${value}, and `;
+export const placeValueAnd = (place, value) => `${place} is ${value}, and `;
 /** @type {(what: string, word: string, keys: string) => string} */
-export const hasKeys = (what, word, keys) => `${what}${word} has ${keys}`;
+export const valueHasKeys = (what, word, keys) => `${what}${word} has ${keys}`;
 /** @type {(what: string, key: number, digit: string) => string} */
-export const hasNoKey = (what, key, digit) => `${what}the board has no key ${key}${digit}`;
+export const valueHasNoKey = (what, key, digit) => `${what}the board has no key ${key}${digit}`;
 /** @type {(digit: string | number) => string} */
-export const norKey = (digit) => `, nor ${digit}`;
+export const orDigitKey = (digit) => `, nor ${digit}`;
 /** @type {(cycles: number, why: string, message: string) => string} */
 export const runStoppedAt = (cycles, why, message) => `the run stopped after ${cycles} cycles ${why}; ${message}`;
 /** @type {(cycles: number, message: string, passed: string) => string} */
@@ -92,8 +92,8 @@ export const NO_TEST = "there is no line `test NAME`";
 export const NOT_ASCII = "a byte that is neither a tab nor a printable ASCII character";
 /** @type {(line: string) => string} */
 export const beginsWithTest = (line) => `a text of tests begins with \`test NAME\`, and this is: ${line}`;
-export const TEST_NAME = "a test has a name: test NAME";
-export const STEPS_NAME = "shared steps have a name of one word: steps NAME";
+export const TEST_NAME_MISSING = "a test has a name: test NAME";
+export const STEPS_NAME_MISSING = "shared steps have a name of one word: steps NAME";
 /** @type {(name: string, line: number, file: string) => string} */
 export const stepsDefinedTwice = (name, line, file) => `the steps ${name} are already at ${placeOf(line, file)}`;
 export const NO_END = "this `repeat` has no `end`";
@@ -127,13 +127,13 @@ export const OWN_STATE = "a test cannot begin with a state that it saves itself"
 /** @type {(word: string, areMany: boolean) => string} */
 export const keysSyntax = (word, areMany) => `write \`${word} ${areMany ? "KEYS" : "KEY .."}\``;
 /** @type {(name: string, word: string) => string} */
-export const nor = (name, word) => `${name}, nor ${word}`;
+export const nameNorWord = (name, word) => `${name}, nor ${word}`;
 /** @type {(what: string, there: string) => string} */
 export const noKey = (what, there) => (
   `the board has no key ${what}; ${there ? `it has: ${there}` : "its text names no keys (`# row 0: NAME ..`)"}`);
 export const UNTIL_SYNTAX = "write `until CONDITION within TIME`";
 export const WITHIN_SYNTAX = "it ends with `within TIME`, as in: within 500, within 20 ms, within 1.5 s";
-export const NO_CYCLES = "`until` cannot ask for cycles; use `run` or `expect`";
+export const CYCLES_NOT_ALLOWED = "`until` cannot ask for cycles; use `run` or `expect`";
 export const PACE_SYNTAX = "write `pace TIME TIME`: how long a key is down, and how long it is up after it";
 
 // --- testing/tests_tab.js ---

@@ -8,9 +8,9 @@ export const didYouMean = (words, end = "") => (
 
 // --- text/asm_texts.js ---
 /** @type {(bytes: string, isOne: boolean, first: string) => string} */
-export const stays = (bytes, isOne, first) => `${bytes} from before ${isOne ? "stays" : "stay"} in ROM, from ${first}.`;
+export const bytesRemaining = (bytes, isOne, first) => `${bytes} from before ${isOne ? "stays" : "stay"} in ROM, from ${first}.`;
 /** @type {(bytes: string, stay: string, counter: string) => string} */
-export const assembled = (bytes, stay, counter) => `${bytes} assembled.${stay} The counter stays at ${counter}; nothing was reset.`;
+export const bytesAssembled = (bytes, stay, counter) => `${bytes} assembled.${stay} The counter stays at ${counter}; nothing was reset.`;
 
 // --- text/board_completion.js ---
 /** @type {(isInput: boolean, line: string, chip: string) => string} */
@@ -58,10 +58,10 @@ export const noSuchRom = (line, chip) => `the board has no line ${line}: no [[ro
 /** @type {(line: string, bank: string) => string} */
 export const noSuchBank = (line, bank) => `the board has no line ${line}: no [[ram]] has bank = ${bank}`;
 /** @type {(line: string, bank: string, chips: number) => string} */
-export const bankHas = (line, bank, chips) => (
+export const noChipInBank = (line, bank, chips) => (
   `the board has no line ${line}: bank ${bank} has ${chips === 1 ? "only chip 0" : `chips 0 to ${chips - 1}`}`);
 /** @type {(line: string, chain: string, last: number) => string} */
-export const chainHas = (line, chain, last) => `the board has no line ${line}: chain ${chain} has bits 0 to ${last}`;
+export const noBitInChain = (line, chain, last) => `the board has no line ${line}: chain ${chain} has bits 0 to ${last}`;
 /** @type {(chain: string, chains: number) => string} */
 export const noChain = (chain, chains) => (
   `the board has no chain ${chain}: it has ${["no [[chain]]", "only chain 0"][chains] || `chains 0 to ${chains - 1}`}`);
@@ -88,14 +88,14 @@ export const mustBeTable = (section) => `a ${section} must be a table: [[${secti
 /** @type {(name: string, kind: string, meant: string) => string} */
 export const noKeyOf = (name, kind, meant) => `${name} is not a key of ${kind}${meant}`;
 /** @type {(keys: string) => string} */
-export const whichHas = (keys) => `, which has ${keys}`;
+export const whichHasKeys = (keys) => `, which has ${keys}`;
 /** @type {(kind: string, meant: string) => string} */
 export const noPart = (kind, meant) => `${kind} is not a part of a board${meant}`;
 export const ONE_MATRIX = "a board has one key matrix: [keys]";
 /** @type {(kind: string) => string} */
-export const several = (kind) => `there can be several: write [[${kind}]]`;
+export const tableArraySyntax = (kind) => `there can be several: write [[${kind}]]`;
 /** @type {(kind: string, keys: string) => string} */
-export const lacks = (kind, keys) => `this ${kind} lacks ${keys}`;
+export const lacksKeys = (kind, keys) => `this ${kind} lacks ${keys}`;
 
 // --- text/count_marks.js ---
 /** @type {(number: number) => string} */
@@ -168,7 +168,7 @@ export const layoutTooLong = (most, size) => `in columns the program would have 
 
 // --- text/program_words.js ---
 /** The terms of other assemblers, each with its replacement here. */
-export const ELSEWHERE = new Map(Object.entries({
+export const OTHER_ASSEMBLER_WORDS = new Map(Object.entries({
   JMP: "JUN", GOTO: "JUN", BRA: "JUN", CALL: "JMS", JSR: "JMS", RET: "BBL", RTS: "BBL", MOV: "LD or XCH", LDA: "LD", STA: "XCH", STO: "XCH",
   JZ: "JCN 4", JNZ: "JCN 12", JC: "JCN 2", JNC: "JCN 10", DJNZ: "ISZ", BYTE: "DB", DEFB: "DB", EQU: "NAME = NUMBER", HLT: "JUN to itself",
   HALT: "JUN to itself", DEC: "DAC", INP: "RDR", OUT: "WRR", LDI: "LDM",
@@ -186,7 +186,7 @@ export const isBinary = (number) => `binary numbers are not supported; it is ${n
 /** @type {(letter: string, number: string) => string} */
 export const isLetter = (letter, number) => `characters are not supported; the code of ${letter} is ${number}`;
 /** @type {(number: string) => string} */
-export const withoutMark = (number) => `without #: ${number}`;
+export const withoutNumberSign = (number) => `without #: ${number}`;
 export const NO_NEGATIVES = "there are no negative numbers";
 export const NO_EXPRESSIONS = "there are no expressions: write one number or one name";
 export const COMMA_OF_OPERANDS = "write a comma between two operands";
@@ -222,12 +222,12 @@ export const takesNothing = (name) => `${name} takes no operand`;
 export const AND_AFTER = ", and ";
 /** @type {(name: string, what: string, isMore: boolean) => string} */
 export const takesNoMore = (name, what, isMore) => `${name} takes ${what}${isMore ? ", no more" : ""}`;
-export const NUMBER_OF_NAME = "the number of a name is 0 to 4095";
+export const NAME_VALUE_RANGE = "the number of a name is 0 to 4095";
 export const ORG_ADDRESS = "an address, 0 to 4095";
 /** @type {(name: string, what: string, more: string) => string} */
-export const takesBut = (name, what, more) => `${name} takes ${what}${more}`;
+export const takesOperands = (name, what, more) => `${name} takes ${what}${more}`;
 /** @type {(word: string) => string} */
-export const isMore = (word) => `; ${word} is more`;
+export const extraOperandNote = (word) => `; ${word} is more`;
 /** @type {(name: string, meant: string) => string} */
 export const notDefined = (name, meant) => `${name} is not defined${meant}`;
 /** @type {(name: string, line: number|undefined) => string} */
@@ -294,7 +294,7 @@ export const TAB_INDENTS = "Tab indents. Escape and then Tab leaves the text.";
 // --- text/sendable_text.js ---
 /** @type {(character: string) => string} */
 export const otherQuote = (character) => `${character} is not the ASCII quotation mark "`;
-export const OTHER_BLANK = "a non-breaking space (U+00A0); write a plain space";
+export const NON_BREAKING_SPACE = "a non-breaking space (U+00A0); write a plain space";
 /** @type {(code: string) => string} */
 export const invisibleCharacter = (code) => `an invisible character (U+${code}); delete it`;
 export const CONTROL_CHARACTER = "a control character; only tabs and printable ASCII characters can be sent";
@@ -308,7 +308,7 @@ export const textTooLong = (most, size) => (
   `a text has at most ${most} bytes without its comments; this one has ${size} and passes the limit here`);
 
 // --- text/text_help.js ---
-export const CARRY_STAYS = ". The carry stays";
+export const CARRY_UNCHANGED = ". The carry stays";
 /** @type {(pair: number, upper: number, lower: number) => string} */
 export const pairIs = (pair, upper, lower) => `P${pair}: the pair of R${upper} (upper four bits) and R${lower} (lower four bits).`;
 /** @type {(register: number, isUpper: boolean, pair: number) => string} */

@@ -2,7 +2,7 @@
 
 // --- waves/live_waves.js ---
 /** @type {Record<string, string>} the reasons why a recording ended */
-export const ENDS = {
+export const END_REASONS = {
   hand: "Stopped by you.",
   back: "It ended when the session went back or forward.",
   board: "It ended when the board was wired again.",

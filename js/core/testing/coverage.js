@@ -1,4 +1,4 @@
-// Computes coverage from recorded counts: how often each program line ran, and which branch directions its conditional jump took.
+// Computes the coverage of a program from recorded counts: how often each line ran, and in which directions each conditional jump went.
 
 import { formatTenths } from "../bench/numbers.js";
 import { isBranch, isCall, jumpTarget } from "../engine/rom_codes.js";
@@ -8,23 +8,24 @@ import * as say from "../../words/testing.js";
  * @typedef {import("../machine/source_map.js").SourceMap} SourceMap
  * @typedef {import("./recorders.js").ExecutionRecorder} ExecutionRecorder
  *
- * A line with an instruction: how often it ran, whether it is a conditional jump, and how often it jumped.
+ * The coverage of a line with an instruction. `count` is how often the line ran. `isJump` is true for a conditional jump. `taken` is how
+ * often it jumped.
  * @typedef {{ line: number, count: number, isJump: boolean, taken: number }} LineCoverage
  *
- * A range of lines that never ran.
+ * A range of lines that never ran: its first and last line (`from`, `to`).
  * @typedef {{ from: number, to: number }} LineRange
  *
- * A label that a JMS calls: its line, and how often the instruction at the label ran.
+ * A label that a JMS calls. `line` is its line, and `count` is how often the instruction at the label ran.
  * @typedef {{ label: string, line: number, count: number }} Subroutine
  *
  * The coverage of a program. `instructions` and `ways` are the total numbers of instructions and branch directions. `run` and `waysRun` are
- * the numbers that were executed.
+ * how many of them were executed. `never` lists the lines that never ran.
  * @typedef {{ lines: LineCoverage[], instructions: number, run: number, ways: number, waysRun: number, never: LineRange[],
  *   subroutines: Subroutine[] }} Coverage
  */
 
 /**
- * Returns the lines with instructions. A data line (DB) counts if it ran.
+ * Returns the coverage of each line with an instruction. A data line (DB) counts as an instruction if it ran.
  * @param {ExecutionRecorder} recorder
  * @param {SourceMap} map
  * @returns {LineCoverage[]}
@@ -42,7 +43,7 @@ function coveredLines({ codes, startCounts, jumpCounts }, map) {
 }
 
 /**
- * Returns the labels that the JMS instructions in some lines call, in ascending address order.
+ * Returns the subroutines that the JMS instructions in the given lines call, in ascending address order.
  * @param {ExecutionRecorder} recorder
  * @param {SourceMap} map
  * @param {LineCoverage[]} lines
@@ -84,11 +85,11 @@ export function computeCoverage(recorder, map) {
 }
 
 /**
- * Returns the coverage summary: `20 of 21 instructions were run (95.2 %)`.
+ * Returns a coverage summary such as `20 of 21 instructions were run (95.2 %)`.
  * @param {Coverage} coverage
  */
 export function formatCoverageSummary({ instructions, run, ways, waysRun }) {
   /** @type {(part: number, all: number) => string} */
   const percent = (part, all) => (all > 0 ? ` (${formatTenths((100 * part) / all)} %)` : "");
-  return say.covered([run, instructions, waysRun, ways], percent(run, instructions), percent(waysRun, ways));
+  return say.coverageSummary([run, instructions, waysRun, ways], percent(run, instructions), percent(waysRun, ways));
 }

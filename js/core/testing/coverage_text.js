@@ -1,4 +1,4 @@
-// Formats coverage: as source text with a count before each line, for a terminal, and in the LCOV format, for other programs.
+// Formats coverage in two ways: for a terminal, as source text with a count before each line; for other programs, in the LCOV format.
 
 import { formatCoverageSummary } from "./coverage.js";
 import * as say from "../../words/testing.js";
@@ -7,11 +7,11 @@ import * as say from "../../words/testing.js";
  * @typedef {import("./coverage.js").Coverage} Coverage
  * @typedef {import("./coverage.js").LineCoverage} LineCoverage
  *
- * The source of a program, and the number of lines before it in its file.
+ * The source text of a program. `before` is the number of lines before this text in its file.
  * @typedef {{ text: string, before: number }} ProgramText
  */
 
-/** Widths in characters. */
+/** The tab width, and the widths of the report columns, in characters. */
 const TAB_WIDTH = 8;
 const COUNT_WIDTH = 10;
 const WAYS_WIDTH = 13;
@@ -49,7 +49,7 @@ export function coverageText(coverage, { text, before }) {
   const lineCoverage = new Map(coverage.lines.map((each) => [each.line, each]));
   const rows = text.replace(/\n$/, "").split("\n").map((source, at) => formatRow(source, lineCoverage.get(at + 1)));
   const never = coverage.never.map(({ from, to }) => (from === to ? `${from + before}` : say.fromTo(from + before, to + before)));
-  const oneDirection = coverage.lines.filter(isOneDirection).map(({ line, taken }) => say.wayOf(line + before, taken > 0));
+  const oneDirection = coverage.lines.filter(isOneDirection).map(({ line, taken }) => say.describeDirection(line + before, taken > 0));
   const summaryLines = [
     "", formatCoverageSummary(coverage),
     ...(never.length > 0 ? [say.neverRun(never.join(", "), never.length > 1 || never[0].includes(" "))] : []),
@@ -58,7 +58,7 @@ export function coverageText(coverage, { text, before }) {
   return `${[...rows, ...summaryLines].join("\n")}\n`;
 }
 
-/** @type {(name: string, values: (string | number)[]) => string} returns a line in the LCOV format */
+/** @type {(name: string, values: (string | number)[]) => string} returns a line of an LCOV file */
 const formatRecord = (name, values) => `${name}:${values.join(",")}`;
 
 /**

@@ -1,9 +1,10 @@
-// Lists the last instructions of a session under test, one line each, as in a trace. Repeats the last cycles on a copy of an earlier state.
+// Lists the last instructions that a test executed, one trace line per instruction. Repeats the last cycles from a copy of an earlier
+// state.
 
 import { runLines } from "../engine/key_queue.js";
 import { InstructionTexts } from "../trace/instruction_texts.js";
 import { TraceLines } from "../trace/trace_lines.js";
-import { SHOWN_CYCLES } from "./test_session.js";
+import { LISTABLE_CYCLES } from "./test_session.js";
 import * as say from "../../words/testing.js";
 
 /**
@@ -13,15 +14,15 @@ import * as say from "../../words/testing.js";
  * @typedef {import("./test_session.js").TestSession} TestSession
  */
 
-/** The maximum number of listed instructions, without the next instruction. */
+/** The maximum number of listed instructions, not counting the next instruction. */
 const MAX_INSTRUCTIONS = 12;
 
 /**
- * Returns the start of the listed cycles: the index of the first listed action (`at`), and the number of its cycles to skip (`from`).
+ * Returns where the list starts: the index of the first listed action (`at`), and the number of cycles of this action to skip (`from`).
  * @param {TestAction[]} actions
  */
 function findListedPart(actions) {
-  let cyclesLeft = SHOWN_CYCLES;
+  let cyclesLeft = LISTABLE_CYCLES;
   let listedPart = { at: actions.length, from: 0 };
   for (let at = actions.length - 1; at >= 0 && cyclesLeft > 0; at--) {
     const { cycles } = actions[at];
@@ -32,7 +33,7 @@ function findListedPart(actions) {
 }
 
 /**
- * Returns the lines of the last instructions and commands, and the line of the next instruction.
+ * Returns trace lines for the last instructions and commands of a test, followed by a line for the next instruction.
  * @param {TestSession} session
  * @param {{ board: Board, map: SourceMap }} names
  * @returns {string[]}
@@ -47,7 +48,7 @@ export function lastInstructions(session, { board, map }) {
   engine.serve(file, laterActions.slice(0, firstAction).map(formatActionLines).join("") + (from > 0 ? runLines(from) : ""), file);
   let elapsed = storedState.elapsed + laterActions.slice(0, firstAction).reduce((sum, { cycles }) => sum + cycles, from);
   const trace = new TraceLines(engine, board, new InstructionTexts({ map, source: null }));
-  const lines = trace.secondCycle(file, elapsed);
+  const lines = trace.secondCycleLines(file, elapsed);
   laterActions.slice(firstAction).forEach(({ line, cycles }, at) => {
     const actionCycles = at === 0 ? cycles - from : cycles;
     if (line === "run") lines.push(...trace.runLines(file, actionCycles, elapsed));
@@ -55,6 +56,6 @@ export function lastInstructions(session, { board, map }) {
     engine.serve(file, line === "run" ? runLines(actionCycles) : `${line}\n`, file);
     elapsed += actionCycles;
   });
-  const last = [...lines.slice(-MAX_INSTRUCTIONS), say.isNext(trace.next(session.file, elapsed))];
+  const last = [...lines.slice(-MAX_INSTRUCTIONS), say.nextInstructionLine(trace.next(session.file, elapsed))];
   return last.flatMap((each) => each.split("\n"));
 }

@@ -1,5 +1,5 @@
-// Finds the last label that a session under test has reached, and the time of its arrival there. Repeats the whole test in pieces, and
-// counts the instructions of each piece.
+// Finds the last label that a test reached, and when. Repeats the whole test in pieces, and counts how often each instruction ran in each
+// piece.
 
 import { MAX_RUN_CYCLES } from "../engine/key_queue.js";
 import { ForecastAnswers, parseTraceLine } from "../engine/forecast_answers.js";
@@ -28,7 +28,7 @@ function* splitRuns(actions) {
 }
 
 /**
- * Returns the last instruction at one of the given addresses; null if there was none.
+ * Returns the last executed instruction at one of the given addresses; null if the test executed none of them.
  * @param {TestSession} session
  * @param {Set<number>} addresses
  * @returns {PassedInstruction | null}
@@ -58,7 +58,7 @@ export function findLastPassed({ engine, initialFile, actions }, addresses) {
 
 /**
  * Describes the last label that the session reached, for the message about a condition that did not become true in time. If the condition
- * is an address, the text also contains the time at which the session last reached this address.
+ * is an address, the text also says when the session last reached this address.
  * @param {TestSession} session
  * @param {SourceMap} map
  * @param {Condition} condition
@@ -71,6 +71,6 @@ export function describeLastLabel(session, map, { address, text }) {
   const labelText = passedLabel && namedLabel ? say.lastLabel(namedLabel.name, formatAge(passedLabel)) : "";
   if (address < 0) return labelText;
   const passedAddress = findLastPassed(session, new Set([address]));
-  const passText = passedAddress ? say.passedLast(formatAge(passedAddress)) : say.NOT_PASSED;
-  return say.wasPassed(labelText, text.startsWith("@") ? text : `pc ${address}`, passText);
+  const passText = passedAddress ? say.lastPassedAgo(formatAge(passedAddress)) : say.NOT_PASSED;
+  return say.lastLabelAndCondition(labelText, text.startsWith("@") ? text : `pc ${address}`, passText);
 }

@@ -1,4 +1,4 @@
-// Creates the lines that press board keys by name, one key after another.
+// Creates the session lines that press the keys of a board, given by name, one key after another.
 
 import { LAMPS_FORECAST_QUERY, hasScannedDisplay } from "../engine/perceived_text.js";
 import { TOOL_KEY_DOWN_CYCLES, TOOL_KEY_UP_CYCLES } from "../time/mcs4_time.js";
@@ -7,14 +7,15 @@ import { listNamedKeys } from "./test_text.js";
 /**
  * @typedef {import("../board/face.js").Face} Face
  *
- * The time for which each key is down and then up, in cycles.
+ * How long each key is down, and then up, in cycles.
  * @typedef {{ down: number, up: number }} Pace
  *
- * The lines, with a query for the lamps at the end; or no lines, and the first name that is not a key (`unknown`).
+ * The result: session lines that end with a query for the lamps, and `unknown` null. If a name is not a key, there are no lines, and
+ * `unknown` is the first such name.
  * @typedef {{ lines: string[], unknown: string | null }} PressLines
  */
 
-/** @type {Pace} the default times of keys in tools */
+/** @type {Pace} the default pace in tools */
 export const DEFAULT_PACE = { down: TOOL_KEY_DOWN_CYCLES, up: TOOL_KEY_UP_CYCLES };
 
 /**

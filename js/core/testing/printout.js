@@ -12,7 +12,7 @@ import { PrinterCodes } from "../engine/printer_codes.js";
 export class Printout {
   /**
    * @param {Printer} printer
-   * @param {number[]} codes the codes from before the test
+   * @param {number[]} codes the codes printed before the test
    */
   constructor(printer, codes) {
     this.printer = printer;
@@ -38,12 +38,12 @@ export class Printout {
     this.printing.take([answers.answers.slice(from, answers.at)], elapsed);
   }
 
-  /** All codes so far. */
+  /** All codes printed so far. */
   get codes() {
     return this.printing.codes.map(([, code]) => code);
   }
 
-  /** The words in the completed lines. */
+  /** The words in the completed lines of the printout. */
   get words() {
     return printoutLines(this.codes, this.printer.words).slice(0, -1).join(" ").split(/\s+/).filter(Boolean);
   }

@@ -1,4 +1,4 @@
-// Computes a profile from recorded counts: the cycles of tests by label, and the response times of keys.
+// Computes a profile from recorded counts: the cycles spent below each label, and the response time of each key.
 
 /**
  * @typedef {import("../machine/source_map.js").SourceMap} SourceMap
@@ -6,11 +6,12 @@
  * @typedef {import("./recorders.js").CallCounts} CallCounts
  * @typedef {import("./recorders.js").KeyTimes} KeyTimes
  *
- * A row for a label: `own` is the number of cycles in the code between the label and the next label, `calls` are the calls of its routine.
- * The code before the first label has a row with the label "" and the address -1.
+ * The row of a label. `own` is the number of cycles spent between this label and the next one. `calls` are the calls of the routine at the
+ * label. The code before the first label has a row with the label "" and the address -1.
  * @typedef {{ label: string, address: number, own: number, calls: CallCounts | null }} ProfileRow
  *
- * A profile: the rows for labels and for pressed keys. `begunBefore` is the number of cycles of instructions that started before a test.
+ * A profile. `total` is the number of all cycles. `rows` has a row for each label, and `keys` has one for each pressed key. `begunBefore`
+ * is the number of cycles of instructions that had started before a test.
  * @typedef {{ total: number, rows: ProfileRow[], begunBefore: number, keys: (KeyTimes & { key: string })[] }} Profile
  */
 

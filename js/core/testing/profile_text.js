@@ -10,7 +10,7 @@ import * as say from "../../words/testing.js";
  */
 
 const LABEL_WIDTH = 17;
-/** The width of a label and its address. */
+/** The width of the label column and the address column together, in characters. */
 const PLACE_WIDTH = 22;
 
 /** @type {(value: string | number, width: number) => string} returns a right-aligned table cell */
@@ -19,7 +19,7 @@ const cell = (value, width) => String(value).padStart(width);
 /** @param {number} cycles */
 const formatMilliseconds = (cycles) => say.inMilliseconds(formatTenths(cycles * CYCLE_MS));
 
-/** @type {(ownCycles: number, total: number) => string} returns cycles and their percentage */
+/** @type {(ownCycles: number, total: number) => string} returns two table cells: the cycles, and their percentage of the total */
 const formatShare = (own, total) => `${cell(own, 10)} ${cell(formatTenths((100 * own) / total), 6)}`;
 
 /**
@@ -42,7 +42,10 @@ function formatKeyRow({ key, presses, answered, first, last }) {
   return `${key.padEnd(LABEL_WIDTH)} ${cell(presses, 9)} ${cell(answered, 9)}${answered > 0 ? times : ""}`;
 }
 
-/** @param {Profile} profile */
+/**
+ * Returns the profile as a table.
+ * @param {Profile} profile
+ */
 export function profileText({ total, rows, begunBefore, keys }) {
   const [label, at, own, percent, calls, withCalls, longest] = say.PROFILE_HEAD;
   const head = [label.padEnd(LABEL_WIDTH), at.padEnd(4), cell(own, 10), cell(percent, 6), cell(calls, 9), cell(withCalls, 10),

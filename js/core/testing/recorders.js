@@ -1,6 +1,6 @@
-// Records the execution of test runs: how often each instruction starts and jumps, its cycles, the duration of each call, and the time from
-// a key press to a lamp change. The numbers come from the queries `count` and `trace`, which predict a run before it is executed. The
-// subclasses record less, for tools that print no profile.
+// Recorders of what a test executes. An ExecutionRecorder counts how often each instruction starts and jumps, and its cycles. It also
+// measures each call, and the time from a key press to a lamp change. The numbers come from the queries `count` and `trace`, which predict
+// a run before it is executed. The subclasses record less, for tools that print no profile.
 
 import { ADDRESS_COUNT } from "../bench/rom_bytes.js";
 import { parseTraceLine } from "../engine/forecast_answers.js";
@@ -10,11 +10,13 @@ import { instructionCycles, isCall, isReturn, jumpTarget } from "../engine/rom_c
  * @typedef {import("../engine/forecast_answers.js").ForecastAnswers} ForecastAnswers
  * @typedef {import("../engine/forecast_answers.js").InstructionCount} InstructionCount
  *
- * The calls of a routine: their number, their cycles including nested calls, and the length of the longest call in cycles.
+ * The calls of a routine. `times` is their number, `withCalls` their total cycles including nested calls, and `longest` the length of the
+ * longest call in cycles.
  * @typedef {{ times: number, withCalls: number, longest: number }} CallCounts
  *
- * The presses of a key: their number, and the number of presses after which a lamp changed (`answered`). `first` and `last`
- * are the longest times from a press to the first lamp change, and to the last lamp change before the next press, in cycles.
+ * The response times of a key. `presses` is the number of its presses, and `answered` counts the presses after which a lamp changed.
+ * `first` is the longest time from a press to the first lamp change, in cycles. `last` is the longest time from a press to the last lamp
+ * change before the next press.
  * @typedef {{ presses: number, answered: number, first: number, last: number }} KeyTimes
  *
  * A call in progress: the address of the routine, and the time of the call in cycles.
@@ -28,11 +30,11 @@ export class ExecutionRecorder {
   /** @param {Uint8Array} codes the contents of ROM */
   constructor(codes) {
     this.codes = codes;
-    /** The number of starts and jumps of the instruction at each address, and its cycles. */
+    /** Three counts for the instruction at each address: how often it started, how often it jumped, and its cycles. */
     this.startCounts = new Float64Array(ADDRESS_COUNT);
     this.jumpCounts = new Float64Array(ADDRESS_COUNT);
     this.cycleCounts = new Float64Array(ADDRESS_COUNT);
-    /** The number of cycles of instructions that started before a test. */
+    /** The number of cycles of instructions that had started before a test. */
     this.incompleteCycles = 0;
     this.total = 0;
     /** @type {Map<number, CallCounts>} the calls, by routine address */
@@ -41,16 +43,16 @@ export class ExecutionRecorder {
     this.keys = new Map();
     /** @type {OpenCall[]} the calls in progress, innermost last */
     this.openCalls = [];
-    /** The last key press, and the times of the first and last lamp change since the press (0 for none). */
+    /** The last key press: its key and time, and the times of the first and last lamp change since then (0 for none), in cycles. */
     this.lastPress = { key: "", pressed: 0, first: 0, last: 0 };
   }
 
   /** True if the recorder records cycles, calls and key times. */
-  get keepsTimes() {
+  get recordsTimes() {
     return true;
   }
 
-  /** Starts a test. */
+  /** Starts the recording of a test. */
   begin() {
     this.openCalls = [];
     this.lastPress.key = "";
@@ -65,7 +67,7 @@ export class ExecutionRecorder {
   }
 
   /**
-   * Counts a run, with the answers to the queries before it.
+   * Records a run, given the answers to `queries`, which the bench gave before the run.
    * @param {ForecastAnswers} answers
    * @param {number} elapsed the cycles from the start of the test to the run
    * @param {() => ForecastAnswers} askAll returns a trace of all instructions in the run
@@ -73,13 +75,13 @@ export class ExecutionRecorder {
   take(answers, elapsed, askAll) {
     const callCount = this.count(answers.takeCounts());
     const lines = answers.takeTrace().lines;
-    if (this.lastPress.key !== "") this.followLamps(answers.takeTrace().lines, elapsed);
+    if (this.lastPress.key !== "") this.trackLampChanges(answers.takeTrace().lines, elapsed);
     // The short trace omits a JMS or BBL that does not change the return addresses.
-    this.followCalls(lines.length === callCount ? lines : askAll().takeTrace().lines, elapsed);
+    this.trackCalls(lines.length === callCount ? lines : askAll().takeTrace().lines, elapsed);
   }
 
   /**
-   * Counts the instructions in a run. Returns how often JMS and BBL instructions started.
+   * Counts the instructions in a run. Returns the number of calls and returns (JMS and BBL) in the run.
    * @param {InstructionCount[]} counts
    */
   count(counts) {
@@ -89,29 +91,30 @@ export class ExecutionRecorder {
       this.startCounts[address] += begun;
       this.jumpCounts[address] += Math.max(0, jumped);
       this.cycleCounts[address] += instructionCycles(code) * begun;
-      if (isCall(code)) this.findCalls(jumpTarget(this.codes, address)).times += begun;
+      if (isCall(code)) this.getCallCounts(jumpTarget(this.codes, address)).times += begun;
       if (isCall(code) || isReturn(code)) callCount += begun;
     }
     return callCount;
   }
 
   /**
-   * Returns the calls of a routine.
+   * Returns the call counts of a routine. Creates them at the first call.
    * @param {number} address
    * @returns {CallCounts}
    */
-  findCalls(address) {
+  getCallCounts(address) {
     const found = this.calls.get(address) || { times: 0, withCalls: 0, longest: 0 };
     this.calls.set(address, found);
     return found;
   }
 
   /**
-   * Tracks calls and returns. The stack has three entries, so a fourth nested call overwrites the return address of the first call.
+   * Tracks the calls and returns in trace lines. The call stack has three entries, so a fourth nested call overwrites the return address of
+   * the first call.
    * @param {string[]} lines
    * @param {number} elapsed
    */
-  followCalls(lines, elapsed) {
+  trackCalls(lines, elapsed) {
     for (const line of lines) {
       const { cycles, address } = parseTraceLine(line);
       const code = this.codes[address];
@@ -123,25 +126,26 @@ export class ExecutionRecorder {
   }
 
   /**
-   * Counts the innermost call, which ends now. Does not count a recursive call within an open call of the same routine. If the test ends
-   * during the JMS, the call has 0 cycles.
-   * @param {number} time
+   * Ends the innermost call and adds its cycles to the counts of its routine. Ignores a recursive call, because the outer call of the same
+   * routine includes it. If the test ends during the JMS, the call has 0 cycles.
+   * @param {number} time the time at which the call ends, in cycles
    */
   endInnermostCall(time) {
     const endedCall = this.openCalls.pop();
     if (!endedCall || this.openCalls.some(({ at }) => at === endedCall.at)) return;
     const cycles = Math.max(0, time - endedCall.startTime);
-    const calls = this.findCalls(endedCall.at);
+    const calls = this.getCallCounts(endedCall.at);
     calls.withCalls += cycles;
     calls.longest = Math.max(calls.longest, cycles);
   }
 
   /**
-   * Records lamp changes after a key press. An instruction that writes to a port takes one cycle.
+   * Records the first and last lamp change since the last key press. A lamp changes when its instruction ends, one cycle after the trace
+   * line.
    * @param {string[]} lines
    * @param {number} elapsed
    */
-  followLamps(lines, elapsed) {
+  trackLampChanges(lines, elapsed) {
     if (lines.length === 0) return;
     const [first, last] = [lines[0], lines[lines.length - 1]].map((line) => elapsed + parseTraceLine(line).cycles + 1);
     if (this.lastPress.first === 0) this.lastPress.first = first;
@@ -154,12 +158,12 @@ export class ExecutionRecorder {
    * @param {number} elapsed
    */
   recordPress(key, elapsed) {
-    this.endKey();
+    this.finishLastPress();
     this.lastPress = { key, pressed: elapsed, first: 0, last: 0 };
   }
 
   /** Adds the last key press to the key times. */
-  endKey() {
+  finishLastPress() {
     const { key, pressed, first, last } = this.lastPress;
     if (key === "") return;
     const times = this.keys.get(key) || { presses: 0, answered: 0, first: 0, last: 0 };
@@ -174,7 +178,7 @@ export class ExecutionRecorder {
   }
 
   /**
-   * Subtracts the second cycle of an instruction that the test did not complete.
+   * Subtracts one cycle from the instruction at an address, because the test ended before the second cycle of this instruction.
    * @param {number} address
    */
   subtractLastCycle(address) {
@@ -187,14 +191,14 @@ export class ExecutionRecorder {
    */
   end(elapsed) {
     while (this.openCalls.length > 0) this.endInnermostCall(elapsed);
-    this.endKey();
+    this.finishLastPress();
     this.total += elapsed;
   }
 }
 
 /** Records only how often each instruction starts and jumps, for coverage. */
 export class LineRecorder extends ExecutionRecorder {
-  get keepsTimes() {
+  get recordsTimes() {
     return false;
   }
 
@@ -211,7 +215,7 @@ export class LineRecorder extends ExecutionRecorder {
 
 /** Records nothing and sends no queries. */
 export class NullRecorder extends ExecutionRecorder {
-  get keepsTimes() {
+  get recordsTimes() {
     return false;
   }
 

@@ -1,5 +1,5 @@
-// Creates a sample test for a board without tests. If the board has keys, the test presses the first one. The test expects the result: the
-// display text, or a lamp that is on.
+// Creates a sample test for a board that has no tests. If the board has keys, the test presses the first one. The test then expects the
+// actual result: the text on the display, or a lamp that is on.
 
 import { convertLampAnswers } from "../board/lamp_answers.js";
 import { LAMPS_FORECAST_QUERY, hasScannedDisplay } from "../engine/perceived_text.js";
@@ -17,11 +17,11 @@ import { listNamedKeys } from "./test_text.js";
  * @typedef {import("./test_preparation.js").Texts} Texts
  */
 
-/** The time for which the key is down before the expectation, in milliseconds. */
+/** The time between the key press and the `expect` line, in milliseconds. */
 const HOLD_MS = 50;
 
 /**
- * Resolves to test conditions that are true while a key is down, the most specific ones first.
+ * Resolves to test conditions that should be true while a key is down, the most specific condition first.
  * @param {Engine} engine
  * @param {PreparedTests} prepared
  * @param {string} press the command that presses the key; "" for no key

@@ -1,4 +1,4 @@
-// Counts the next cycles of a session for coverage and a profile.
+// Computes coverage and a profile over the next cycles of a session.
 
 import { romCodes } from "../engine/rom_codes.js";
 import { sessionProgram } from "../engine/session_program.js";
@@ -16,15 +16,16 @@ import { TestSession } from "./test_session.js";
  * @typedef {import("./test_preparation.js").TextFault} TextFault
  * @typedef {import("./profile.js").Profile} Profile
  *
- * The counts, the number of cycles that ran, and the reason for the stop ("end" if nothing stopped the run).
+ * The coverage and the profile of a run, its number of cycles (`elapsed`), and the reason for its stop ("end" if nothing stopped it early).
  * @typedef {{ coverage: Coverage, profile: Profile, elapsed: number, stop: string }} SessionCounts
  *
- * The result. If the program has errors (`faults`) or ROM contains another byte (`other`), nothing runs and `counted` is null.
+ * The result. If the program has errors (`faults`), or if a byte in ROM differs from the program (`other`), nothing runs and `counted` is
+ * null.
  * @typedef {{ faults: TextFault[], other: OtherByte | null, counted: SessionCounts | null }} SessionCount
  */
 
 /**
- * Counts the next cycles of a session. Ignores breakpoints and watches, and does not change the state.
+ * Runs a copy of a session for some cycles, and resolves to its coverage and profile. Ignores breakpoints and watches.
  * @param {EngineHost} engine
  * @param {State} state
  * @param {string} programText

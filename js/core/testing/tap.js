@@ -23,7 +23,7 @@ export function tapDescription(name) {
   return name.replace(/\\/g, "\\\\").replace(/#/g, "\\#");
 }
 
-/** @type {(failure: Failure) => string} returns the location of the failed step: the name of the test text, and the line */
+/** @type {(failure: Failure) => string} returns the location of the failed step as `FILE:LINE` */
 const stepLocation = ({ source, line }) => `${source}:${line}`;
 
 /**
@@ -41,7 +41,7 @@ function diagnosis(failure) {
 }
 
 /**
- * Returns the TAP lines of a test. The TAP header precedes the first test.
+ * Returns the TAP lines of a test. The lines of the first test start with the TAP header.
  * @param {Outcome} outcome
  * @param {number} number the number of the test, from 1
  * @param {number} total
@@ -53,7 +53,7 @@ export function testTap({ name, failure }, number, total) {
 }
 
 /**
- * Returns the results of all tests.
+ * Returns the results of all tests in TAP.
  * @param {Outcome[]} outcomes
  */
 export function testsTap(outcomes) {
@@ -61,7 +61,7 @@ export function testsTap(outcomes) {
 }
 
 /**
- * Returns a line with the error of a failed test for users who watch a run; "" if the test passed.
+ * Returns a comment line with the error of a failed test, for users who watch the output; "" if the test passed.
  * @param {Outcome} outcome
  */
 export function failureLine({ name, failure }) {

@@ -22,7 +22,7 @@ import { romCodes } from "../engine/rom_codes.js";
  */
 
 /**
- * Returns the errors in the front-panel comments of a board text that prevent tests.
+ * Returns those errors in the front-panel comments of a board text that make tests impossible.
  * @param {Face} face
  * @param {import("../bench/answers.js").Board} board
  * @returns {TextFault[]}
@@ -43,7 +43,7 @@ export function findTextErrors(name, text) {
 }
 
 /**
- * Returns the refusal in an answer as a list of errors.
+ * Returns the refusal in an answer as a list of one error; an empty list if the answer is not a refusal.
  * @param {"board" | "program"} name
  * @param {string} answer
  * @returns {TextFault[]}
@@ -54,7 +54,7 @@ function refusalFaults(name, answer) {
 }
 
 /**
- * Wires a board in a new session. Returns the answers to `board`, or the errors in the board text.
+ * Wires a board in a new session. Returns the bench's answers to the query `board`, or the errors in the board text.
  * @param {Engine} engine
  * @param {string} text
  * @returns {{ faults: TextFault[], answers: string[] }}
@@ -67,7 +67,7 @@ export function wireBoard(engine, text) {
 }
 
 /**
- * Returns a new session with a board and a program. An empty text is not sent.
+ * Returns a new session with a board and a program. Skips an empty text.
  * @param {Engine} engine
  * @param {Texts} texts
  * @returns {{ file: Uint8Array, faults: TextFault[] }}

@@ -25,19 +25,19 @@ import * as say from "../../words/testing.js";
  * @typedef {import("./test_text.js").Step} Step
  * @typedef {import("./test_text.js").Test} Test
  *
- * The failure of a test. `source`, `line` and `text` are the name of the test text, and the failed step. `words` is the message. The other
- * members describe the session at this step. `lamps` and `registers` are formatted as in `state`, and `trace` lists the last instructions.
- * `file` is null if the test did not start.
+ * The failure of a test. `source` is the name of the test text; `line` and `text` are the line number and the text of the failed step.
+ * `words` is the message. The other members describe the session at this step. `lamps` and `registers` are formatted as in `state`, and
+ * `trace` lists the last instructions. `file` is null if the test did not start.
  * @typedef {{ source: string, line: number, text: string, words: string, cycles: number, lamps: string, registers: string, trace: string[],
  *   file: Uint8Array | null }} Failure
  * @typedef {{ name: string, line: number, cycles: number, failure: Failure | null }} Outcome
  */
 
-/** The interval between checks of perceived lamps and the printout, in cycles. */
+/** The interval between two checks of the perceived display or of the printout, in cycles. */
 const CHECK_INTERVAL = 1000;
 
 /**
- * Returns the location of a step in the form of a Failure.
+ * Returns the location of a step, as the members of a Failure.
  * @param {Step} step
  */
 function stepLocation({ source, line, text }) {
@@ -61,7 +61,7 @@ export class TestRun {
     this.printer = printer;
     /** @type {Map<string, { file: Uint8Array, codes: number[] }>} the saved states with their printouts, by name */
     this.states = new Map();
-    /** The number of the test text that saved the states. */
+    /** The number of the test text whose tests saved `states`, from 1. */
     this.textNumber = 1;
     this.down = TOOL_KEY_DOWN_CYCLES;
     this.up = TOOL_KEY_UP_CYCLES;
@@ -101,7 +101,7 @@ export class TestRun {
   }
 
   /**
-   * Runs steps. Resolves to the failure, or to null.
+   * Runs steps. Resolves to the failure, or to null if all steps pass.
    * @param {TestSession} session
    * @param {Step[]} steps
    * @param {string[]} enclosing descriptions of the enclosing repeated and shared steps, innermost first
@@ -133,10 +133,10 @@ export class TestRun {
     if (action.kind === "do") {
       const [first] = action.steps;
       const file = !first || first.source.name === source.name ? "" : source.name;
-      return this.runSteps(session, action.steps, [say.stepsOfLine(action.name, line, file), ...enclosing]);
+      return this.runSteps(session, action.steps, [say.describeSharedSteps(action.name, line, file), ...enclosing]);
     }
     for (let turn = 1; turn <= action.times; turn++) {
-      const failure = await this.runSteps(session, action.steps, [say.turnOf(turn, action.times, line), ...enclosing]);
+      const failure = await this.runSteps(session, action.steps, [say.describeTurn(turn, action.times, line), ...enclosing]);
       if (failure) return failure;
       await this.yieldToMessages();
     }
@@ -200,15 +200,15 @@ export class TestRun {
   }
 
   /**
-   * Describes the place at which a session stopped because the next opcode is not an instruction.
+   * Describes where a session stopped because the next byte is not an instruction.
    * @param {TestSession} session
    */
   describeStop({ counter }) {
-    return say.beforeCode(this.addressText(counter));
+    return say.beforeInvalidOpcode(this.addressText(counter));
   }
 
   /**
-   * Formats an address with its name.
+   * Returns an address together with its label.
    * @param {number} address
    */
   addressText(address) {
@@ -217,19 +217,19 @@ export class TestRun {
   }
 
   /**
-   * Returns the key that a value selects at this moment. If the value selects no key, `words` is the error message.
+   * Returns the key that a value in the session currently selects. If the value selects no key, `words` is the error message.
    * @param {TestSession} session
    * @param {ChosenKey} chosen
    * @returns {{ key: Key | undefined, words: string }}
    */
   chooseKey(session, { word, place, probe, keys }) {
     const value = parseInt(rowValues(new ForecastAnswers(session.ask(`trace 1 ${probe}\n`)).takeTrace().row)[0], 16);
-    const valueText = say.isAnd(place, value);
-    if (keys.length > 0) return { key: keys[value], words: say.hasKeys(valueText, word, formatQuantity(keys.length, "key")) };
+    const valueText = say.placeValueAnd(place, value);
+    if (keys.length > 0) return { key: keys[value], words: say.valueHasKeys(valueText, word, formatQuantity(keys.length, "key")) };
     const boardKeys = listNamedKeys(this.prepared.names.face);
     const digit = hex(value, 1);
     const key = boardKeys.get(String(value)) || boardKeys.get(digit);
-    return { key, words: say.hasNoKey(valueText, value, value > 9 ? say.norKey(digit) : "") };
+    return { key, words: say.valueHasNoKey(valueText, value, value > 9 ? say.orDigitKey(digit) : "") };
   }
 
   /**
@@ -257,8 +257,8 @@ export class TestRun {
   }
 
   /**
-   * Runs until a condition is true at the end of an instruction. If the condition is a label, always runs to the next arrival at the label.
-   * Resolves to the error message, or to "".
+   * Runs until a condition is true at the end of an instruction. For a label, runs to the next arrival at the label, even if the session is
+   * already there. Resolves to the error message, or to "".
    * @param {TestSession} session
    * @param {Condition} condition
    * @param {number} maxCycles the maximum number of cycles
@@ -293,8 +293,8 @@ export class TestRun {
   }
 
   /**
-   * Runs until a condition becomes true. Finds this moment with traces of the places in the condition; the first traces are short, in case
-   * the condition becomes true soon. Resolves to the reason for the stop.
+   * Runs until a condition becomes true. Traces the places in the condition to find this moment. The first traces are short, in case the
+   * condition becomes true soon. Resolves to the reason for the stop.
    * @param {TestSession} session
    * @param {Condition} condition
    * @param {number} end
@@ -332,7 +332,7 @@ export class TestRun {
   }
 
   /**
-   * Returns the number of cycles until a condition becomes true within a piece; 0 if it does not.
+   * Returns the number of cycles until a condition becomes true within the next `piece` cycles; 0 if it does not become true.
    * @param {TestSession} session
    * @param {Condition} condition
    * @param {ExtraValues} extraValues the values that do not change during a run

@@ -1,5 +1,5 @@
-// A session under test, in memory. Stores an earlier state and the later actions, so that the last instructions can be listed. Records the
-// execution of each run.
+// The session of a test, in memory. Stores an earlier state and all later actions, so that the last instructions can be listed. Passes each
+// run to a recorder.
 
 import { LAMPS_FORECAST_QUERY } from "../engine/perceived_text.js";
 import { readCounter, readRegisters } from "../bench/answers.js";
@@ -15,15 +15,15 @@ import { ForecastAnswers, parseTraceLine, rowValues } from "../engine/forecast_a
  * @typedef {import("../engine/engine_host.js").EngineHost} Engine
  * @typedef {import("./printout.js").Printout} Printout
  *
- * An action: a bench command, or `run` with its number of cycles.
+ * An action of a test: a bench command, or `run` with its number of cycles.
  * @typedef {{ line: string, cycles: number }} TestAction
  *
  * A stored state: the session file, the cycles of the test up to this state, and the later actions.
  * @typedef {{ file: Uint8Array, elapsed: number, laterActions: TestAction[] }} StoredState
  */
 
-/** The number of cycles at the end of a test whose instructions can be listed. */
-export const SHOWN_CYCLES = 26;
+/** The number of cycles, at the end of a test, whose instructions can be listed. */
+export const LISTABLE_CYCLES = 26;
 
 export class TestSession {
   /**
@@ -41,7 +41,7 @@ export class TestSession {
     this.recorder = recorder;
     this.yieldToMessages = yieldToMessages;
     this.printout = printout;
-    /** The cycles of the test so far, and at the last `mark`. */
+    /** The cycles of the test so far (`elapsed`), and the value of `elapsed` at the last `mark`. */
     this.elapsed = 0;
     this.markedCycles = 0;
     /** The number of cycles of the last run; 0 if there was none. */
@@ -70,7 +70,7 @@ export class TestSession {
   }
 
   /**
-   * Stores the program counter, and whether a second cycle is pending.
+   * Stores the program counter, and whether an instruction still has a pending second cycle.
    * @param {string} regs the answer to `regs`
    */
   readRegistersFrom(regs) {
@@ -98,7 +98,7 @@ export class TestSession {
   }
 
   /**
-   * Runs for a number of cycles, or until something stops the run. Resolves to the reason for the stop.
+   * Runs for a number of cycles, or until something stops the run. Resolves to the reason for the stop ("end" if all cycles ran).
    * @param {number} cycles
    */
   async run(cycles) {
@@ -117,7 +117,7 @@ export class TestSession {
    * @param {number} cycles the number of cycles, at most MAX_RUN_CYCLES
    */
   runPiece(cycles) {
-    if (cycles >= SHOWN_CYCLES) this.spareBuffer.set(this.file);
+    if (cycles >= LISTABLE_CYCLES) this.spareBuffer.set(this.file);
     const { recorder, engine, file, printout, previousFile } = this;
     const printoutQueries = printout ? printout.queries(cycles) : "";
     const lines = `${printoutQueries}${recorder.queries(cycles)}run ${cycles}\nregs\n`;
@@ -132,7 +132,7 @@ export class TestSession {
     [this.file, this.previousFile] = [previousFile, file];
     this.readRegistersFrom(answers.take());
     this.lastRunCycles = run.cycles;
-    if (run.cycles >= SHOWN_CYCLES) {
+    if (run.cycles >= LISTABLE_CYCLES) {
       const { file: old } = this.storedState;
       this.storedState = { file: this.spareBuffer, elapsed: this.elapsed, laterActions: [] };
       this.spareBuffer = old;
@@ -153,9 +153,9 @@ export class TestSession {
     else if (cycles > 0) this.actions.push({ line: "run", cycles });
   }
 
-  /** Subtracts the last cycle of the last instruction, because the instruction will not be completed. */
+  /** Subtracts the second cycle of the last instruction from the recorded cycles, because this cycle will not run. */
   subtractLastCycle() {
-    if (this.lastRunCycles === 0 || !this.recorder.keepsTimes) return;
+    if (this.lastRunCycles === 0 || !this.recorder.recordsTimes) return;
     const before = this.lastRunCycles > 1 ? `run ${this.lastRunCycles - 1}\n` : "";
     const answers = this.engine.ask(this.previousFile, `${before}trace 1\n`).answers.slice(before === "" ? 0 : 1);
     const [line] = new ForecastAnswers(answers).takeTrace().lines;
@@ -163,7 +163,7 @@ export class TestSession {
   }
 
   /**
-   * Returns the values of the places in a condition, and the other values that it needs.
+   * Returns the values of the places that a condition reads (`values`), and the other values that it needs (`extraValues`).
    * @param {Condition} condition
    * @returns {{ values: string[], extraValues: ExtraValues }}
    */
@@ -180,7 +180,7 @@ export class TestSession {
   }
 
   /**
-   * Returns whether a condition is currently true. If not, `message` contains the actual and the expected value.
+   * Returns whether a condition is currently true (`holds`). If it is false, `message` contains the actual and the expected value.
    * @param {Condition} condition
    */
   check(condition) {

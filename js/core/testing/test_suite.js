@@ -25,14 +25,14 @@ import { readSources } from "./test_text.js";
  * @typedef {{ boardText: string, programText: string, testText?: string, sources?: Source[] }} TestedTexts
  *
  * The options of a test run:
- * - `Counting`: the class of the recorder; with a subclass of ExecutionRecorder, the profile or the coverage is empty;
+ * - `Counting`: the class of the recorder. A subclass of ExecutionRecorder records less, so the profile or the coverage can be empty;
  * - `ended`: called with each outcome when its test ends;
  * - `ran`: called with the session of each test at its end;
- * - `only`: the only test to run, after the tests that save its start states.
+ * - `only`: the test to run; the tests that save its start states run first. Without it, all tests run.
  * @typedef {{ Counting?: typeof ExecutionRecorder, ended?: (outcome: Outcome, number: number, total: number) => void,
  *   ran?: (session: import("./test_session.js").TestSession) => void, only?: { name: string, source: string } | null }} Options
  *
- * The results of tests. If the texts have errors, no test runs.
+ * The results of the tests. If the texts have errors (`faults`), no test runs.
  * @typedef {{ faults: TextFault[], outcomes: Outcome[], coverage: Coverage | null, profile: Profile | null }} Report
  */
 
@@ -40,7 +40,7 @@ import { readSources } from "./test_text.js";
 const YIELD_INTERVAL = 40;
 
 /**
- * Parses the texts. Returns the prepared session and the tests, or the errors.
+ * Parses the texts of a board, a program and its tests. Returns the prepared session and the tests, or the errors.
  * @param {Engine} engine
  * @param {TestedTexts} texts
  */
@@ -55,7 +55,7 @@ export function parseTestedTexts(engine, texts) {
 }
 
 /**
- * Returns whether a step, or a step in its repetition or shared steps, has a wanted action.
+ * Returns whether some step has a wanted action. Also searches the steps in repetitions and in shared steps.
  * @param {import("./test_text.js").Step[]} steps
  * @param {(action: Action) => boolean} isWanted
  * @returns {boolean}
@@ -75,7 +75,7 @@ function findSavingTest(tests, { textNumber, from }) {
 }
 
 /**
- * Returns a test and the tests that save its start states, in order.
+ * Returns a test, preceded by the tests that save its start states.
  * @param {Test[]} tests
  * @param {(test: Test) => boolean} isWanted
  */

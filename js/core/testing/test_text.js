@@ -14,17 +14,18 @@ import * as say from "../../words/testing.js";
  * @typedef {import("../conditions/condition_language.js").Condition} Condition
  * @typedef {import("../conditions/condition_language.js").Names} Names
  *
- * A test text with its file name, "" for none.
+ * A test text. `name` is its file name; "" for none.
  * @typedef {{ name: string, text: string }} Source
  *
- * An error. `column` counts from 0; it is -1 if unknown.
+ * An error in a test text. `column` is counted from 0; it is -1 if unknown.
  * @typedef {{ file: string, line: number, column: number, words: string }} Fault
  *
  * A key with its name and the commands that press and release it.
  * @typedef {{ name: string, key: import("../board/key_place.js").Key, press: string, release: string }} Key
  *
- * A key that the value of a place selects when the step is executed. `word` is the word in the line, `place` the name of the place, and
- * `probe` its name in `trace`. `keys` are the keys for the values 0, 1 and so on. If `keys` is empty, the value is the key name.
+ * A key that a value in the session selects when the step is executed. `word` is the word in the line. `place` is the name of the register
+ * or nibble with the value, and `probe` is its name in `trace` queries. `keys` are the keys for the values 0, 1 and so on. If `keys` is
+ * empty, the value is the name of the key.
  * @typedef {{ word: string, place: string, probe: string, keys: Key[] }} ChosenKey
  *
  * The action of a step.
@@ -35,7 +36,7 @@ import * as say from "../../words/testing.js";
  *   | { kind: "repeat", times: number, steps: Step[] } | { kind: "do", name: string, steps: Step[] }} Action
  * @typedef {{ source: Source, line: number, text: string, action: Action }} Step
  *
- * Shared steps. `lines` is the number of lines that they execute, including all repetitions.
+ * Shared steps, defined by a `steps` line. `lines` is the number of lines that they execute, including all repetitions.
  * @typedef {{ source: Source, name: string, line: number, steps: Step[], lines: number }} SharedSteps
  *
  * A test. `textNumber` is the number of its text, from 1. `from` is the name of its start state, "" for power-on.
@@ -43,12 +44,12 @@ import * as say from "../../words/testing.js";
  * @typedef {{ tests: Test[], faults: Fault[] }} TestText
  */
 
-/** The maximum number of repetitions, and the maximum number of executed lines in a test with all its repetitions. */
+/** The maximum count in a `repeat` line, and the maximum number of lines that a test executes, including all repetitions. */
 const MAX_REPETITIONS = 100000;
 const MAX_LINES = 1000000;
 
-/** An error in a line, with its first column. */
-class BadLine extends Error {
+/** The error for an invalid line, with the column at which the error starts. */
+class InvalidLineError extends Error {
   /**
    * @param {string} words
    * @param {number} column the column from 0; -1 if unknown
@@ -60,17 +61,17 @@ class BadLine extends Error {
 }
 
 /**
- * Throws a BadLine.
+ * Throws a InvalidLineError.
  * @param {string} words
  * @param {number} [column]
  * @returns {never}
  */
 function fail(words, column = -1) {
-  throw new BadLine(words, column);
+  throw new InvalidLineError(words, column);
 }
 
 /**
- * Returns the address of a ROM place; NaN for any other place.
+ * Returns the address in a place such as `rom.0x12`; NaN for a place that is not in ROM.
  * @param {string} place
  */
 const romAddress = (place) => (place.startsWith("rom.") ? parseNumber(place.slice("rom.".length)) : NaN);
@@ -86,7 +87,7 @@ export function createKey(name, key) {
 }
 
 /**
- * Returns the named keys of a board by name, in front-panel order. The button or switch at TEST comes last.
+ * Returns the keys of a board that have a name, by name, in front-panel order. The button or switch at the TEST pin comes last.
  * @param {import("../board/face.js").Face} face
  * @returns {Map<string, Key>}
  */
@@ -119,9 +120,9 @@ class TestReader {
     this.currentShared = null;
     /** @type {Step[]} the list that receives the next step */
     this.steps = [];
-    /** @type {{ line: number, times: number, outer: Step[] }[]} the open repetitions, outermost first */
+    /** @type {{ line: number, times: number, outer: Step[] }[]} the repetitions without an `end` so far, outermost first */
     this.openRepeats = [];
-    /** The number of executed lines in the current test or shared steps so far. */
+    /** The number of lines that the current test or shared steps execute, up to the current line. */
     this.lines = 0;
     this.hasBegun = false;
   }
@@ -149,7 +150,7 @@ class TestReader {
       try {
         this.readLine(line, at + 1);
       } catch (fault) {
-        if (!(fault instanceof BadLine)) throw fault;
+        if (!(fault instanceof InvalidLineError)) throw fault;
         const column = fault.column < 0 ? -1 : fault.column + originalLines[at].length - originalLines[at].trimStart().length;
         this.addFault(at + 1, fault.message, Math.min(column, originalLines[at].trimEnd().length - 1));
         // If a text does not start like a test text, one error is sufficient.
@@ -175,8 +176,8 @@ class TestReader {
   }
 
   /**
-   * Returns a line without its comment. A comment mark has blanks around it. In the name of a test, the character is part of the name. In a
-   * line with keys, a mark that is a key name means the key.
+   * Returns a line without its comment. A comment starts with `#` or `;` between blanks. In the name of a test, these characters are part
+   * of the name. In a line with keys, a character that is also a key name means the key.
    * @param {string} line
    */
   removeComment(line) {
@@ -225,7 +226,7 @@ class TestReader {
     this.currentShared = null;
     this.steps = [];
     this.tests.push({ textNumber: this.textNumber, name, line, from: "", steps: this.steps });
-    if (name === "") fail(say.TEST_NAME);
+    if (name === "") fail(say.TEST_NAME_MISSING);
   }
 
   /**
@@ -239,7 +240,7 @@ class TestReader {
     const { source } = this;
     this.currentShared = { source, name, line, steps: this.steps, lines: 0 };
     this.sharedSteps.set(name, this.currentShared);
-    if (name === "") fail(say.STEPS_NAME);
+    if (name === "") fail(say.STEPS_NAME_MISSING);
     if (previous) fail(say.stepsDefinedTwice(name, previous.line, previous.source.name === source.name ? "" : previous.source.name));
   }
 
@@ -259,7 +260,7 @@ class TestReader {
   }
 
   /**
-   * Adds lines to the number of executed lines, once for each turn of the open repetitions. Fails if there are too many lines.
+   * Adds lines to the number of executed lines, multiplied by the counts of the open repetitions. Fails if the number becomes too large.
    * @param {number} lineCount the number of lines in the text
    */
   addLines(lineCount) {
@@ -403,7 +404,7 @@ class TestReader {
    */
   failForKey(name, word) {
     const keyNames = [...this.keys.keys()].join(" ");
-    const what = word.length > name.length ? say.nor(name, word) : name;
+    const what = word.length > name.length ? say.nameNorWord(name, word) : name;
     return fail(say.noKey(what, keyNames));
   }
 
@@ -429,7 +430,7 @@ class TestReader {
     const cycles = parseWholeDuration(time.split(/[ \t]+/));
     if (cycles < 1) fail(say.WITHIN_SYNTAX);
     const condition = this.readCondition(conditionText.slice(startColumn), startColumn);
-    if (condition.needs.includes("cycles")) fail(say.NO_CYCLES);
+    if (condition.needs.includes("cycles")) fail(say.CYCLES_NOT_ALLOWED);
     return { kind: "until", condition, cycles };
   }
 
@@ -462,7 +463,7 @@ function parsePace(words) {
 }
 
 /**
- * Returns the lines of steps. The lines of shared steps replace each `do` line.
+ * Returns the lines of steps. Each `do` line is replaced by the lines of its shared steps.
  * @param {Step[]} steps
  * @returns {{ text: string, action: Action }[]}
  */

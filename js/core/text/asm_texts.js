@@ -1,4 +1,5 @@
-// Creates the `asm` texts that load bytes or a program into ROM. A text is as long as possible, so that few commands are necessary.
+// Creates the texts of the `asm` commands that load bytes or a program into ROM. Each text is as long as possible, so that few commands are
+// needed.
 
 import { formatQuantity, hex, indices } from "../bench/numbers.js";
 import { PAGE_NUMBERS, PAGE_BYTES } from "../bench/rom_bytes.js";
@@ -6,20 +7,20 @@ import { LONGEST_TEXT } from "./sendable_text.js";
 import * as say from "../../words/text.js";
 
 /**
- * The program size in bytes, and the addresses outside the program at which ROM is not 0.
+ * The size of a program in bytes, and the addresses outside the program at which ROM still contains a byte other than 0 (`left`).
  * @typedef {{ size: number, left: number[] }} Leftovers
  */
 
 /** The maximum number of bytes per line; a line has at most 255 characters. */
 const MAX_BYTES_IN_LINE = 60;
-/** The maximum number of zeros per line. */
+/** The maximum number of zero bytes per line. */
 const MAX_ZEROS_IN_LINE = 126;
 
 /** @type {(address: number) => number} returns the ROM number for an address */
 const romNumber = (address) => Math.floor(address / PAGE_BYTES);
 
 /**
- * Returns addresses as ranges of consecutive addresses.
+ * Groups addresses into ranges of consecutive addresses. `from` is the first address of a range, and `count` the number of its addresses.
  * @param {number[]} addresses the addresses in ascending order
  * @returns {{ from: number, count: number }[]}
  */
@@ -35,8 +36,8 @@ function groupIntoRanges(addresses) {
 }
 
 /**
- * Returns statements that store bytes from an address on.
- * @param {number} from
+ * Returns statements that store bytes at consecutive addresses.
+ * @param {number} from the first address
  * @param {number[]} bytes
  * @param {number} maxInLine the maximum number of bytes per line
  */
@@ -55,13 +56,13 @@ function clearingTexts(addresses) {
   return groupIntoRanges(addresses).map(({ from, count }) => formatStatements(from, Array(count).fill(0), MAX_ZEROS_IN_LINE));
 }
 
-/** The number of characters that a text reserves for one additional byte in each ROM. */
+/** The number of characters that a text must leave free, so that it can store one more byte in each ROM. */
 const RESERVED_LENGTH = PAGE_NUMBERS.length * formatStatements(0, [255], 1).length;
 
 /**
- * Returns statements that store the last byte of each ROM that gets bytes only from other texts.
+ * Returns statements that store the last byte of each ROM to which only the other texts store bytes.
  * @param {Int16Array} bytes
- * @param {Set<number>} pages the ROMs that get bytes from this text
+ * @param {Set<number>} pages the ROMs to which this text stores bytes
  */
 function formatRomStatements(bytes, pages) {
   const findLastByte = (/** @type {number} */ page) => {
@@ -74,8 +75,8 @@ function formatRomStatements(bytes, pages) {
 }
 
 /**
- * Returns the `asm` texts that store bytes in ROM. If several texts are necessary, each of them stores at least one byte in every ROM that
- * gets bytes. The bench then rejects either all texts or none, if one of these ROMs is missing on the board.
+ * Returns the `asm` texts that store bytes in ROM. If several texts are needed, each text stores at least one byte in every ROM that is
+ * used. So if the board lacks one of these ROMs, the bench rejects all texts, and not only some of them.
  * @param {Int16Array} bytes the bytes by address; negative for no byte
  * @returns {string[]}
  */
@@ -118,12 +119,12 @@ export function programTexts(program, addresses) {
 }
 
 /**
- * Returns the message after a program was assembled, including the bytes outside it that stay in ROM.
+ * Returns the message after a program was assembled. The message also mentions the bytes outside the program that remain in ROM.
  * @param {Leftovers} leftovers
  * @param {string} counter the program counter, as text
  */
 export function describeAssembled({ size, left }, counter) {
   const first = left.length > 0 ? `0x${hex(left[0], 3)}` : "";
-  const stay = say.stays(formatQuantity(left.length, "byte"), left.length === 1, first);
-  return say.assembled(formatQuantity(size, "byte"), left.length > 0 ? ` ${stay}` : "", counter);
+  const stay = say.bytesRemaining(formatQuantity(left.length, "byte"), left.length === 1, first);
+  return say.bytesAssembled(formatQuantity(size, "byte"), left.length > 0 ? ` ${stay}` : "", counter);
 }

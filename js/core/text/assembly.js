@@ -1,12 +1,12 @@
-// Splits a program line into words for colours, help and messages. Only the bench decides whether the line is valid.
+// Splits a program line into words, for syntax colours, help and error messages. Only the bench decides whether the line is valid.
 
 /**
  * A word and its range in the line.
  * @typedef {{ text: string, from: number, to: number }} Word
  *
  * The parts of a line:
- * - `label`: the label, or the name that the line defines; `defines`: true if the line defines a name with `=`;
- * - `head`: the first word of the statement; `operands`: the operands, or the value of a definition;
+ * - `label`: the label, or the name that the line defines with `=` (`defines` is then true);
+ * - `head`: the first word of the statement; `operands`: its operands, or the value of a definition;
  * - `comment`: the index at which the comment starts; the line length if there is none.
  * @typedef {{ label: Word | null, defines: boolean, head: Word | null, operands: Word[], comment: number }} Parts
  *
@@ -15,7 +15,7 @@
  */
 
 export const DIRECTIVES = ["ORG", "DB"];
-/** The patterns of operands and names. */
+/** The patterns of registers, register pairs, numbers and names. */
 export const REGISTER = /^[Rr](\d|1[0-5])$/;
 export const PAIR = /^[Pp][0-7]$/;
 export const NUMBER = /^(\d+|0x[0-9A-Fa-f]+)$/;
@@ -38,7 +38,7 @@ function trimmedWord(line, from, to) {
 }
 
 /**
- * Returns the words between commas. A missing operand is an empty word at its position.
+ * Returns the words between the commas in a part of a line. A missing operand is an empty word at its position.
  * @param {string} line
  * @param {number} from
  * @param {number} to
@@ -55,9 +55,9 @@ function splitOperands(line, from, to) {
   return words;
 }
 
-/** @type {Map<string, Parts>} a cache of split lines, because each edit splits the whole text again */
+/** @type {Map<string, Parts>} the split lines, by line; a cache, because each edit splits the whole text again */
 const cache = new Map();
-const MAX_CACHED = 8192;
+const MAX_CACHED_LINES = 8192;
 const MAX_CACHED_LENGTH = 255;
 
 /**
@@ -69,7 +69,7 @@ export function splitStatement(line) {
   if (line.length > MAX_CACHED_LENGTH) return splitLine(line);
   const before = cache.get(line);
   if (before) return before;
-  if (cache.size >= MAX_CACHED) cache.clear();
+  if (cache.size >= MAX_CACHED_LINES) cache.clear();
   const parts = splitLine(line);
   cache.set(line, parts);
   return parts;
@@ -99,7 +99,7 @@ function splitLine(line) {
 }
 
 /**
- * Returns the kind of an operand from its spelling.
+ * Returns the kind of an operand, which follows from its spelling.
  * @param {string} text
  * @returns {Kind}
  */

@@ -1,4 +1,4 @@
-// Completes words in a board text: table headers, templates of tables, keys, and values. A value can be the name of a signal line.
+// Completes words in a board text: table headers, whole tables from templates, keys, and values such as the names of signal lines.
 
 import { MAX_PARTS, boardLines } from "../bench/board_form.js";
 import { indices } from "../bench/numbers.js";
@@ -14,7 +14,7 @@ import * as say from "../../words/text.js";
  * @typedef {import("../bench/board_form.js").BoardLine} BoardLine
  */
 
-/** Matches the text before the caret in a value: the key, an open array, an open quote, and the value so far. */
+/** Matches an unfinished value before the caret: the key, an open array if any, an open quote if any, and the characters typed so far. */
 const VALUE = /(\w+)\s*=\s*(?:\[(?:[^\][\]"]|"[^"\n]*")*)?("?)([\w.]*)$/;
 
 /**
@@ -27,7 +27,7 @@ function describeLine({ name, kind, isInput }) {
   return kind === "ram" ? say.lineOfRam(third, second, first) : say.bitOfChain(second, first);
 }
 
-/** The maximum number of characters to search before the caret. */
+/** The maximum number of characters before the caret that are searched for the key. */
 const MAX_CHARACTERS_BEFORE_CURSOR = 2000;
 
 /** The chips, chains and signal lines in the valid tables of a board text. */
@@ -67,7 +67,7 @@ class BoardParts {
   }
 
   /**
-   * Returns a template for each kind of table, with all its keys and with existing signal lines as values.
+   * Returns a template for each kind of table. A template has all keys of the table, and existing signal lines as values.
    * @returns {CompletionItem[]}
    */
   templates() {
@@ -87,7 +87,7 @@ class BoardParts {
  * Returns the completions of a value.
  * @param {string} text
  * @param {number} column
- * @param {RegExpExecArray} value
+ * @param {RegExpExecArray} value the match of VALUE
  * @param {{ list: CompletionItem[], isQuoted: boolean }} values
  * @returns {Completion}
  */

@@ -1,4 +1,4 @@
-// Describes the error that the bench reports for a board text. The bench reports a table and a key, the parser of board texts finds their
+// Describes the error that the bench reports for a board text. The bench names a table and a key. The parser of board texts finds their
 // position, and the manual describes the valid values of each key.
 
 import { PART_KEYS, LINE_NAMES, MAX_PARTS, MAX_COLUMNS, BITS_PER_CHIP, VALUE_RANGES, boardLines } from "../bench/board_form.js";
@@ -15,17 +15,17 @@ import * as say from "../../words/text.js";
  * @typedef {import("./board_reader.js").Value} Value
  * @typedef {import("./sendable_text.js").Fault} Fault
  *
- * The table and the key with the error; null if the text does not contain them.
+ * The table (`entry`) and the key that contain an error. Each is null if the text does not contain it.
  * @typedef {{ entry: Entry | null, key: Key | null }} WrongPart
  */
 
-/** The refusal numbers for board texts. */
+/** The numbers of the refusals that concern board texts. */
 const NOT_TOML = 20;
 const UNKNOWN_KEY = 21;
 const MISSING_KEY = 22;
 const BAD_VALUE = 23;
 const DUPLICATE = 24;
-const LACKS_LINE = 25;
+const MISSING_LINE = 25;
 const WRONG_DIRECTION = 26;
 const TOO_MANY = 27;
 /** The keys whose values are signal lines. */
@@ -37,19 +37,19 @@ const LINE_KEYS = ["clock", "data", "line", "columns"];
  */
 const formatHeader = (kind) => (kind === "keys" ? "[keys]" : `[[${kind}]]`);
 
-/** Finds the position and the message of an error. */
+/** Finds the position of an error in a board text, and composes its message. */
 class BoardErrorText {
   /**
    * @param {BoardText} text
    * @param {BoardError} error
    * @param {Map<string, Map<string, string>>} tables the manual's keys and their values, by table
-   * @param {(number: number) => string} wordsOf returns the message of a refusal
+   * @param {(number: number) => string} messageFor returns the message of a refusal
    */
-  constructor(text, error, tables, wordsOf) {
+  constructor(text, error, tables, messageFor) {
     this.text = text;
     this.error = error;
     this.tables = tables;
-    this.messageFor = wordsOf;
+    this.messageFor = messageFor;
     this.parts = collectParts(text.entries);
     this.lines = new Map(boardLines(this.parts).map((line) => [line.name, line]));
   }
@@ -60,7 +60,7 @@ class BoardErrorText {
     return this.text.entries.filter(({ table }) => table.replace(/[[\]]/g, "") === section);
   }
 
-  /** @returns {WrongPart} the part that contains the error */
+  /** @returns {WrongPart} the table and key that contain the error */
   findWrongPart() {
     const { section, index, key: name } = this.error;
     const key = (/** @type {Key[]} */ keys) => keys.find((each) => each.name === name) || null;
@@ -112,7 +112,7 @@ class BoardErrorText {
     return value.inner.find(({ inner }) => {
       const line = this.lines.get(String(inner));
       if (number === BAD_VALUE) return !LINE_NAMES.has(String(inner));
-      return number === LACKS_LINE ? !line : number === WRONG_DIRECTION && line && !line.isInput;
+      return number === MISSING_LINE ? !line : number === WRONG_DIRECTION && line && !line.isInput;
     }) || value;
   }
 
@@ -124,12 +124,12 @@ class BoardErrorText {
    */
   formatMessage(entry, key, value) {
     const { number, section, key: name } = this.error;
-    if (number === MISSING_KEY) return say.lacks(section, name);
+    if (number === MISSING_KEY) return say.lacksKeys(section, name);
     if (number === BAD_VALUE) return this.explainValues(value);
     if (number === TOO_MANY) return name === "" ? say.mostTables(MAX_PARTS[section], section) : say.mostColumns(MAX_COLUMNS);
     if (!entry || !key || !value) return this.messageFor(number);
     if (number === DUPLICATE) return say.alreadyThere(`${name} ${value.inner}`, this.findFirstLine(entry, key));
-    if (number === LACKS_LINE) return name === "rows" ? this.explainRows(entry) : this.explainMissingLine(String(value.inner));
+    if (number === MISSING_LINE) return name === "rows" ? this.explainRows(entry) : this.explainMissingLine(String(value.inner));
     const { kind = "" } = this.lines.get(String(value.inner)) || {};
     return name === "columns" ? say.needsInput(String(value.inner)) : say.needsOutput(name, String(value.inner), kind === "bit");
   }
@@ -146,12 +146,12 @@ class BoardErrorText {
     if (isLine) return say.noLineName(String(inner));
     if (typeof inner === "string" && `${section}.${key}` in VALUE_RANGES && /^\d+$/.test(inner)) return say.withoutQuotes(key, inner);
     if (key) return values ? say.keyMustBe(key, values) : this.messageFor(BAD_VALUE);
-    if (section !== "keys" && index === 0) return say.several(section);
+    if (section !== "keys" && index === 0) return say.tableArraySyntax(section);
     return section === "keys" ? say.ONE_MATRIX : say.mustBeTable(section);
   }
 
   /**
-   * Returns a message with the reason why the board does not have a line or chain.
+   * Returns a message that explains why the board does not have a line or chain.
    * @param {string} name
    */
   explainMissingLine(name) {
@@ -160,13 +160,14 @@ class BoardErrorText {
     if (kind === "") return say.noChain(name, chains.length);
     if (kind === "rom") return say.noSuchRom(name, number);
     const bank = banks.find((each) => String(each.bank) === number);
-    if (kind === "ram") return bank && Number(chip) >= bank.chips ? say.bankHas(name, number, bank.chips) : say.noSuchBank(name, number);
+    if (kind === "ram" && bank && Number(chip) >= bank.chips) return say.noChipInBank(name, number, bank.chips);
+    if (kind === "ram") return say.noSuchBank(name, number);
     const chain = chains[Number(number)];
-    return chain ? say.chainHas(name, number, BITS_PER_CHIP * chain.chips - 1) : say.noChain(number, chains.length);
+    return chain ? say.noBitInChain(name, number, BITS_PER_CHIP * chain.chips - 1) : say.noChain(number, chains.length);
   }
 
   /**
-   * Returns a message about the chain bits that the rows of the key matrix need.
+   * Returns a message that says how many bits of a chain the rows of the key matrix need.
    * @param {Entry} entry
    */
   explainRows({ keys }) {
@@ -199,7 +200,7 @@ class BoardErrorText {
     const { section, key: name } = this.error;
     const known = section === "" ? Object.keys(PART_KEYS) : PART_KEYS[section];
     const suggestions = findSimilarWords(name, known);
-    const instead = formatSuggestion(suggestions) || say.whichHas(known.join(", "));
+    const instead = formatSuggestion(suggestions) || say.whichHasKeys(known.join(", "));
     const message = section === "" ? say.noPart(name, instead) : say.noKeyOf(name, section, instead);
     const place = key || entry;
     const fault = place ? faultAt(UNKNOWN_KEY, place, message) : this.createLineFault(message);
@@ -208,7 +209,7 @@ class BoardErrorText {
   }
 
   /**
-   * Returns an error that covers the whole line named by the bench.
+   * Returns an error whose range is the whole line that the bench names.
    * @param {string} words
    * @returns {Fault}
    */
@@ -224,11 +225,11 @@ class BoardErrorText {
  * @param {string} text the text, with the same positions as the original
  * @param {BoardError} error
  * @param {Map<string, Map<string, string>>} tables the manual's keys and their values, by table
- * @param {(number: number) => string} wordsOf returns the message of a refusal
+ * @param {(number: number) => string} messageFor returns the message of a refusal
  * @returns {Fault}
  */
-export function createBoardError(text, error, tables, wordsOf) {
-  const fault = new BoardErrorText(readBoardText(text), error, tables, wordsOf).createFault();
+export function createBoardError(text, error, tables, messageFor) {
+  const fault = new BoardErrorText(readBoardText(text), error, tables, messageFor).createFault();
   const line = text.split("\n")[fault.line - 1] || "";
   return { ...fault, to: Math.min(fault.to, line.length) };
 }

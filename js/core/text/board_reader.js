@@ -1,5 +1,5 @@
-// Parses the TOML subset of board texts, with the position of each key and value. After an error, the parser continues with the next line.
-// The bench alone decides whether a text is valid. This parser explains why the bench rejects a text.
+// Parses the subset of TOML in which board texts are written, with the position of each key and value. After an error, the parser continues
+// with the next line. Only the bench decides whether a text is valid. This parser helps to explain why the bench rejects a text.
 
 import { VALUE_RANGES } from "../bench/board_form.js";
 import { tomlWords } from "./toml_words.js";
@@ -8,21 +8,21 @@ import * as say from "../../words/text.js";
 /**
  * @typedef {import("./sendable_text.js").Fault} Fault
  * @typedef {import("./toml_words.js").TomlWord} TomlWord
- * @typedef {string | number | boolean | Value[] | Entry} Inner
+ * @typedef {string | number | boolean | Value[] | Entry} PlainValue
  *
- * The end of a word: its line, and the index after its last character.
+ * The end of a word: its line number, and the index after its last character (`to`).
  * @typedef {{ line: number, to: number }} End
  *
- * A value with its position and end. The position of an array or table is its opening bracket. `whole` is false for a number that is not
- * written as an integer.
- * @typedef {{ inner: Inner, whole: boolean, line: number, from: number, to: number, end: End }} Value
+ * A value (`inner`) with its position. `line`, `from` and `to` are the position of the value; for an array or table, of its opening
+ * bracket. `end` is the end of the whole value. `whole` is false for a number that is not written as an integer.
+ * @typedef {{ inner: PlainValue, whole: boolean, line: number, from: number, to: number, end: End }} Value
  * @typedef {{ name: string, line: number, from: number, to: number, value: Value }} Key
  *
- * A table with its position and its keys. Only an inline table has an end.
+ * A table: its name, the position of its header, and its keys. Only an inline table has an `end`.
  * @typedef {{ table: string, line: number, from: number, to: number, keys: Key[], end?: End }} Entry
  *
- * The contents of a text: its tables (`entries`), the keys before the first table header (`keys`), the keys among them whose values are not
- * tables (`others`), and the errors.
+ * The contents of a text. `entries` are its tables. `keys` are the keys before the first table header; `others` are those of them whose
+ * values are not tables. `faults` are the errors.
  * @typedef {{ entries: Entry[], others: Key[], keys: Key[], faults: Fault[] }} BoardText
  */
 
@@ -33,7 +33,7 @@ const MAX_DEPTH = 32;
 const INTEGER = /^[+-]?(0|[1-9](_?\d)*)$|^0x[0-9A-Fa-f](_?[0-9A-Fa-f])*$|^0o[0-7]+$|^0b[01]+$/;
 
 /** The error for a word that is not valid TOML. */
-class NotToml extends Error {
+class TomlSyntaxError extends Error {
   /**
    * @param {TomlWord} word
    * @param {string} words
@@ -67,38 +67,41 @@ export class BoardReader {
     return this.words[this.at];
   }
 
-  /** @returns {End} the end of the last word read */
+  /** @returns {End} the end of the last word that was read */
   get lastEnd() {
     const { line, to } = this.words[this.at - 1];
     return { line, to };
   }
 
-  /** @param {string} mark */
+  /**
+   * Returns whether the next word is a given punctuation mark.
+   * @param {string} mark
+   */
   isMark(mark) {
     return this.word.kind === "punctuation" && this.word.text === mark;
   }
 
   /**
-   * Consumes a mark. Throws if the next word is not this mark.
+   * Reads a punctuation mark. Throws if the next word is not this mark.
    * @param {string} mark
    * @param {string} words the error message
    */
   expectMark(mark, words) {
-    if (!this.isMark(mark)) throw new NotToml(this.word, this.word.fault || words);
+    if (!this.isMark(mark)) throw new TomlSyntaxError(this.word, this.word.fault || words);
     this.at += 1;
   }
 
-  /** Reads the text. After an error, it continues on the next line. */
+  /** Reads the whole text. After an error, continues on the next line. */
   read() {
     while (this.at < this.words.length) {
       const startIndex = this.at;
       try {
         this.readStatement();
       } catch (fault) {
-        if (!(fault instanceof NotToml)) throw fault;
+        if (!(fault instanceof TomlSyntaxError)) throw fault;
         const { line, from, to } = fault.word;
         this.faults.push({ number: NOT_TOML, line, from, to, words: fault.message });
-        this.at = this.lineAfter(line, startIndex);
+        this.at = this.findNextLineStart(line, startIndex);
       }
     }
   }
@@ -108,7 +111,7 @@ export class BoardReader {
    * @param {number} line
    * @param {number} startIndex the index of the first word in the statement with the error
    */
-  lineAfter(line, startIndex) {
+  findNextLineStart(line, startIndex) {
     let at = startIndex;
     while (at < this.words.length && !(this.words[at].kind === "end" && this.words[at].line >= line)) at += 1;
     return at + 1;
@@ -125,7 +128,7 @@ export class BoardReader {
     const isArray = this.words[this.at + 1].text === "[" && this.words[this.at + 1].kind === "punctuation";
     this.at += isArray ? 2 : 1;
     const name = this.word;
-    if (name.kind !== "bare" && name.kind !== "string") throw new NotToml(name, say.TABLE_SYNTAX);
+    if (name.kind !== "bare" && name.kind !== "string") throw new TomlSyntaxError(name, say.TABLE_SYNTAX);
     this.at += 1;
     this.expectMark("]", say.bracketMissing(isArray ? `[[${name.text}]]` : `[${name.text}]`));
     if (isArray) this.expectMark("]", say.bracketMissing(`[[${name.text}]]`));
@@ -135,7 +138,7 @@ export class BoardReader {
   }
 
   endLine() {
-    if (this.word.kind !== "end") throw new NotToml(this.word, this.word.fault || say.LINE_ENDS);
+    if (this.word.kind !== "end") throw new TomlSyntaxError(this.word, this.word.fault || say.LINE_ENDS);
     this.at += 1;
   }
 
@@ -151,9 +154,9 @@ export class BoardReader {
   }
 
   /**
-   * Adds inline tables. Returns false if the value is neither a table nor an array of tables.
+   * Adds the inline tables in a value to the tables of the text. Returns false if the value is neither a table nor an array of tables.
    * @param {string} name
-   * @param {Inner} inner
+   * @param {PlainValue} inner
    */
   addTables(name, inner) {
     if (Array.isArray(inner)) {
@@ -170,7 +173,7 @@ export class BoardReader {
   /** @returns {Key} */
   readKey() {
     const name = this.word;
-    if (name.kind !== "bare" && name.kind !== "string") throw new NotToml(name, name.fault || say.KEY_SYNTAX);
+    if (name.kind !== "bare" && name.kind !== "string") throw new TomlSyntaxError(name, name.fault || say.KEY_SYNTAX);
     this.at += 1;
     this.expectMark("=", say.equalsMissing(name.text));
     return { name: name.text, line: name.line, from: name.from, to: name.to, value: this.readValue(name.text) };
@@ -186,8 +189,8 @@ export class BoardReader {
     const range = { line, from, to };
     if (this.isMark("[")) return { inner: this.readNested(() => this.readArray(key)), whole: true, ...range, end: this.lastEnd };
     if (this.isMark("{")) return { inner: this.readNested(() => this.readTable()), whole: true, ...range, end: this.lastEnd };
-    if (kind === "end") throw new NotToml(this.word, say.valueMissing(key));
-    if (kind === "punctuation" || kind === "bad") throw new NotToml(this.word, fault || say.noValue(text));
+    if (kind === "end") throw new TomlSyntaxError(this.word, say.valueMissing(key));
+    if (kind === "punctuation" || kind === "bad") throw new TomlSyntaxError(this.word, fault || say.noValue(text));
     const inner = this.parseScalar(kind, text);
     this.at += 1;
     return { inner, whole: typeof inner !== "number" || INTEGER.test(text), ...range, end: { line, to } };
@@ -200,7 +203,7 @@ export class BoardReader {
    * @returns {Read}
    */
   readNested(read) {
-    if (this.depth === MAX_DEPTH) throw new NotToml(this.word, say.tooDeep(MAX_DEPTH));
+    if (this.depth === MAX_DEPTH) throw new TomlSyntaxError(this.word, say.tooDeep(MAX_DEPTH));
     this.depth += 1;
     try {
       return read();
@@ -213,18 +216,18 @@ export class BoardReader {
    * Returns the value of a string, number or boolean. Throws for any other word.
    * @param {string} kind
    * @param {string} text
-   * @returns {Inner}
+   * @returns {PlainValue}
    */
   parseScalar(kind, text) {
     if (kind === "string") return text;
     if (INTEGER.test(text)) return Number(text.replace(/_/g, ""));
     if (text === "true" || text === "false") return text === "true";
     if (/^[+-]?\d+(\.\d+)?([eE][+-]?\d+)?$/.test(text) && !/^[+-]?0\d/.test(text)) return Number(text);
-    if (/^0\d+$/.test(text)) throw new NotToml(this.word, say.hasLeadingZero(text));
-    throw new NotToml(this.word, say.needsQuotes(text));
+    if (/^0\d+$/.test(text)) throw new TomlSyntaxError(this.word, say.hasLeadingZero(text));
+    throw new TomlSyntaxError(this.word, say.needsQuotes(text));
   }
 
-  /** Skips line ends. */
+  /** Skips the ends of lines. */
   skipEnds() {
     while (this.at < this.words.length - 1 && this.word.kind === "end") this.at += 1;
   }
@@ -238,11 +241,11 @@ export class BoardReader {
     this.at += 1;
     const values = [];
     for (this.skipEnds(); !this.isMark("]"); this.skipEnds()) {
-      if (this.word.kind === "end") throw new NotToml(opened, say.NO_BRACKET);
+      if (this.word.kind === "end") throw new TomlSyntaxError(opened, say.NO_BRACKET);
       values.push(this.readValue(key));
       this.skipEnds();
       if (this.isMark(",")) this.at += 1;
-      else if (!this.isMark("]")) throw new NotToml(this.word, this.word.fault || say.COMMA_OF_VALUES);
+      else if (!this.isMark("]")) throw new TomlSyntaxError(this.word, this.word.fault || say.COMMA_OF_VALUES);
     }
     this.at += 1;
     return values;
@@ -254,10 +257,10 @@ export class BoardReader {
     this.at += 1;
     const keys = [];
     while (!this.isMark("}")) {
-      if (this.word.kind === "end") throw new NotToml(this.word, say.NO_BRACE);
+      if (this.word.kind === "end") throw new TomlSyntaxError(this.word, say.NO_BRACE);
       keys.push(this.readKey());
       if (this.isMark(",")) this.at += 1;
-      else if (!this.isMark("}")) throw new NotToml(this.word, this.word.fault || say.COMMA_OF_KEYS);
+      else if (!this.isMark("}")) throw new TomlSyntaxError(this.word, this.word.fault || say.COMMA_OF_KEYS);
     }
     this.at += 1;
     return { table: "", line, from, to, keys, end: this.lastEnd };
@@ -281,10 +284,10 @@ export function readBoardText(text) {
  * @param {Entry[]} entries
  */
 export function collectParts(entries) {
-  /** @type {(table: string) => Map<string, Inner>[]} */
+  /** @type {(table: string) => Map<string, PlainValue>[]} */
   const findTables = (table) => entries.filter((entry) => entry.table === table).map(({ keys }) => (
     new Map(keys.map(({ name, value }) => [name, value.inner]))));
-  /** @type {(table: string, values: Map<string, Inner>) => number} */
+  /** @type {(table: string, values: Map<string, PlainValue>) => number} */
   const countChips = (table, values) => Math.min(VALUE_RANGES[`${table}.chips`].to, Number(values.get("chips")) || 0);
   return {
     roms: findTables("rom").map((values) => ({ chip: Number(values.get("chip")), port: String(values.get("port")) })),

@@ -1,4 +1,4 @@
-// Completes a word in a program's text.
+// Completes a word in the text of a program.
 
 import { DIRECTIVES, findDefinedNames, splitStatement } from "./assembly.js";
 import { parseOperandKinds } from "./program_words.js";
@@ -9,13 +9,13 @@ import { parseOperandKinds } from "./program_words.js";
  * A completion: the word and its description.
  * @typedef {{ text: string, what: string }} CompletionItem
  *
- * The completions, and the range in the line that they replace.
+ * A list of completions, and the range in the line that a chosen completion replaces.
  * @typedef {{ from: number, to: number, list: CompletionItem[] }} Completion
  */
 
 /** The maximum number of completions in a list. */
 const MAX_COMPLETIONS = 60;
-/** The gap between an instruction form and its description. */
+/** The gap between the form of an instruction and its description. */
 const GAP = "   ";
 const REGISTERS = [...Array(16).keys()].map((number) => `R${number}`);
 const PAIRS = [...Array(8).keys()].map((number) => `P${number}`);

@@ -1,11 +1,11 @@
 // Finds the ranges of lines that an editor can fold: the code below a label, a table of a board text, a test, or consecutive comment lines.
 
 /**
- * A function that returns the line at a number from 0; undefined after the last line.
+ * A function that returns the line with a number, counted from 0; undefined after the last line.
  * @typedef {(line: number) => string | undefined} LineAt
  *
- * The patterns for the foldable ranges of a text. `mark` starts a comment. `head` matches the first line of a range. `isNested`: true if a
- * head directly after a code line starts a nested range, as the label of a loop in a subroutine does.
+ * The patterns that delimit the foldable ranges of a text. `mark` starts a comment. `head` matches the first line of a range. `isNested` is
+ * true if a head directly after a code line starts a nested range, like the label of a loop in a subroutine.
  * @typedef {{ mark: string, head: RegExp, isNested: boolean }} Parts
  */
 
@@ -31,7 +31,7 @@ function isComment(text, { mark }) {
 }
 
 /**
- * Returns whether a head starts an outer range. This is true after a blank line or a comment, and if ranges cannot be nested.
+ * Returns whether the head at a line starts an outer range. This is so after a blank line or a comment, and in texts without nested ranges.
  * @param {LineAt} lineAt
  * @param {number} line
  * @param {Parts} parts
@@ -42,21 +42,21 @@ function isOuter(lineAt, line, parts) {
 }
 
 /**
- * Returns whether a range ends before a line.
+ * Returns whether the current range ends before a line.
  * @param {LineAt} lineAt
  * @param {number} line
  * @param {Parts} parts
- * @param {boolean} isOuterPart true for an outer range
+ * @param {boolean} isOuterPart true if the current range is an outer range
  */
 function endsBefore(lineAt, line, parts, isOuterPart) {
   const text = lineAt(line) || "";
   if (parts.head.test(text)) return !isOuterPart || isOuter(lineAt, line, parts);
-  // An unindented comment after a blank line belongs to the next range.
+  // An unindented comment after a blank line belongs to the next range, so the current range ends here.
   return text.startsWith(parts.mark) && isBlank(lineAt(line - 1));
 }
 
 /**
- * Returns the last line that folds under a line; the line itself if nothing folds under it.
+ * Returns the last line of the range that starts at a line; the line itself if no range starts there.
  * @param {LineAt} lineAt
  * @param {number} line the line number from 0
  * @param {Parts} parts
@@ -77,7 +77,7 @@ export function findFoldEnd(lineAt, line, parts) {
 }
 
 /**
- * Returns the innermost line under which a line folds, or the line itself if lines fold under it; -1 if there is none.
+ * Returns the first line of the innermost foldable range that contains a line; -1 if there is none. The line itself can be the first line.
  * @param {LineAt} lineAt
  * @param {number} line
  * @param {Parts} parts

@@ -1,4 +1,4 @@
-// Breaks paragraphs into lines of a maximum width, between words.
+// Wraps paragraphs into lines of a maximum width.
 
 /**
  * Wraps a paragraph. A word that is longer than the width gets its own line.
@@ -20,7 +20,7 @@ export function wrapText(text, width, firstPrefix = "", otherPrefix = firstPrefi
 }
 
 /** The prefix of lines that are never wrapped, such as program and board lines. */
-export const QUOTED = "    ";
+export const UNWRAPPED_PREFIX = "    ";
 
 /**
  * Wraps the long lines of a message and indents the continuation lines.
@@ -29,7 +29,7 @@ export const QUOTED = "    ";
  */
 export function wrapMessage(message, width) {
   return message.split("\n").map((line) => {
-    if (line.length <= width || line.startsWith(QUOTED)) return line;
+    if (line.length <= width || line.startsWith(UNWRAPPED_PREFIX)) return line;
     const indent = line.slice(0, line.length - line.trimStart().length);
     return wrapText(line, width, indent, `${indent}  `);
   }).join("\n");

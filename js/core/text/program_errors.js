@@ -1,5 +1,5 @@
-// Finds all errors in a program. The bench reports line numbers and refusal numbers. This module adds the wrong word in each line, and a
-// message.
+// Finds all errors in a program. The bench reports the line number and the refusal number of each error. This module adds the wrong word in
+// the line, and a message.
 
 import { findDefinedNames, splitStatement } from "./assembly.js";
 import { hex } from "../bench/numbers.js";
@@ -15,8 +15,8 @@ import * as say from "../../words/text.js";
  * @typedef {import("./program_words.js").WordError} WordError
  * @typedef {import("./sendable_text.js").Fault} Fault
  *
- * The errors in the lines of a program. `isWhole` is false if the bench has not checked all lines. `rest` is a refusal of the program
- * without a line number (42: the board lacks a ROM).
+ * The errors in a program. `faults` are the errors in its lines. `isWhole` is false if the bench has not checked all lines. `rest` is an
+ * error that belongs to no particular line, such as error 42 (the board lacks a ROM); otherwise null.
  * @typedef {{ faults: Fault[], isWhole: boolean, rest: Refusal | null }} AllFaults
  */
 
@@ -24,7 +24,7 @@ import * as say from "../../words/text.js";
 export const MISSING_ROM = 42;
 
 /**
- * Creates an error in a line. Its range is the wrong word, or all code of the line.
+ * Creates an error in a line. The range of the error is the wrong word, or all code of the line if no word is known.
  * @param {string} source the text of the line
  * @param {number} lineNumber the line number
  * @param {WordError | null} error
@@ -45,23 +45,23 @@ function createFault(source, lineNumber, error, number, messageFor) {
  * @param {string[]} lines the program lines
  * @param {import("../bench/text_check_answers.js").LineError} error
  * @param {KnownWords} facts
- * @param {(number: number) => string} wordsOf returns the message of a refusal
+ * @param {(number: number) => string} messageFor returns the message of a refusal
  * @returns {Fault}
  */
-export function createLineError(lines, { line, number }, facts, wordsOf) {
+export function createLineError(lines, { line, number }, facts, messageFor) {
   const text = lines[line - 1];
-  return createFault(text, line, explainProgramLine(text, number, facts), number, wordsOf);
+  return createFault(text, line, explainProgramLine(text, number, facts), number, messageFor);
 }
 
 /**
  * Resolves to the errors in a program. Lines that cannot be sent to the bench are replaced by empty lines.
  * @param {string} program
  * @param {Map<string, Instruction>} instructions
- * @param {(number: number) => string} wordsOf returns the message of a refusal
+ * @param {(number: number) => string} messageFor returns the message of a refusal
  * @param {Pick<import("./text_error_finder.js").FaultQueries, "errors" | "refuse">} queries
  * @returns {Promise<AllFaults>}
  */
-export async function findProgramFaults(program, instructions, wordsOf, queries) {
+export async function findProgramFaults(program, instructions, messageFor, queries) {
   const textFaults = findLineFaults(program, ";");
   if (textFaults.some(({ number }) => number === TEXT_TOO_LONG)) return { faults: textFaults, isWhole: false, rest: null };
   const lines = alignedText(program, ";").split("\n");
@@ -70,7 +70,7 @@ export async function findProgramFaults(program, instructions, wordsOf, queries)
   const errors = await queries.errors(sent);
   /** @type {KnownWords} */
   const facts = { instructions, names: findDefinedNames(lines) };
-  const found = errors.map((error) => createLineError(lines, error, facts, wordsOf));
+  const found = errors.map((error) => createLineError(lines, error, facts, messageFor));
   const faults = [...textFaults, ...found].sort((one, other) => one.line - other.line || one.from - other.from);
   const rest = faults.length === 0 ? await queries.refuse(sent) : null;
   return { faults, isWhole: errors.length < MAX_ERRORS, rest };
@@ -99,7 +99,7 @@ export function findMissingRoms(lines, map, roms) {
 }
 
 /**
- * Returns whether a text is probably not a program, because every checked code line has an error.
+ * Returns whether a text is probably not a program. This is assumed if every checked line with code has an error.
  * @param {string} program
  * @param {AllFaults} found
  */

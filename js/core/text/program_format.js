@@ -1,22 +1,24 @@
-// Formats a program: labels at the margin, then columns for instructions, operands and comments. Changes only blanks and tabs, and only in
-// lines with a valid form, so the assembled bytes stay the same.
+// Formats a program: labels start at the margin, and instructions, operands and comments are aligned in columns. Changes only blanks and
+// tabs, and only in lines with a valid form, so the assembled bytes stay the same.
 
 import { MAX_LINE_LENGTH } from "../bench/inputs.js";
 import { STORED_LIMIT, LONGEST_TEXT, sentText, trimBlanks } from "./sendable_text.js";
 import * as say from "../../words/text.js";
 
 /**
- * The format of gaps: blanks only, or as many tabs as possible. Tab stops are at multiples of `tabSize`.
+ * The format of gaps. If `insertSpaces` is true, gaps contain only blanks; otherwise as many tabs as possible. Tab stops are at multiples
+ * of `tabSize`.
  * @typedef {{ tabSize: number, insertSpaces: boolean }} Layout
  *
- * The parts of a line: a name defined with `=` and its value, or a label and a statement. A missing part is "".
- * @typedef {{ name: string, value: string, label: string, head: string, operands: string, comment: string, indent: number }} CutLine
+ * The parts of a line: either a name defined with `=` and its value, or a label and a statement. A missing part is "". `indent` is the
+ * current column of the comment.
+ * @typedef {{ name: string, value: string, label: string, head: string, operands: string, comment: string, indent: number }} SplitLine
  *
  * A change: the new text, and the range in the line that it replaces (from 0).
  * @typedef {{ line: number, from: number, to: number, text: string }} Change
  */
 
-/** The columns of statements, operands and comments. */
+/** The columns at which statements, operands and comments start. */
 const STATEMENT_COLUMN = 8;
 const OPERAND_COLUMN = 12;
 const COMMENT_COLUMN = 24;
@@ -30,7 +32,7 @@ const DEFINITION = /^([A-Za-z_]\w*)[ \t]*=[ \t]*(\w+)$/;
 const CODE = /^(?:([A-Za-z_]\w*)[ \t]*:[ \t]*)?(?:([A-Za-z]\w*)(?:[ \t]+(\w+(?:[ \t]*,[ \t]*\w+)*))?)?$/;
 
 /**
- * Returns the column after a text.
+ * Returns the column at which a text ends.
  * @param {string} text
  * @param {number} column the column at which the text starts
  * @param {Layout} layout
@@ -57,11 +59,11 @@ function formatGap(from, to, { tabSize, insertSpaces }) {
 /**
  * Splits a line into its parts. Returns null if the form of the line is invalid.
  * @param {string} line
- * @param {(word: string) => boolean} isHead returns whether a statement can start with an upper-case word
+ * @param {(word: string) => boolean} canStartStatement returns whether a statement can start with an upper-case word
  * @param {Layout} layout
- * @returns {CutLine | null}
+ * @returns {SplitLine | null}
  */
-function splitLine(line, isHead, layout) {
+function splitLine(line, canStartStatement, layout) {
   const mark = line.indexOf(";");
   const code = trimBlanks(mark < 0 ? line : line.slice(0, mark));
   const empty = { name: "", value: "", label: "", head: "", operands: "" };
@@ -70,15 +72,15 @@ function splitLine(line, isHead, layout) {
   const definition = DEFINITION.exec(code);
   if (definition) return { ...empty, ...rest, name: definition[1], value: definition[2] };
   const found = CODE.exec(code);
-  if (!found || (found[2] && !isHead(found[2].toUpperCase()))) return null;
+  if (!found || (found[2] && !canStartStatement(found[2].toUpperCase()))) return null;
   const operands = (found[3] || "").split(",").map(trimBlanks).join(", ");
   return { ...empty, ...rest, label: found[1] || "", head: found[2] || "", operands };
 }
 
 /**
- * Returns a width for each line: for a definition, the length of the longest name in its block of consecutive definitions; 0 for any other
- * line.
- * @param {(CutLine | null)[]} lines
+ * Returns the name width of each line. For a definition, this is the length of the longest name in its block of consecutive definitions.
+ * For any other line, it is 0.
+ * @param {(SplitLine | null)[]} lines
  */
 function nameWidths(lines) {
   const widths = lines.map((each) => (each ? each.name.length : 0));
@@ -89,7 +91,7 @@ function nameWidths(lines) {
 
 /**
  * Returns the formatted code of a line.
- * @param {CutLine} line
+ * @param {SplitLine} line
  * @param {number} width the length of the longest name in the block of definitions
  * @param {Layout} layout
  */
@@ -106,10 +108,10 @@ function formatCode({ name, value, label, head, operands }, width, layout) {
 }
 
 /**
- * Returns the column of a comment.
- * @param {number} end the end column of the code before the comment, 0 for none
+ * Returns the column at which a comment starts in the formatted line.
+ * @param {number} end the column at which the code before the comment ends; 0 if there is no code
  * @param {number} indent the current column of the comment
- * @param {number} last the column of the comment in the previous line, 0 if there is none in a comment column
+ * @param {number} last the column of the comment in the previous line; 0 if that line has no aligned comment
  */
 function commentColumn(end, indent, last) {
   if (end > 0) return Math.max(COMMENT_COLUMN, Math.ceil((end + 2) / COMMENT_STEP) * COMMENT_STEP);
@@ -120,12 +122,12 @@ function commentColumn(end, indent, last) {
 /**
  * Returns the formatted lines of a program.
  * @param {string[]} lines
- * @param {(word: string) => boolean} isHead returns whether a statement can start with an upper-case word
+ * @param {(word: string) => boolean} canStartStatement returns whether a statement can start with an upper-case word
  * @param {Layout} layout
  * @returns {string[]}
  */
-export function formatProgramLines(lines, isHead, layout) {
-  const parts = lines.map((line) => splitLine(line, isHead, layout));
+export function formatProgramLines(lines, canStartStatement, layout) {
+  const parts = lines.map((line) => splitLine(line, canStartStatement, layout));
   const widths = nameWidths(parts);
   let lastCommentColumn = 0;
   return parts.map((line, at) => {
@@ -153,7 +155,7 @@ export function findLayoutError(lines) {
 /**
  * Returns the changes between two versions of a text, one per changed line. A change omits the common prefix and suffix.
  * @param {string[]} before
- * @param {string[]} after the new lines, as many as the old lines
+ * @param {string[]} after the new lines; there are as many new lines as old lines
  * @returns {Change[]}
  */
 export function findLineChanges(before, after) {

@@ -18,10 +18,11 @@ import * as say from "../../words/text.js";
  */
 
 /**
- * The operand kinds by the letters in the manual's table, with the maximum values.
+ * The operand kinds, by the letters that the manual uses for them. `what` describes an operand of this kind, and `most` is its maximum
+ * value.
  * @type {Record<string, { what: string, most: number }>}
  */
-const OPERANDS = {
+const OPERAND_KINDS = {
   Pk: { what: say.PAIR_OPERAND, most: 0 },
   Rk: { what: say.REGISTER_OPERAND, most: 0 },
   c: { what: say.CONDITION_OPERAND, most: 15 },
@@ -32,14 +33,14 @@ const OPERANDS = {
 
 /**
  * Returns the description of an operand kind.
- * @param {string} kind the letters in the manual's table
+ * @param {string} kind the letters that the manual uses for the kind
  */
 export function describeOperand(kind) {
-  return OPERANDS[kind].what;
+  return OPERAND_KINDS[kind].what;
 }
 
 /**
- * Converts a number in the syntax of another assembler. Returns the number in the bench's syntax and a message; null for any other text.
+ * Converts a number in the syntax of another assembler. Returns the number in the bench's syntax, with a message; null for any other text.
  * @param {string} text
  * @returns {{ number: string, words: string } | null}
  */
@@ -54,7 +55,7 @@ function foreignNumber(text) {
   if (hexadecimal) return { number, words: say.isHexadecimal(number) };
   if (binary) return { number, words: say.isBinary(number) };
   if (letter) return { number, words: say.isLetter(letter[2], number) };
-  return { number, words: say.withoutMark(number) };
+  return { number, words: say.withoutNumberSign(number) };
 }
 
 /**
@@ -72,7 +73,7 @@ function describeNumberError(text) {
 }
 
 /**
- * Returns the replacement for a number in the syntax of another assembler; an empty list for any other text.
+ * Returns a list with the replacement for a number in the syntax of another assembler; an empty list for any other text.
  * @param {string} text
  */
 function numberFixes(text) {
@@ -92,7 +93,7 @@ function createError(word, words, cures) {
 }
 
 /**
- * Returns the reason why a word cannot be a name, or "".
+ * Returns the reason why a word cannot be a name; "" if it can.
  * @param {string} text
  * @param {KnownWords} facts
  */
@@ -108,14 +109,14 @@ function describeNameError(text, { instructions }) {
 /**
  * Returns the error in an operand; null if there is none.
  * @param {string} head the mnemonic or directive
- * @param {string} kind the operand kind: the letters in the manual's table
+ * @param {string} kind the letters that the manual uses for the operand kind
  * @param {Word} word
  * @param {KnownWords} facts
  * @param {boolean} isFirst
  * @returns {WordError | null}
  */
 function findOperandError(head, kind, word, facts, isFirst) {
-  const { what } = OPERANDS[kind];
+  const { what } = OPERAND_KINDS[kind];
   const expectation = isFirst ? say.takes(head, what) : say.takesAfterComma(head, what);
   const { text } = word;
   if (kind === "Pk" && PAIR.test(text)) return null;
@@ -151,9 +152,9 @@ function findHeadError({ label, operands }, head, { instructions }) {
   if (upperCaseWord === "WPM") return { word: head, words: say.NO_WPM };
   const definition = operands.length === 1 && NAME.test(head.text) && /^(?:EQU|SET)\s+(.*)$/i.exec(operands[0].text);
   if (definition) return { word: operands[0], words: say.nameGetsNumber(head.text, definition[1]), cures: [`= ${definition[1]}`] };
-  const replacement = say.ELSEWHERE.get(upperCaseWord);
+  const replacement = say.OTHER_ASSEMBLER_WORDS.get(upperCaseWord);
   const isName = !label && NAME.test(head.text);
-  if (isName && operands.length > 0 && isHead(operands[0].text.split(/\s/)[0], instructions)) {
+  if (isName && operands.length > 0 && canStartStatement(operands[0].text.split(/\s/)[0], instructions)) {
     return createError(head, say.noInstruction(head.text, say.labelSyntax(head.text)), [`${head.text}:`]);
   }
   const isAlone = isName && operands.length === 0;
@@ -170,13 +171,13 @@ function findHeadError({ label, operands }, head, { instructions }) {
  * @param {string} word
  * @param {KnownWords["instructions"]} instructions
  */
-function isHead(word, instructions) {
+function canStartStatement(word, instructions) {
   const upper = word.toUpperCase();
   return instructions.has(upper) || DIRECTIVES.includes(upper);
 }
 
 /**
- * Returns the fix for an instruction of another assembler. A JCN condition needs a comma before the address.
+ * Returns an instruction of another assembler as a fix in the bench's syntax, in which a JCN condition needs a comma before the address.
  * @param {string} instructionText
  */
 function formatFix(instructionText) {
@@ -203,7 +204,7 @@ function findDirectiveError(head, operands, facts) {
 }
 
 /**
- * Returns the error in a line with a form that the assembler does not accept.
+ * Returns the error in a line whose form the assembler does not accept.
  * @param {Parts} parts
  * @param {KnownWords} facts
  * @returns {WordError | null}
@@ -229,7 +230,7 @@ function findFormError(parts, facts) {
     if (found) return found;
   }
   const extra = operands[kinds.length];
-  const wanted = kinds.map((kind) => OPERANDS[kind].what).join(say.AND_AFTER);
+  const wanted = kinds.map((kind) => OPERAND_KINDS[kind].what).join(say.AND_AFTER);
   return { word: extra || head, words: say.takesNoMore(upperCaseWord, wanted, Boolean(extra)) };
 }
 
@@ -240,18 +241,18 @@ function findFormError(parts, facts) {
  * @returns {WordError | null}
  */
 function findValueError({ head, operands, defines, label }, { instructions }) {
-  if (defines) return { word: operands[0] || label, words: say.NUMBER_OF_NAME };
+  if (defines) return { word: operands[0] || label, words: say.NAME_VALUE_RANGE };
   if (!head) return null;
   const upperCaseWord = head.text.toUpperCase();
   const instruction = instructions.get(upperCaseWord);
   const kinds = instruction ? parseOperandKinds(instruction.form) : operands.map(() => (upperCaseWord === "ORG" ? "t" : "b"));
-  const values = operands.map((word, at) => ({ word, kind: OPERANDS[kinds[at] || "b"] })).filter(({ kind }) => kind.most > 0);
+  const values = operands.map((word, at) => ({ word, kind: OPERAND_KINDS[kinds[at] || "b"] })).filter(({ kind }) => kind.most > 0);
   const tooLarge = values.find(({ word, kind }) => NUMBER.test(word.text) && Number(word.text) > kind.most);
   const namedOperand = values.find(({ word }) => NAME.test(word.text));
   const found = tooLarge || namedOperand;
   if (!found) return null;
   const what = upperCaseWord === "ORG" ? say.ORG_ADDRESS : found.kind.what;
-  return { word: found.word, words: say.takesBut(upperCaseWord, what, tooLarge ? "" : say.isMore(found.word.text)) };
+  return { word: found.word, words: say.takesOperands(upperCaseWord, what, tooLarge ? "" : say.extraOperandNote(found.word.text)) };
 }
 
 /**
@@ -278,7 +279,7 @@ function findUnknownName({ operands }, { names }) {
 }
 
 /**
- * Returns the error in a line; null if the refusal message is sufficient.
+ * Returns the error in a program line that the bench rejects; null if the general message of the refusal is sufficient.
  * @param {string} line
  * @param {number} number the refusal number
  * @param {KnownWords} facts

@@ -1,4 +1,4 @@
-// Returns the help and the completions for properties texts, from the manual's tables and the names of the board and the program.
+// Finds the help and the completions for properties texts, from the manual's tables and the names of the board and the program.
 
 import { withoutDescription } from "./completion.js";
 import { completeWord, conditionForms, findDescription, firstWords, formsByTable, nextConditionWords, wordsUpTo } from "./test_words.js";
@@ -13,20 +13,20 @@ import * as say from "../../words/text.js";
  * @typedef {{ lines: Form[], conditions: Form[] }} PropertyForms
  */
 
-/** The manual sections with property forms. */
+/** The titles of the manual sections that list the forms of property lines. */
 const SECTIONS = [say.MAY_CHANGE, say.MUST_HOLD];
-/** Matches the words before a condition at the start of a line. */
+/** Matches a word at the start of a line after which a condition follows. */
 const CONDITION_START = /^(never|always|reach)$/;
-/** The words of tests that are not allowed in properties. */
+/** The words of conditions that are allowed in tests but not in properties. */
 const TEST_WORDS = new Set(["cycles", "printed", "test", "key"]);
 /** The words that can follow a condition. */
 const CONDITION_END = ["for", "only after"];
-/** The words that can follow a label at the start of a line, and the words that can follow a second label. */
+/** The words that can follow a label at the start of a line (AFTER_LABEL), and the words that can follow a second label (AFTER_TARGET). */
 const AFTER_LABEL = ["to", say.ONCE_FOR_EACH_PRESS, "only after"];
 const AFTER_TARGET = ["within"];
 
 /**
- * Returns the manual's forms of lines in properties texts.
+ * Returns the forms of the lines and conditions of properties texts, as the manual lists them.
  * @param {ManualSection[]} manual
  * @returns {PropertyForms}
  */

@@ -46,7 +46,7 @@ export function nameAt(lines, line, column) {
 }
 
 /**
- * Returns the definition of a name, or null.
+ * Returns the definition of a name; null if there is none.
  * @param {string[]} lines
  * @param {string} name
  */
@@ -55,7 +55,7 @@ export function findDefinition(lines, name) {
 }
 
 /**
- * Returns the reason why a name cannot be renamed, or "".
+ * Returns the reason why a name cannot be renamed; "" if it can.
  * @param {string[]} lines
  * @param {string} name
  * @param {string} newName the new name

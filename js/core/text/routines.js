@@ -1,18 +1,18 @@
 // Finds the routines of a program: the lines that each routine can reach, the routines that it calls with JMS, and its callers. A routine
-// starts at the first statement, or at a label that a JMS names. A path through a routine ends at BBL, at JIN (because its target is not in
-// the text), at data and at ORG.
+// starts at the first statement of the program, or at a label that a JMS names. A path through a routine ends at BBL, at data, at ORG, and
+// at JIN (whose target is not in the text).
 
 import { findDefinedNames, splitStatement } from "./assembly.js";
 
 /**
- * A routine. `name` is its label, "" for none. `from` and `to` are the columns of the label. `line` and `last` are its first and last line,
- * from 0. No line between them belongs to another routine.
+ * A routine. `name` is its label; "" for none. `from` and `to` are the columns of the label. `line` and `last` are the first and last line
+ * of the routine, counted from 0. All statements between them belong to this routine.
  * @typedef {{ name: string, line: number, from: number, to: number, last: number }} Routine
  *
- * A statement: its upper-case first word, and the line of its target, -1 for none.
+ * A statement: its first word in upper case (`head`), and the line of its jump target (-1 for none).
  * @typedef {{ head: string, target: number }} Statement
  *
- * The line of a call, and the columns of the target in it.
+ * The position of a call: its line, and the columns of the target in this line.
  * @typedef {{ line: number, from: number, to: number }} CallPlace
  */
 
@@ -93,7 +93,7 @@ export class Routines {
   }
 
   /**
-   * Returns the last line up to which all statements belong to a routine.
+   * Returns the last line of a routine. All statements up to this line belong to the routine.
    * @param {number} firstLine the first line of the routine
    */
   findLastLine(firstLine) {
@@ -104,7 +104,7 @@ export class Routines {
   }
 
   /**
-   * Returns the routine that starts at a line. If there is none, returns a routine that reaches the line, or null.
+   * Returns the routine that starts at a line. If there is none, returns a routine that reaches the line; null if no routine does.
    * @param {number} line
    */
   routineAt(line) {
@@ -128,7 +128,7 @@ export class Routines {
   }
 
   /**
-   * Returns the calls in some lines.
+   * Returns the calls in the given lines.
    * @param {Iterable<number>} lines
    */
   callsIn(lines) {
@@ -157,12 +157,12 @@ export class Routines {
   }
 
   /**
-   * Returns the routines that contain a line with a call. These are the routines that reach the line, or else the routine of the nearest
-   * label above.
+   * Returns the routines that contain a given line with a call. These are the routines that reach the line. If none reaches it, this is the
+   * routine at the nearest label above.
    * @param {number} line
    * @returns {Routine[]}
    */
-  routinesWith(line) {
+  routinesContaining(line) {
     const inside = this.routines.filter((each) => this.reachedLines(each.line).has(line));
     if (inside.length > 0) return inside;
     const above = [...this.names].filter(([, at]) => at - 1 <= line && !this.parts[at - 1].defines).pop();
@@ -180,7 +180,7 @@ export class Routines {
     const callersByLine = new Map();
     for (const call of this.callsIn(this.statements.keys())) {
       if (call.target !== callee) continue;
-      for (const routine of this.routinesWith(call.line)) {
+      for (const routine of this.routinesContaining(call.line)) {
         const known = callersByLine.get(routine.line) || { routine, places: [] };
         known.places.push(call);
         callersByLine.set(routine.line, known);
@@ -190,7 +190,7 @@ export class Routines {
   }
 
   /**
-   * Returns the number of calls and of other uses for each label.
+   * Returns for each label how often it is called, and how often it is used otherwise.
    * @returns {Map<string, { calls: number, others: number }>}
    */
   uses() {

@@ -1,5 +1,6 @@
-// Converts a text to the form that is sent to the bench, and finds lines that cannot be sent. Comments and indentation are not sent, so
-// comments can contain any character and do not count towards the length. In code, a non-ASCII character is an error.
+// Converts a text to the form that is sent to the bench, and finds lines that cannot be sent. Comments and indentation are not sent.
+// Comments can therefore contain any character, and they do not count towards the maximum length. In code, a non-ASCII character is an
+// error.
 
 import { LINE_TOO_LONG, MAX_LINE_LENGTH, NOT_ASCII } from "../bench/inputs.js";
 import * as say from "../../words/text.js";
@@ -8,8 +9,8 @@ import * as say from "../../words/text.js";
  * A range of lines, counted from 1.
  * @typedef {{ from: number, to: number }} Lines
  *
- * An error: the refusal number (0 for none), the line number from 1, the column range, and the message. `cures` are replacements for that
- * range that fix the error.
+ * An error in a text. `number` is the refusal number (0 for none), `line` the line number from 1, and `words` the message. `from` and `to`
+ * are the columns of the error. Each text in `cures` fixes the error if it replaces these columns.
  * @typedef {{ number: number, line: number, from: number, to: number, words: string, cures?: string[] }} Fault
  *
  * The character that starts a comment in a program (`;`) and in a board text (`#`).
@@ -35,8 +36,8 @@ export function faultAt(number, { line, from, to }, words) {
 }
 
 /**
- * Returns the index at which the comment of a line starts; the line length if it has none. In a board text, a mark inside a string does not
- * count.
+ * Returns the index at which the comment of a line starts; the length of the line if it has no comment. In a board text, a comment mark
+ * inside a string does not start a comment.
  * @param {string} line
  * @param {CommentMark} mark
  */
@@ -49,7 +50,8 @@ export function commentAt(line, mark) {
 }
 
 /**
- * Adds a comment mark to each line. If all lines are comments, removes the comment marks instead. Blank lines stay unchanged.
+ * Returns the lines with a comment mark added to each of them. If all lines are comments, removes the comment marks instead. Blank lines
+ * stay unchanged.
  * @param {string[]} lines
  * @param {CommentMark | string} mark
  */
@@ -92,7 +94,7 @@ export function sentLine(line, mark) {
 }
 
 /**
- * Applies a function to each line of a text. In the result, each line ends with a line feed.
+ * Applies a function to each line of a text, and returns the new text. Each of its lines ends with a line feed.
  * @param {string} text
  * @param {(line: string) => string} change
  */
@@ -105,7 +107,7 @@ function mapLines(text, change) {
 }
 
 /**
- * Returns a text without non-ASCII characters in comments. Positions stay the same, so that errors can refer to them.
+ * Replaces each non-ASCII character in comments by a blank. All positions stay the same, so that errors can refer to them.
  * @param {string} text
  * @param {CommentMark} mark
  */
@@ -114,8 +116,8 @@ export function alignedText(text, mark) {
 }
 
 /**
- * Returns a text in the form that is sent. If a board text contains a multi-line string, keeps blanks and comments, because they can belong
- * to the string.
+ * Returns a text in the form that is sent. A board text with a multi-line string is sent with its blanks and comments, because they can be
+ * part of the string.
  * @param {string} text
  * @param {CommentMark} mark
  */
@@ -130,7 +132,7 @@ export function sentText(text, mark) {
  */
 function describeCharacter(character) {
   if (/[\u2018\u2019\u201c\u201d\u00ab\u00bb]/.test(character)) return say.otherQuote(character);
-  if (character === "\u00a0") return say.OTHER_BLANK;
+  if (character === "\u00a0") return say.NON_BREAKING_SPACE;
   if (/[\p{Cf}\p{Zs}\p{Zl}\p{Zp}\p{Cc}]/u.test(character) && character >= "\u0080") {
     const code = (character.codePointAt(0) || 0).toString(16).toUpperCase().padStart(4, "0");
     return say.invisibleCharacter(code);
@@ -141,7 +143,7 @@ function describeCharacter(character) {
 
 /**
  * Returns the error in a line that cannot be sent; null if it can be sent.
- * @param {string} line the line, with the same positions as the original
+ * @param {string} line the line, with the same columns as in the original text
  * @param {string} sent the line as sent
  * @param {number} lineNumber the line number
  * @returns {Fault | null}

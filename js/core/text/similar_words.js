@@ -39,7 +39,7 @@ export function findSimilarWords(misspelled, words) {
 }
 
 /**
- * Formats similar words as a question at the end of a message; "" for an empty list.
+ * Returns a question at the end of a message, which suggests similar words; "" for an empty list.
  * @param {string[]} words
  */
 export function formatSuggestion(words) {

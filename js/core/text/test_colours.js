@@ -3,25 +3,25 @@
 import { KEYWORDS } from "../conditions/parser.js";
 
 /**
- * The style of a range in a line.
+ * A range of columns in a line, and its style.
  * @typedef {{ from: number, to: number, style: string }} ColouredRange
  */
 
 /**
- * A language:
- * - `first` matches the words that can start a line; `otherKeywords` are all other keywords;
+ * The description of a language:
+ * - `first` matches the keywords that can start a line; `otherKeywords` matches all other keywords;
  * - `nameKeyword` is the word before a name that extends to the end of the line;
  * - `uncommentedStart` matches the first words of lines without comments;
  * - `startsWithCondition` is true if a line can start with a condition.
  */
-const TESTS = {
+const TEST_LANGUAGE = {
   first: /^(test|steps|from|save|press|release|keys|pace|run|until|expect|mark|set|reset|do|repeat|end)$/,
   otherKeywords: new Set([...KEYWORDS, "within"]),
   nameKeyword: "test",
   uncommentedStart: /^(test|press|release|keys)$/,
   startsWithCondition: false,
 };
-const PROPERTIES = {
+const PROPERTY_LANGUAGE = {
   first: new RegExp("^(press|test|reset|together|wait|held|apart|from|begin|note|pace|never|always|at|after|every|reach|model|while|once|"
     + "not|lamps?|display)$"),
   otherKeywords: new Set([...KEYWORDS, "for", "only", "after", "press", "within", "to", "once", "each", "line"]),
@@ -34,7 +34,7 @@ const PROPERTIES = {
  * Returns the style of a word; "" for none.
  * @param {string} word
  * @param {boolean} isFirst
- * @param {typeof TESTS} language
+ * @param {typeof TEST_LANGUAGE} language
  */
 function chooseStyle(word, isFirst, { first, otherKeywords, startsWithCondition }) {
   if (isFirst && first.test(word)) return "keyword";
@@ -49,17 +49,17 @@ function chooseStyle(word, isFirst, { first, otherKeywords, startsWithCondition 
  * Returns whether a comment starts at a word.
  * @param {string} rest the rest of the line, starting at the word
  * @param {string} first the first word of the line; "" if the word itself is the first one
- * @param {typeof TESTS} language
+ * @param {typeof TEST_LANGUAGE} language
  */
 function isComment(rest, first, language) {
-  // After key names, the comment mark can itself be a key name.
+  // In a line with key names, the comment mark can itself be the name of a key.
   return /^[#;]/.test(rest) && (first === "" || (!language.uncommentedStart.test(first) && /^[#;](\s|$)/.test(rest)));
 }
 
 /**
  * Returns the styled ranges of a line.
  * @param {string} line
- * @param {typeof TESTS} language
+ * @param {typeof TEST_LANGUAGE} language
  */
 function colourLine(line, language) {
   /** @type {ColouredRange[]} */
@@ -78,6 +78,6 @@ function colourLine(line, language) {
 
 /** The functions that return the styled ranges of a line, by kind of text. */
 export const COLOURS = {
-  tests: (/** @type {string} */ line) => colourLine(line, TESTS),
-  properties: (/** @type {string} */ line) => colourLine(line, PROPERTIES),
+  tests: (/** @type {string} */ line) => colourLine(line, TEST_LANGUAGE),
+  properties: (/** @type {string} */ line) => colourLine(line, PROPERTY_LANGUAGE),
 };

@@ -1,4 +1,4 @@
-// Help and completions for test texts, from the manual's tables and the names of the board and the program.
+// Finds the help and the completions for test texts, from the manual's tables and the names of the board and the program.
 
 import { splitCell, cellText } from "../help/manual.js";
 import { withoutDescription } from "./completion.js";
@@ -29,7 +29,7 @@ function parseForms(rows) {
 }
 
 /**
- * Returns the forms in each table of a section.
+ * Returns the forms in a section of the manual, as one list for each table.
  * @param {ManualSection[]} manual
  * @param {string} title
  */
@@ -39,7 +39,7 @@ export function formsByTable(manual, title) {
 }
 
 /**
- * Returns the manual's forms of conditions, including conditions that are allowed only in some texts.
+ * Returns the forms of conditions in the manual, including those that are allowed only in some kinds of text.
  * @param {ManualSection[]} manual
  */
 export function conditionForms(manual) {
@@ -48,7 +48,7 @@ export function conditionForms(manual) {
 }
 
 /**
- * Returns the manual's forms of test lines.
+ * Returns the forms of test lines and conditions in the manual.
  * @param {ManualSection[]} manual
  * @returns {TestForms}
  */
@@ -58,7 +58,7 @@ export function testForms(manual) {
 }
 
 /**
- * Returns the first words of forms as completions, each word once.
+ * Returns the first words of the forms as completions. Each word occurs once.
  * @param {Form[]} forms
  * @returns {CompletionItem[]}
  */
@@ -152,7 +152,7 @@ export function wordsUpTo(line, column) {
 }
 
 /**
- * Returns the description of a word from the forms, or "".
+ * Returns the description of the form that starts with a word; "" if there is none.
  * @param {Form[]} forms
  * @param {string} word
  */
@@ -177,8 +177,8 @@ export function helpForTest(lines, line, column, { steps, conditions }) {
 }
 
 /**
- * Replaces the numbers in a word by 0, and also the capital letters that the manual writes for numbers. `ram.1.0x20` and `ram.B.S` become
- * equal in this way.
+ * Replaces each number in a word by 0, as well as each capital letter that stands for a number in the manual. The results for `ram.1.0x20`
+ * and `ram.B.S` are therefore equal.
  * @param {string} word
  */
 function normalizedWord(word) {

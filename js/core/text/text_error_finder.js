@@ -13,22 +13,23 @@ import { alignedText, findLineFaults, sentText } from "./sendable_text.js";
  * @typedef {import("./program_errors.js").AllFaults} AllFaults
  * @typedef {import("./sendable_text.js").Fault} Fault
  *
- * The callbacks that query the bench.
+ * The callbacks that ask the bench about errors.
  * @typedef {object} FaultQueries
  * @property {(sent: string) => Promise<import("../bench/text_check_answers.js").BoardError | null>} wiring resolves to the error in a board
  *   text, or to null
  * @property {(sent: string) => Promise<import("../bench/text_check_answers.js").LineError[]>} errors
  *   resolves to the errors in program lines
- * @property {(sent: string) => Promise<Refusal | null>} refuse resolves to the refusal of a program on the board, or to null
+ * @property {(sent: string) => Promise<Refusal | null>} refuse resolves to the refusal if the bench rejects a program on the board,
+ *   otherwise to null
  * @property {(sent: string) => Promise<string[]>} map resolves to the `map` answers for a program
  * @property {() => Promise<Set<number>>} roms resolves to the ROM numbers on the board
  */
 
-/** The highest refusal number for an error in a text. */
+/** The highest number of a refusal that concerns a text. */
 const LAST_TEXT_REFUSAL = 42;
 
 /**
- * Returns a refusal if it concerns a text, otherwise null.
+ * Returns the given refusal if it concerns a text; otherwise null.
  * @param {Refusal | null} refusal
  */
 export function keepTextRefusal(refusal) {
@@ -40,13 +41,13 @@ export class TextErrorFinder {
    * @param {FaultQueries} queries
    * @param {{ instructions: Map<string, Instruction>, tables: Map<string, Map<string, string>> }} manual the instructions, and the
    *   descriptions of board text values, by table and key
-   * @param {(number: number) => string} wordsOf returns the message of a refusal
+   * @param {(number: number) => string} messageFor returns the message of a refusal
    */
-  constructor(queries, { instructions, tables }, wordsOf) {
+  constructor(queries, { instructions, tables }, messageFor) {
     this.queries = queries;
     this.instructions = instructions;
     this.tables = tables;
-    this.messageFor = wordsOf;
+    this.messageFor = messageFor;
   }
 
   /**

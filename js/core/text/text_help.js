@@ -1,4 +1,4 @@
-// Returns the help for words in programs and board texts, from the manual's tables.
+// Finds the help for words in programs and board texts, in the manual's tables.
 
 import { formatQuantity } from "../bench/numbers.js";
 import { PAIR, REGISTER, findDefinedNames, splitStatement, wordAt } from "./assembly.js";
@@ -22,11 +22,11 @@ export function describeInstruction(instruction) {
 }
 
 /**
- * Returns the effect of an instruction. If the manual does not mention the carry, adds that the carry does not change.
+ * Describes the effect of an instruction. If the manual does not mention the carry, adds that the carry does not change.
  * @param {Instruction} instruction
  */
 export function describeEffect({ does }) {
-  return /\bCY\b|carry|borrow/.test(does) ? does : `${does}${say.CARRY_STAYS}`;
+  return /\bCY\b|carry|borrow/.test(does) ? does : `${does}${say.CARRY_UNCHANGED}`;
 }
 
 /**
@@ -73,7 +73,7 @@ export function helpForProgram(lines, line, column, instructions, meaningOf) {
 }
 
 /**
- * Returns the tables of a board text as described in the manual: the descriptions of values, by table and key.
+ * Returns the manual's descriptions of the values in board texts, by table and key.
  * @param {ManualSection[]} manual
  * @returns {Map<string, Map<string, string>>}
  */
@@ -92,7 +92,8 @@ export function boardTables(manual) {
 }
 
 /**
- * Returns the table that contains a line of a board text; "" before all tables. An open bracket after `columns =` does not start a table.
+ * Returns the name of the table that contains a line of a board text; "" before the first table. An open bracket after `columns =` does not
+ * start a table.
  * @param {string[]} lines
  * @param {number} line the line number from 0
  */

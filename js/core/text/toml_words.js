@@ -3,8 +3,8 @@
 import * as say from "../../words/text.js";
 
 /**
- * A word: a punctuation sign, a string without its quotes, a bare word, the end of a line, or an invalid word. `fault` is the error message
- * for an invalid word.
+ * A word of a TOML text: a punctuation mark, a string (without its quotes), a bare word, the end of a line, or an invalid word. `fault` is
+ * the error message for an invalid word; otherwise "".
  * @typedef {{ kind: "punctuation" | "string" | "bare" | "end" | "bad", text: string, line: number, from: number, to: number,
  *   fault: string }} TomlWord
  */

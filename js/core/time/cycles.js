@@ -1,13 +1,13 @@
-// Counts cycles for the user: since the last reset, since the last stop, and between two marks. Also converts cycles to the time of a real
-// 4004.
+// Counts the cycles of a session: since the last reset, since the last stop, and between two marks. Also formats cycles with the time that
+// a real 4004 takes for them.
 
 import { formatQuantity } from "../bench/numbers.js";
 import { CYCLE_US } from "./mcs4_time.js";
 import * as say from "../../words/time.js";
 
 /**
- * The stored counts of a session. `total` is the number of all cycles. `reset`, `from` and `marks` are its values at the last reset, at the
- * start of the last run, and at up to two marks.
+ * The stored counts of a session. `total` is the number of cycles so far. The other members are earlier values of `total`: `reset` at the
+ * last reset, `from` at the start of the last run, and `marks` at the marks (at most two).
  * @typedef {{ total: number, reset: number, from: number, marks: number[] }} StoredCycles
  */
 
@@ -15,7 +15,7 @@ import * as say from "../../words/time.js";
 export const NO_CYCLES = { total: 0, reset: 0, from: 0, marks: [] };
 
 /**
- * Formats the time of a number of cycles: `5.810 ms`.
+ * Returns the time that a number of cycles takes, such as `5.810 ms`.
  * @param {number} cycles
  */
 export function formatCycleTime(cycles) {
@@ -24,7 +24,7 @@ export function formatCycleTime(cycles) {
 }
 
 /**
- * Formats a cycle count with its time: `538 cycles, 5.810 ms`.
+ * Returns a number of cycles with its time, such as `538 cycles, 5.810 ms`.
  * @param {number} cycles
  */
 export function formatCycles(cycles) {
@@ -39,12 +39,12 @@ export class Cycles {
     this.reset = reset;
     this.from = from;
     this.marks = marks;
-    /** True if the session is paused. The next cycles then start another run. */
+    /** True if the session is paused. The next cycles are then the start of another run. */
     this.isPaused = true;
   }
 
   /**
-   * Sets the cycle counts of the bench.
+   * Stores the cycle counts that the bench reports.
    * @param {{ total: number, reset: number }} counts
    */
   take({ total, reset }) {
@@ -67,8 +67,8 @@ export class Cycles {
   }
 
   /**
-   * The numbers of cycles since the last reset, since the last stop, and since the first mark (null without a mark). A second mark ends the
-   * last count.
+   * The numbers of cycles since the last reset, since the last stop, and since the first mark (null without a mark). If there is a second
+   * mark, the last number counts only up to this mark.
    */
   get counts() {
     const [first, second = this.total] = this.marks;

@@ -1,4 +1,4 @@
-// Measures the rate of cycles per second, over half a second.
+// Measures how many cycles per second a session runs. Each measurement takes half a second.
 
 /** The duration of a measurement, in milliseconds. */
 const INTERVAL_MS = 500;

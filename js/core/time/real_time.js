@@ -1,18 +1,18 @@
-// Computes the number of cycles that each frame must simulate to keep up with real time. The time for which the page is hidden, blocked or
-// asleep does not count. A key press is simulated up to one frame early, and the later frames simulate fewer cycles.
+// Computes how many cycles each frame must simulate to keep up with real time. Time during which the page is hidden, blocked or asleep does
+// not count. A key press is simulated at once, up to one frame early; the next frames then simulate fewer cycles.
 
 import { CYCLES_PER_SECOND, FRAME_MS } from "./mcs4_time.js";
 
-/** The maximum number of cycles per frame. A slow browser skips all further cycles. */
+/** The maximum number of cycles per frame. A browser that is too slow skips the cycles above this number. */
 export const MAX_DUE = 20000;
-/** The maximum time that a key press is simulated early, in milliseconds: one frame, because lamps change only once per frame. */
+/** The maximum time by which a key press is simulated early, in milliseconds: one frame, because lamps change only once per frame. */
 export const MAX_AHEAD = FRAME_MS;
 /** The minimum time between two frames that counts as a gap, in milliseconds. */
 export const LONG_GAP = 1000;
 
 export class RealTime {
   /**
-   * Starts at a time with no cycles due.
+   * Starts at the given time, at which no cycles are due.
    * @param {number} now the frame clock in milliseconds
    * @param {number} wall the wall clock in milliseconds; it continues while the computer sleeps
    */
@@ -26,13 +26,13 @@ export class RealTime {
     this.perSecond = CYCLES_PER_SECOND;
   }
 
-  /** The time up to which cycles were simulated, on the frame clock. */
+  /** The time up to which the session has been simulated, on the frame clock. */
   get reached() {
     return this.lastFrame + (Math.max(0, -this.owed) * 1000) / this.perSecond;
   }
 
   /**
-   * Restarts at a time with no cycles due. Forgets cycles that were simulated early.
+   * Restarts at the given time, at which no cycles are due. Forgets cycles that were simulated early.
    * @param {number} now
    * @param {number} wall
    */
@@ -65,7 +65,7 @@ export class RealTime {
   }
 
   /**
-   * Returns the number of due cycles and counts them as done.
+   * Returns the number of cycles that are due, and counts them as simulated.
    * @param {number} now
    * @param {number} [earlyTime] the time to simulate early, in milliseconds
    */

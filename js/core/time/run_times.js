@@ -1,4 +1,4 @@
-// Computes the durations of runs from the bench's answers: their cycles, and the time of a real 4004.
+// Computes the durations of runs from the bench's answers, in cycles and as the time of a real 4004.
 
 import { readRun } from "../bench/answers.js";
 import { CYCLE_TENTHS_US } from "./mcs4_time.js";
@@ -8,8 +8,8 @@ import * as say from "../../words/time.js";
  * A function that describes the location at a program counter, given as hexadecimal digits.
  * @typedef {(counter: string) => string} PlaceDescriber
  *
- * The time of each run as text, with the location or the reason of its stop, and the total time. In case of an error, `words` is the error
- * message, and there are no times.
+ * The result. `runs` has a text for each run: its time, and where or why it stopped. `sum` is the total time. In case of an error, `words`
+ * is the error message, and there are no times.
  * @typedef {{ runs: string[], sum: string, words: string }} RunTimes
  */
 
@@ -18,7 +18,7 @@ const REFUSAL = /^no \d/;
 const COUNTER = /^(?:acc|state seq) .*?\bpc ([0-9A-F]+)/;
 
 /**
- * Formats a number of cycles and its time in microseconds.
+ * Returns a number of cycles with its time in microseconds.
  * @param {number} cycles
  */
 function formatRunTime(cycles) {
@@ -27,7 +27,7 @@ function formatRunTime(cycles) {
 }
 
 /**
- * Returns the time and the stop of each run in a range of answers. Any refusal in the range is an error.
+ * Returns the times of the runs in a range of answers, and where they stopped. A refusal in the range is an error.
  * @param {string[]} answers
  * @param {number} firstAnswer the number of the first answer to use, from 1
  * @param {number} lastAnswer the number of the last answer to use; 0 for the end of the list

@@ -40,7 +40,7 @@ export function findSpeed(id) {
 }
 
 /**
- * Returns whether a user can follow the mark at the current source line with the eyes.
+ * Returns whether a speed is low enough for the user to follow the mark at the current source line.
  * @param {Speed} each
  */
 export function canFollowLine({ slowdown, isByInstruction }) {
@@ -48,8 +48,8 @@ export function canFollowLine({ slowdown, isByInstruction }) {
 }
 
 /**
- * Returns whether a click on a key toggles the key, as it does while the session is paused. At such a low speed, the program cannot detect
- * a short press.
+ * Returns whether a click on a key toggles the key, as it does while the session is paused. This is so at a speed at which the program
+ * could not detect a short press.
  * @param {Speed} each
  */
 export function togglesKeys({ slowdown, isByInstruction }) {

@@ -1,4 +1,4 @@
-// Moves a session to a goal, backwards or forwards in time, and shows a message about each move.
+// Moves a session backwards or forwards in time to a goal, and shows a message about each move.
 
 import { wordsOfGone } from "../../words/stops.js";
 import * as say from "../../words/time.js";
@@ -18,16 +18,16 @@ import * as say from "../../words/time.js";
  * The callbacks of Travel.
  * @typedef {object} TravelCalls
  * @property {() => Promise<void>} pause Pauses the session; resolves when the session is paused.
- * @property {() => { board: string, program: string, watched: string[] }} texts Returns the texts whose names conditions can use, and the
- *   watch expressions.
- * @property {(goal: Goal | null) => void} aim Stores the goal in the session during the search; null removes it.
+ * @property {() => { board: string, program: string, watched: string[] }} texts Returns the board text and the program text, whose names
+ *   conditions can use, and the watch expressions.
+ * @property {(goal: Goal | null) => void} aim Stores the goal in the session for the duration of the search; null removes it.
  * @property {<Result extends LinesReply>(words: string, work: (ways: CallOptions) => Promise<Result>) => Promise<Result | null>} change
- * Does work that changes the session; saves and shows the result. `words` describe the work while the user can cancel it. If the work is
- *   cancelled or fails, reports that and resolves to null.
- * @property {(goal: Goal) => void} runTo Starts the session, which runs to the goal that the bench has stored.
+ * Does work that changes the session, then saves and shows the result. `words` describes the work to the user, who can cancel it. If the
+ * work is cancelled or fails, reports this and resolves to null.
+ * @property {(goal: Goal) => void} runTo Starts the session, which then runs to the goal.
  * @property {(tally: Tally) => void} counted Reports breakpoint hits and log messages.
- * @property {(stop: Stop, goal: Goal) => string} reasonOf Returns the message with the reason for a stop.
- * @property {() => string} where Returns the program counter with its name and source line as text.
+ * @property {(stop: Stop, goal: Goal) => string} reasonOf Returns a message that says why the session stopped.
+ * @property {() => string} where Returns the current location as text: the program counter with its label and source line.
  * @property {(id: number) => import("../debug/breakpoints.js").Breakpoint | undefined} breakpoint Returns the breakpoint with an id, or
  *   undefined.
  * @property {(words: string) => void} showMessage Shows a message in the status line.
@@ -44,8 +44,8 @@ export class Travel {
   }
 
   /**
-   * Runs until the session reaches a goal, or until something else stops it. First searches ahead for the goal. If the goal is not near,
-   * starts the session.
+   * Runs until the session reaches a goal, or until something else stops it. First searches the next cycles for the goal. If the goal is
+   * not there, starts the session.
    * @param {Goal} goal
    */
   async goOn(goal) {

@@ -1,5 +1,5 @@
-// Formats the first columns of a trace line: the elapsed cycles, and the address, bytes and text of the instruction. The label of an
-// instruction is a separate line before it.
+// Formats the first columns of a trace line: the elapsed cycles, and the instruction with its address and bytes. The label of an
+// instruction is on a separate line before it.
 
 import { hex } from "../bench/numbers.js";
 import { ADDRESS_COUNT } from "../bench/rom_bytes.js";
@@ -11,7 +11,7 @@ import { instructionWords } from "../engine/rom_codes.js";
  * @typedef {import("../engine/engine_host.js").State} State
  * @typedef {import("../machine/source_map.js").SourceMap} SourceMap
  *
- * The names of a program. `source` contains the source lines if the trace shows them, and the number of lines before them in their file
+ * The names of a program. If the trace shows source lines, `source` contains them, and the number of lines before them in their file
  * (`before`).
  * @typedef {{ map: SourceMap, source: { lines: string[], before: number } | null }} TraceNames
  */
@@ -27,7 +27,7 @@ const LAST_ADDRESS = ADDRESS_COUNT - 1;
 const CODE_COLUMNS = /** @type {const} */ ([4, 6]);
 
 /**
- * Returns the start of a trace line: the cycles before the instruction.
+ * Returns the first column of a trace line: the number of cycles before the instruction.
  * @param {number} cycles
  */
 function formatElapsed(cycles) {
@@ -35,7 +35,7 @@ function formatElapsed(cycles) {
 }
 
 /**
- * Returns a source line without its comment, and with blanks instead of tabs.
+ * Returns a source line without its comment and with tabs replaced by blanks.
  * @param {string} line
  */
 function extractCode(line) {
@@ -57,7 +57,7 @@ const TWO_BYTE_INSTRUCTIONS = {
 };
 
 /**
- * Returns the listing line of a two-byte instruction at the last address, whose second byte is at address 0.
+ * Returns the listing line of a two-byte instruction at the last address. The second byte of this instruction is at address 0.
  * @param {number} firstByte the first byte
  * @param {number} secondByte the second byte
  */
@@ -79,7 +79,7 @@ export class InstructionTexts {
   }
 
   /**
-   * Reads the texts of the instructions at some addresses from the bench, unless they are known.
+   * Reads the texts of the instructions at the given addresses from the bench, except for those that are already known.
    * @param {EngineHost} engine
    * @param {State} state
    * @param {number[]} addresses
@@ -97,7 +97,7 @@ export class InstructionTexts {
   }
 
   /**
-   * Returns the text of an instruction, and the line with its label.
+   * Returns the text of an instruction (`text`), and the line with its label (`label`, "" for none).
    * @param {number} address
    * @param {string} listingLine the listing line of the instruction
    */
@@ -136,8 +136,8 @@ export class InstructionTexts {
   }
 
   /**
-   * Returns the first columns of the trace line of an instruction, after the line with its label. Requires an earlier call of
-   * `readInstructions` with the address.
+   * Returns the label line of an instruction, if any, and the first columns of its trace line. `readInstructions` must have read this
+   * address before.
    * @param {number} cycles the cycles before the instruction
    * @param {number} address
    */
@@ -147,7 +147,7 @@ export class InstructionTexts {
   }
 
   /**
-   * Returns the first columns of a trace line with any text instead of an instruction.
+   * Returns the first columns of a trace line that has a given text instead of an instruction.
    * @param {number} cycles the cycles before the line
    * @param {string} words
    */

@@ -1,4 +1,4 @@
-// Traces a session from its current state, in pieces, on a copy of the state.
+// Traces a session from its current state. Works in pieces, on a copy of the state.
 
 import { readBoard, readRun } from "../bench/answers.js";
 import { MAX_RUN_CYCLES } from "../engine/key_queue.js";
@@ -12,20 +12,20 @@ import * as say from "../../words/trace.js";
  * @typedef {import("../engine/engine_host.js").State} State
  * @typedef {import("./instruction_texts.js").TraceNames} TraceNames
  *
- * A function that is called between pieces of long work, and yields to other tasks.
+ * A function that yields to other tasks. It is called between the pieces of long work.
  * @typedef {() => Promise<any>} YieldToMessages
  */
 
 /** The length of the first piece, and of all other pieces, in cycles. A short first piece shows the first lines soon. */
-const FIRST_PIECE = 500;
-const PIECE = 10000;
-/** The reason in the `run` answer if nothing stopped the run before its last cycle. */
+const FIRST_PIECE_CYCLES = 500;
+const PIECE_CYCLES = 10000;
+/** The word in a `run` answer that means that all cycles ran. */
 const RAN_TO_END = "end";
 
 /**
- * Runs a state. Returns the number of cycles run, and the reason for the stop (`end` if all cycles ran).
+ * Runs a session from a state. Resolves to the number of cycles that ran, and the reason for the stop (`end` if all cycles ran).
  * @param {EngineHost} engine
- * @param {State} state the state; changed to the state after the run
+ * @param {State} state the state, which becomes the state after the run
  * @param {number} cycles the maximum number of cycles
  * @param {YieldToMessages} yieldToMessages
  */
@@ -65,7 +65,7 @@ export class SessionTrace {
   }
 
   /**
-   * Yields the trace lines of the last instructions before the first stop.
+   * Yields the trace lines of the last instructions before the session stops for the first time.
    * @param {number} count the number of instructions
    * @param {number} cycles the maximum number of cycles up to the stop
    * @param {TraceNames | null} names
@@ -86,7 +86,7 @@ export class SessionTrace {
 
   /**
    * Yields the trace lines of a range of cycles. If the session stops, the last line is the instruction at the stop.
-   * @param {State} state the state at the start of the range; changed to the state at its end
+   * @param {State} state the state at the start of the range, which becomes the state at its end
    * @param {{ from: number, to: number, end: string }} range the range; `end` is the reason for the stop at its end
    * @param {TraceNames | null} names
    */
@@ -94,8 +94,8 @@ export class SessionTrace {
     const { engine, board } = this;
     const trace = new TraceLines(engine, board, new InstructionTexts(names));
     let stop = { at: from, end };
-    yield trace.secondCycle(state, from);
-    for (let piece = FIRST_PIECE; stop.at < to && stop.end === end; piece = PIECE) {
+    yield trace.secondCycleLines(state, from);
+    for (let piece = FIRST_PIECE_CYCLES; stop.at < to && stop.end === end; piece = PIECE_CYCLES) {
       const count = Math.min(piece, to - stop.at);
       yield trace.runLines(state, count, stop.at);
       const run = await runState(engine, state, count, this.yieldToMessages);

@@ -1,5 +1,5 @@
-// Creates the lines of a trace: one line per instruction of a run, with the changes that the instruction makes. Uses the answers to `count`
-// and `trace`, which predict a run without changing the state.
+// Creates the lines of a trace: one line for each instruction of a run, with the changes that it makes. Uses the answers to the queries
+// `count` and `trace`, which predict a run without changing the state.
 
 import { MAX_PLACES } from "../bench/inputs.js";
 import { stateValue } from "../bench/state_line.js";
@@ -17,13 +17,14 @@ import * as say from "../../words/trace.js";
  * @typedef {import("./instruction_texts.js").InstructionTexts} InstructionTexts
  * @typedef {import("./trace_places.js").TracePlace} TracePlace
  *
- * The places of one `trace` query, their current values, and the rows with new values, by the cycle of the change.
+ * The places of one `trace` query, such as registers and ports. `values` are their current values. `rows` are the answer's rows with new
+ * values, by the cycle in which a value changes.
  * @typedef {{ places: TracePlace[], values: string[], rows: Map<number, string> }} Group
  */
 
-/** The number of registers in the query with the program counter, the accumulator and the carry. */
-const SHOWN_REGISTERS = 13;
-const MAIN_PLACES = ["pc", "acc", "cy", ...indices(SHOWN_REGISTERS).map((at) => `r${at}`)];
+/** The number of index registers in the main query, which also asks for the program counter, the accumulator and the carry. */
+const MAIN_REGISTER_COUNT = 13;
+const MAIN_PLACES = ["pc", "acc", "cy", ...indices(MAIN_REGISTER_COUNT).map((at) => `r${at}`)];
 /** The character indexes in a row of MAIN_PLACES, which has the form ` PPP A C R R ..`. */
 const ROW_INDICES = { pc: 1, acc: 5, cy: 7, registers: 9 };
 
@@ -34,7 +35,7 @@ const ROW_INDICES = { pc: 1, acc: 5, cy: 7, registers: 9 };
  */
 function formatRegisterChanges(row, previousRow) {
   let changes = "";
-  for (let at = 0; at < SHOWN_REGISTERS; at++) {
+  for (let at = 0; at < MAIN_REGISTER_COUNT; at++) {
     const digit = row[ROW_INDICES.registers + 2 * at];
     if (digit !== previousRow[ROW_INDICES.registers + 2 * at]) changes += ` r${at} ${digit}`;
   }
@@ -42,9 +43,9 @@ function formatRegisterChanges(row, previousRow) {
 }
 
 /**
- * Updates the values of a group from a row; returns the changes as text.
+ * Stores the values of a row in a group. Returns the changes as text.
  * @param {Group} group
- * @param {string | undefined} row the row; undefined if nothing changes
+ * @param {string | undefined} row the row; undefined if no value changes
  */
 function updateGroup(group, row) {
   let changes = "";
@@ -76,7 +77,7 @@ export class TraceLines {
    * @param {State} state
    * @param {number} elapsed the number of cycles before the line
    */
-  secondCycle(state, elapsed) {
+  secondCycleLines(state, elapsed) {
     const [answer] = this.engine.ask(state, "state\n").answers;
     if (stateValue(answer, "owed") !== "1") return [];
     return [`${this.texts.plainLine(elapsed, say.SECOND_CYCLE)}acc ${stateValue(answer, "acc")} cy ${stateValue(answer, "cy")}`];
@@ -85,7 +86,7 @@ export class TraceLines {
   /**
    * Returns the lines of a run: one line per instruction, and one line per label.
    * @param {State} state
-   * @param {number} cycles the length of the run in cycles; the bench has a maximum
+   * @param {number} cycles the length of the run in cycles, at most the maximum of the bench
    * @param {number} elapsed the number of cycles before the run
    */
   runLines(state, cycles, elapsed) {
@@ -94,7 +95,7 @@ export class TraceLines {
     const executedAddresses = countAnswers.takeCounts().map(({ address }) => address);
     texts.readInstructions(engine, state, executedAddresses);
     const codes = new Set(executedAddresses.map((address) => texts.codes[address]));
-    const places = tracePlaces(board, SHOWN_REGISTERS, (code) => codes.has(code));
+    const places = tracePlaces(board, MAIN_REGISTER_COUNT, (code) => codes.has(code));
     const groups = indices(Math.ceil(places.length / MAX_PLACES)).map((at) => places.slice(at * MAX_PLACES, (at + 1) * MAX_PLACES));
     const queries = [...groups.map((group) => group.map(({ name }) => name)), MAIN_PLACES];
     const questions = queries.map((names) => `trace ${cycles} ${names.join(" ")}\n`).join("");
@@ -105,10 +106,11 @@ export class TraceLines {
   }
 
   /**
-   * Merges the answers to the queries into lines.
+   * Merges the answers to all queries into the lines of the trace.
    * @param {Group[]} groups
    * @param {Trace} main the trace of MAIN_PLACES
-   * @param {{ elapsed: number, firstCycle: number }} from the cycles before the run, and the cycle in which its first instruction starts
+   * @param {{ elapsed: number, firstCycle: number }} from `elapsed` is the number of cycles before the run; `firstCycle` is the cycle of
+   *   the run in which its first instruction starts
    */
   mergeAnswers(groups, main, { elapsed, firstCycle }) {
     /** @type {string[]} */
@@ -123,7 +125,7 @@ export class TraceLines {
       lines.push(`${start}acc ${row[ROW_INDICES.acc]} cy ${row[ROW_INDICES.cy]}${changes && ` ${changes}`}`);
       nextCycle = at + instructionCycles(this.texts.codes[address]);
     };
-    // A jump to itself without any change has no row. Its line is repeated up to the next row.
+    // A jump to itself changes nothing and so has no row. Its line is repeated up to the next row.
     const repeatJump = (/** @type {number} */ to) => {
       while (nextCycle < to) addLine(nextCycle, parseInt(row.slice(ROW_INDICES.pc, ROW_INDICES.acc - 1), 16), row);
     };
@@ -150,7 +152,7 @@ export class TraceLines {
 }
 
 /**
- * Creates a group from places and the answer to their query.
+ * Creates a group from its places and the answer to their query.
  * @param {TracePlace[]} places
  * @param {Trace} trace
  * @returns {Group}

@@ -1,4 +1,4 @@
-// Lists the places whose changes a trace shows, in the order of their texts in a trace line.
+// Lists the places (registers, RAM nibbles, ports and so on) whose changes a trace shows, in the order in which a trace line shows them.
 
 import { hex, indices } from "../bench/numbers.js";
 import { WRR } from "../engine/rom_codes.js";
@@ -6,10 +6,11 @@ import { WRR } from "../engine/rom_codes.js";
 /**
  * @typedef {import("../bench/answers.js").Board} Board
  *
- * A place in a `trace` query. `textOf` returns the text for a new value. Two values with the same text do not count as a change.
+ * A place in a `trace` query, such as a register or a port. `textOf` returns the text that shows a new value. If two values have the same
+ * text, the trace shows no change.
  * @typedef {{ name: string, textOf: (value: string) => string }} TracePlace
  *
- * A function that returns whether a run executes an instruction with a given opcode.
+ * A function that returns whether a run executes a given opcode.
  * @typedef {(code: number) => boolean} OpcodeTest
  */
 
@@ -19,7 +20,7 @@ const WMP = 0xE1;
 const WR0 = 0xE4;
 
 /**
- * Creates a place. By default, its text is its name and value.
+ * Creates a place. By default, the text of a value is the name of the place and the value.
  * @param {string} name
  * @param {(value: string) => string} [textOf]
  * @returns {TracePlace}
@@ -43,7 +44,7 @@ function listChipPlaces(bank, chip, executes) {
 }
 
 /**
- * Returns the output ports of the ROMs. Input changes are left out because the program does not cause them.
+ * Returns the output ports of the ROMs. Leaves out the inputs, because the program does not change them.
  * @param {Board} board
  */
 function listRomPlaces({ roms }) {

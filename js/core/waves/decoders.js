@@ -1,6 +1,6 @@
-// Decoders: lines that are computed from several signal lines of a recording. The decoder of a shift register (4003) shows the bit that
-// each clock edge shifts in, and the bits of the register after a rest of some cycles. The decoder of the key matrix shows the driven rows
-// and the pressed keys.
+// The decoders of a recording. A decoder is a line that is computed from several signal lines. The decoder of a shift register (4003) shows
+// the bit that each clock edge shifts in. When the clock has been at rest for some cycles, it shows all bits of the register. The decoder
+// of the key matrix shows the driven rows and the pressed keys.
 
 import { countUpTo } from "./number_queue.js";
 import * as say from "../../words/waves.js";
@@ -11,12 +11,12 @@ import * as say from "../../words/waves.js";
  * @typedef {import("./wave_words.js").NumberBase} NumberBase
  */
 
-/** The number of cycles without a clock edge after which a register is at rest. */
+/** The number of cycles without a clock edge after which a shift register counts as being at rest. */
 export const REST_CYCLES = 16;
 
 /**
- * The values in the track of a shift register: AT_REST, or BIT or OTHER_BIT plus the bit that was shifted in. BIT and OTHER_BIT alternate,
- * so that two consecutive equal bits are two changes.
+ * The values in the track of a shift register. A value is AT_REST, or the bit that was shifted in plus BIT or OTHER_BIT. BIT and OTHER_BIT
+ * alternate, so that two equal bits in a row are still two changes.
  */
 const AT_REST = 0;
 const BIT = 2;
@@ -34,7 +34,7 @@ export function isDecoder({ kind }) {
 }
 
 /**
- * Returns the moment of the last rising edge of a line at or before a moment; -1 if there is none.
+ * Returns the moment of the last rising edge of a line, at or before a given moment; -1 if there is none.
  * @param {Track} clock the track of a one-bit line
  * @param {number} moment
  */
@@ -46,14 +46,14 @@ export function findLastRise(clock, moment) {
 }
 
 /**
- * Extends the track of a shift register from a moment to the end of the recording.
- * @param {{ clock: Track, data: Track, rise: number }} from the tracks of the register's lines; `rise` is the last rising clock edge up to
- *   `after`, or -1
+ * Extends the track of a shift register up to the end of the recording.
+ * @param {{ clock: Track, data: Track, rise: number }} from the tracks of the register's clock and data lines; `rise` is the moment of the
+ *   last rising clock edge up to `after`, or -1
  * @param {Track} track
- * @param {number} after
- * @param {number} end
+ * @param {number} after the moment up to which the track is already computed
+ * @param {number} end the end of the recording
  */
-export function deriveShift({ clock, data, rise }, track, after, end) {
+export function extendShiftTrack({ clock, data, rise }, track, after, end) {
   const edges = clock.moments.all;
   let lastRise = rise;
   const addRest = (/** @type {number} */ until) => {
@@ -70,7 +70,7 @@ export function deriveShift({ clock, data, rise }, track, after, end) {
 }
 
 /**
- * Formats the bits of a register, highest bit first. BigInt is necessary because a register can have more than 53 bits.
+ * Returns the bits of a register as a number in a given base. Uses BigInt because a register can have more than 53 bits.
  * @param {number[]} bits the bits, lowest first
  * @param {NumberBase} base
  */
@@ -81,7 +81,7 @@ function formatBits(bits, base) {
 }
 
 /**
- * Returns the text for a value in the track of a shift register: the bit that was shifted in, or the register bits at rest.
+ * Returns the text for a value in the track of a shift register: the bit that was shifted in; at rest, all bits of the register.
  * @param {number} value
  * @param {number[]} bits
  * @param {NumberBase} base
@@ -94,7 +94,7 @@ export function shiftText(value, bits, base) {
  * Returns the positions of the 1 bits in a range of bits, relative to the first bit of the range.
  * @param {number} value
  * @param {number} from the number of the first bit
- * @param {number} to the number of the bit after the range
+ * @param {number} to the number of the first bit after the range
  */
 function findOneBits(value, from, to) {
   const found = [];
@@ -108,7 +108,7 @@ function findOneBits(value, from, to) {
  * @param {WaveLine} line
  * @param {number} value a value in the track of the key scan
  */
-export function readScan({ places, columns, width }, value) {
+export function parseScan({ places, columns, width }, value) {
   const rows = findOneBits(value, columns, width);
   const activeColumns = findOneBits(value, 0, columns);
   const keys = rows.length === 1 ? activeColumns.map((column) => places[rows[0] * columns + column]) : [];
@@ -121,7 +121,7 @@ export function readScan({ places, columns, width }, value) {
  * @param {number} value
  */
 export function scanText(line, value) {
-  const { rows, columns, keys } = readScan(line, value);
+  const { rows, columns, keys } = parseScan(line, value);
   if (rows.length === 0) return say.NO_ROW;
   const rowText = say.rowsDriven(rows);
   if (columns.length === 0) return rowText;

@@ -1,4 +1,4 @@
-// Finds the lines of a recording for the arguments of a command.
+// Finds the lines of a recording that the arguments of a command request.
 
 import { createBoardLines, createValueLine } from "./wave_lines.js";
 import * as say from "../../words/waves.js";
@@ -7,7 +7,8 @@ import * as say from "../../words/waves.js";
  * @typedef {import("../bench/answers.js").Board} Board
  * @typedef {import("./wave_lines.js").WaveLine} WaveLine
  *
- * The lines of a board and the requested values, and the indexes of the requested lines among them, in request order (`chosen`).
+ * A choice of lines. `lines` are all lines of a board, and the requested values. `chosen` are the indexes of the requested lines in
+ * `lines`, in the order of the request.
  * @typedef {{ lines: WaveLine[], chosen: number[] }} LineChoice
  */
 
@@ -15,45 +16,45 @@ import * as say from "../../words/waves.js";
 export class UnknownLineError extends Error {}
 
 /** @type {(line: WaveLine) => boolean} returns whether a line is a one-bit line of the board */
-const isBit = ({ kind }) => kind === "level" || kind === "key" || kind === "test";
+const isOneBitLine = ({ kind }) => kind === "level" || kind === "key" || kind === "test";
 /** @type {(line: WaveLine) => boolean} returns whether the user can request a line by its name or group */
-const isOffered = (line) => isBit(line) || line.kind === "pc" || line.kind === "label";
+const canBeRequested = (line) => isOneBitLine(line) || line.kind === "pc" || line.kind === "label";
 
 /**
- * Returns the names of the board's lines.
+ * Returns the names of the lines that a user can request.
  * @param {Board} board
  * @param {string} text the board text, for the names
  * @param {boolean} hasLabels
  */
 export function listRequestableNames(board, text, hasLabels) {
-  return createBoardLines(board, text, hasLabels).filter(isOffered).map(({ name }) => name);
+  return createBoardLines(board, text, hasLabels).filter(canBeRequested).map(({ name }) => name);
 }
 
 /**
- * Returns the plain name of a lamp or key, `lamp0` or `key2.3`; "" for any other line.
+ * Returns the name of a lamp or key by its number, such as `lamp0` or `key2.3`; "" for any other line.
  * @param {WaveLine} line
  * @param {number} number the lamp number
  */
-function plainName({ group, places }, number) {
+function numberedName({ group, places }, number) {
   if (group === "lamps") return `lamp${number}`;
   return group === "keys" ? `key${places[0]}` : "";
 }
 
 /**
- * Returns the indexes of the lines for a word: a single line, or all lines of a group.
+ * Returns the indexes of the lines that a word requests: a single line, or all lines of a group.
  * @param {WaveLine[]} lines
  * @param {string} word
  */
 function lineIndices(lines, word) {
   const lamps = lines.findIndex(({ group }) => group === "lamps");
-  const addLineNames = lines.findIndex((line, at) => line.name === word || plainName(line, at - lamps) === word);
+  const addLineNames = lines.findIndex((line, at) => line.name === word || numberedName(line, at - lamps) === word);
   if (addLineNames >= 0) return [addLineNames];
-  return lines.flatMap((line, at) => (isOffered(line) && line.group === word ? [at] : []));
+  return lines.flatMap((line, at) => (canBeRequested(line) && line.group === word ? [at] : []));
 }
 
 /**
- * Returns the lines for words; without words, all one-bit lines of the board. Throws UnknownLineError if a word matches no line, or if two
- * words request the same line.
+ * Returns the lines that words request; without words, all one-bit lines of the board. Throws UnknownLineError if a word matches no line,
+ * or if two words request the same line.
  * @param {Board} board
  * @param {string} text the board text, for the names
  * @param {boolean} hasLabels
@@ -63,7 +64,7 @@ function lineIndices(lines, word) {
 export function chooseLines(board, text, hasLabels, words) {
   const lines = createBoardLines(board, text, hasLabels);
   const all = lines.map((_, at) => at);
-  if (words.length === 0) return { lines, chosen: all.filter((at) => isBit(lines[at])) };
+  if (words.length === 0) return { lines, chosen: all.filter((at) => isOneBitLine(lines[at])) };
   /** @type {Set<number>} */
   const chosen = new Set();
   for (const word of words) {

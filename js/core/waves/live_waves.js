@@ -9,8 +9,8 @@ import * as say from "../../words/waves.js";
  * @typedef {import("../engine/live_recorder.js").LivePart} LivePart
  * @typedef {import("../engine/wave_recorder.js").Recording} Recording
  *
- * The settings. `most`: the maximum length in cycles. `behind`: the number of cycles after the trigger. `trigger`: the text of the trigger,
- * "" for none. `stopsTime`: true if the session pauses at the end of the recording.
+ * The settings of a recording. `most` is its maximum length in cycles. `behind` is the number of cycles to record after the trigger.
+ * `trigger` is the text of the trigger; "" for none. `stopsTime` is true if the session pauses when the recording ends.
  * @typedef {{ most: number, behind: number, trigger: string, stopsTime: boolean }} LiveChoice
  */
 
@@ -33,7 +33,7 @@ export class LiveWaves {
   }
 
   /**
-   * Adds a part, and drops the cycles that exceed the maximum length.
+   * Adds a part. Drops cycles at the start if the recording exceeds its maximum length.
    * @param {LivePart} part
    */
   take(part) {
@@ -47,7 +47,7 @@ export class LiveWaves {
     else waves.beginAt((this.triggerMoment < 0 ? waves.cycles : this.triggerMoment) - (most - behind));
   }
 
-  /** Ends the recording without a last part. */
+  /** Ends the recording because its last part was lost. */
   lose() {
     this.over = "lost";
   }
@@ -64,7 +64,7 @@ export class LiveWaves {
     const { trigger } = this.choice;
     const triggerText = triggerMoment < 0 ? "" : say.triggerWasAt(formatNumber(triggerMoment));
     if (over === "trigger") return say.recorded(this.lengthText, triggerText);
-    if (over !== "") return say.recordedUntil(this.lengthText || say.NOTHING, say.ENDS[over] || over, triggerText);
+    if (over !== "") return say.recordedUntil(this.lengthText || say.NOTHING, say.END_REASONS[over] || over, triggerText);
     if (triggerMoment >= 0) return say.recordsAfter(triggerText);
     const statusText = waves.cycles === 0 ? say.RECORDS_SOON : say.RECORDS;
     return `${statusText}${trigger ? say.waitsFor(trigger) : ""}`;

@@ -1,4 +1,4 @@
-// Measures a signal line at a moment: how long it keeps its value, and the period of a one-bit line.
+// Measures a signal line at a moment: how long the line keeps its value, and the period of a one-bit line.
 
 import { formatCycles } from "../time/cycles.js";
 import { CYCLE_US } from "../time/mcs4_time.js";
@@ -8,9 +8,9 @@ import * as say from "../../words/waves.js";
 /**
  * @typedef {import("./wave_recording.js").Waves} Waves
  *
- * A measurement: the line keeps its value from the moment `from` to the moment `to`. `isWhole`: true if the line changes at both moments;
- * false if one of them is an end of the recording. `period`: the cycles from the edge at `from` to the next edge in the same direction, 0
- * if there is none.
+ * A measurement: the line keeps its value from the moment `from` to the moment `to`. `isWhole` is true if the line changes at both moments,
+ * and false if one of them is the start or end of the recording. `period` is the number of cycles from the edge at `from` to the next edge
+ * in the same direction; 0 if there is none.
  * @typedef {{ from: number, to: number, isWhole: boolean, period: number }} Measurement
  */
 
@@ -34,7 +34,7 @@ export function measureAt(waves, line, moment) {
 }
 
 /**
- * Formats the frequency for a period.
+ * Returns the frequency for a period, as text.
  * @param {number} period the period in cycles
  */
 export function frequencyText(period) {

@@ -4,11 +4,11 @@
 
 /** The initial capacity. */
 const FIRST_CAPACITY = 64;
-/** The number of unused elements at the start from which the numbers can be moved to the start of the array. */
+/** The number of unused elements at the start of the array above which the numbers may be moved to the start. */
 const MAX_UNUSED = 4096;
 
 /**
- * Returns how many of the numbers are at most `limit`.
+ * Returns how many of the numbers are less than or equal to `limit`.
  * @param {ArrayLike<number>} numbers the numbers in ascending order
  * @param {number} limit
  */
@@ -55,7 +55,7 @@ export class NumberQueue {
     this.to += 1;
   }
 
-  /** Replaces the array by a larger one. */
+  /** Replaces the array with a larger one. */
   enlarge() {
     const larger = /** @type {Kind} */ (new (/** @type {any} */ (this.numbers.constructor))(Math.max(FIRST_CAPACITY, this.to * 2)));
     larger.set(this.numbers);
@@ -88,7 +88,7 @@ export class NumberQueue {
   }
 
   /**
-   * The numbers, as a view that is valid until the next change.
+   * The numbers, as a view of the array. The view is valid until the queue changes.
    * @returns {Kind}
    */
   get all() {

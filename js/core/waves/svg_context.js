@@ -1,14 +1,14 @@
-// Creates an SVG file with the drawing methods of a canvas context. Has only the methods that the drawing of waves needs.
+// Creates an SVG file through the drawing methods of a canvas context. Implements only the methods that the drawing of waves needs.
 
 /** The width of a character in pixels; the font is monospaced. */
-const CHARACTER = 7.25;
+const CHARACTER_WIDTH = 7.25;
 /** @type {Record<string, string>} the SVG text anchors, by canvas `textAlign` */
 const ANCHORS = { left: "start", center: "middle", right: "end" };
 
 /** @type {(number: number) => string} returns a number with at most two decimals */
 const formatNumber = (number) => String(Math.round(number * 100) / 100);
 
-/** @type {(text: string) => string} escapes the characters with a meaning in XML */
+/** @type {(text: string) => string} escapes the characters that have a meaning in XML */
 const escapeText = (text) => text.replace(/[&<>"]/g, (letter) => `&#${letter.charCodeAt(0)};`);
 
 /**
@@ -110,7 +110,7 @@ export class SvgContext {
 
   /** @param {string} text */
   measureText(text) {
-    return { width: text.length * CHARACTER };
+    return { width: text.length * CHARACTER_WIDTH };
   }
 
   /** @param {number[]} lengths */
@@ -118,7 +118,7 @@ export class SvgContext {
     this.dash = lengths.length === 0 ? {} : { "stroke-dasharray": lengths.join(" ") };
   }
 
-  /** The SVG text of the file. */
+  /** The source text of the SVG file. */
   get text() {
     const [width, height] = this.size;
     const attributes = { width, height, "font-family": "monospace", "font-size": 12 };

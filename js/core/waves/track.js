@@ -1,10 +1,11 @@
 // The values of a signal line in a recording: the first value, and each moment at which the value changed. The track of a single bit stores
-// no values because the bit alternates.
+// no other values, because each change inverts the bit.
 
 import { NumberQueue, countUpTo } from "./number_queue.js";
 
 /**
- * A track in a message. `values` are the values after each change; null for a single bit.
+ * The data of a track, as sent by the worker. `moments` are the moments of the changes. `values` are the values after each change; null for
+ * a single bit.
  * @typedef {{ first: number, moments: Uint32Array, values: Uint16Array | Float64Array | null }} TrackData
  */
 
@@ -46,7 +47,7 @@ export class Track {
   }
 
   /**
-   * Sets the value from a moment on. Changes that cancel out at the same moment are not stored.
+   * Sets the value from a moment on. If several changes at the same moment cancel out, none of them is stored.
    * @param {number} value
    * @param {number} moment the moment, not before the last change
    */
@@ -63,7 +64,7 @@ export class Track {
   }
 
   /**
-   * Appends a later part.
+   * Appends the changes in a later part of the recording.
    * @param {TrackData} data
    */
   append({ moments, values }) {

@@ -11,8 +11,9 @@ import * as say from "../../words/waves.js";
  * @typedef {import("./wave_lines.js").WaveLine} WaveLine
  * @typedef {"rises" | "falls" | "changes"} Edge
  *
- * A trigger. For an edge, `members` are the indexes of its lines. For a condition, `places` are the `trace` places that it needs. If the
- * condition depends only on the program counter, `address` is the value that makes it true, otherwise -1.
+ * A trigger. For an edge, `edge` is its kind, and `members` are the indexes of the lines that can have it. For a condition, `holds` tests
+ * it, and `places` are the `trace` places whose values it needs. If the condition depends only on the program counter, `address` is the
+ * address that makes it true; otherwise -1.
  * @typedef {{ edge: Edge | "", members: number[], places: string[], address: number, holds: (values: string[]) => boolean }} Trigger
  */
 
@@ -22,7 +23,7 @@ const EDGE_SYNTAX = /^(.*\S)\s+(rises|falls|changes)$/;
 const neverTrue = () => false;
 
 /**
- * Returns a name in lower case, with single blanks instead of dots and other gaps.
+ * Returns a name in lower case, with each dot or gap replaced by a single blank.
  * @param {string} text
  */
 export function normalizeName(text) {
@@ -61,7 +62,8 @@ export function lineNameInEdge(text) {
 }
 
 /**
- * Parses a trigger. If the text has an error, `fault` is the message. For an empty text, there is neither a trigger nor a message.
+ * Parses a trigger. If the text has an error, `fault` is the error message. For an empty text, the result has neither a trigger nor a
+ * message.
  * @param {string} text
  * @param {WaveLine[]} lines
  * @param {Names} names

@@ -1,4 +1,5 @@
-// Writes a recording as a VCD file (IEEE 1364). For the same lines of a session, the page and `mcs4 wave` write the same bytes.
+// Writes a recording as a VCD file (value change dump, IEEE 1364). For the same lines of a session, the page and `mcs4 wave` write the same
+// bytes.
 
 import { CYCLE_TENTHS_US, CYCLE_US } from "../time/mcs4_time.js";
 import { isDecoder } from "./decoders.js";
@@ -9,21 +10,22 @@ import { isDecoder } from "./decoders.js";
 const UNITS_PER_CYCLE = CYCLE_TENTHS_US;
 /** A number greater than the number of lines in any recording. A change is encoded as one number: moment * MAX_LINES + line. */
 const MAX_LINES = 8192;
-/** The maximum number of text lines per part of the file. A long recording does not fit into one string. */
+/** The maximum number of text lines per part of the file. The file has parts because a long recording does not fit into one string. */
 const PART_LINES = 100000;
 /**
- * The letters in line codes. No value in a VCD file starts with one of them. A program that skips an unknown kind of value therefore reads
- * the following lines correctly.
+ * The letters of the codes that identify lines in the file. No value in a VCD file starts with one of these letters, so a program that
+ * skips an unknown kind of value still reads the following lines correctly.
  */
-const LETTERS = "ACDEFGHIJKLMNOPQSTUVWY";
+const CODE_LETTERS = "ACDEFGHIJKLMNOPQSTUVWY";
 
 /**
- * Returns the short code of a signal line in the file.
+ * Returns the short code that identifies a signal line in the file.
  * @param {number} number the index of the line, from 0
  */
 function lineCode(number) {
   let text = "";
-  for (let rest = number; rest >= 0; rest = Math.floor(rest / LETTERS.length) - 1) text = LETTERS[rest % LETTERS.length] + text;
+  const { length } = CODE_LETTERS;
+  for (let rest = number; rest >= 0; rest = Math.floor(rest / length) - 1) text = CODE_LETTERS[rest % length] + text;
   return text;
 }
 

@@ -8,18 +8,18 @@ const HEAD_BYTES = 44;
 const FORMAT_BYTES = 16;
 /** The sample values for the two levels of the line. */
 const LEVELS = { high: 0x2020, low: -0x2020 };
-/** The offsets of the names in the file header. */
-const LETTERS = { riff: 0, kind: 8, format: 12, data: 36 };
+/** The offsets of the four-letter tags in the file header. */
+const TAG_OFFSETS = { riff: 0, kind: 8, format: 12, data: 36 };
 const PCM = 1;
 const CHANNELS = 1;
 
 /**
- * Writes an ASCII name.
+ * Writes an ASCII tag into the file.
  * @param {Uint8Array} bytes
  * @param {number} at
  * @param {string} letters
  */
-function putLetters(bytes, at, letters) {
+function writeTag(bytes, at, letters) {
   [...letters].forEach((letter, offset) => {
     bytes[at + offset] = letter.charCodeAt(0);
   });
@@ -27,18 +27,18 @@ function putLetters(bytes, at, letters) {
 
 /**
  * Returns the WAV file for a signal line.
- * @param {number} level the level at the start
- * @param {number[]} edges the cycles before each edge
+ * @param {number} level the level of the line at the start
+ * @param {number[]} edges the number of cycles before each edge
  * @param {number} cycles
  */
 export function createWav(level, edges, cycles) {
   const size = cycles * SAMPLE_BYTES;
   const bytes = new Uint8Array(HEAD_BYTES + size);
   const view = new DataView(bytes.buffer);
-  putLetters(bytes, LETTERS.riff, "RIFF");
+  writeTag(bytes, TAG_OFFSETS.riff, "RIFF");
   view.setUint32(4, HEAD_BYTES - 8 + size, true);
-  putLetters(bytes, LETTERS.kind, "WAVE");
-  putLetters(bytes, LETTERS.format, "fmt".padEnd(4));
+  writeTag(bytes, TAG_OFFSETS.kind, "WAVE");
+  writeTag(bytes, TAG_OFFSETS.format, "fmt".padEnd(4));
   view.setUint32(16, FORMAT_BYTES, true);
   view.setUint16(20, PCM, true);
   view.setUint16(22, CHANNELS, true);
@@ -46,7 +46,7 @@ export function createWav(level, edges, cycles) {
   view.setUint32(28, CYCLES_PER_SECOND * SAMPLE_BYTES, true);
   view.setUint16(32, SAMPLE_BYTES, true);
   view.setUint16(34, 8 * SAMPLE_BYTES, true);
-  putLetters(bytes, LETTERS.data, "data");
+  writeTag(bytes, TAG_OFFSETS.data, "data");
   view.setUint32(40, size, true);
   let [from, isHigh] = [0, level === 1];
   for (const edge of [...edges, cycles]) {

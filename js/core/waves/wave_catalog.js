@@ -1,4 +1,4 @@
-// Lists the lines that the user can choose for a recording, and the lines that are visible at first.
+// Lists the lines that the user can choose for a recording, and chooses the lines that are initially visible.
 
 import { isDecoder } from "./decoders.js";
 import { normalizeName } from "./trigger.js";
@@ -11,7 +11,7 @@ import * as say from "../../words/waves.js";
  * @typedef {import("./wave_recording.js").Waves} Waves
  */
 
-/** The maximum number of lines that are visible at first. */
+/** The maximum number of lines that are initially visible. */
 const MAX_FIRST_LINES = 16;
 /** The maximum number of RAM nibbles in a list. */
 const MAX_NIBBLES = 64;
@@ -26,8 +26,8 @@ export function listRecordableLines(board, text) {
 }
 
 /**
- * Returns the lines that are visible at first: the bits that change, the decoders that change, the program counter and the label. If no bit
- * changes, the first bits are visible.
+ * Returns the lines that are initially visible: the one-bit lines and decoders that change, the program counter and the label. If no
+ * one-bit line changes, the first of them are visible.
  * @param {Waves} waves
  */
 export function chooseFirstLines(waves) {
@@ -40,7 +40,7 @@ export function chooseFirstLines(waves) {
 }
 
 /**
- * Returns the names of the chosen values. Values are recorded only on request.
+ * Returns the names of the chosen values, because values such as registers are recorded only on request.
  * @param {WaveLine[]} lines
  * @param {Set<string>} chosenNames
  */
@@ -49,7 +49,8 @@ export function chosenValueNames(lines, chosenNames) {
 }
 
 /**
- * Returns the line with exactly this name. If there is none, returns the lines that contain the text in their name, title or group title.
+ * Returns a list of the line whose name is exactly the text. If there is none, returns the lines with the text in their name, title or
+ * group title.
  * @param {WaveLine[]} lines
  * @param {string} text
  */
@@ -61,8 +62,8 @@ function matchingLines(lines, text) {
 }
 
 /**
- * Returns the lines for a search text. Because RAM has many nibbles, the list contains the chosen nibbles and a limited number of other
- * matching nibbles.
+ * Returns the lines that match a search text. Because RAM has many nibbles, the list contains the chosen nibbles, but only a limited number
+ * of the other matching nibbles.
  * @param {WaveLine[]} allLines
  * @param {string} text
  * @param {Set<string>} chosenNames

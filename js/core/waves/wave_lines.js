@@ -1,5 +1,5 @@
-// Creates the lines of a recording: the signal lines of a board, decoders, ports as numbers, and requested values, with their names and
-// `trace` places. The page and `mcs4 wave` use the same names in the same order.
+// Creates the lines of a recording: the signal lines of a board, its ports as numbers, decoders, and requested values such as registers.
+// The page and `mcs4 wave` use the same names in the same order.
 
 import { BITS_PER_CHIP } from "../bench/board_form.js";
 import { parseNumber, indices } from "../bench/numbers.js";
@@ -13,21 +13,21 @@ import * as say from "../../words/waves.js";
  * @typedef {import("../board/face.js").FaceText} FaceText
  * @typedef {"level" | "key" | "test" | "value" | "port" | "shift" | "scan" | "pc" | "label"} WaveKind
  *
- * A line of a recording. `title` is its name in the board text, "" for none. `group` is its part of the board. `width` is its number of
- * bits.
+ * A line of a recording. `title` is its name in the board text; "" for none. `group` names the part of the board to which it belongs.
+ * `width` is its number of bits.
  *
- * `places` depends on the kind. Level: the signal line of the board. Key: its row and column. Value: the `trace` places of its digits,
- * highest digit first. Scan: the names of its keys, row by row.
+ * The meaning of `places` depends on the kind. Level: the signal line of the board. Key: the row and column of the key. Value: the `trace`
+ * places of its digits, highest digit first. Scan: the names of the keys, row by row.
  *
- * `members` are the indexes of other lines. Port: its lines, lowest first. Shift register: its clock, its data and its bits. Scan: its
- * columns and its rows; `columns` is the number of columns.
+ * `members` are the indexes of the lines from which a line is computed. Port: its lines, lowest first. Shift register: its clock, its data
+ * and its bits. Scan: the columns, then the rows, of the key matrix; `columns` is the number of columns.
  * @typedef {{ name: string, title: string, group: string, kind: WaveKind, places: string[], members: number[], width: number,
  *   columns: number }} WaveLine
  */
 
 /** Matches a name in the board text that is valid in a VCD file. */
 const PLAIN_NAME = /^[A-Za-z0-9_]+$/;
-/** The maximum number of bits in a number, so that the number is exact. */
+/** The maximum number of bits in a line that is shown as a number. JavaScript represents such a number exactly. */
 const MAX_BITS = 50;
 
 /**
@@ -43,7 +43,7 @@ function createLine(name, group, kind, details = {}) {
 }
 
 /**
- * Returns the name and title of a lamp or key. If the name in the board text is invalid in a VCD file, it becomes the title.
+ * Returns the name and title of a lamp or key. If its name in the board text is invalid in a VCD file, that name becomes only the title.
  * @param {string} group
  * @param {string} ending
  * @param {FaceText | undefined} faceText
@@ -102,7 +102,7 @@ function frontPanelLines({ lamps, rows, columns }, face) {
 }
 
 /**
- * Returns the ports and chains as numbers: bit k is line k.
+ * Returns lines that show the ports and chains as numbers. Bit k of a number is line k of the port or chain.
  * @param {WaveLine[]} lines the signal lines of the board
  * @param {Face} face
  */
@@ -203,7 +203,7 @@ export function createBoardLines(board, text, hasLabels, values = []) {
 }
 
 /**
- * Returns whether a line is drawn as boxes with values. This is true for all lines except single bits.
+ * Returns whether a line is drawn as boxes with values in them. Only single bits are drawn as levels instead.
  * @param {WaveLine} line
  */
 export function isDrawnAsBoxes({ kind, width }) {

@@ -1,4 +1,5 @@
-// Creates the program of a recording, which consists of source lines and labels, if the source text is the program in ROM.
+// Creates the program of a recording: the source lines and labels that the recording shows. Requires that the source text is the program in
+// ROM.
 
 import { SourceMap } from "../machine/source_map.js";
 

@@ -1,8 +1,8 @@
-// A recording on the page: the value of each line at any moment, the changes of each line, and the instruction at any moment. A recording
-// of a running session grows at its end and drops cycles at its start. A moment is a number of cycles.
+// A recording on the page. Returns the value of each line at any moment, the changes of each line, and the instruction at any moment. The
+// recording of a running session grows at its end and drops cycles at its start. A moment is a time, counted in cycles.
 
 import { ADDRESS_COUNT } from "../bench/rom_bytes.js";
-import { deriveShift, findLastRise, scanText, shiftText } from "./decoders.js";
+import { extendShiftTrack, findLastRise, scanText, shiftText } from "./decoders.js";
 import { NumberQueue, countUpTo } from "./number_queue.js";
 import { Track, emptyTrack } from "./track.js";
 import { valueText } from "./wave_words.js";
@@ -13,8 +13,9 @@ import { valueText } from "./wave_words.js";
  * @typedef {import("./wave_lines.js").WaveLine} WaveLine
  * @typedef {import("./wave_words.js").NumberBase} NumberBase
  *
- * The instruction at a moment: its address, its listing line, and its source line with the line number (0 for none). `isSecond`: the moment
- * is the second cycle of an instruction. `isEnd`: it is the next instruction, at the end of the recording.
+ * The instruction at a moment: its address, its listing line (`listed`), and its source line with the line number (0 for none). `isSecond`
+ * is true if the moment is the second cycle of the instruction. `isEnd` is true at the end of the recording, where this is the next
+ * instruction.
  * @typedef {{ address: number, listed: string, line: number, source: string, isSecond: boolean, isEnd: boolean }} Instruction
  */
 
@@ -22,7 +23,7 @@ import { valueText } from "./wave_words.js";
 const DERIVED = new Set(["pc", "label", "port", "shift", "scan"]);
 
 /**
- * Returns for each address the index of the nearest label at or below it, -1 for none.
+ * Returns for each address the index of the nearest label at the same or a lower address; -1 for none.
  * @param {{ address: number }[]} labels the labels in ascending address order
  */
 function labelsBelow(labels) {
@@ -53,9 +54,9 @@ export class Waves {
     this.labelIndexes = labelsBelow(program ? program.labels : []);
     /** @type {Map<number, Track>} the computed tracks so far, by line */
     this.derivedTracks = new Map();
-    /** @type {Map<number, number>} the last rising clock edges before the start of the recording, by shift register line */
+    /** @type {Map<number, number>} the moment of the last rising clock edge before the start of the recording, by shift register line */
     this.earlierRises = new Map();
-    /** @type {NumberBase} the number base for display */
+    /** @type {NumberBase} the number base in which values are displayed */
     this.base = "hex";
   }
 
@@ -148,8 +149,8 @@ export class Waves {
   }
 
   /**
-   * Returns the value of a computed line: a port from its lines; the program counter and the label from the instructions. At the start, a
-   * shift register is at rest.
+   * Computes the value of a derived line. The value of a port or key scan comes from its member lines; the program counter and the label
+   * come from the instructions. A shift register counts as being at rest.
    * @param {number} line
    * @param {number} moment
    */
@@ -164,7 +165,7 @@ export class Waves {
   }
 
   /**
-   * Extends the track of a computed line from a moment to the end.
+   * Extends the track of a derived line up to the end of the recording.
    * @param {number} line
    * @param {Track} track
    * @param {number} after
@@ -174,7 +175,7 @@ export class Waves {
     const tracks = members.map((member) => this.tracks[member]);
     if (kind === "shift") {
       const [clock, data] = tracks;
-      deriveShift({ clock, data, rise: this.findRiseBefore(line, after) }, track, after, this.cycles);
+      extendShiftTrack({ clock, data, rise: this.findRiseBefore(line, after) }, track, after, this.cycles);
     }
     if (kind === "port" || kind === "scan") this.extendPortTrack(tracks, track, after);
     if (kind !== "pc" && kind !== "label") return;
@@ -185,7 +186,7 @@ export class Waves {
   }
 
   /**
-   * Returns the last rising clock edge of a shift register at or before a moment; -1 if there is none.
+   * Returns the moment of the last rising clock edge of a shift register, at or before a given moment; -1 if there is none.
    * @param {number} line
    * @param {number} moment
    */
@@ -195,7 +196,7 @@ export class Waves {
   }
 
   /**
-   * Extends the track of a port or key scan to the end. The bits of its value are the values of its member lines.
+   * Extends the track of a port or key scan up to the end of the recording. The bits of its value are the values of its member lines.
    * @param {Track[]} members
    * @param {Track} track
    * @param {number} after
@@ -252,7 +253,7 @@ export class Waves {
   }
 
   /**
-   * Returns the nearest label at or below the program counter; "" for none.
+   * Returns the nearest label at or below the program counter at a moment; "" for none.
    * @param {number} moment
    */
   labelAt(moment) {

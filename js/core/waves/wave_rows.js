@@ -1,5 +1,5 @@
-// The arrangement of wave rows: their order, titles, colours and groups. The arrangement is stored by line name, so that later recordings
-// have the same arrangement.
+// The arrangement of the rows that show waves: their order, titles, colours and groups. It is stored by line name, so that later recordings
+// use it, too.
 
 /**
  * @typedef {import("./wave_lines.js").WaveLine} WaveLine
@@ -7,7 +7,7 @@
  * @typedef {{ title?: string, colour?: RowColour | "", group?: string }} RowAppearance
  * @typedef {{ order: string[], looks: Record<string, RowAppearance>, folded: string[] }} StoredRows
  *
- * A row: a line with its index and name, or a group heading with index -1. `title` is the displayed text.
+ * A row: either a line, or the heading of a group. `line` is the index of the line; -1 for a heading. `title` is the displayed text.
  * @typedef {{ line: number, name: string, title: string, colour: RowColour | "", group: string, isFolded: boolean }} WaveRow
  */
 
@@ -17,7 +17,7 @@ export class WaveRows {
   /** @param {Partial<StoredRows>} [storedRows] */
   constructor(storedRows = {}) {
     const { order = [], looks = {}, folded = [] } = storedRows;
-    /** The line names in row order, as far as the user has changed the order. */
+    /** The names of lines in the order that the user has chosen. Lines that are not in this list keep their default order. */
     this.order = order;
     this.looks = new Map(Object.entries(looks));
     this.folded = new Set(folded);
@@ -51,7 +51,7 @@ export class WaveRows {
   }
 
   /**
-   * Returns names in row order. A name that is not in the stored order follows its predecessor on the board.
+   * Sorts line names into row order. A name that is not in the stored order follows the name that precedes it on the board.
    * @param {string[]} names the line names in board order
    */
   sortNames(names) {

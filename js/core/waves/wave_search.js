@@ -2,7 +2,7 @@
 // `@LABEL`.
 
 import { parseNumber } from "../bench/numbers.js";
-import { isDecoder, readScan } from "./decoders.js";
+import { isDecoder, parseScan } from "./decoders.js";
 import { countUpTo } from "./number_queue.js";
 import { findLineByName } from "./trigger.js";
 import * as say from "../../words/waves.js";
@@ -10,8 +10,8 @@ import * as say from "../../words/waves.js";
 /**
  * @typedef {import("./wave_recording.js").Waves} Waves
  *
- * A search: the index of a line, and a function that tests a value. If `each` is true, every change to a matching value is a match.
- * Otherwise a change is a match only if the previous value did not match.
+ * A search: the index of a line, and a function that returns whether a value matches. If `each` is true, every change to a matching value
+ * is found. Otherwise a change is found only if the previous value did not match.
  * @typedef {{ line: number, matches: (value: number) => boolean, each: boolean }} Search
  */
 
@@ -21,7 +21,7 @@ const COMPARISONS = {
   "<=": (is, than) => is <= than, ">=": (is, than) => is >= than,
 };
 
-/** @type {Record<string, (value: number) => boolean>} the tests of the value after an edge, by kind of edge */
+/** @type {Record<string, (value: number) => boolean>} functions that return whether an edge leads to a value, by kind of edge */
 const EDGES = { rises: (value) => value === 1, falls: (value) => value === 0, changes: () => true };
 
 /**
@@ -34,7 +34,7 @@ function searchError(fault) {
 }
 
 /**
- * Returns the address of a label, and its value in the label track; null if the label does not exist.
+ * Returns the address of a label, and the number of the label in the label track; null if the label does not exist.
  * @param {Waves} waves
  * @param {string} name
  */
@@ -67,7 +67,7 @@ export function readSearch(text, waves, markedLine) {
 }
 
 /**
- * Returns the index of the line with a name; without a name, the marked line. If there is no such line, `fault` is the message.
+ * Returns the index of the line with a name; without a name, of the marked line. If there is no such line, `fault` is the error message.
  * @param {string} name
  * @param {Waves} waves
  * @param {number} markedLine
@@ -127,7 +127,7 @@ function parseValue(name, sign, value, waves, markedLine) {
  */
 function parseKeySearch(decoder, line, sign, key) {
   if (sign !== "=" || !decoder.places.includes(key)) return searchError(say.isDecoded(decoder.name));
-  return { search: { line, matches: (value) => readScan(decoder, value).keys.includes(key), each: false }, fault: "" };
+  return { search: { line, matches: (value) => parseScan(decoder, value).keys.includes(key), each: false }, fault: "" };
 }
 
 /**

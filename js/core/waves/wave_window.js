@@ -1,8 +1,8 @@
-// The visible range of a recording, and the positions of the two cursors. All moments are in cycles.
+// The visible range of a recording, and the moments of its two cursors. All moments are in cycles.
 
 /** The minimum number of visible cycles. */
 const MIN_CYCLES = 10;
-/** The number of visible cycles of a recording in progress. */
+/** The default number of visible cycles. */
 const DEFAULT_CYCLES = 20000;
 /** The maximum distance from an edge at which a click selects the edge, in pixels. */
 const NEAR_PIXELS = 7;
@@ -46,7 +46,7 @@ export class WaveWindow {
     return this.from + this.span;
   }
 
-  /** The position of the active cursor. */
+  /** The moment of the active cursor. */
   get moment() {
     return this.cursors[this.active];
   }
@@ -89,8 +89,8 @@ export class WaveWindow {
   }
 
   /**
-   * Follows a recording that grows at its end and drops its start. If the visible part or a cursor is at the end, it moves with the end. A
-   * short recording stays completely visible.
+   * Adapts to a recording that has grown at its end or lost cycles at its start. If the visible range or a cursor is at the end, it moves
+   * with the end. A short recording stays completely visible.
    * @param {number} begin
    * @param {number} end
    */
@@ -162,7 +162,7 @@ export class WaveWindow {
 }
 
 /**
- * Returns the moments of the ticks above the waves. The distance between ticks leaves enough room for their numbers.
+ * Returns the moments of the time scale's ticks. The ticks are far enough apart for their numbers.
  * @param {WaveWindow} view
  * @param {number} labelWidth the required width per number in pixels
  */

@@ -1,4 +1,4 @@
-// Formats texts about recordings. Also parses the number of cycles to record.
+// Composes the texts about recordings. Also parses the number of cycles to record.
 
 import { formatQuantity, parseCount } from "../bench/numbers.js";
 import { formatCycleTime, formatCycles } from "../time/cycles.js";
@@ -14,7 +14,7 @@ import * as say from "../../words/waves.js";
 export const MAX_CYCLES = 10000000;
 
 /**
- * Formats a value.
+ * Returns a value as text, in a given number base.
  * @param {number} value
  * @param {number} width the width of the value in bits
  * @param {NumberBase} base

@@ -17,7 +17,7 @@ const COMMITTED_BYTE = 1;
 const LOCKED_STATUS = 75;
 
 /**
- * Acquires the lock of a session file, as the native program does while it serves the file. Returns a function that releases the lock. The end of
+ * Acquires the lock of a session file, as the native program does while it serves the file. Resolves to a function that releases the lock. The end of
  * this process also releases it.
  * @param {string} session the session's file name
  */
@@ -50,7 +50,7 @@ function commitOffsets(bytes) {
 }
 
 /**
- * Truncates a session's log before a record by clearing the record's commit byte.
+ * Removes a record and all later records from a session's log, by clearing the commit byte of the record.
  * @param {string} session the session's file name
  * @param {number} offset the offset of the record's commit byte
  */
@@ -69,7 +69,7 @@ function truncateLog(session, offset) {
 }
 
 /**
- * Removes the last commands of a session. Returns the line to print.
+ * Removes the last commands of a session. Resolves to the line to print.
  * @param {string} session the session's file name
  * @param {number} count the number of commands to remove; 0 only reports how many can be removed
  */
@@ -80,7 +80,7 @@ async function removeCommands(session, count) {
   const bytes = engine.bytesOf(state);
   const commands = Number(engine.ask(state, "seq\n").opened.slice("session ".length));
   const offsets = commitOffsets(bytes);
-  if (count === 0) return say.howFarBack(commands, offsets.length);
+  if (count === 0) return say.describeRemovableCommands(commands, offsets.length);
   if (count > offsets.length) throw new CommandError(say.logIsShorter(session, offsets.length, commands, count));
   const offset = offsets[offsets.length - count];
   const shortenedBytes = Uint8Array.from(bytes);

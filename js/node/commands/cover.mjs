@@ -1,9 +1,9 @@
 // `mcs4 cover`: prints how often each line of a program ran.
 import { LineRecorder } from "../../core/testing/recorders.js";
 import { coverageText, lcovText } from "../../core/testing/coverage_text.js";
-import { NO_LCOV } from "../../words/commands.js";
+import { NOT_AN_LCOV_FILE } from "../../words/commands.js";
 import { print } from "../output.mjs";
-import { testOrCount } from "../test_commands.mjs";
+import { runTestsOrSession } from "../test_commands.mjs";
 import { checkOutputFile, writeUserFile } from "../user_files.mjs";
 
 /** The text at the beginning of an LCOV file. */
@@ -11,11 +11,11 @@ const LCOV_BEGIN = "TN:";
 
 /** @type {import("./table.mjs").CommandModule["run"]} */
 export function run({ folder, lcov, session }, positionals) {
-  return testOrCount({
+  return runTestsOrSession({
     name: "cover",
     Counting: LineRecorder,
     checkNames: (names) => {
-      if (lcov !== undefined) checkOutputFile(lcov, LCOV_BEGIN, NO_LCOV, names);
+      if (lcov !== undefined) checkOutputFile(lcov, LCOV_BEGIN, NOT_AN_LCOV_FILE, names);
     },
     report: ({ coverage }, program) => {
       print(coverageText(coverage, program));

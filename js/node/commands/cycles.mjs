@@ -1,7 +1,7 @@
-// `mcs4 cycles`: prints the duration of runs in answers, in machine cycles.
+// `mcs4 cycles`: prints the durations of the runs in the bench's answers, in machine cycles.
 import { joinLines } from "../../core/bench/inputs.js";
 import { runTimes } from "../../core/time/run_times.js";
-import { FIRST_AND_LAST, notALine } from "../../words/commands.js";
+import { FIRST_AND_LAST, notALineNumber } from "../../words/commands.js";
 import { checkArguments } from "../arguments.mjs";
 import { InputTexts } from "../input_texts.mjs";
 import { makeAddressDescriber, startEngine } from "../native_program.mjs";
@@ -10,14 +10,14 @@ import { CommandError, UsageError, print } from "../output.mjs";
 const LINE_NUMBER = /^\d{1,9}$/;
 
 /**
- * Parses the range of answer lines to add up. `last` is 0 for all lines from `first`.
+ * Parses the range of answer lines whose runs are added up. `last` is 0 for all lines from `first` on.
  * @param {string[]} words
  */
 function parseRange(words) {
   if (words.length === 0) return { first: 1, last: 0 };
   checkArguments(words, ["FIRST", "LAST"]);
   const invalid = words.find((word) => !LINE_NUMBER.test(word));
-  if (invalid !== undefined) throw new UsageError(notALine(invalid));
+  if (invalid !== undefined) throw new UsageError(notALineNumber(invalid));
   const [first, last] = words.map(Number);
   if (first < 1 || last < first) throw new UsageError(FIRST_AND_LAST);
   return { first, last };

@@ -12,7 +12,7 @@ const end = exitAfterOutput("dap");
 async function serve() {
   const connection = new AdapterConnection((bytes) => process.stdout.write(bytes));
   const adapter = new DebugAdapter(connection, await Engine.load(readPageModule()), readPageData(), { ...host, end });
-  // The client has ended without a disconnect request or has sent unreadable data. Save the work so far.
+  // The client has ended without a disconnect request, or has sent unreadable data. Save the work so far.
   listenToInput(connection, (words) => {
     connection.queueEnd.then(() => adapter.leave()).then((left) => end(1, words || left));
   });

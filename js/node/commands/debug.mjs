@@ -16,11 +16,11 @@ import { TerminalPrompt } from "../terminal_prompt.mjs";
 import { checkOutputFile, statInput, writeUserFile } from "../user_files.mjs";
 import { TerminalView } from "../terminal_view.mjs";
 import { SAVED_HEAD } from "../../words/prompt.js";
-import { NO_BREAKPOINTS_FILE, noSessionToDebug } from "../../words/commands.js";
+import { NOT_A_BREAKPOINTS_FILE, noSessionToDebug } from "../../words/commands.js";
 
 const isInteractive = process.stdin.isTTY === true && process.stdout.isTTY === true;
 
-/** Runs commands from standard input. Counts their lines in `position`. Returns the exit status, which is 1 if a command was rejected. */
+/** Runs commands from standard input. Counts their lines in `position`. Resolves to the exit status, which is 1 if a command was rejected. */
 async function runScript(prompt, position) {
   let hasRejected = false;
   for await (const line of createInterface({ input: process.stdin, crlfDelay: Infinity })) {
@@ -31,10 +31,10 @@ async function runScript(prompt, position) {
   return hasRejected ? 1 : 0;
 }
 
-/** Forwards the prompt's calls to the view, which is created later. */
+/** The calls of the prompt to the view. They are forwarded, because the view is created later. */
 const viewCalls = { toggle: () => viewCalls.view.toggle(), turn: (isOn) => viewCalls.view.turn(isOn), view: null };
 
-/** Runs an interactive prompt. Ctrl-L and a resize redraw the view. Returns the exit status. */
+/** Runs an interactive prompt. Ctrl-L and a resize redraw the view. Resolves to the exit status. */
 async function runInteractive(prompt, terminalHolder) {
   const terminal = new TerminalPrompt(prompt, {
     output: process.stdout, onServed: () => view.draw(), onLeave: () => view.leave(), onReturn: () => view.redraw(),
@@ -55,7 +55,7 @@ async function runInteractive(prompt, terminalHolder) {
   return status;
 }
 
-/** Debugs a board, a program and a session, by their file names (undefined for none). Returns the exit status. */
+/** Debugs a board, a program and a session, given by their file names (undefined for none). Resolves to the exit status. */
 async function debugFiles(names) {
   const engine = await Engine.load(readPageModule());
   const data = readPageData();
@@ -72,7 +72,7 @@ async function debugFiles(names) {
     read: (name) => readDecodedFile(expandTilde(name), MAX_TEXT_BYTES).text,
     write: (name, text) => {
       const file = expandTilde(name);
-      checkOutputFile(file, SAVED_HEAD, NO_BREAKPOINTS_FILE, [names.board, names.program, names.session].filter(Boolean));
+      checkOutputFile(file, SAVED_HEAD, NOT_A_BREAKPOINTS_FILE, [names.board, names.program, names.session].filter(Boolean));
       writeUserFile(file, text);
     },
     files: fileNames,
@@ -89,7 +89,7 @@ async function debugFiles(names) {
   }
 }
 
-/** Returns the file names of board, program and session, from the arguments or from the project. */
+/** Resolves to the file names of board, program and session, from the arguments or from the project. */
 async function resolveNames(folder, words) {
   if (words.length > 1 && folder !== undefined) checkArguments(words, [], 1);
   const project = await findProject(folder, words, 2);

@@ -1,7 +1,7 @@
 // `mcs4 explain`: prints the rejected lines of a script, with the reasons.
 import { matchScriptAnswers } from "../../core/bench/script_answers.js";
 import { joinLines } from "../../core/bench/inputs.js";
-import { otherAnswers } from "../../words/commands.js";
+import { answersOfOtherScript } from "../../words/commands.js";
 import { checkArguments } from "../arguments.mjs";
 import { InputTexts } from "../input_texts.mjs";
 import { makeAddressDescriber, startEngine } from "../native_program.mjs";
@@ -18,7 +18,7 @@ export async function run({ source }, positionals) {
   const engine = await startEngine();
   const describeAddress = source === undefined ? null : await makeAddressDescriber(texts, engine, source, positionals[0]);
   const { inputs, words } = matchScriptAnswers(script, answers);
-  if (words !== "") throw new CommandError(otherAnswers(words));
+  if (words !== "") throw new CommandError(answersOfOtherScript(words));
   const lines = script.split("\n").map((line) => line.replace(/\r$/, ""));
   const report = new RejectedLines(engine, lines, describeAddress).reportLines(inputs, answers[0]);
   print(joinLines(report));

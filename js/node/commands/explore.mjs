@@ -1,4 +1,4 @@
-// `mcs4 explore`: searches for key sequences that break a property, with the modules of js/core/explore. The search uses the WebAssembly module
+// `mcs4 explore`: searches for key sequences that violate a property, with the modules of js/core/explore. The search uses the WebAssembly module
 // from the page.
 import { join } from "node:path";
 import { hasExpectedResult, formatTap, formatReportTests } from "../../core/explore/report.js";
@@ -8,10 +8,10 @@ import { InputTexts } from "../input_texts.mjs";
 import { UsageError, print } from "../output.mjs";
 import { temporaryFolder } from "../temporary_folders.mjs";
 import { checkOutputFile, writeUserFile } from "../user_files.mjs";
-import { NO_FINDS, NO_REPORT, excludeEachOther } from "../../words/commands.js";
+import { NOT_COUNTEREXAMPLES, NO_REPORT, excludeEachOther } from "../../words/commands.js";
 
 /** The texts at the beginning of the files that the command writes. */
-const FINDS_HEADER = "# Found by ";
+const COUNTEREXAMPLES_HEADER = "# Found by ";
 const REPORT_HEADER = "{\"form\":\"explore 1\"";
 /** The maximum and the default of each numeric option. */
 const SECONDS_RANGE = { max: 86400, defaultValue: 10 };
@@ -38,7 +38,7 @@ export async function run(values, positionals) {
   const names = merge ? positionals : await resolveFileNames(folder, positionals);
   if (merge) checkArguments(names, ["REPORT"], Infinity);
   else checkArguments(names, ["BOARD", "PROGRAM", "PROPERTIES"], 3, true);
-  if (out !== undefined) checkOutputFile(out, FINDS_HEADER, NO_FINDS, names);
+  if (out !== undefined) checkOutputFile(out, COUNTEREXAMPLES_HEADER, NOT_COUNTEREXAMPLES, names);
   if (reportName !== undefined) checkOutputFile(reportName, REPORT_HEADER, NO_REPORT, names);
   const report = merge ? mergeReports(names) : await searchTexts(names, { ...limits, allowsModel: Boolean(values["allow-model"]) });
   if (reportName !== undefined) writeUserFile(reportName, `${JSON.stringify(report)}\n`);

@@ -1,4 +1,4 @@
-// `mcs4 names`: replaces a program's names in session lines with their addresses.
+// `mcs4 names`: replaces the names of a program by their addresses in session lines.
 import { replaceNames } from "../../core/bench/name_substitution.js";
 import { inLine } from "../../words/commands.js";
 import { checkArguments, findProject } from "../arguments.mjs";

@@ -7,7 +7,7 @@ import { missingParts } from "../../core/board/face_board.js";
 import { sortByLine } from "../../core/board/face.js";
 import { Panel } from "../../core/panel/terminal_panel.js";
 import { Screen, fitsPanel, middleRows } from "../../core/panel/screen.js";
-import { otherBoard } from "../../words/commands.js";
+import { boardDiffers } from "../../words/commands.js";
 import { noteOfBoard } from "../../words/panel.js";
 import { checkArguments, findProject } from "../arguments.mjs";
 import { readBoardAndFace } from "../board_file.mjs";
@@ -43,7 +43,7 @@ async function resolveNames({ folder, source }, words) {
 }
 
 /**
- * Serves lines. Returns the lines of their answers.
+ * Serves lines. Resolves to the lines of their answers.
  * @param {SessionProcess} session
  * @param {string} lines
  */
@@ -55,7 +55,7 @@ async function readAnswers(session, lines) {
 }
 
 /**
- * Reads the board and the program. Throws an error if the board differs from the session's board, or the program from the contents of its ROM.
+ * Reads the board and the program. Throws an error if they differ from the session's board or from the contents of its ROM.
  * @param {SessionProcess} session
  * @param {string} name the session's file name
  * @param {{ board: GivenText, program: GivenText | null }} texts
@@ -65,7 +65,7 @@ async function readTexts(session, name, texts) {
   const { board, face, answers } = await readBoardAndFace(engine, texts.board);
   const boardDifferences = differingLines(await readAnswers(session, "board\n"), answers);
   const { name: boardName } = texts.board;
-  if (boardDifferences.length > 0) throw new CommandError([`${otherBoard(boardName)} (< ${name}, > ${boardName})`, ...boardDifferences].join("\n"));
+  if (boardDifferences.length > 0) throw new CommandError([`${boardDiffers(boardName)} (< ${name}, > ${boardName})`, ...boardDifferences].join("\n"));
   const { program } = texts;
   const map = program && await readCheckedMap(engine, parseRomCodes(await readAnswers(session, listQueries(PAGE_NUMBERS))), program);
   endEngine();
@@ -96,7 +96,7 @@ async function drawFrame(terminal, panel, screen) {
 }
 
 /**
- * Handles typed keys until the next frame is due. While time is paused, a frame is due after each key.
+ * Handles typed keys until the next frame is due. While the session is paused, a frame is due after each key.
  * @param {PanelTerminal} terminal
  * @param {Panel} panel
  * @param {number} nextFrameTime the time of the next frame, in milliseconds

@@ -2,10 +2,10 @@
 import { ExecutionRecorder } from "../../core/testing/recorders.js";
 import { profileText } from "../../core/testing/profile_text.js";
 import { print } from "../output.mjs";
-import { testOrCount } from "../test_commands.mjs";
+import { runTestsOrSession } from "../test_commands.mjs";
 
 /** @type {import("./table.mjs").CommandModule["run"]} */
 export function run({ folder, session }, positionals) {
   const report = ({ profile }) => print(profileText(profile));
-  return testOrCount({ name: "profile", Counting: ExecutionRecorder, report }, { folder, session }, positionals);
+  return runTestsOrSession({ name: "profile", Counting: ExecutionRecorder, report }, { folder, session }, positionals);
 }

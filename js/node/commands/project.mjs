@@ -12,13 +12,13 @@ import { endOnSignals, rejectedTextsError, startEngine } from "../native_program
 import { CommandError, UsageError } from "../output.mjs";
 import { isInside, checkOutputFile, readUserFile, statInput, writeNewFiles, writeUserFile } from "../user_files.mjs";
 
-const PROJECT_BEGINS = "fethsaim project ";
-const SESSION_BEGINS = "MCS4BEN1";
+const PROJECT_HEADER = "fethsaim project ";
+const SESSION_HEADER = "MCS4BEN1";
 /** The kinds of texts that a folder can have several of. A project file can have only one of each. */
 const LIST_KINDS = /** @type {const} */ (["tests", "properties"]);
 
 /**
- * Calls `operation` and returns its result. If a text is not a valid project, throws an error that names the file.
+ * Calls `operation` and returns its result. If a text is not a valid project, throws an error with the name of the file.
  * @template Result
  * @param {string} name
  * @param {() => Result} operation
@@ -44,7 +44,7 @@ function writeProjectFiles(name, folder) {
 // --- join ---
 
 /**
- * Reads a file in a folder. Throws an error if a link leads out of the folder.
+ * Returns the contents of a file in a folder. Throws an error if a link leads out of the folder.
  * @param {string} folder
  * @param {string} name the path of the file, including the folder
  */
@@ -96,7 +96,7 @@ async function readSession(folder, names, texts) {
   if (existsSync(name)) {
     const bytes = readFileIn(folder, name);
     if (!bytes.equals(readFileIn(folder, name))) throw new CommandError(say.inUse(name));
-    if (bytes.length === SESSION_BYTES && bytes.toString("latin1").startsWith(SESSION_BEGINS)) return bytes;
+    if (bytes.length === SESSION_BYTES && bytes.toString("latin1").startsWith(SESSION_HEADER)) return bytes;
     throw new CommandError(say.noSessionFile(name));
   }
   const engine = await startEngine();
@@ -109,7 +109,7 @@ async function readSession(folder, names, texts) {
 }
 
 /**
- * Returns the name of the project in a folder: the first line of its name file, or the folder's name.
+ * Returns the name of the project in a folder: the first line of its name file, or else the name of the folder.
  * @param {string} folder
  */
 function projectName(folder) {
@@ -139,7 +139,7 @@ function readList(folder, part, parse) {
  */
 async function joinFiles(folder, name) {
   if (!statInput(folder)?.isDirectory()) throw new CommandError(say.noFolder(folder));
-  checkOutputFile(name, PROJECT_BEGINS, say.NO_PROJECT, []);
+  checkOutputFile(name, PROJECT_HEADER, say.NOT_A_PROJECT, []);
   const names = await textPaths(folder);
   const [boardText, programText, testText, propertiesText] = [names.board, names.program, names.tests, names.properties]
     .map((path) => (path === "" ? "" : readText(folder, path)));

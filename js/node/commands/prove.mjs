@@ -7,10 +7,10 @@ import { ProgressLine } from "../progress_line.mjs";
 import { beginProving } from "../proof_search.mjs";
 import { provingSoFar } from "../../words/prove.js";
 
-/** The maximum and the default of the number of states to search. */
+/** The maximum and the default number of states to search. */
 const STATES_RANGE = { max: 999999999, defaultValue: 1000000 };
 
-/** The maximum of the memory option, in MB. */
+/** The maximum value of the memory option, in MB. */
 const MAX_MEMORY = 1000000;
 
 /** @type {import("./table.mjs").CommandModule["run"]} */
@@ -26,7 +26,7 @@ export async function run({ folder, most: statesWord, memory: memoryWord }, posi
 }
 
 /**
- * Judges all properties. Prints the result of each as soon as it is known. Returns the exit status.
+ * Proves or disproves all properties. Prints the result of each one as soon as it is known. Resolves to the exit status.
  * @param {import("../../core/prove/property_judge.js").PropertyJudge} judging
  * @param {string} file the name of the properties file
  */

@@ -3,9 +3,9 @@ import { spawn } from "node:child_process";
 import { once } from "node:events";
 import { parseRefusal } from "../../core/bench/answers.js";
 import { compareWithScript } from "../../core/bench/script_progress.js";
-import { changedMeanwhile, notBegun, sessionRefused, sessionWasRefused } from "../../words/commands.js";
+import { changedMeanwhile, scriptDoesNotMatch, sessionRefused, sessionWasRefused } from "../../words/commands.js";
 import { checkArguments } from "../arguments.mjs";
-import { InputTexts, MAX_TEXT_BYTES, MAX_SCRIPT } from "../input_texts.mjs";
+import { InputTexts, MAX_TEXT_BYTES, MAX_SCRIPT_BYTES } from "../input_texts.mjs";
 import { yieldToMessages, openSession, programPath, startEngine } from "../native_program.mjs";
 import { CommandError, printBytes, printError } from "../output.mjs";
 import { describeRefusal } from "../rejected_texts.mjs";
@@ -13,7 +13,8 @@ import { describeRefusal } from "../rejected_texts.mjs";
 const OPENING_LINES = /^session \d+\n/;
 
 /**
- * Prints answers as they arrive and returns null. If the first line is not a session's opening, prints nothing and returns that line.
+ * Prints answers as they arrive, and resolves to null. If the first line does not say that the session is open, prints nothing and resolves to that
+ * line.
  * @param {import("node:stream").Readable} stream
  */
 async function printAnswers(stream) {
@@ -30,7 +31,7 @@ async function printAnswers(stream) {
 }
 
 /**
- * Serves bytes in a session and prints the answers. Returns the exit status.
+ * Serves the bytes of a script in a session, and prints the answers. Resolves to the exit status.
  * @param {string} session the session's file name
  * @param {Buffer} bytes
  */
@@ -54,7 +55,7 @@ async function serveBytes(session, bytes) {
  * @param {Buffer} bytes
  * @param {number} lines the number of lines to skip
  */
-function afterLines(bytes, lines) {
+function skipLines(bytes, lines) {
   let offset = 0;
   for (let remaining = lines; remaining > 0 && offset < bytes.length; remaining--) {
     const lineEnd = bytes.indexOf("\n", offset);
@@ -68,7 +69,7 @@ export async function run(_, positionals) {
   checkArguments(positionals, ["SCRIPT", "SESSION"]);
   const [scriptName, session] = positionals;
   const texts = new InputTexts();
-  const bytes = texts.read(scriptName, MAX_SCRIPT);
+  const bytes = texts.read(scriptName, MAX_SCRIPT_BYTES);
   const sessionBytes = texts.read(session, MAX_TEXT_BYTES);
   // If there is no native program, fail before anything else.
   programPath();
@@ -76,7 +77,7 @@ export async function run(_, positionals) {
   const { lines, words, differing: differingLines } = await compareWithScript(
     engine, await openSession(engine, texts, session), bytes.toString("latin1"), yieldToMessages,
   );
-  if (words !== "") throw new CommandError(notBegun(session, scriptName, words, differingLines));
+  if (words !== "") throw new CommandError(scriptDoesNotMatch(session, scriptName, words, differingLines));
   if (!texts.read(session, MAX_TEXT_BYTES).equals(sessionBytes)) throw new CommandError(changedMeanwhile(session));
-  return serveBytes(session, afterLines(bytes, lines));
+  return serveBytes(session, skipLines(bytes, lines));
 }

@@ -7,7 +7,7 @@ import { NotARecord, NotAnImage, readBytes, readHex, writeHex } from "../../core
 import { createByteTexts } from "../../core/text/asm_texts.js";
 import * as say from "../../words/commands.js";
 import { checkArguments } from "../arguments.mjs";
-import { InputTexts, MAX_ANSWERS, MAX_TEXT_BYTES, STANDARD_INPUT } from "../input_texts.mjs";
+import { InputTexts, MAX_ANSWERS_BYTES, MAX_TEXT_BYTES, STANDARD_INPUT } from "../input_texts.mjs";
 import { CommandError, UsageError, print, printBytes } from "../output.mjs";
 import { readStream } from "../user_files.mjs";
 
@@ -32,7 +32,7 @@ function chooseFormat(action, values) {
 }
 
 /**
- * Parses an image. Returns its bytes, placed from an address.
+ * Parses a ROM image. Returns its bytes, which start at an address.
  * @param {ImageFormat} form
  * @param {Buffer} file
  * @param {number} address
@@ -71,7 +71,7 @@ function parseRange(words) {
   checkArguments(words, ["FIRST", "COUNT"]);
   const [first, count] = words.map(parseNumber);
   if (Number.isNaN(first) || Number.isNaN(count)) throw new UsageError(say.NUMBERS_OF_RANGE);
-  if (first >= ADDRESS_COUNT || count < 1 || first + count > ADDRESS_COUNT) throw new UsageError(say.RANGE);
+  if (first >= ADDRESS_COUNT || count < 1 || first + count > ADDRESS_COUNT) throw new UsageError(say.BYTE_RANGE_SYNTAX);
   return { first, count };
 }
 
@@ -89,7 +89,7 @@ function printQueries(words) {
 }
 
 /**
- * Returns the bytes of a range from answers. A later answer overrides an earlier one.
+ * Returns the bytes of a range, which the answers contain. A later answer overrides an earlier one.
  * @param {string} answers
  * @param {{ first: number, count: number }} range
  */
@@ -114,7 +114,7 @@ function printImage(form, words) {
   const range = parseRange(words);
   const { first, count } = range;
   if (form === "binary" && process.stdout.isTTY) throw new CommandError(say.NO_TERMINAL);
-  const answers = readStream(STANDARD_INPUT, "-", MAX_ANSWERS);
+  const answers = readStream(STANDARD_INPUT, "-", MAX_ANSWERS_BYTES);
   if (answers.length === 0) throw new CommandError(say.NO_ANSWERS);
   const bytes = readAnswerBytes(answers.toString("latin1"), range);
   if (form === "hex") print(writeHex(bytes));

@@ -11,7 +11,7 @@ import { rejectedTextsError, startEngine } from "../native_program.mjs";
 import { printFile } from "../output.mjs";
 
 /**
- * Returns a text with its comments, or without them if it would be too long for the bench.
+ * Returns a text with its comments; without them if the text would otherwise be too long for the bench.
  * @param {string} text
  * @param {import("../../core/text/sendable_text.js").CommentMark} mark
  */

@@ -1,10 +1,10 @@
 // The command table. Argument parsing, help, manual pages and completions are generated from it. The descriptions are in js/words/commands.js, under
-// the same names. A command's module exports `run(values, positionals)`, which returns the exit status or a promise of it.
+// the same names. The module of a command exports `run(values, positionals)`, which returns the exit status or a promise of it.
 
 /**
  * @typedef {import("../../words/commands.js").CommandName} CommandName
  *
- * An option in the form that `parseArgs` of node:util accepts. `value` is the name of its value in the help.
+ * An option in the form that `parseArgs` of node:util accepts, with one more member: `value` is the name of its value in the help.
  * @typedef {{ type: "string" | "boolean", short?: string, multiple?: boolean, value?: string }} Option
  *
  * `Values` are the options' values by their long names. `CommandModule` is the module of a command.

@@ -8,7 +8,7 @@ import { yieldToMessages, openSession, readCheckedMap, startEngine } from "../na
 import { UsageError, print } from "../output.mjs";
 
 const MAX_CYCLES = 100000;
-const MAX_LAST = 10000;
+const MAX_LAST_INSTRUCTIONS = 10000;
 const MAX_CYCLES_WITH_LAST = 100000000;
 
 /**
@@ -25,7 +25,7 @@ async function findProgramName({ folder, names, source }) {
 export async function run(values, words) {
   checkArguments(words, ["SESSION", "CYCLES"]);
   const [session, word] = words;
-  const lastCount = values.last === undefined ? 0 : parseCount("N", values.last, MAX_LAST);
+  const lastCount = values.last === undefined ? 0 : parseCount("N", values.last, MAX_LAST_INSTRUCTIONS);
   const cycles = parseCount("CYCLES", word, lastCount > 0 ? MAX_CYCLES_WITH_LAST : MAX_CYCLES);
   const programName = await findProgramName(values);
   const texts = new InputTexts();

@@ -1,4 +1,4 @@
-// `mcs4 wave`: prints a board's lines over time as a VCD file, or writes a buzzer's sound as a WAV file.
+// `mcs4 wave`: prints the levels of a board's lines over time as a VCD file, or writes the sound of a buzzer as a WAV file.
 import { readBoard } from "../../core/bench/answers.js";
 import { hasOutput } from "../../core/board/face_board.js";
 import { Face } from "../../core/board/face.js";
@@ -21,7 +21,8 @@ import { checkOutputFile, writeUserFile } from "../user_files.mjs";
  * @typedef {import("../input_texts.mjs").GivenText} GivenText
  * @typedef {import("./table.mjs").Values} Values
  *
- * An opened session: its state without breakpoints and watches, its board, and the board's text. `program` is the program with its labels.
+ * An opened session. `state` is its state without breakpoints and watches. `boardText` is the text of its board; null if none is given. `program` is
+ * the program with its labels; null without labels.
  * @typedef {{ engine: import("../../core/engine/engine_host.js").EngineHost, state: Uint8Array, board: import("../../core/bench/answers.js").Board,
  *   boardText: GivenText | null, face: Face, program: import("../../core/engine/wave_recorder.js").RecordedProgram | null }} OpenedSession
  */
@@ -31,7 +32,7 @@ const MAX_CYCLES = 10000000;
 const WAV_HEADER = "RIFF";
 
 /**
- * Returns the file names of board and program, from the options or from the project (undefined for none).
+ * Resolves to the file names of board and program, from the options or from the project (undefined for none).
  * @param {Values} values
  */
 async function resolveNames({ folder, board, names }) {
@@ -48,7 +49,7 @@ async function resolveNames({ folder, board, names }) {
 async function checkBoard(engine, boardFile, wantedAnswers) {
   const { faults, answers } = wireBoard(engine, boardFile.text);
   if (faults.length > 0) throw await rejectedTextsError(engine, { board: boardFile }, faults);
-  if (answers.join() !== wantedAnswers.join()) throw new CommandError(say.otherBoard(boardFile.name));
+  if (answers.join() !== wantedAnswers.join()) throw new CommandError(say.boardDiffers(boardFile.name));
   const nameErrors = findNameErrors(new Face(boardFile.text), readBoard(answers));
   if (nameErrors.length > 0) throw await rejectedTextsError(engine, { board: boardFile }, nameErrors);
 }
@@ -77,7 +78,7 @@ async function openWiredSession(session, { board: boardName, program: programNam
 const readBoardText = ({ boardText }) => (boardText ? boardText.text : "");
 
 /**
- * Calls `choose` and returns its result. Throws a CommandError if a line does not exist on the board.
+ * Calls `choose`, which chooses lines, and returns its result. Throws a CommandError if a line does not exist on the board.
  * @template Result
  * @param {() => Result} choose
  */
@@ -119,7 +120,7 @@ async function printVcd(openedSession, cycles, words) {
 }
 
 /**
- * Returns the line that drives the buzzer: `word`, or the line that the front panel names.
+ * Returns the line that drives the buzzer: `word` if it is given; otherwise the line that the front panel names.
  * @param {OpenedSession} openedSession
  * @param {string | undefined} word
  */
@@ -167,7 +168,7 @@ export async function run(values, words) {
   const [session, word, ...lines] = words;
   const cycles = isList ? 0 : parseCount("CYCLES", word, MAX_CYCLES);
   const names = await resolveNames(values);
-  if (wav !== undefined) checkOutputFile(wav, WAV_HEADER, say.NO_WAV, names.board === undefined ? [session] : [session, names.board]);
+  if (wav !== undefined) checkOutputFile(wav, WAV_HEADER, say.NOT_A_WAV_FILE, names.board === undefined ? [session] : [session, names.board]);
   const openedSession = await openWiredSession(session, wav === undefined ? names : { ...names, program: undefined });
   const { board, program } = openedSession;
   if (isList) print(listRequestableNames(board, readBoardText(openedSession), program !== null).map((name) => `${name}\n`).join(""));
