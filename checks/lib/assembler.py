@@ -1,4 +1,4 @@
-"""An assembler written only from the manual's chapter. It returns a program's bytes or the first refusal. It shares no code with the bench."""
+"""A second assembler, written from the manual's chapter alone. It returns a program's bytes or its first error. It shares no code with the bench."""
 
 import re
 
@@ -20,7 +20,7 @@ MAX_ERRORS = 100
 
 
 class Refused(Exception):
-    """A refusal: its number, and the line that it names, from 1 (0 if it names none)."""
+    """An error in a program: the error's number in the manual, and the number of the wrong line, from 1 (0 if no single line is wrong)."""
 
 
 def number_of(word):
@@ -34,18 +34,18 @@ def is_name(word):
 
 
 def tokens(line):
-    """Returns the tokens of a line: words, the three signs, and `?` for any other character."""
+    """Returns the tokens of a line: words, the signs `,`, `:` and `=`, and `?` for any other character."""
     return [token if re.match("[A-Za-z0-9_,:=]", token) else "?" for token in re.findall(r"[A-Za-z0-9_]+|[^ \t]", line.split(";")[0])]
 
 
 def values_of(words):
-    """Returns the values of words: a number for a number, and the text for a name. Returns None if any word is neither."""
+    """Converts each word that is a number to an integer, and leaves each name as it is. Returns None if any word is neither."""
     values = [number if (number := number_of(word)) is not None else word if is_name(word) else None for word in words]
     return None if None in values else values
 
 
 def statement(words):
-    """Returns a parsed statement: its kind (`ORG`, `DB`, a row of WITH_VALUES, or `CODE`) and its values. Returns None if the words are not a
+    """Parses a statement. Returns its kind (`ORG`, `DB`, a mnemonic with values, or `CODE`) and its values, or None if the words are not a
     statement."""
     name, rest = words[0].upper(), words[1:]
     if name in ALONE:
@@ -77,7 +77,8 @@ def statement(words):
 
 
 def said(line):
-    """Parses a line into a name with a number, or into a label and a statement, each of which can be None. Returns None if the syntax is wrong."""
+    """Parses a line. Returns `=`, a name and its number for a definition; otherwise `:`, a label and a statement, which can both be None. Returns
+    None if the syntax is wrong."""
     words = tokens(line)
     if len(words) == 3 and words[1] == "=":
         return ("=", words[0], number_of(words[2])) if is_name(words[0]) and number_of(words[2]) is not None else None
@@ -101,7 +102,7 @@ def size_of(parsed):
 
 
 class Places:
-    """The statements of the lines so far with their addresses, and the names."""
+    """The first pass: the statements that were read so far with their addresses, and the values of the names."""
 
     def __init__(self):
         self.at, self.rows, self.names = 0, [], {}
@@ -162,7 +163,7 @@ def bytes_of(at, parsed, names, number):
 
 
 class Image:
-    """The bytes by address. For each line, also its address and its number of bytes."""
+    """The second pass: the assembled bytes by address, and the address and number of bytes of each line."""
 
     def __init__(self, names):
         self.bytes, self.spans, self.names = {}, [], names
@@ -189,7 +190,7 @@ def assemble(lines):
 
 
 def errors_of(lines):
-    """Returns the number and line of each error. Errors in bytes are included only if no line is wrong on its own or because of earlier lines."""
+    """Returns the number and line of each error. The errors of the second pass are included only if the first pass found none."""
     places, found = Places(), []
     for line in lines:
         try:
@@ -210,7 +211,7 @@ def errors_of(lines):
 
 
 def judge(lines):
-    """Raises Refused for errors that do not depend on the statements."""
+    """Raises Refused if the text or a line is too long, or has a character that is not allowed."""
     if sum(len(line) + 1 for line in lines) > 16384:
         raise Refused(13, 0)
     if any(len(line) > 255 for line in lines):

@@ -1,7 +1,8 @@
-"""The bench's answers to lines as docs/MANUAL.md ("Lines") defines them, with the board of board4004.py. It is a second implementation of the
-commands, of `regs`, `state`, `lamps`, `ram`, `list`, `breaks` and `seq`, and of `count` and `trace`, which run a copy. Python's TOML parser reads
-the texts of boards, and assembler.py reads the programs. The only rejections it supports are those of keys, places and ROM chips that the board
-lacks.
+"""A second implementation of the bench's answers to lines, which docs/MANUAL.md ("Lines") defines. It runs the board of board4004.py.
+
+It implements the commands and these queries: `regs`, `state`, `lamps`, `ram`, `list`, `breaks` and `seq`, and also `count` and `trace`, which run
+a copy of the board. Python's TOML parser reads the texts of boards, and assembler.py reads the programs. It rejects only a key, a RAM chip or a
+ROM chip that the board lacks, and assumes that all other lines are valid.
 """
 
 from __future__ import annotations
@@ -15,7 +16,7 @@ from board4004 import CODES, TWO_WORDS, Board, line_of
 
 # The conditional jumps.
 BRANCHES = ("JCN", "ISZ")
-# How `trace` shows the places that have a single word, by the pattern of the place.
+# The places whose value `trace` prints as one word: the pattern of the place, and a function that returns the word.
 PLACES: list[tuple[str, Callable[..., str]]] = [
     (r"acc", lambda board: f"{board.acc:X}"),
     (r"cy", lambda board: f"{board.cy}"),
@@ -52,8 +53,8 @@ def reader_of(place: str) -> Callable[[Board], str]:
 
 
 def counted(board: Board, most: int) -> tuple[Counter[int], Counter[int], int, str]:
-    """Runs a board. Returns how often an instruction began at each address, how often the next instruction was not at the following address, the
-    number of cycles, and the reason for the stop."""
+    """Runs a board. Returns how often the instruction at each address was executed, how often it jumped, the number of cycles, and the reason for
+    the stop."""
     runs: Counter[int] = Counter()
     jumps: Counter[int] = Counter()
 
@@ -65,15 +66,15 @@ def counted(board: Board, most: int) -> tuple[Counter[int], Counter[int], int, s
 
 
 def count_answer(board: Board, most: int) -> list[str]:
-    """Returns the answer to `count n`: the addresses at which a run would begin instructions and how often, and how often JCN and ISZ would jump."""
+    """Returns the answer to `count n`: how often a run would execute the instruction at each address, and how often its JCN and ISZ would jump."""
     runs, jumps, done, stop = counted(board.copy(), most)
     lines = [f"{at:03X} {runs[at]}" + (f" {jumps[at]}" if CODES[board.rom[at]][0] in BRANCHES else "") for at in sorted(runs)]
     return [f"count ran {done} {stop} lines {len(lines)}", *lines]
 
 
 def trace_answer(board: Board, most: int, places: list[str]) -> list[str]:
-    """Returns the answer to `trace n PLACE ..`: the instructions that a run would begin and that would change one of the places. Without places,
-    returns all instructions."""
+    """Returns the answer to `trace n PLACE ..`: the instructions in the next n cycles that would change one of the places, or all instructions if
+    no place is given."""
     ahead, readers = board.copy(), [reader_of(place) for place in places]
     lines: list[str] = []
 
@@ -158,7 +159,7 @@ class Bench:
         self.seq = 0
 
     def dialogue(self, script: Iterable[str]) -> Iterator[tuple[str, list[str]]]:
-        """Yields the lines of a script that have an answer, each with its answer. Starts with the `session` line."""
+        """Yields each line of a script that has an answer, with that answer. Starts with the `session` line."""
         yield "", [f"session {self.seq}"]
         lines = iter(script)
         for line in lines:
@@ -169,7 +170,7 @@ class Bench:
                 yield line, self.answer(*words)
 
     def answer(self, word: str, *rest: object) -> list[str]:
-        """Returns the answer to a line, or to a text that a word opens."""
+        """Returns the answer to a line, or to a command word that is followed by a text."""
         if word in QUERIES:
             return QUERIES[word](self, *rest)
         reply = COMMANDS[word](self.board, *rest)
@@ -192,7 +193,7 @@ QUERIES: dict[str, Callable[..., list[str]]] = {
 }
 
 
-# ---- commands: each returns the words after `ok N`, or a refusal
+# ---- commands: each returns the words after `ok N`, or the answer `no N` if it rejects the command
 
 def wire(board: Board, text: list[str]) -> str:
     """Replaces the board."""
@@ -237,7 +238,7 @@ def put_test(board: Board, level: str) -> str:
 
 
 def poke(board: Board, place: str, text: str) -> str:
-    """Sets the value of a place."""
+    """Sets the value of a register or of a memory cell, which `place` names."""
     kind, *words = place.split(".")
     numbers, value = [number(word) for word in words], number(text)
     if kind == "rom":

@@ -21,7 +21,7 @@ Line = tuple[str, tuple[int, ...]]
 
 
 def table() -> dict[int, tuple[str, int]]:
-    """Returns the instruction for each valid code, with the number in the code's lower half: a register, a pair or a value."""
+    """Returns the mnemonic for each valid code, with the number in the code's lower half: a register, a pair or a value."""
     codes = {code: (name, 0) for name, code in ALONE.items()}
     for name, code in [*ON_REGISTER.items(), *((name, WITH_VALUES[name][1]) for name in ("JCN", "JUN", "JMS", "ISZ", "BBL", "LDM"))]:
         codes.update({code + low: (name, low) for low in range(16)})
@@ -44,7 +44,7 @@ class Chips:
 
     def __init__(self, text: str = "") -> None:
         wiring = tomllib.loads(text)
-        # The masks have line 0 first.
+        # A port's text begins with line 3, and a mask begins with line 0.
         self.masks = {part["chip"]: part["port"][::-1] for part in wiring.get("rom", [])}
         self.chips = {part["bank"]: part["chips"] for part in wiring.get("ram", [])}
         self.clocks = [(line_of(part["clock"]), line_of(part["data"])) for part in wiring.get("chain", [])]
@@ -196,7 +196,7 @@ class Board:
     # ---- cycles
 
     def is_outside(self) -> bool:
-        """Returns true if the code at the counter is not an instruction."""
+        """Returns true if the byte at the program counter is not the code of an instruction."""
         return self.rom[self.pc] not in CODES
 
     def cycle(self) -> None:
@@ -248,7 +248,7 @@ class Board:
         return done, stop
 
 
-# ---- the instructions; the counter already points past their words
+# ---- the instructions; when they run, the program counter already points past their words
 
 def jump_on_page(board: Board, low: int) -> None:
     """Jumps to a word in the page of the counter."""

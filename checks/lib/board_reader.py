@@ -1,5 +1,5 @@
-"""A reader of board texts, written only from the manual's chapter. It finds the first error, and the part that contains it. It shares no code with
-the bench."""
+"""A second reader of board texts, written from the manual's chapter alone. It finds the first error, and the part of the text that contains it. It
+shares no code with the bench."""
 
 import re
 import tomllib
@@ -34,7 +34,7 @@ def is_line(value):
     return numbers_of(value) is not None
 
 
-# The keys that each table must have, with a test for their values, in the manual's order.
+# The keys that each table must have, in the manual's order, each with a function that tests its value.
 KEYS = {
     "rom": {"chip": is_within(0, 15), "port": lambda value: isinstance(value, str) and re.fullmatch("[i01]{4}", value, re.ASCII) is not None},
     "ram": {"bank": is_within(0, 7), "chips": is_within(1, 4)},
@@ -56,7 +56,7 @@ def longest_toml(lines, count):
 
 
 def tables_of(document):
-    """Yields the tables of each section, with their numbers from 1 (0 for the key matrix). Skips values that are not tables."""
+    """Yields each section's tables, with the section's name and the table's number from 1 (0 for the key matrix)."""
     for section in SECTIONS:
         whole = document.get(section, [])
         whole = [whole] if section == "keys" and "keys" in document else whole if isinstance(whole, list) else []
@@ -72,8 +72,8 @@ class BoardReading:
         self.tables = list(tables_of(document))
 
     def first(self):
-        """Returns the number of the refusal, the section, the number of the table and the key, as far as they apply. Returns None if the board is
-        valid."""
+        """Returns the first error: its number, the section, the number of the table and the key, as far as they apply. Returns None if the board
+        is valid."""
         for find in (self.unknown, self.missing, self.badly_formed, self.too_many, self.twice):
             for part in find():
                 return part
@@ -161,14 +161,14 @@ class BoardReading:
 
 
 def is_there(document, section, index, key):
-    """Returns true if a text has a part."""
+    """Returns true if a board's text has this table, or this key at the top level if `section` is empty."""
     if section == "":
         return key in document
     return section in document and (index <= 1 or not isinstance(document[section], list) or len(document[section]) >= index)
 
 
 def line_of(lines, part):
-    """Returns the first line, from 1, after which every TOML prefix of the text has a part."""
+    """Returns the number of lines in the shortest prefix of the text that is valid TOML and contains a part, as BoardReading returns it."""
     _number, section, index, key = part
     first, last = 0, len(lines)
     while last - first > 1:

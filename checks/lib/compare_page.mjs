@@ -1,7 +1,7 @@
-// Compares the page's module with the program: `node compare_page.mjs MODULE MCS4 COUNT`. Both serve examples and random scripts. The answers, the
-// exit status and each byte of the session file must be the same. This also holds if a script is split into two calls, if the file was settled
-// between them or has version 1, and if the file is damaged. When lines are split as the page splits long work, the answers must be
-// the same as in one call.
+// Compares the page's module with the program: `node compare_page.mjs MODULE MCS4 COUNT`. Both serve the examples and COUNT random scripts. The
+// answers, the exit status and each byte of the session file must be the same. This also holds if a script is split into two calls, if the file was
+// settled between them, if it has version 1, and if it is damaged. (To settle a file is to replace its records with a snapshot.) When the module gets
+// the lines in pieces, as the page does with long work, the answers must be the same as in one call.
 import { spawnSync } from "node:child_process";
 import { closeSync, existsSync, mkdtempSync, openSync, readFileSync, readdirSync, rmSync, writeFileSync } from "node:fs";
 import { tmpdir } from "node:os";
@@ -94,7 +94,7 @@ function byProgram(file, input) {
   return { output: ran.stdout.toString("latin1"), status: ran.status, file: readFileSync(path) };
 }
 
-// Returns the result of the page's call. `bench_serve` serves without settling.
+// Returns the result of a call of the page's module. `bench_serve` serves without settling.
 function byPage(engine, file, input, call = "bench_serve") {
   try {
     const { status, opened, answers } = engine.callForAnswers(call, file || engine.begin(), input);
@@ -113,7 +113,7 @@ function settle(engine, file) {
   return instance.view(instance.file, file.length).slice();
 }
 
-// Matches the beginning of the answer to an input, by the input's kind.
+// Patterns for the beginning of an answer, by the kind of input that it answers.
 const BEGINNINGS = {
   regs: /^acc /, list: /^[0-9A-F]{3} /, lamps: /^lamps /, ram: /^ram /, board: /^board$/,
   map: /^map lines /, wiring: /^wiring valid$/, errors: /^errors [0-9]+$/, breaks: /^breaks /, watches: /^watches /, seq: /^seq /, state: /^state seq /,
@@ -145,7 +145,7 @@ function compare(name, engine, file, input) {
   return wanted.file;
 }
 
-// Returns a settled file in version 1, which does not have the version byte and the number of watches. Returns null if the file has watches.
+// Converts a settled file to version 1, which lacks the version byte and the number of watches. Returns null if the file has watches.
 function asVersion1(file) {
   const slot = file[8] % 2 === 0 ? 16 : 81936;
   const length = new DataView(file.buffer, file.byteOffset).getUint32(slot);
@@ -168,7 +168,7 @@ const QUESTIONS = "seq\nstate\nregs\nlamps\nports\nwatches\nbreaks\nboard\nram 0
 
 const ALL_ROM = [...Array(16).keys()].map((page) => `list ${page * 256} 256\n`).join("");
 
-// Counts a check that does not involve the program.
+// Counts a check that does not run the program.
 function verdict(name, isRight) {
   passed += isRight ? 1 : 0;
   failed += isRight ? 0 : 1;
@@ -185,8 +185,8 @@ function compareSource(name, engine, file) {
   verdict(`${name}: the source text made of ROM gives other bytes`, again.join() === answersTo(engine, file, ALL_ROM).join());
 }
 
-// Returns the contents of a file's active slot, as docs/FORMAT.md defines them: the number of commands and the version in its snapshot, and whether
-// records follow.
+// Reads a file's active slot, as docs/FORMAT.md defines it. Returns the number of commands and the version in its snapshot, and whether records
+// follow.
 function held(file) {
   const slot = file[8] % 2 === 0 ? 16 : 81936;
   const seq = new DataView(file.buffer, file.byteOffset).getUint32(slot + 4);
@@ -202,7 +202,7 @@ function checkSettled(name, file, seq) {
 
 const seqOf = (engine, file) => Number(answersTo(engine, file, "seq\n")[0].split(" ")[1]);
 
-// Splits lines as the page splits long work, serving and settling each piece. Checks that the answers are the same as in one call.
+// Serves lines in pieces, as the page does with long work, and settles after each piece. Checks that the answers are the same as in one call.
 function compareInPieces(name, engine, file, input) {
   const bytes = Uint8Array.from(file);
   const answers = [engine.ask(file, "").opened];

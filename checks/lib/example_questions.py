@@ -1,5 +1,5 @@
-"""Questions to mcs4-prove about the examples: the nevers, the times and the presses in their properties as comparisons, and the expected answers.
-Also mutants: examples in which one instruction is replaced by another one.
+"""Questions to mcs4-prove about the examples, with the expected answers. The conditions in the examples' properties (`never` lines, lines with a time
+limit, and lines with key presses) are written as comparisons of the machine's cells. Also has mutants: examples in which one instruction is replaced.
 """
 
 from __future__ import annotations
@@ -19,7 +19,7 @@ MUTANT_MAX_STATES, MUTANT_PAUSE = 120, 1000
 
 
 def texts_of(props: str) -> tuple[list[str], list[str]]:
-    """Returns the board and the program that belong to a properties file."""
+    """Returns the texts of the board and of the program that belong to a properties file."""
     path = EXAMPLE_FILES / props
     if path.with_name("board.toml").exists():
         texts = path.with_name("board.toml"), path.with_name(f"{path.parent.name}.asm")
@@ -35,7 +35,8 @@ def texts_of(props: str) -> tuple[list[str], list[str]]:
 
 
 def comparisons_of(words: str, names: dict[str, int]) -> list[Comparison]:
-    """Returns the comparisons in a list joined with `&`. `@label` compares the counter between two instructions."""
+    """Parses comparisons that are joined with `&`. `@label` becomes the comparison that the program counter is at that label, between two
+    instructions."""
     rows: list[Comparison] = []
     for each in words.split(" & "):
         if each.startswith("@"):
@@ -61,7 +62,7 @@ GREEN, AMBER, WALK = "in ramport 0 line2 1 1", "in ramport 0 line1 1 1", "in ram
 
 @dataclass
 class Example:
-    """The nevers of a properties file with their comparisons. Also the answer to all of them together, and the limits of the search."""
+    """The `never` conditions of a properties file with their comparisons, the answer to all of them together, and the limits of the search."""
 
     props: str
     answer: str
@@ -104,8 +105,8 @@ EXAMPLES = [
 ]
 # The answers of longer searches, which need a gigabyte of memory. The search of the clock takes minutes.
 LONGER = {"counter.props": "holds 2240113"}
-# The possible outputs of RAM ports, by index, in the examples whose mutants are searched. The lock, the traffic light and the three lamps never show
-# other values, whatever is pressed.
+# The values that each RAM port, by its index, can output in the examples that have mutants. The lock, the traffic light and the three lamps never
+# output other values, whatever is pressed.
 SHOWN = {
     "die.props": {0: (0, 1, 3, 7, 8, 9, 11)},
     "lock/lock.props": {0: (0, 1, 2, 5)},
@@ -115,14 +116,14 @@ SHOWN = {
 }
 
 
-# The comparisons that describe the counter at power-on.
+# The comparisons that are true while the program counter has its value after power-on.
 AT_FIRST = "in counter 3 whole 0 0 & in counter 4 whole 0 0 & in counter 5 whole 0 0"
 
 
 @dataclass
 class Timed:
-    """A line of a properties file that limits a time: the comparisons that begin and end the time, the limit in cycles, and the answer. `longest` is
-    the longest possible time, or -1 if there are too many states to know it."""
+    """A line of a properties file that limits a time: the comparisons that start and stop the stopwatch, the limit in cycles, and the answer.
+    `longest` is the longest possible time, or -1 if it is unknown because there are too many states."""
 
     props: str
     line: str
@@ -143,14 +144,14 @@ class Timed:
 
 
 def lasting(props: str, line: str, condition: str, limit: int, answer: str, longest: int = -1, most: int = 1000000) -> Timed:
-    """Returns the question how long comparisons hold together. The time ends when any of them no longer holds."""
+    """Returns the question how long comparisons are all true at the same time. The time ends when any of them becomes false."""
     comparisons = [each.split(" ", 1) for each in condition.split(" & ")]
     ends = [f"{'out' if word == 'in' else 'in'} {rest}" for word, rest in comparisons]
     return Timed(props, line, [condition], ends, limit, answer, longest, most)
 
 
 def all_off(name: str, indexes: Iterable[int]) -> str:
-    """Returns the comparisons that hold if the given cells of a list are 0."""
+    """Returns the comparisons that are true if these cells of a list are 0."""
     return " & ".join(f"in {name} {index} whole 0 0" for index in indexes)
 
 
@@ -180,14 +181,14 @@ TIMES = [
     lasting(THREE, "never lamps none for 1 ms", all_off("ramport", [0]), 93, "holds 2", 7),
     Timed(THREE, "every 6 ms @next", [AT_FIRST, "@next"], ["@next"], 556, "holds 2", 538),
 ]
-# Time limits that are not tested. Their conditions need the digits of a display, and their programs have too many states.
+# Lines with a time limit that are not tested, because their conditions need the digits of a display and their programs have too many states.
 NOT_TIMED = {"never display -0 and st.0.0.2 3 for 20 ms"}
 
 
 @dataclass
 class Pressed:
-    """A line of a file of properties with a condition that becomes true only after presses: its comparisons, the keys by row and column, and the
-    answer."""
+    """A line of a properties file that says that a condition becomes true only after key presses: the condition's comparisons, the keys to press, by
+    row and column, and the answer."""
 
     props: str
     line: str
@@ -210,7 +211,7 @@ PRESSED = [
 
 
 def pressed_in(props: str) -> list[str]:
-    """Returns the lines of a file of properties about presses that come first."""
+    """Returns the lines of a properties file that require key presses before a condition becomes true."""
     return [line for line in (EXAMPLE_FILES / props).read_text().splitlines() if " only after press " in line and not line.startswith("#")]
 
 
@@ -221,12 +222,12 @@ def times_in(props: str) -> list[str]:
 
 
 def nevers_in(props: str) -> list[str]:
-    """Returns the nevers of a properties file, except those with a time or a guard."""
+    """Returns the conditions of the `never` lines in a properties file, except those with a time or a guard."""
     lines = (EXAMPLE_FILES / props).read_text().splitlines()
     return [line.removeprefix("never ") for line in lines if line.startswith("never ") and " for " not in line]
 
 
-# The programs that make mistakes, with their mistakes. Lamps runs on into a missing ROM chip, and its second WRR has no output line.
+# The example programs that make mistakes, with their mistakes. lamps.txt runs on into a missing ROM chip, and its second WRR has no output line.
 MADE = {"lamps.txt": ("rom", "wrr")}
 PROGRAM_MAX_STATES, PROGRAM_PAUSE = 60, 1000
 
@@ -238,7 +239,7 @@ def programs() -> list[str]:
 
 
 def mistakes_of(name: str, mistakes: tuple[str, ...] = MISTAKES) -> Question:
-    """Returns the question whether an example's program makes any of these mistakes."""
+    """Returns the question of whether an example's program makes any of these mistakes."""
     path = EXAMPLE_FILES / name
     board, program = texts_of(f"{name}/{name}.props" if path.is_dir() else str(path.with_suffix(".props").name))
     return Question(board, program, [[("mistake", *mistakes)]], PROGRAM_MAX_STATES, PROGRAM_PAUSE)

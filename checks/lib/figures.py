@@ -1,4 +1,4 @@
-"""The figures about the tree that PROOF states, computed from the tree. Each is a phrase that PROOF must contain."""
+"""The numbers that docs/PROOF.md states about the repository, computed from the repository. Each of them is in a phrase that PROOF must contain."""
 
 import collections
 import pathlib
@@ -16,7 +16,7 @@ def edits_by_crate():
 
 
 def edits():
-    """Yields the phrases about the edits, and about the crates without edits."""
+    """Yields the phrases about the must-fail edits, and about the crates without such edits."""
     by_crate = edits_by_crate()
     crates = sorted(path.parent.name for path in TOP.glob("crates/*/src"))
     without = [crate for crate in crates if crate not in by_crate and not re.match("test_|mcs_fixtures", crate)]
@@ -26,7 +26,7 @@ def edits():
 
 
 def sweeps():
-    """Yields the phrases about the extent of the checks in ./test and in ./test long."""
+    """Yields the table rows that say how many cases a check tries in ./test, and how many in ./test long."""
     words_of = {check.name: (check.words.split(), check.long.split()) for check in CHECKS if check.long}
     for name, place, tried in (("locks", 0, "rounds"), ("assembler", 0, "seeded programs"), ("time", 0, "seeded boards and programs"),
                                ("time", 1, "sessions of tools"), ("prove", 0, "seeded questions"), ("calculator", 0, "seeded chains"),
@@ -36,7 +36,7 @@ def sweeps():
 
 
 def checks():
-    """Yields the phrases about the checks, and about the things that they compare."""
+    """Yields the phrases about the number of wrong implementations that the checks must detect, and the name of each check."""
     yield f"{len(WRONG_BOARDS) + len(WRONG_TOOLS)} wrong readings"
     yield f"{len(WRONG_SEARCHES)} wrong searches"
     boards = re.search(r"^BOARDS = (\d+)$", (TOP / "checks/runs").read_text(), re.M)

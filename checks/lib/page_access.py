@@ -1,5 +1,5 @@
-"""The part of checks/page about users who cannot see the page or see it badly. Checks the names, roles and states that the browser reports to a
-screen reader (its accessibility tree), the order of the Tab key, and the contrast of all letters, borders, marks and lamps in both colour schemes."""
+"""The part of checks/page about accessibility. Checks the names, roles and states that the browser reports to a screen reader (its accessibility
+tree), the order in which the Tab key reaches the controls, and the contrast of all letters, borders, marks and lamps in both colour schemes."""
 
 import re
 
@@ -11,9 +11,9 @@ from web_driver import Chromium
 # The roles of controls in the accessibility tree.
 CONTROLS = {"button", "textbox", "searchbox", "combobox", "checkbox", "slider", "tab", "option", "link", "spinbutton", "DisclosureTriangle",
             "radio", "switch"}
-# Roles that need a name for orientation.
+# The roles of regions and groups, which need a name so that a user of a screen reader can tell them apart.
 PLACES = {"region", "group", "tablist", "tabpanel", "dialog", "table", "log", "complementary", "image", "alertdialog"}
-# Characters without meaning when a screen reader reads them aloud.
+# Characters that mean nothing when a screen reader reads them aloud.
 SIGNS = re.compile("[\u25b2-\u25cf\u2713]")
 
 
@@ -26,9 +26,7 @@ def check(browser, page, _folder, _mcs4):
 
 
 def check_answers_announced(browser):
-    """Checks that the answer to a sent line is announced, that a refusal is announced with its message, and that changes while time is running are
-    not announced.
-    """
+    """Checks that a screen reader announces the answer to a sent line, and an error with its message, but not the changes while time is running."""
     choose_example(browser, "three lamps")
     stop_time(browser)
     status = "return document.getElementById('answer-status').textContent"
@@ -89,7 +87,7 @@ def nodes_of(browser):
 
 
 def check_names(browser, view):
-    """Checks that each control has a name made of words, and so has each other role that needs one."""
+    """Checks that each control, region and group has a name that consists of words."""
     nodes = list(nodes_of(browser))
     without = [role for role, name, _ in nodes if role in CONTROLS and not name]
     verdict(f"{view}: all that can be used has a name", without, [])

@@ -1,6 +1,6 @@
-"""The part of checks/page about proofs. The properties of an example are proved with the same numbers of states as by mcs4 prove. An edit removes a
-mark, and undoing the edit restores it. A proof can be cancelled. A counterexample opens before the step that breaks its property, and time can go
-back from there. Also: goals, wrong numbers and texts, the keyboard, and a phone's width."""
+"""The part of checks/page about proofs. The page proves the properties of an example with the same numbers of states as `mcs4 prove`. Editing a text
+removes the mark that shows that a property is proved, and undoing the edit restores it. A proof can be cancelled. A counterexample opens before the
+step that breaks its property, and time can go back from there. Also: goals, wrong numbers and texts, the keyboard, and a phone's width."""
 
 import os
 import re
@@ -43,7 +43,7 @@ def prove(browser, states=1000000):
 
 
 def prove_to_end(browser, what, states=1000000):
-    """Starts a proof and waits for its end, when the button has its first label again."""
+    """Starts a proof and waits for its end, which the button shows by its original label."""
     prove(browser, states)
     eventually(browser, what, GET_BUTTON_WORD, "Prove", LONG)
 
@@ -59,7 +59,7 @@ def proved_by_tool(browser, folder, mcs4):
 
 
 def check_example(browser, folder, mcs4):
-    """Checks the stopwatch example, which has one more state than the first question may search."""
+    """Checks proofs of the stopwatch example: first with a limit that is one state too low, and then without."""
     choose_example(browser, "stopwatch")
     properties = [line for line in text_of(browser, "properties").splitlines() if line.startswith(("never", "every"))]
     proved = proved_by_tool(browser, folder, mcs4)
@@ -100,7 +100,7 @@ return editor.getLine(editor.getCursor('from').line).trim()"""), second)
 
 
 def check_counterexample(browser):
-    """Checks the counterexample about the lamp that can be on: its test, and the session before the step that turns the lamp on."""
+    """Checks the counterexample to a property that says that the lamp is never on: its test, and the session before the step that turns the lamp on."""
     before = text_of(browser, "tests")
     row = "#proof-list li:nth-of-type(2) .bar button"
     browser.click(f"{row}:nth-of-type(2)")

@@ -1,5 +1,5 @@
-"""The part of checks/page about time: cycles, steps over, out and to goals, going back and forward, slow motion. The page's messages
-are compared with the program, mcs4 trace and mcs4 cycles on the same session."""
+"""The part of checks/page about time: running cycles, step over, step out, run to a goal, going back and forward, and slow motion. The page's messages
+are compared with the output of the program, `mcs4 trace` and `mcs4 cycles` for the same session."""
 
 import os
 import pathlib
@@ -32,7 +32,7 @@ ALL = "seq\nstate\nram 0\nbreaks\nwatches"
 
 
 class Program:
-    """The program, which runs on separate sessions while the page runs."""
+    """Runs the program and its tools on separate sessions, for comparison with the page."""
 
     def __init__(self, folder, mcs4):
         self.folder = folder
@@ -62,7 +62,7 @@ def texts_of(name):
 
 
 def first_call(program, name):
-    """Returns the first JMS of an example: the cycles before it, the cycles of its subroutine, its address, and the next address."""
+    """Finds the first JMS that an example executes. Returns the cycles before it, the cycles of its subroutine, its address, and the next address."""
     file, _ = program.session(name, texts_of(name))
     lines = [line for line in program.tool("trace", file, 3000).splitlines() if re.match(r" *\d+  [0-9A-F]{3} ", line)]
     at = next(at for at, line in enumerate(lines) if " JMS " in line)
@@ -100,7 +100,7 @@ def state(browser):
 
 
 def check_over(browser, program, name, example):
-    """Checks steps over a JMS, into it, out of it, and to the next line. The cycles match the trace, and no breakpoint remains."""
+    """Checks stepping over a JMS, into it, out of its subroutine, and to the next line. The cycles must match the trace, and no breakpoint may remain."""
     before, over, address, behind = first_call(program, example)
     at_rest(browser, name)
     lines_answered(browser, f"run {before}")
@@ -138,7 +138,7 @@ return row.textContent.match(/[0-9A-F]{3}/)[0]""")
 
 
 def check_run_to_source(browser):
-    """Checks a run to the caret's source line with Ctrl+F10, and a run to a change of a named lamp."""
+    """Checks a run to the source line of the caret with Ctrl+F10, and a run until a named lamp changes."""
     at_rest(browser, "three lamps")
     browser.script("""
 const editor = document.querySelector("#program-editor .cm-editor").lineEditor;
@@ -152,7 +152,7 @@ editor.getInputField().dispatchEvent(new KeyboardEvent("keydown", { key: "F10", 
 
 
 def check_many(browser, program):
-    """Checks a step of several instructions, which must have the same cycles as the trace."""
+    """Checks that a step of several instructions takes the number of cycles that the trace shows."""
     file, _ = program.session("many", texts_of("three_lamps"))
     lines = [line for line in program.tool("trace", file, 400).splitlines() if re.match(r" *\d+  [0-9A-F]{3} ", line)]
     at_rest(browser, "three lamps")
@@ -165,7 +165,8 @@ def check_many(browser, program):
 
 
 def check_far(browser):
-    """Checks a step over a delay of 24 seconds, counted separately, and a step back before it. A search for a change that never happens must end."""
+    """Checks a step over a delay of 24 seconds, whose cycles are computed here, and a step back before it. Checks that a search for a change that never
+    happens ends."""
     choose_example(browser, "empty bench")
     loops = "".join(f"ISZ R{each}, loop\n" for each in range(5))
     lines_answered(browser, "wire\n[[rom]]\nchip = 0\nport = \"0000\"\n.\nasm\nJMS wait\nend: JUN end\n"
@@ -216,7 +217,7 @@ def check_stopwatch(browser):
 
 
 def check_back(browser):
-    """Checks going back and forward over keys that were pressed while time was running. The answers and the file must be the same."""
+    """Checks going back and forward past key presses. Afterwards, the answers and the file must be the same as before."""
     at_rest(browser, "calculator")
     browser.click("#run")
     for legend in "12":
@@ -257,7 +258,7 @@ def check_back(browser):
 
 
 def check_never(browser):
-    """Checks that a run to an unreachable goal can be ended with Stop, F8 and a reload, and that the session then has only its runs."""
+    """Checks that Stop, F8 and a reload end a run to an unreachable goal, and that the session then contains nothing but its runs."""
     choose_example(browser, "empty bench")
     lines_answered(browser, 'wire\n[[rom]]\nchip = 0\nport = "0000"\n.\nasm\nJMS round\nround: JUN round\n.\nstep')
     for what, stop in {"F8": lambda: browser.script(PRESS_KEY, "F8", False), "Stop": lambda: browser.click("#run")}.items():
