@@ -163,7 +163,7 @@ window.setTimeout = (act, time, ...rest) => wait(act, time === 10000 ? 300 : tim
 
 
 def poor(page, folder, code):
-    """Returns a copy of the page in which `code` takes a feature of the browser away. The copy waits 0.3 seconds for a store, the page ten seconds."""
+    """Returns a copy of the page in which `code` takes a feature of the browser away. The copy waits only 0.3 seconds for a store, instead of ten."""
     return altered(page, folder, f"{SHORTEN_WAIT}{code}")
 
 

@@ -106,7 +106,7 @@ def check_files(browser):
         eventually(browser, f"{what} is opened, asked for or refused in words",
               f"{IS_DIALOG_OPEN.replace('return', 'const asks =')}; {GET_NOTICE.replace('return', 'const text =')}; return asks || text !== ''", True)
         check_alive(browser, what)
-    # The last drop has 60 programs, which the page reads one after another. When the last of them has been read, no dialog is open.
+    # The last drop has 60 programs, which the page reads one after another. The last of them closes any dialog that is open by then.
     browser.until(GET_NOTICE, re.compile(r"^59\.asm is in Source"))
     until_ready(browser)
     browser.script(CLOSE_ALL)

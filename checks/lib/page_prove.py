@@ -59,7 +59,7 @@ def proved_by_tool(browser, folder, mcs4):
 
 
 def check_example(browser, folder, mcs4):
-    """Checks proofs of the stopwatch example: first with a limit that is one state too low, and then without."""
+    """Checks the proofs for the stopwatch example, which has one state more than the page's first, short search may visit."""
     choose_example(browser, "stopwatch")
     properties = [line for line in text_of(browser, "properties").splitlines() if line.startswith(("never", "every"))]
     proved = proved_by_tool(browser, folder, mcs4)
@@ -100,7 +100,7 @@ return editor.getLine(editor.getCursor('from').line).trim()"""), second)
 
 
 def check_counterexample(browser):
-    """Checks the counterexample to a property that says that the lamp is never on: its test, and the session before the step that turns the lamp on."""
+    """Checks the counterexample to `never lamp lit on`: its test, and the session before the step that turns the lamp on."""
     before = text_of(browser, "tests")
     row = "#proof-list li:nth-of-type(2) .bar button"
     browser.click(f"{row}:nth-of-type(2)")

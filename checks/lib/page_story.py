@@ -1,6 +1,6 @@
-"""The part of checks/page that acts like a first-time user, by keyboard alone. It gives an empty bench a board. It types a program, which is rejected,
-and corrects, runs, pauses and steps it. It loses and restores the program, saves it, and opens it again with the same bytes. Then it opens the example
-that is a project, whose session is in the state that its texts describe."""
+"""The part of checks/page that acts like a first-time user, by keyboard alone. It gives an empty bench a board. It types a program, which is
+rejected, and corrects, runs, pauses and steps it. It loses and restores the program, saves it, and opens it again with the same bytes. Then it opens
+the example that is a project, whose session is in the state that its texts describe."""
 
 import re
 import time

@@ -1,6 +1,6 @@
-"""The part of checks/page about the tests of programs. An example's tests pass. An error in the program makes a test fail at one of its lines, and the
-session opens in the state of that failure. The source shows how often each line ran. Also: a text with errors, a text without tests, a run that is
-cancelled, and saving the text with the session and in a project."""
+"""The part of checks/page about the tests of programs. An example's tests pass. An error in the program makes a test fail at one of its lines, and
+the session opens in the state of that failure. The source shows how often each line ran. Also: a text with errors, a text without tests, a run that
+is cancelled, and saving the text with the session and in a project."""
 
 import re
 import time

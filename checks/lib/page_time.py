@@ -1,5 +1,5 @@
-"""The part of checks/page about time: running cycles, step over, step out, run to a goal, going back and forward, and slow motion. The page's messages
-are compared with the output of the program, `mcs4 trace` and `mcs4 cycles` for the same session."""
+"""The part of checks/page about time: running cycles, step over, step out, run to a goal, going back and forward, and slow motion. The page's
+messages are compared with the output of the program, `mcs4 trace` and `mcs4 cycles` for the same session."""
 
 import os
 import pathlib
@@ -100,7 +100,7 @@ def state(browser):
 
 
 def check_over(browser, program, name, example):
-    """Checks stepping over a JMS, into it, out of its subroutine, and to the next line. The cycles must match the trace, and no breakpoint may remain."""
+    """Checks stepping over a JMS, into it, out of its subroutine, and to the next line. The cycles must match the trace. No breakpoint may remain."""
     before, over, address, behind = first_call(program, example)
     at_rest(browser, name)
     lines_answered(browser, f"run {before}")
@@ -165,8 +165,8 @@ def check_many(browser, program):
 
 
 def check_far(browser):
-    """Checks a step over a delay of 24 seconds, whose cycles are computed here, and a step back before it. Checks that a search for a change that never
-    happens ends."""
+    """Checks a step over a delay of 24 seconds, whose cycles are computed here, and a step back before it. Checks that a search for a change that
+    never happens ends."""
     choose_example(browser, "empty bench")
     loops = "".join(f"ISZ R{each}, loop\n" for each in range(5))
     lines_answered(browser, "wire\n[[rom]]\nchip = 0\nport = \"0000\"\n.\nasm\nJMS wait\nend: JUN end\n"

@@ -1,5 +1,5 @@
-"""The part of checks/page about common mistakes in programs. The page reports each mistake with its line when it happens, while time keeps running. If
-the mistake's check box is on, time pauses before the mistake, and can continue. For a program without mistakes, the page reports nothing."""
+"""The part of checks/page about common mistakes in programs. The page reports each mistake with its line when it happens, while time keeps running.
+If the mistake's check box is on, time pauses before the mistake, and can continue. For a program without mistakes, the page reports nothing."""
 
 import re
 import time

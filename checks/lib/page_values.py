@@ -134,7 +134,7 @@ MOVE_FOCUS = "document.activeElement.blur(); document.querySelector(arguments[0]
 
 
 def check_last_change(browser):
-    """Checks that the tip of a cell reports its last change and the instruction that made the change, and that its button goes back there."""
+    """Checks that the tip of a cell reports its last change and the instruction that made it, and that going back to the change leads there."""
     if browser.script("return document.getElementById('run').textContent") == "Pause":
         stop_time(browser)
     lines_answered(browser, "run 100\npoke ram.0.0x13 5\nrun 7")

@@ -187,7 +187,7 @@ GET_COUNT = "return document.getElementById('scope-count').textContent"
 
 
 def check_live(browser, folder, mcs4):
-    """Checks that the page records a running machine while keys are pressed. `mcs4 wave` must write the same for the session that was saved before."""
+    """Checks that the page records a running machine while keys are pressed. `mcs4 wave` must write the same for the session as it was before."""
     choose_example(browser, "calculator")
     stop_time(browser)
     session = folder / "live.mcs"

@@ -1,9 +1,9 @@
-"""Finds errors in the sentences of a document: sentences with too many words, and words that have a better replacement."""
+"""Finds errors in the sentences of a document: sentences that are too long, and words that have a better replacement."""
 
 import re
 
 WORDS = 30
-# Words at which a native reader stops, and what to write instead.
+# Patterns for words that make a native reader stop, each with the words to write instead.
 AVOIDED = {
     r"tells?|told|telling": "report, print, say or show",
     r"(?:comes?|came) (?:to|about)": "reach or happen",
@@ -36,11 +36,11 @@ AVOIDED = {
 }
 BETTER = list(AVOIDED.values())
 ANY_AVOIDED = re.compile("|".join(rf"\b(?P<word{n}>{words})\b" for n, words in enumerate(AVOIDED)), re.I)
-# The beginnings of sentences that stay as they are, with the reasons.
+# Sentences that are exempt, by their beginnings, with the reasons.
 EXCEPTIONS = {
     "*Whatever bytes the shell reads, and wherever the machine stops,": "the headline of PROOF stays word for word",
 }
-# Code, or a list of code, counts as one word.
+# Matches a piece of code, or a list of them, which counts as one word.
 CODE = r"`[^`]*`(?:(?:,| and|, and)? \(?`[^`]*`\)?)*"
 # The beginning of a new block: a table row, a list item, a heading.
 BEGINS = r"\s*(?:\||- |\d+\. )|#"
@@ -65,8 +65,8 @@ def blocks_of(text):
 
 
 def sentences_of(text):
-    """Yields each sentence with the number of its block's first line, without link targets and without the contracts after the dash of a
-    promise."""
+    """Yields each sentence with the number of the first line of its block. Omits the targets of links, and in PROOF's promises the contracts after
+    the dash."""
     for number, block in blocks_of(text):
         plain = re.sub(CODE, "CODE", re.sub(r"\]\([^)]*\)", "]", block)).partition(" \u2014 ")[0]
         yield from ((number, sentence) for sentence in re.split(r"(?<=[.?!])[*)\"]*\s+", plain))

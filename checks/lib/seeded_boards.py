@@ -1,7 +1,7 @@
 """Random boards, programs and commands, reproducible by a seed. All of them are texts as a user types them.
 
-Many contain details that tools once reported incorrectly: addresses such as 0E0 and 1E2, and the names `inf` and `nan`, which some parsers read as
-numbers; and a single chain of up to 80 bits that is clocked often.
+Many contain details that tools once reported incorrectly: addresses such as 0E0 and 1E2 and the names `inf` and `nan`, which some parsers read as
+numbers, and a chain of up to 80 bits that is clocked often.
 """
 
 from __future__ import annotations
@@ -20,12 +20,12 @@ LONGEST = 16384
 
 
 class Wiring:
-    """A board: its text, and the parts that a program can use."""
+    """A random board: its text, and the parts that a program can use."""
 
     def __init__(self, chance: random.Random) -> None:
         self.chance = chance
         pages = {0, *chance.choices([1, 1, 2, 14, 15, chance.randrange(16)], k=chance.randrange(1, 3))}
-        # Also the page after a page, because instructions at the end of a page continue there.
+        # Often includes the page after each page, because instructions at the end of a page continue there.
         self.pages = sorted(pages | {(page + 1) % 16 for page in pages if chance.random() < 0.4})
         ports = {*self.pages, *chance.sample(range(16), chance.randrange(4))}
         self.ports = {chip: chance.choice(["0000", "0000", "1111", "".join(chance.choices("i01", k=4)), "iiii"]) for chip in sorted(ports)}
@@ -71,11 +71,11 @@ class Wiring:
 
 
 class Program:
-    """A program for a board: instructions at several addresses, then targets for its jumps."""
+    """A random program for a board: instructions at several addresses, and then targets for its jumps."""
 
     def __init__(self, chance: random.Random, wiring: Wiring) -> None:
         self.chance, self.wiring = chance, wiring
-        # The address and the words of each statement; the targets of jumps are added later.
+        # The text of the statement at each address. The targets of jumps are added later.
         self.statements: dict[int, str] = {}
         self.loops: dict[int, int] = {}
         self.free = set(range(ADDRESSES))
@@ -88,13 +88,13 @@ class Program:
         self.names = self.some_names()
 
     def put_part(self, at: int, phrases: int) -> None:
-        """Adds phrases from an address on, as far as there is room, and an end: a jump, a code that is not an instruction, or whatever
-        follows."""
+        """Adds phrases (short sequences of instructions) from an address on, as far as there is room. Usually ends them by a jump, or by a code that
+        is not an instruction."""
         statement = [word for _n in range(phrases) for word in self.phrase()]
         self.put(at, statement + self.chance.choice([["JUN"], ["JUN"], ["BBL 3"], [f"DB 0x{self.chance.choice(OUTSIDE):02X}"], []]))
 
     def put(self, at: int, statements: list[str]) -> None:
-        """Adds statements from an address on, as far as there is room. `^4` jumps back by four of them."""
+        """Adds statements from an address on, as far as there is room. `^4` in a jump is the target four statements before it."""
         put: list[int] = []
         for statement in statements:
             statement, _sign, back = statement.partition(" ^")
@@ -167,7 +167,7 @@ class Program:
             return self.names.get(self.loops[at], f"0x{self.loops[at]:03X}")
         page = (at + 2) % ADDRESSES >> 8 if name in ("JCN", "ISZ") else self.chance.choice(self.wiring.pages)
         there = [other for other in self.begins if other >> 8 == page]
-        # A loop of a few instructions ends soon.
+        # The targets up to 12 bytes before the jump, which make a short loop.
         near = [other for other in there if at - 12 < other <= at]
         if name == "ISZ" and near and self.chance.random() < 0.7:
             there = near
@@ -191,7 +191,7 @@ class Program:
 
 
 class Seeded:
-    """A board, a program, and the commands before the first question."""
+    """A random board and program, and random commands for a session with them."""
 
     def __init__(self, seed: int) -> None:
         self.chance = random.Random(seed)
@@ -201,7 +201,7 @@ class Seeded:
         self.program_text = self.program.text()
 
     def begun(self) -> list[str]:
-        """Returns the lines that set up the session."""
+        """Returns the session lines that set up the board and the program."""
         return ["wire", *self.board_text, ".", "asm", *self.program_text, "."]
 
     def somewhere(self) -> int:
@@ -233,7 +233,7 @@ class Seeded:
         return chance.choice(kinds)
 
     def stop(self, board: Board) -> str:
-        """Returns a command that sets or removes a breakpoint or a watch, usually one that the board reaches, or the one at which it stopped."""
+        """Returns a command that sets or removes a breakpoint or a watch, usually one that the program soon reaches, or at which it has stopped."""
         ahead, visited, written = board.copy(), [board.pc], [self.character()]
         ahead.breaks = set()
 

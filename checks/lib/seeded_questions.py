@@ -1,6 +1,6 @@
-"""Random questions to mcs4-prove, reproducible by a seed: a random board (seeded_boards.py), a short program that reads keys and TEST in loops,
-and comparisons of values that such a program changes. Some of the comparisons become true, some never. Some questions also ask for mistakes, a
-quarter of them for a time, and a quarter for marks.
+"""Random questions to mcs4-prove, reproducible by a seed. Each has a random board (seeded_boards.py), a short program that reads keys and TEST in
+loops, and comparisons of values that such a program changes. Some of the comparisons become true, and some never do. Some questions also ask for
+mistakes of the program. A quarter of the questions have a stopwatch, and a quarter have marks (second_search.py explains these words).
 """
 
 from __future__ import annotations
@@ -20,7 +20,7 @@ from seeded_boards import OUTSIDE, Program, Seeded, Wiring
 HANDY = ["CLB", "CLC", "IAC", "CMC", "CMA", "RAL", "RAR", "TCC", "DAC", "TCS", "STC", "DAA", "KBP"]
 LENGTHS = {"character": 2048, "status": 512, "ramport": 32, "romport": 16, "banksrc": 8, "register": 16, "counter": 14,
            "chain0": 256, "chain1": 256, "chain2": 256, "chain3": 256}
-# The maximum number of states in a walk that looks for values, and the number of walks that look for a time.
+# The maximum number of states in a random walk that records values, and the number of random walks that measure a time.
 WALK, WAYS = 12, 8
 
 
@@ -39,7 +39,7 @@ class Asking(Program):
         self.begins = [at for at, statement in self.statements.items() if not statement.startswith("DB")]
 
     def prepared(self) -> list[str]:
-        """Returns the phrases before the loop, which shift bits into a chain, or write a value to a port."""
+        """Returns the phrases before the program's loop. They shift bits into a chain, or write a value to a port."""
         if self.wiring.chains and self.chance.random() < 0.8:
             clock, data, _chips = self.chance.choice([self.wiring.chains[self.wiring.driver], self.chance.choice(self.wiring.chains)])
             return self.pulses(clock, data)
@@ -104,10 +104,10 @@ class Keys(Wiring):
 
 
 class AskingKeys(Asking):
-    """A short program that drives rows of keys and reads their columns."""
+    """A short program that drives the rows of a key matrix and reads the columns."""
 
     def prepared(self) -> list[str]:
-        """Returns phrases that drive rows."""
+        """Returns phrases that drive rows of the key matrix."""
         return [phrase for _n in range(2) for phrase in self.pulses("rom0.0", "rom0.1")]
 
     def loop_phrases(self) -> list[str]:
@@ -138,7 +138,8 @@ def cells_of(wiring: Wiring) -> list[tuple[str, int]]:
 
 
 def comparison(chance: random.Random, wiring: Wiring, boards: list[dict[tuple[str, int], int]]) -> Comparison:
-    """Returns a comparison, usually of a cell that changes on the walk, with a value that it has there or with another one."""
+    """Returns a comparison, usually of a cell that changes on a random walk. It compares the cell with one of its values there, or with another
+    value."""
     name, index = chance.choice(cells_of(wiring))
     changing = [each for each in boards[0] if len({seen[each] for seen in boards}) > 1]
     if changing and chance.random() < 0.8:
@@ -157,18 +158,18 @@ def comparison(chance: random.Random, wiring: Wiring, boards: list[dict[tuple[st
 
 
 def at_address(seen: dict[tuple[str, int], int]) -> Row:
-    """Returns comparisons that hold between two instructions at the counter of a recorded state."""
+    """Returns comparisons that are true when the program counter has the value in a recorded state, between two instructions."""
     return [("in", "counter", 3, "whole", 0, 0), *(("in", "counter", n, "whole", *[seen["counter", n]] * 2) for n in (4, 5))]
 
 
 def opposite(words: Comparison) -> Comparison:
-    """Returns the comparison that holds when another one does not."""
+    """Returns the comparison that is true when another one is false."""
     return ("out" if words[0] == "in" else "in", *words[1:])
 
 
 def timed(question: Question, chance: random.Random, wiring: Wiring, boards: list[dict[tuple[str, int], int]]) -> None:
-    """Adds a time to a question: how long a condition holds, or the time from one address to another. Its limit is near the longest time on several
-    walks."""
+    """Adds a stopwatch to a question. It measures how long a condition is true, or the time from one address to another. Its limit is near the
+    longest time on several random walks."""
     if chance.random() < 0.5:
         question.nevers = []
     kind = chance.random()
@@ -181,13 +182,13 @@ def timed(question: Question, chance: random.Random, wiring: Wiring, boards: lis
         question.begins = [[comparison(chance, wiring, boards)] for _row in range(chance.choice([1, 2]))]
         question.ends = [[comparison(chance, wiring, boards), *([("mistake", *MISTAKES)] if chance.random() < 0.2 else [])] for _row in range(chance.choice([1, 2]))]
     if chance.random() < 0.15:
-        # The reading of the stopwatch itself, in its lowest byte.
+        # Compares the lowest byte of the number that the stopwatch shows.
         question.ends.append([("in", "counter", 16, "whole", chance.randrange(1, 6), 255)])
     question.within = max(0, longest_seen(question, chance) + chance.choice([-1, 0, 0, 0, 1, 3]))
 
 
 def longest_seen(question: Question, chance: random.Random) -> int:
-    """Returns the longest time that the stopwatch of a question shows on several walks."""
+    """Returns the longest time that the stopwatch of a question shows on several random walks."""
     shown = [0]
 
     def note(board: Board) -> bool:
@@ -203,7 +204,8 @@ def longest_seen(question: Question, chance: random.Random) -> int:
 
 
 def marked(question: Question, chance: random.Random, wiring: Wiring) -> None:
-    """Adds marks that must be seen before a condition is met: mostly such as reads show on some way, before a value is there first."""
+    """Adds marks that must be seen before a cell has a certain value. On a random walk, the cell gets this value for the first time after reads that
+    usually show these marks."""
     if chance.random() < 0.5:
         question.nevers = []
     cells, way = cells_of(wiring), marks_on_way(question, chance)
@@ -220,13 +222,13 @@ def marked(question: Question, chance: random.Random, wiring: Wiring) -> None:
     places = sorted(chance.sample(range(len(shown)), min(len(shown), chance.choice([1, 1, 1, 2, 2, 3]))))
     question.marks = [shown[place] for place in places] or [("up", 0, 0), ("down", 0, 0)][:chance.choice([1, 2])]
     if chance.random() < 0.15:
-        # How many marks were seen, itself.
+        # Compares the number of marks that were seen.
         question.nevers.append([("in", "counter", 17, "whole", chance.randrange(1, len(question.marks) + 2), 255)])
 
 
 def waiting(chance: random.Random, wiring: Wiring) -> Question:
-    """Returns a question about a program that waits for keys of a row, one after the other, and then shows a number in a register. Some of these
-    programs do not wait until a key is up, some drive other rows as well, and some questions ask for other marks."""
+    """Returns a question about a program that waits until keys of a row are pressed, one after another, and then stores a number in a register. Some
+    of these programs do not wait until a key is up, some drive other rows as well, and some questions have marks of other keys."""
     row, register, number = chance.randrange(wiring.rows), chance.randrange(12), chance.randrange(1, 16)
     program, marks = [" FIM P7, 0", " SRC P7"], []
     for bit in range(wiring.first + row + 1):

@@ -1,10 +1,10 @@
-"""Random texts of boards with errors, reproducible by a seed. Most are wrong in one part. Some are not TOML."""
+"""Random texts of boards with errors, reproducible by a seed. Most have an error in one part, and some are not TOML."""
 
 import random
 
 from board_spellings import TEXT_ENDS, EQUALS, KINDS, Raw, seeded_board, spelled_tables
 
-# Wrong values for each key, in addition to the values that no key can have.
+# Wrong values for each key, besides those in OF_NO_KEY, which are wrong for every key.
 WRONG = {
     "chip": [16, -1, 99], "port": ["000", "00000", "iii2", "IIII", "o000"], "bank": [8, -1], "chips": [0, 9, 5], "clock": ["chain0.0", "rom00.1"],
     "data": ["ram0.4.0", "rom0"], "chain": [4, -1], "first": [80, -1], "rows": [0, 11], "line": ["rom16.0", "chain4.0", "ram8.0.0", "led"],
@@ -16,7 +16,7 @@ CHARACTERS = "\"'[]{}=.,#\\ \t0123456789abcdeiorxINF_-+:"
 
 
 def other_line(chance, tables):
-    """Returns the name of a line that boards can have, usually one of an existing part."""
+    """Returns the name of a line, usually one of a part that the board has."""
     there = [table.get("chip") for table in tables["rom"]] if chance.random() < 0.7 else []
     chip = chance.choice([*there, chance.randrange(16)])
     return chance.choice([f"rom{chip}.{chance.randrange(4)}", f"rom{chip}.{chance.randrange(4)}", f"chain0.{chance.randrange(20)}",
@@ -24,7 +24,7 @@ def other_line(chance, tables):
 
 
 def table_of(chance, tables):
-    """Returns one of the tables, or None if there is none."""
+    """Returns one of the tables at random, or None if there is none."""
     below = chance.choice([kind for kind in KINDS if tables[kind]] or [None])
     return chance.choice(tables[below]) if below else None
 
@@ -45,7 +45,7 @@ def put_wrong(chance, tables):
 
 
 def put_line(chance, tables):
-    """Replaces a line with another one, which may not exist on the board, or may have the wrong direction."""
+    """Replaces the name of a line with another one. The board can lack that line, or the line can have the wrong direction."""
     if table := table_of(chance, tables):
         for key in {"clock", "data", "line"} & {*table}:
             table[key] = other_line(chance, tables)
