@@ -11,7 +11,7 @@ import re
 from collections import Counter
 from collections.abc import Callable, Iterable, Iterator
 
-from assembler import ADDRESSES, ON_PAIR, ON_REGISTER, assemble
+from assembler import ADDRESS_COUNT, CODES_ON_PAIR, CODES_ON_REGISTER, assemble
 from board4004 import CODES, TWO_WORDS, Board, line_of
 
 # The conditional jumps.
@@ -52,22 +52,22 @@ def reader_of(place: str) -> Callable[[Board], str]:
     raise ValueError(place)
 
 
-def counted(board: Board, most: int) -> tuple[Counter[int], Counter[int], int, str]:
+def count_instructions(board: Board, most: int) -> tuple[Counter[int], Counter[int], int, str]:
     """Runs a board. Returns how often the instruction at each address was executed, how often it jumped, the number of cycles, and the reason for
     the stop."""
     runs: Counter[int] = Counter()
     jumps: Counter[int] = Counter()
 
-    def begun(_done: int, at: int) -> None:
+    def on_instruction(_done: int, at: int) -> None:
         runs[at] += 1
-        jumps[at] += board.pc != (at + 2) % ADDRESSES
+        jumps[at] += board.pc != (at + 2) % ADDRESS_COUNT
 
-    return runs, jumps, *board.run(most, begun)
+    return runs, jumps, *board.run(most, on_instruction)
 
 
 def count_answer(board: Board, most: int) -> list[str]:
     """Returns the answer to `count n`: how often a run would execute the instruction at each address, and how often its JCN and ISZ would jump."""
-    runs, jumps, done, stop = counted(board.copy(), most)
+    runs, jumps, done, stop = count_instructions(board.copy(), most)
     lines = [f"{at:03X} {runs[at]}" + (f" {jumps[at]}" if CODES[board.rom[at]][0] in BRANCHES else "") for at in sorted(runs)]
     return [f"count ran {done} {stop} lines {len(lines)}", *lines]
 
@@ -83,13 +83,13 @@ def trace_answer(board: Board, most: int, places: list[str]) -> list[str]:
 
     first = last = row()
 
-    def begun(done: int, at: int) -> None:
+    def on_instruction(done: int, at: int) -> None:
         nonlocal last
         if not places or row() != last:
             last = row()
             lines.append(f"{done} {at:03X}{last}")
 
-    done, stop = ahead.run(most, begun)
+    done, stop = ahead.run(most, on_instruction)
     return [f"trace ran {done} {stop} lines {len(lines)}{first}", *lines]
 
 
@@ -107,21 +107,22 @@ def ram_answer(board: Board, bank: int) -> list[str]:
 
 def instruction_text(board: Board, at: int) -> str:
     """Returns an instruction in the format of `list`: address, bytes and text."""
-    byte, second = board.rom[at], board.rom[(at + 1) % ADDRESSES]
+    byte, second = board.rom[at], board.rom[(at + 1) % ADDRESS_COUNT]
     if byte not in CODES:
         return f"{at:03X} {byte:02X}    DB 0x{byte:02X}"
     name, low = CODES[byte]
-    on_page = f"0x{(at + 2) % ADDRESSES & 0xF00 | second:03X}"
+    on_page = f"0x{(at + 2) % ADDRESS_COUNT & 0xF00 | second:03X}"
     far = f" 0x{256 * low + second:03X}"
     operands = {"JCN": f" {low}, {on_page}", "FIM": f" P{low}, 0x{second:02X}", "ISZ": f" R{low}, {on_page}", "JUN": far, "JMS": far,
-                "LDM": f" {low}", "BBL": f" {low}", **{name: f" P{low}" for name in ON_PAIR}, **{name: f" R{low}" for name in ON_REGISTER}}
+                "LDM": f" {low}", "BBL": f" {low}", **{name: f" P{low}" for name in CODES_ON_PAIR},
+                **{name: f" R{low}" for name in CODES_ON_REGISTER}}
     return f"{at:03X} {byte:02X} {f'{second:02X}' if name in TWO_WORDS else '  '} {name}{operands.get(name, '')}"
 
 
 def list_answer(board: Board, at: int, most: int) -> list[str]:
     """Returns the answer to `list a n`. (A two-word instruction at FFF is not supported.)"""
     lines: list[str] = []
-    while at < ADDRESSES and len(lines) < most:
+    while at < ADDRESS_COUNT and len(lines) < most:
         lines.append(instruction_text(board, at))
         at += 2 if CODES.get(board.rom[at], ("", 0))[0] in TWO_WORDS else 1
     return lines
@@ -260,7 +261,7 @@ def poke(board: Board, place: str, text: str) -> str:
     return ""
 
 
-def ran(cycles_and_stop: tuple[int, str]) -> str:
+def run_answer(cycles_and_stop: tuple[int, str]) -> str:
     """Returns the words after `ok N` for a run or a step."""
     return " ran {} {}".format(*cycles_and_stop)
 
@@ -270,8 +271,8 @@ COMMANDS: dict[str, Callable[..., str]] = {
     "asm": load,
     "press": lambda board, row, column: put_key(board, row, column, True),
     "release": lambda board, row, column: put_key(board, row, column, False),
-    "run": lambda board, most: ran(board.run(number(most))),
-    "step": lambda board: ran(board.step()),
+    "run": lambda board, most: run_answer(board.run(number(most))),
+    "step": lambda board: run_answer(board.step()),
     "poke": poke,
     "test": put_test,
     "reset": power_cycle,

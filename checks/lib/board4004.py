@@ -11,9 +11,9 @@ import pickle
 import tomllib
 from collections.abc import Callable
 
-from assembler import ALONE, ON_PAIR, ON_REGISTER, WITH_VALUES
+from assembler import CODES_WITHOUT_OPERAND, CODES_ON_PAIR, CODES_ON_REGISTER, CODES_WITH_VALUES
 
-ADDRESSES = 4096
+ADDRESS_COUNT = 4096
 TWO_WORDS = {"JCN", "FIM", "JUN", "JMS", "ISZ"}
 TWO_CYCLES = TWO_WORDS | {"FIN"}
 # A line of the board: `rom` with chip and line number, `ram` with bank, chip and line number, or `chain` with its number and a bit.
@@ -22,10 +22,10 @@ Line = tuple[str, tuple[int, ...]]
 
 def table() -> dict[int, tuple[str, int]]:
     """Returns the mnemonic for each valid code, with the number in the code's lower half: a register, a pair or a value."""
-    codes = {code: (name, 0) for name, code in ALONE.items()}
-    for name, code in [*ON_REGISTER.items(), *((name, WITH_VALUES[name][1]) for name in ("JCN", "JUN", "JMS", "ISZ", "BBL", "LDM"))]:
+    codes = {code: (name, 0) for name, code in CODES_WITHOUT_OPERAND.items()}
+    for name, code in [*CODES_ON_REGISTER.items(), *((name, CODES_WITH_VALUES[name][1]) for name in ("JCN", "JUN", "JMS", "ISZ", "BBL", "LDM"))]:
         codes.update({code + low: (name, low) for low in range(16)})
-    for name, code in [*ON_PAIR.items(), ("FIM", WITH_VALUES["FIM"][1])]:
+    for name, code in [*CODES_ON_PAIR.items(), ("FIM", CODES_WITH_VALUES["FIM"][1])]:
         codes.update({code + 2 * pair: (name, pair) for pair in range(8)})
     return codes
 
@@ -156,7 +156,7 @@ class Board:
 
     def __init__(self) -> None:
         self.chips = Chips()
-        self.rom = bytearray(ADDRESSES)
+        self.rom = bytearray(ADDRESS_COUNT)
         self.test = 1
         self.breaks: set[int] = set()
         self.watches: set[tuple[int, int]] = set()
@@ -205,8 +205,8 @@ class Board:
             self.owed = 0
             return
         name, low = CODES[self.rom[self.pc]]
-        second = self.rom[(self.pc + 1) % ADDRESSES]
-        self.pc = (self.pc + (2 if name in TWO_WORDS else 1)) % ADDRESSES
+        second = self.rom[(self.pc + 1) % ADDRESS_COUNT]
+        self.pc = (self.pc + (2 if name in TWO_WORDS else 1)) % ADDRESS_COUNT
         self.owed = int(name in TWO_CYCLES)
         WORK[name](self, low, second)
 
@@ -234,16 +234,16 @@ class Board:
         """Returns the watched nibbles."""
         return [self.chips.ram[bank][src] for bank, src in self.watches]
 
-    def run(self, most: int, begun: Callable[[int, int], None] | None = None) -> tuple[int, str]:
-        """Runs at most `most` cycles. Returns their number, and the reason for the stop. Calls `begun` after the work of each instruction, with the
-        number of cycles before it and its address."""
+    def run(self, most: int, on_instruction: Callable[[int, int], None] | None = None) -> tuple[int, str]:
+        """Runs at most `most` cycles. Returns their number, and the reason for the stop. Calls `on_instruction` after the work of each instruction,
+        with the number of cycles before it and its address."""
         done, changed = 0, False
         while not (stop := self.stops(done, most, changed)):
             at, begins, watched = self.pc, not self.owed, self.watched()
             self.cycle()
             changed = watched != self.watched()
-            if begins and begun:
-                begun(done, at)
+            if begins and on_instruction:
+                on_instruction(done, at)
             done += 1
         return done, stop
 

@@ -71,16 +71,16 @@ class BoardReading:
         self.document = document
         self.tables = list(tables_of(document))
 
-    def first(self):
+    def first_error(self):
         """Returns the first error: its number, the section, the number of the table and the key, as far as they apply. Returns None if the board
         is valid."""
-        for find in (self.unknown, self.missing, self.badly_formed, self.too_many, self.twice):
+        for find in (self.unknown_keys, self.missing_keys, self.badly_formed_values, self.excess_parts, self.repeated_numbers):
             for part in find():
                 return part
         found = list(self.wrong_lines())
         return next((part for number in (25, 26) for part in found if part[0] == number), None)
 
-    def unknown(self):
+    def unknown_keys(self):
         for key in sorted(self.document):
             if key not in SECTIONS:
                 yield 21, "", 0, key
@@ -90,14 +90,14 @@ class BoardReading:
                     if key not in KEYS[section]:
                         yield 21, section, index, key
 
-    def missing(self):
+    def missing_keys(self):
         for section, index, table in self.tables:
             if isinstance(table, dict):
                 for key in KEYS[section]:
                     if key not in table:
                         yield 22, section, index, key
 
-    def badly_formed(self):
+    def badly_formed_values(self):
         for section in SECTIONS:
             if section != "keys" and not isinstance(self.document.get(section, []), list):
                 yield 23, section, 0, None
@@ -109,7 +109,7 @@ class BoardReading:
                 if not fits(table[key]):
                     yield 23, section, index, key
 
-    def too_many(self):
+    def excess_parts(self):
         for section in SECTIONS:
             tables = [table for kind, _index, table in self.tables if kind == section]
             if section in MAX_TABLES and len(tables) > MAX_TABLES[section]:
@@ -117,7 +117,7 @@ class BoardReading:
             if section == "keys" and any(len(table["columns"]) > MAX_COLUMNS for table in tables):
                 yield 27, "keys", 0, "columns"
 
-    def twice(self):
+    def repeated_numbers(self):
         for section, key in NUMBERED_PARTS.items():
             seen = set()
             for _section, index, table in (each for each in self.tables if each[0] == section):
@@ -152,15 +152,15 @@ class BoardReading:
             if section == "lamp":
                 yield from self.wrong_line(section, index, "line", [table["line"]], "ob")
 
-    def wrong_line(self, section, index, key, names, taken):
+    def wrong_line(self, section, index, key, names, allowed):
         found = [self.direction(name) for name in names]
         if None in found:
             yield 25, section, index, key
-        if any(direction is not None and direction not in taken for direction in found):
+        if any(direction is not None and direction not in allowed for direction in found):
             yield 26, section, index, key
 
 
-def is_there(document, section, index, key):
+def has_part(document, section, index, key):
     """Returns true if a board's text has this table, or this key at the top level if `section` is empty."""
     if section == "":
         return key in document
@@ -174,7 +174,7 @@ def line_of(lines, part):
     while last - first > 1:
         middle = (first + last) // 2
         count, document = longest_toml(lines[:middle], middle)
-        if is_there(document, section, index, key):
+        if has_part(document, section, index, key):
             last = count
         else:
             first = middle
@@ -186,7 +186,7 @@ def wiring_answer(lines):
     count, document = longest_toml(lines, len(lines))
     if count < len(lines):
         return f"no 20 line {count + 1}"
-    part = BoardReading(document).first()
+    part = BoardReading(document).first_error()
     if part is None:
         return "wiring valid"
     number, section, index, key = part

@@ -64,7 +64,7 @@ def pairs_of(chance, table, before=""):
     return [f"{before}{key_text(chance, key)}{chance.choice(EQUALS)}{value_text(chance, value)}" for key, value in pairs]
 
 
-def inline(chance, table):
+def inline_table(chance, table):
     """Returns an inline table. Only its lists can span several lines."""
     return f"{{ {', '.join(pairs_of(chance, table))} }}"
 
@@ -73,30 +73,30 @@ def top_lines(chance, below, tables):
     """Returns the lines for the tables that are written before the first header."""
     key = key_text(chance, below)
     if below != "keys":
-        rows = [f"  {inline(chance, table)},\n" for table in tables]
+        rows = [f"  {inline_table(chance, table)},\n" for table in tables]
         return [f"{key} = [\n{''.join(rows)}]" if rows else f"{key} = []"]
     if chance.random() < 0.5:
-        return [f"{key} = {inline(chance, table)}" for table in tables]
+        return [f"{key} = {inline_table(chance, table)}" for table in tables]
     return [line for table in tables for line in pairs_of(chance, table, f"{key}.")]
 
 
-def headed(chance, below, table):
+def lines_under_header(chance, below, table):
     """Returns the lines of a table under its header."""
     key = key_text(chance, below)
     return [f"[{key}]" if below == "keys" else f"[[{key}]]", *pairs_of(chance, table)]
 
 
-def spelled(chance, board):
+def random_board_text(chance, board):
     """Returns a random text for a board. ROM chips, banks and the kinds of tables are in random order. Chains and lamps keep their order, because
     their position is their number.
     """
     tables = {below: [table for kind, table in board.tables() if kind == below] for below in KINDS}
     chance.shuffle(tables["rom"])
     chance.shuffle(tables["ram"])
-    return spelled_tables(chance, tables)
+    return random_tables_text(chance, tables)
 
 
-def spelled_tables(chance, tables):
+def random_tables_text(chance, tables):
     """Returns the text of a board in random spelling. `tables` has the tables of each kind."""
     kinds = chance.sample(KINDS, len(KINDS))
     under_headers = [below for below in kinds if chance.random() < 0.5]
@@ -104,5 +104,5 @@ def spelled_tables(chance, tables):
     order = [below for below in under_headers for _table in tables[below]]
     chance.shuffle(order)
     for below in order:
-        lines += headed(chance, below, tables[below].pop(0))
+        lines += lines_under_header(chance, below, tables[below].pop(0))
     return "".join(line + chance.choice(TEXT_ENDS) for line in lines)

@@ -82,7 +82,7 @@ const path = join(work, "s.mcs");
 const inputPath = join(work, "input");
 
 // Returns the program's result for a script, in a new session (null) or in a session file.
-function byProgram(file, input) {
+function programResult(file, input) {
   rmSync(path, { force: true });
   if (file) writeFileSync(path, file);
   // The input comes from a file. A program that rejects its session exits without reading its input, so a write to a pipe would fail (EPIPE).
@@ -95,7 +95,7 @@ function byProgram(file, input) {
 }
 
 // Returns the result of a call of the page's module. `bench_serve` serves without settling.
-function byPage(engine, file, input, call = "bench_serve") {
+function pageResult(engine, file, input, call = "bench_serve") {
   try {
     const { status, opened, answers } = engine.callForAnswers(call, file || engine.begin(), input);
     const { instance } = engine;
@@ -132,8 +132,8 @@ function isSplit(input, output) {
 let passed = 0;
 let failed = 0;
 function compare(name, engine, file, input) {
-  const wanted = byProgram(file, input);
-  const found = byPage(engine, file, input);
+  const wanted = programResult(file, input);
+  const found = pageResult(engine, file, input);
   const faults = [];
   if (found.output !== wanted.output) faults.push("answers");
   if (found.status !== wanted.status) faults.push(`status ${found.status}, not ${wanted.status}`);
@@ -146,7 +146,7 @@ function compare(name, engine, file, input) {
 }
 
 // Converts a settled file to version 1, which lacks the version byte and the number of watches. Returns null if the file has watches.
-function asVersion1(file) {
+function toVersion1(file) {
   const slot = file[8] % 2 === 0 ? 16 : 81936;
   const length = new DataView(file.buffer, file.byteOffset).getUint32(slot);
   const snapshot = file.slice(slot + 4, slot + 4 + length);
@@ -187,7 +187,7 @@ function compareSource(name, engine, file) {
 
 // Reads a file's active slot, as docs/FORMAT.md defines it. Returns the number of commands and the version in its snapshot, and whether records
 // follow.
-function held(file) {
+function readActiveSlot(file) {
   const slot = file[8] % 2 === 0 ? 16 : 81936;
   const seq = new DataView(file.buffer, file.byteOffset).getUint32(slot + 4);
   return { seq, version: file[slot + 8], hasRecords: file[slot + 16384] === 1 };
@@ -195,7 +195,7 @@ function held(file) {
 
 // Checks that a settled file has a snapshot of all commands and no records.
 function checkSettled(name, file, seq) {
-  const found = held(file);
+  const found = readActiveSlot(file);
   const isRight = found.version === 2 && !found.hasRecords && found.seq === seq;
   verdict(`${name} has not settled the file: ${JSON.stringify(found)}, where ${seq} commands were accepted`, isRight);
 }
@@ -211,7 +211,7 @@ function compareInPieces(name, engine, file, input) {
     answers.push(...engine.serve(bytes, input.slice(at, end), bytes).answers);
     at = end;
   }
-  verdict(`${name}: lines that are cut are answered otherwise`, [...answers, ""].join("\n") === byPage(engine, file, input).output);
+  verdict(`${name}: lines that are cut are answered otherwise`, [...answers, ""].join("\n") === pageResult(engine, file, input).output);
 }
 
 function compareFiles(name, engine, file) {
@@ -222,10 +222,10 @@ function compareFiles(name, engine, file) {
   const both = new Uint8Array(file.length);
   engine.serve(file, "poke acc 1\npoke acc 2\n", both);
   checkSettled(`${name}: serving and settling`, both, seqOf(engine, file) + 2);
-  const output = byPage(engine, file, QUESTIONS).output;
+  const output = pageResult(engine, file, QUESTIONS).output;
   compare(`${name}, settled`, engine, settled, QUESTIONS);
-  verdict(`${name}: settling changed an answer`, byPage(engine, settled, QUESTIONS).output === output);
-  const old = asVersion1(settled);
+  verdict(`${name}: settling changed an answer`, pageResult(engine, settled, QUESTIONS).output === output);
+  const old = toVersion1(settled);
   if (old && isOfVersion1(engine, settled)) {
     compare(`${name}, of version 1`, engine, old, QUESTIONS);
     checkSettled(`${name}: settle of version 1`, settle(engine, Uint8Array.from(old)), seqOf(engine, old));
@@ -251,7 +251,7 @@ function speeds(engine) {
   const file = engine.begin();
   engine.serve(file, board, file);
   const page = 3e7 / fastest(() => engine.ask(file, runs));
-  const native = 3e7 / fastest(() => byProgram(file, runs));
+  const native = 3e7 / fastest(() => programResult(file, runs));
   return { page, native };
 }
 

@@ -9,7 +9,7 @@ const MCS4 = `${TOP}mcs4`;
 const [folder] = process.argv.slice(2);
 const STEPS = 200;
 /** The number of cycles that the program of the speed measurement runs. */
-const FAR = [1, 2, 3, 4, 5].reduce((sum, each) => sum + 2 * 12 * 16 ** (5 - each), 3 * 12 * 16 ** 5);
+const CYCLES_TO_BREAKPOINT = [1, 2, 3, 4, 5].reduce((sum, each) => sum + 2 * 12 * 16 ** (5 - each), 3 * 12 * 16 ** 5);
 
 function verdict(is, wanted, words) {
   const [one, other] = [JSON.stringify(is), JSON.stringify(wanted)];
@@ -299,7 +299,7 @@ async function trySpeed() {
   }
   const { result } = await client.ask("evaluate", { expression: "count 1", context: "repl" });
   verdict([stop.reason, /^count/.test(result)], ["function breakpoint", true], "a breakpoint far away");
-  console.log(`speed: ${(FAR / 1e6).toFixed(1)} million cycles to a breakpoint in ${time.toFixed(2)} s`);
+  console.log(`speed: ${(CYCLES_TO_BREAKPOINT / 1e6).toFixed(1)} million cycles to a breakpoint in ${time.toFixed(2)} s`);
   await client.end();
 }
 

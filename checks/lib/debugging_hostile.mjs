@@ -23,7 +23,7 @@ const request = (seq, command, args) => JSON.stringify({ seq, type: "request", c
 const INITIALIZE = frameMessage(request(1, "initialize", {}));
 
 /** Byte sequences after which the adapter cannot find the next message, with the expected error. If `isOpen` is true, the stream stays open. */
-const LOST = [
+const FATAL_INPUTS = [
   { name: "the rest of a message never comes", bytes: frameMessage("{\"seq\":", 50), words: /^only 7 of the 50 bytes/, isOpen: true },
   { name: "the rest of a head never comes", bytes: "Content-Le", words: /^only a part of the head/, isOpen: true },
   { name: "a Content-Length that is too large", bytes: `${INITIALIZE}${frameMessage("{}", 9)}`, words: /^only 2 of the 9 bytes/ },
@@ -36,7 +36,7 @@ const LOST = [
 ];
 
 /** Checks that the adapter sends and prints the error, and exits with a status other than 0. */
-async function tryLost({ name, bytes, words, isOpen = false }) {
+async function tryFatalInput({ name, bytes, words, isOpen = false }) {
   const client = new Client(ADAPTER);
   client.raw(bytes);
   if (!isOpen) client.child.stdin.end();
@@ -145,6 +145,6 @@ async function tryRequests() {
   verdict([await client.end(), client.stderr], [0, ""], "and ends");
 }
 
-await Promise.all(LOST.slice(0, 3).map(tryLost));
-for (const each of LOST.slice(3)) await tryLost(each);
+await Promise.all(FATAL_INPUTS.slice(0, 3).map(tryFatalInput));
+for (const each of FATAL_INPUTS.slice(3)) await tryFatalInput(each);
 await tryRequests();

@@ -31,7 +31,7 @@ class Driven:
     # True if a page that receives only `pagehide` when the user leaves it can still run its functions.
     runs_at_pagehide = True
     # The seconds after a scroll until the page has been drawn again.
-    settles = 0
+    settle_seconds = 0
 
     def show(self, selector):
         """Scrolls an element to the middle, so that nothing covers it."""
@@ -39,7 +39,7 @@ class Driven:
 
     def click(self, selector):
         self.show(selector)
-        time.sleep(self.settles)
+        time.sleep(self.settle_seconds)
         self.click_element(self.find(selector))
 
     def click_at_rest(self, selector):
@@ -55,7 +55,7 @@ class Driven:
     def hold(self, selector, time_down):
         """Presses the mouse button on an element for a time in milliseconds."""
         self.show(selector)
-        time.sleep(self.settles)
+        time.sleep(self.settle_seconds)
         self.actions({
             "type": "pointer", "id": "mouse", "parameters": {"pointerType": "mouse"},
             "actions": [

@@ -6,8 +6,8 @@ from __future__ import annotations
 
 from collections import Counter
 
-from assembler import ADDRESSES, assemble
-from bench4004 import BRANCHES, counted, instruction_text
+from assembler import ADDRESS_COUNT, assemble
+from bench4004 import BRANCHES, count_instructions, instruction_text
 from board4004 import CODES, TWO_CYCLES, Board, Line
 
 # The changes in a recording of lines: for each time, the new level of each line that changes, by the line's name.
@@ -190,7 +190,7 @@ def spans_of(lines: list[int], chosen: list[int]) -> str:
 
 def cover_output(start: Board, cycles: int, source: Source) -> str:
     """Returns the output of `mcs4 cover`: how often each line ran, how often its jump was taken, and the lines that never ran."""
-    runs, jumps, _done, _stop = counted(unstopped(start), cycles)
+    runs, jumps, _done, _stop = count_instructions(without_stops(start), cycles)
     lines = [i for i, (at, size) in enumerate(source.spans) if size and (not source.is_data(i) or runs[at])]
     ways = {i: (jumps[at], runs[at] - jumps[at]) for i, (at, size) in enumerate(source.spans)
             if i in lines and size == 2 and CODES[start.rom[at]][0] in BRANCHES}
@@ -211,7 +211,7 @@ def cover_output(start: Board, cycles: int, source: Source) -> str:
     return "".join(f"{row}\n" for row in rows)
 
 
-def unstopped(start: Board) -> Board:
+def without_stops(start: Board) -> Board:
     """Returns a copy of a board without breakpoints and watches."""
     board = start.copy()
     board.breaks, board.watches = set(), set()
@@ -243,13 +243,13 @@ def profile_output(start: Board, cycles: int, source: Source) -> str:
     own: Counter[tuple[int, str]] = Counter()
     calls = Calls()
     begins: list[tuple[int, int]] = []
-    total = unstopped(start).run(cycles, lambda done, at: begins.append((done, at)))[0]
+    total = without_stops(start).run(cycles, lambda done, at: begins.append((done, at)))[0]
     for done, at in begins:
         name, low = CODES[start.rom[at]]
         end = min(done + 1 + (name in TWO_CYCLES), total)
         own[source.label_below(at)] += end - done
         if name == "JMS":
-            calls.enter(256 * low + start.rom[(at + 1) % ADDRESSES], end)
+            calls.enter(256 * low + start.rom[(at + 1) % ADDRESS_COUNT], end)
         elif name == "BBL" and calls.open:
             calls.leave(end)
     while calls.open:

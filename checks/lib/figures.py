@@ -15,7 +15,7 @@ def edits_by_crate():
     return collections.Counter(path.parent.parent.name for path in TOP.glob("crates/*/must-fail/*.edit"))
 
 
-def edits():
+def edit_phrases():
     """Yields the phrases about the must-fail edits, and about the crates without such edits."""
     by_crate = edits_by_crate()
     crates = sorted(path.parent.name for path in TOP.glob("crates/*/src"))
@@ -25,7 +25,7 @@ def edits():
     yield f"nor in {', '.join(without)} and the test crates"
 
 
-def sweeps():
+def sweep_phrases():
     """Yields the table rows that say how many cases a check tries in ./test, and how many in ./test long."""
     words_of = {check.name: (check.words.split(), check.long.split()) for check in CHECKS if check.long}
     for name, place, tried in (("locks", 0, "rounds"), ("assembler", 0, "seeded programs"), ("time", 0, "seeded boards and programs"),
@@ -35,7 +35,7 @@ def sweeps():
         yield f"| `{name}` | {tried} | {short} | {long} |"
 
 
-def checks():
+def check_phrases():
     """Yields the phrases about the number of wrong implementations that the checks must detect, and the name of each check."""
     yield f"{len(WRONG_BOARDS) + len(WRONG_TOOLS)} wrong readings"
     yield f"{len(WRONG_SEARCHES)} wrong searches"
@@ -46,6 +46,6 @@ def checks():
             yield rf"`{path.name}`"
 
 
-def stated():
+def required_phrases():
     """Returns all phrases that PROOF must contain."""
-    return [*edits(), *sweeps(), *checks()]
+    return [*edit_phrases(), *sweep_phrases(), *check_phrases()]

@@ -9,12 +9,12 @@ from verdicts import eventually, verdict
 from web_driver import Chromium
 
 # The roles of controls in the accessibility tree.
-CONTROLS = {"button", "textbox", "searchbox", "combobox", "checkbox", "slider", "tab", "option", "link", "spinbutton", "DisclosureTriangle",
+CONTROL_ROLES = {"button", "textbox", "searchbox", "combobox", "checkbox", "slider", "tab", "option", "link", "spinbutton", "DisclosureTriangle",
             "radio", "switch"}
 # The roles of regions and groups, which need a name so that a user of a screen reader can tell them apart.
-PLACES = {"region", "group", "tablist", "tabpanel", "dialog", "table", "log", "complementary", "image", "alertdialog"}
+NAMED_ROLES = {"region", "group", "tablist", "tabpanel", "dialog", "table", "log", "complementary", "image", "alertdialog"}
 # Characters that mean nothing when a screen reader reads them aloud.
-SIGNS = re.compile("[\u25b2-\u25cf\u2713]")
+UNSPOKEN_SIGNS = re.compile("[\u25b2-\u25cf\u2713]")
 
 
 def check(browser, page, _folder, _mcs4):
@@ -89,11 +89,11 @@ def nodes_of(browser):
 def check_names(browser, view):
     """Checks that each control, region and group has a name that consists of words."""
     nodes = list(nodes_of(browser))
-    without = [role for role, name, _ in nodes if role in CONTROLS and not name]
+    without = [role for role, name, _ in nodes if role in CONTROL_ROLES and not name]
     verdict(f"{view}: all that can be used has a name", without, [])
-    without = [role for role, name, properties in nodes if role in PLACES and not name and role != "group"]
+    without = [role for role, name, properties in nodes if role in NAMED_ROLES and not name and role != "group"]
     verdict(f"{view}: so has each place", without, [])
-    signs = [name for role, name, _ in nodes if role in CONTROLS | PLACES | {"heading"} and SIGNS.search(name)]
+    signs = [name for role, name, _ in nodes if role in CONTROL_ROLES | NAMED_ROLES | {"heading"} and UNSPOKEN_SIGNS.search(name)]
     verdict(f"{view}: names are words", signs, [])
     return nodes
 

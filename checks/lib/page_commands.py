@@ -25,7 +25,7 @@ GET_FOCUSED_ID = "return document.activeElement.id"
 GET_TOOLTIP = "const tip = document.getElementById('tooltip'); return tip.hidden ? '' : tip.textContent"
 GET_FRONT_TAB = "return document.querySelector('#text-tabs [aria-selected=true]').id"
 # The buttons that have no command, because they answer, close or choose something in an open dialog, or belong to a field beside them.
-OF_WHAT_IS_OPEN = {
+BUTTONS_WITHOUT_COMMAND = {
     "menu-button": "opens the menu of files", "view-button": "opens the menu of panels", "cancel": "of work that goes on",
     "tour-close": "of the tour", "tour-back": "of the tour", "tour-put": "of the tour", "tour-next": "of the tour", "first-program": "as help.tour",
     "hello-program": "as help.tour", "first-example": "as project.all", "help-close": "of the help", "close-sessions": "of the dialog",
@@ -75,7 +75,7 @@ def check_reach(browser):
     buttons = set(re.findall(r'<button[^>]* id="([\w-]+)"', bench)) 
     tabs = set(re.findall(r'<button[^>]* role="tab" id="([\w-]+)"', bench))
     regions = {each for each in buttons if each.startswith("region-")} | {"drawer-button"}
-    without = {each for each in buttons - tabs - regions - set(OF_WHAT_IS_OPEN) if f'"{each}"' not in commands}
+    without = {each for each in buttons - tabs - regions - set(BUTTONS_WITHOUT_COMMAND) if f'"{each}"' not in commands}
     done_otherwise = {"back-stop", "back-breakpoint", "forward"}
     verdict("each button of the page has a command", sorted(without - done_otherwise), [])
 

@@ -91,7 +91,7 @@ def text_of(browser):
 def drag(browser, one, other, kind="mouse"):
     """Drags from the centre of one element to the centre of another, or by a distance in pixels."""
     browser.show("#wiring-picture")
-    time.sleep(browser.settles)
+    time.sleep(browser.settle_seconds)
     begin = browser.script(GET_MIDDLE, one)
     end = browser.script(GET_MIDDLE, other) if isinstance(other, str) else [begin[0] + other[0], begin[1] + other[1]]
     places = [[round(begin[each] + part * (end[each] - begin[each])) for each in (0, 1)] for part in (0, 0.5, 1)]

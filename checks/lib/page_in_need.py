@@ -162,7 +162,7 @@ window.setTimeout = (act, time, ...rest) => wait(act, time === 10000 ? 300 : tim
 """
 
 
-def poor(page, folder, code):
+def page_without_feature(page, folder, code):
     """Returns a copy of the page in which `code` takes a feature of the browser away. The copy waits only 0.3 seconds for a store, instead of ten."""
     return altered(page, folder, f"{SHORTEN_WAIT}{code}")
 
@@ -173,25 +173,25 @@ def notice_at_start(browser, page, code=GET_NOTICE, wanted=re.compile(".")):
     return browser.until(code, wanted)
 
 
-def works(browser, what):
+def check_works(browser, what):
     eventually(browser, what, IS_READY, True)
     browser.keys([ESCAPE, "6", "*", "7", ENTER])
     eventually(browser, "and the bench works all the same", GET_DIGITS, "42")
 
 
 def check_poor_browsers(browser, page, folder):
-    verdict("no bulk memory", notice_at_start(browser, poor(page, folder, "WebAssembly.validate = () => false")),
+    verdict("no bulk memory", notice_at_start(browser, page_without_feature(page, folder, "WebAssembly.validate = () => false")),
             re.compile(r"This browser has no WebAssembly with bulk memory.*97.*102.*16"))
     verdict("no button without a use", browser.script(GET_SHOWN_CONTROLS), ["Dismiss"])
     for lack, code in NO_STORE.items():
-        verdict(lack, notice_at_start(browser, poor(page, folder, code)), re.compile("stores nothing"))
-        works(browser, lack)
+        verdict(lack, notice_at_start(browser, page_without_feature(page, folder, code)), re.compile("stores nothing"))
+        check_works(browser, lack)
         verdict("a line is answered", lines_answered(browser, "poke r5 9"), re.compile(r"poke r5 9ok \d+"))
         browser.click("#sessions-button")
         eventually(browser, "the sessions of this page are shown", "return document.querySelectorAll('#kept li').length", 1)
         browser.click("#close-sessions")
-    verdict("a store that cannot be read", notice_at_start(browser, poor(page, folder, NO_READING)), re.compile("could not be read"))
-    works(browser, "a store that cannot be read")
+    verdict("a store that cannot be read", notice_at_start(browser, page_without_feature(page, folder, NO_READING)), re.compile("could not be read"))
+    check_works(browser, "a store that cannot be read")
     check_no_locks(browser, page, folder)
 
 
@@ -218,7 +218,7 @@ def check_blocked(kind, page, folder):
     browser = kind(folder / f"blocked{kind.name}", str(folder / "downloads"), **kind.blocks_data)
     try:
         verdict("blocked data of sites", notice_at_start(browser, page), re.compile("blocked by the settings"))
-        works(browser, "blocked data of sites")
+        check_works(browser, "blocked data of sites")
     finally:
         browser.end()
 

@@ -181,14 +181,14 @@ window.marks = 0;
 new MutationObserver((all) => { window.marks += all.filter((each) => each.target.classList.contains("changed")).length; })
   .observe(document.body, { subtree: true, attributes: true, attributeFilter: ["class"] })"""
 # A program that sets R5 and then waits for about two seconds.
-SLOW = "FIM P0, 0x00\\nLDM 7\\nXCH R5\\nwait: ISZ R0, wait\\nISZ R1, wait\\nISZ R2, wait\\nISZ R3, wait\\nend: IAC\\nJUN end\\n"
+SLOW_PROGRAM = "FIM P0, 0x00\\nLDM 7\\nXCH R5\\nwait: ISZ R0, wait\\nISZ R1, wait\\nISZ R2, wait\\nISZ R3, wait\\nend: IAC\\nJUN end\\n"
 
 
 def check_marks(browser):
     """Checks that after a pause, everything that differs from the previous pause is marked, even if it changed long before."""
     choose_example(browser, "three lamps")
     stop_time(browser)
-    lines_answered(browser, f"asm\n{SLOW}.\nreset\nbreak 12".replace("\\n", "\n"))
+    lines_answered(browser, f"asm\n{SLOW_PROGRAM}.\nreset\nbreak 12".replace("\\n", "\n"))
     eventually(browser, "after a reset the status is true", GET_STATUS, "The board was reset; it is at 000.")
     browser.script(COUNT_MARKS)
     browser.click("#run")

@@ -24,7 +24,7 @@ COUNT_LAMPS_LIT = "return document.querySelectorAll('.bulb.lit').length"
 COUNT_LIT_ROWS = "return [...document.querySelectorAll('#proof-list .lit')].length"
 CONTROL, SHIFT, ENTER = "\ue009", "\ue008", "\ue007"
 # The maximum time of a search in seconds, on a busy machine.
-LONG = 900
+LONGEST = 900
 # The number of common mistakes for which every program is checked.
 MISTAKES = 7
 CHANGED = "the program, the board or the text has changed since then"
@@ -45,7 +45,7 @@ def prove(browser, states=1000000):
 def prove_to_end(browser, what, states=1000000):
     """Starts a proof and waits for its end, which the button shows by its original label."""
     prove(browser, states)
-    eventually(browser, what, GET_BUTTON_WORD, "Prove", LONG)
+    eventually(browser, what, GET_BUTTON_WORD, "Prove", LONGEST)
 
 
 def proved_by_tool(browser, folder, mcs4):
@@ -67,9 +67,10 @@ def check_example(browser, folder, mcs4):
     verdict("of which there are seven", len(proved) - len(properties), MISTAKES)
     prove(browser)
     eventually(browser, "the button cancels it", GET_BUTTON_WORD, "Cancel")
-    eventually(browser, "it is said how many states were searched", GET_PROGRESS, f"Property 1 of {len(proved)}: more than 10,000 states so far", LONG)
+    progress = f"Property 1 of {len(proved)}: more than 10,000 states so far"
+    eventually(browser, "it is said how many states were searched", GET_PROGRESS, progress, LONGEST)
     verdict("as the bar shows", browser.script(GET_BAR), [10000, 1000000])
-    eventually(browser, "it comes to its end", GET_BUTTON_WORD, "Prove", LONG)
+    eventually(browser, "it comes to its end", GET_BUTTON_WORD, "Prove", LONGEST)
     verdict("each property is proved, with as many states as the tool has", browser.script(GET_ROWS),
             [f"proved | {text} | for all inputs: {states}" for text, states in proved])
     verdict("with a lit mark", browser.script(COUNT_LIT_ROWS), len(proved))
@@ -173,7 +174,7 @@ def check_cancelled(browser):
     put(browser, "program", COUNTING)
     put(browser, "properties", "never lamp 1 on\n")
     prove(browser, 999999999)
-    eventually(browser, "it searches", GET_PROGRESS, re.compile("more than .* states so far"), LONG)
+    eventually(browser, "it searches", GET_PROGRESS, re.compile("more than .* states so far"), LONGEST)
     start = time.monotonic()
     browser.hold("#prove", 300)
     eventually(browser, "it stops", GET_BUTTON_WORD, "Prove", 10)

@@ -25,7 +25,7 @@ wait:   ISZ R3, wait
 """
 # A sound block arrives about every 50 ms, 90 ms before it is heard. If it arrives more than this time in seconds after the previous block, the host
 # was too busy.
-HELD_UP = 0.1
+MAX_BLOCK_INTERVAL = 0.1
 # Records each block of samples that is played: its start by the audio clock, its arrival by the audio clock and by the page's clock, and its edges.
 WATCH_SOUND = """
 window.played = [];
@@ -89,7 +89,7 @@ def check_tone(browser):
     gaps = [(one, other) for one, other, length in zip(played, played[1:], lengths) if abs(one["when"] + length - other["when"]) > 1e-6]
     gap_words = [f"{other['at'] - one['at']:.3f} s" for one, other in gaps]
     verdict(f"{len(played)} pieces follow each other without a gap, but where the host held one up: {gap_words}",
-            all(other["at"] - one["at"] > HELD_UP for one, other in gaps), True)
+            all(other["at"] - one["at"] > MAX_BLOCK_INTERVAL for one, other in gaps), True)
     verdict("and most of them follow", 2 * len(gaps) < len(played), True)
 
 

@@ -78,17 +78,17 @@ def counted(cycles):
     return f"{cycles:,} cycles, " + (f"{time:.3f} ms" if time < 1000 else f"{time / 1000:.3f} s")
 
 
-def stand(browser):
+def pause_time(browser):
     """Pauses time if it is running."""
     if browser.script("return document.getElementById('run').textContent") == "Pause":
         stop_time(browser)
 
 
-def at_rest(browser, name):
+def open_paused_example(browser, name):
     """Opens a new session of an example, paused after a reset."""
     choose_example(browser, name)
     browser.until("return document.getElementById('run').textContent", "Pause", 3)
-    stand(browser)
+    pause_time(browser)
     lines_answered(browser, "reset")
     browser.until(GET_CYCLES_SINCE_RESET, "0 cycles, 0.000 ms")
 
@@ -102,7 +102,7 @@ def state(browser):
 def check_over(browser, program, name, example):
     """Checks stepping over a JMS, into it, out of its subroutine, and to the next line. The cycles must match the trace. No breakpoint may remain."""
     before, over, address, behind = first_call(program, example)
-    at_rest(browser, name)
+    open_paused_example(browser, name)
     lines_answered(browser, f"run {before}")
     browser.click("#over")
     eventually(browser, f"{name}: Over comes back behind the JMS at {address}", GET_STATUS, f"Returned to {behind}, after {counted(over)}.")
@@ -139,7 +139,7 @@ return row.textContent.match(/[0-9A-F]{3}/)[0]""")
 
 def check_run_to_source(browser):
     """Checks a run to the source line of the caret with Ctrl+F10, and a run until a named lamp changes."""
-    at_rest(browser, "three lamps")
+    open_paused_example(browser, "three lamps")
     browser.script("""
 const editor = document.querySelector("#program-editor .cm-editor").lineEditor;
 editor.setCursor({ line: editor.getValue().split("\\n").findIndex((line) => line.startsWith("turn:")), ch: 0 });
@@ -155,7 +155,7 @@ def check_many(browser, program):
     """Checks that a step of several instructions takes the number of cycles that the trace shows."""
     file, _ = program.session("many", texts_of("three_lamps"))
     lines = [line for line in program.tool("trace", file, 400).splitlines() if re.match(r" *\d+  [0-9A-F]{3} ", line)]
-    at_rest(browser, "three lamps")
+    open_paused_example(browser, "three lamps")
     browser.script(CHANGE_FIELD, "#step-count", "50")
     browser.click("#step-many")
     eventually(browser, "50 instructions", GET_STATUS, f"50 instructions were done, after {counted(int(lines[50].split()[0]))}.")
@@ -192,7 +192,7 @@ def check_far(browser):
 
 def check_stopwatch(browser):
     """Checks that a hundredth of a second of the stopwatch is 926 cycles, measured between two markers."""
-    at_rest(browser, "stopwatch")
+    open_paused_example(browser, "stopwatch")
     lines_answered(browser, "test 0")
     browser.script(CHANGE_FIELD, "#change-place", "lamps")
     for _ in range(2):
@@ -218,12 +218,12 @@ def check_stopwatch(browser):
 
 def check_back(browser):
     """Checks going back and forward past key presses. Afterwards, the answers and the file must be the same as before."""
-    at_rest(browser, "calculator")
+    open_paused_example(browser, "calculator")
     browser.click("#run")
     for legend in "12":
         browser.fingers([key(legend)], 60)
     browser.until(GET_DIGITS, "12")
-    stand(browser)
+    pause_time(browser)
     there = state(browser)
     browser.script(READ_KEPT_FILE)
     file = browser.until(GET_KEPT_FILE, re.compile("."))
@@ -321,7 +321,7 @@ def check_waiting(browser):
 
 def check_slow(browser):
     """Checks slow motion, and that the page follows the running line."""
-    at_rest(browser, "three lamps")
+    open_paused_example(browser, "three lamps")
     verdict("the speeds", browser.script("return [...document.getElementById('speed').options].map((each) => each.textContent).join(', ')"),
             "real time, 1/10, 1/100, 1/1,000, an instruction a second, full speed")
     browser.click("#run")
@@ -331,16 +331,16 @@ def check_slow(browser):
     eventually(browser, "the line that runs is marked", "return document.querySelectorAll('#lines-of-program .next').length", 1)
     browser.script("window.firstLine = document.querySelector('#lines-of-program .next').textContent")
     eventually(browser, "and followed", "return document.querySelector('#lines-of-program .next').textContent !== window.firstLine", True)
-    stand(browser)
+    pause_time(browser)
     browser.script(SET_SPEED, "instruction")
     browser.click("#run")
     browser.until(GET_CYCLES_SINCE_STOP, re.compile("^[3-9] cycles"))
-    stand(browser)
+    pause_time(browser)
     verdict("an instruction a second ends between instructions", re.search("owed 0", lines_answered(browser, "regs")) is not None, True)
     browser.script(SET_SPEED, "real")
     browser.click("#run")
     eventually(browser, "and real time is held again", GET_RATE, re.compile("^9[0-4]...$"))
-    stand(browser)
+    pause_time(browser)
 
 
 def check(browser, page, folder, mcs4):

@@ -148,7 +148,7 @@ return arguments[0].filter((id) => {
 IS_TRACE_LARGE = """
 const { width, height } = document.getElementById("wave-canvas").getBoundingClientRect();
 return width > 400 && height > 100"""
-TOGETHER = ["processor", "calls", "watched", "breakpoints", "memory"]
+DEBUGGER_PANELS = ["processor", "calls", "watched", "breakpoints", "memory"]
 MAX_CONTROLS, MAX_WORDS, MIN_LINES = 60, 350, 25
 
 
@@ -168,7 +168,7 @@ def check_first_glance(browser, page, at_size):
     browser.click("#record")
     eventually(browser, "a trace is seen", IS_TRACE_LARGE, True)
     verdict(f"with {MIN_LINES} lines of the source", browser.script(COUNT_LINES) >= MIN_LINES, True)
-    verdict("and these panels, whole", browser.script(GET_WHOLE_PANELS, TOGETHER), TOGETHER)
+    verdict("and these panels, whole", browser.script(GET_WHOLE_PANELS, DEBUGGER_PANELS), DEBUGGER_PANELS)
     show_text(browser, "disassembly")
     for text in ("board", "wiring", "tests", "properties", "program"):
         show_text(browser, text)

@@ -2,7 +2,7 @@
 
 import re
 
-WORDS = 30
+MAX_WORDS = 30
 # Patterns for words that make a native reader stop, each with the words to write instead.
 AVOIDED = {
     r"tells?|told|telling": "report, print, say or show",
@@ -43,7 +43,7 @@ EXCEPTIONS = {
 # Matches a piece of code, or a list of them, which counts as one word.
 CODE = r"`[^`]*`(?:(?:,| and|, and)? \(?`[^`]*`\)?)*"
 # The beginning of a new block: a table row, a list item, a heading.
-BEGINS = r"\s*(?:\||- |\d+\. )|#"
+BLOCK_BEGIN = r"\s*(?:\||- |\d+\. )|#"
 
 
 def blocks_of(text):
@@ -51,11 +51,11 @@ def blocks_of(text):
     block, first, fenced = [], 1, False
     for number, line in enumerate([*text.splitlines(), ""], 1):
         is_fence = line.startswith("```")
-        if block and (not line.strip() or is_fence or re.match(BEGINS, line)):
+        if block and (not line.strip() or is_fence or re.match(BLOCK_BEGIN, line)):
             yield first, " ".join(block)
             block = []
         fenced ^= is_fence
-        if fenced or is_fence or (line.startswith("    ") and not block and not re.match(BEGINS, line)):
+        if fenced or is_fence or (line.startswith("    ") and not block and not re.match(BLOCK_BEGIN, line)):
             continue
         if line.startswith("|"):
             yield from ((number, cell.strip()) for cell in line.strip("|").split("|"))
@@ -78,8 +78,8 @@ def errors_of(text):
         if sentence.startswith(tuple(EXCEPTIONS)):
             continue
         words = len(re.findall(r"\w[\w'/-]*", sentence))
-        if words > WORDS:
-            yield number, f"a sentence of {words} words, with a limit of {WORDS}: {sentence[:60]}.."
+        if words > MAX_WORDS:
+            yield number, f"a sentence of {words} words, with a limit of {MAX_WORDS}: {sentence[:60]}.."
         for found in ANY_AVOIDED.finditer(sentence):
             near = sentence[max(0, found.start() - 20):found.end() + 20]
             yield number, f"\"{found[0]}\" in \"{near}\": write {BETTER[int(found.lastgroup.removeprefix('word'))]}"

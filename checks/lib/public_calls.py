@@ -104,7 +104,7 @@ def items_of_file(path):
     return items
 
 
-def handed_on(text):
+def reexported_names(text):
     """Yields the names that a crate's root file re-exports by `pub use`. Each comes with the first word of its path."""
     for path, names in re.findall(r"^pub use ((?:\w+::)*)(\{[^}]*\}|\w+);", text, re.M):
         for name in re.findall(r"\w+", names):
@@ -116,7 +116,7 @@ def calls_of(crate):
     source = TOP / "crates" / crate / "src"
     text = without_comments((source / "lib.rt").read_text())
     open_modules = set(re.findall(r"^pub mod (\w+);", text, re.M)) | {"lib"}
-    named = set(handed_on(text))
+    named = set(reexported_names(text))
     names = {name for _, name in named}
     for path in sorted(source.rglob("*.rt")):
         yield from (line for name, line in items_of_file(path) if path.stem in open_modules or name in names)

@@ -16,7 +16,7 @@ from collections.abc import Callable, Iterable
 from dataclasses import dataclass, field
 
 import bench4004
-from board4004 import ADDRESSES, CODES, TWO_WORDS, Board
+from board4004 import ADDRESS_COUNT, CODES, TWO_WORDS, Board
 
 # A comparison, in the words of a question: `in` or `out`, the list, the index, the part, the minimum and the maximum.
 Comparison = tuple[str, str, int, str, int, int]
@@ -228,9 +228,9 @@ def is_early(board: Board) -> bool:
     return sequence is not None and seen_of(board) < len(sequence.marks) and sequence.opens(board)
 
 
-def read_by(board: Board, name: str) -> list[int]:
+def words_read(board: Board, name: str) -> list[int]:
     """Returns the addresses of the ROM words that the instruction at the counter reads: its own words, and for FIN the word that it loads."""
-    behind = (board.pc + 1) % ADDRESSES
+    behind = (board.pc + 1) % ADDRESS_COUNT
     return [board.pc] + ([behind] if name in TWO_WORDS else []) + ([behind & 0xF00 | board.pair(0)] if name == "FIN" else [])
 
 
@@ -246,7 +246,7 @@ def mistakes(board: Board) -> set[str]:
         "call": name == "JMS" and calls_of(board) == OPEN_CALLS,
         "return": name == "BBL" and calls_of(board) == 0,
         "ram": name in FOR_RAM and not chips.has_ram(board.dcl, chips.bank_src[board.dcl]),
-        "rom": any(address >> 8 not in chips.masks for address in read_by(board, name)),
+        "rom": any(address >> 8 not in chips.masks for address in words_read(board, name)),
         "rdr": name == "RDR" and "i" not in port,
         "wrr": name == "WRR" and port.strip("i") == "",
     }.items() if is_made}
@@ -406,7 +406,7 @@ def search(question: Question) -> Found:
         for value, levels in sorted(values_read(board).items()):
             load(board, state)
             if go_on(board, levels, is_bad, question.pause)[1]:
-                return Found("may fail", len(states), [*way_to(came, at), value])
+                return Found("may fail", len(states), [*values_leading_to(came, at), value])
             there = saved(board)
             if there not in known:
                 if len(states) == question.most:
@@ -417,7 +417,7 @@ def search(question: Question) -> Found:
     return Found("holds", len(states))
 
 
-def way_to(came: list[tuple[int, int]], at: int) -> list[int]:
+def values_leading_to(came: list[tuple[int, int]], at: int) -> list[int]:
     """Returns the values that the program reads on the way to a state."""
     way = []
     while at:

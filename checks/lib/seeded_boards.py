@@ -8,10 +8,10 @@ from __future__ import annotations
 
 import random
 
-from assembler import ADDRESSES, ALONE, ON_PAIR, ON_REGISTER
+from assembler import ADDRESS_COUNT, CODES_WITHOUT_OPERAND, CODES_ON_PAIR, CODES_ON_REGISTER
 from board4004 import Board
 
-OUTSIDE = [*range(1, 16), 0xE3, 0xFE, 0xFF]
+INVALID_CODES = [*range(1, 16), 0xE3, 0xFE, 0xFF]
 JUMPS = ("JUN", "JMS", "JCN", "ISZ")
 NAMES = ("inf", "nan", "INFINITY", "infinity", "NaN", "INF", "e0", "E1", "_0E0", "x1e2")
 ORIGINS = (0x00, 0x02, 0x1E, 0x40, 0xD9, 0xDE, 0xE0, 0xE1, 0xF0, 0xF9)
@@ -78,7 +78,7 @@ class Program:
         # The text of the statement at each address. The targets of jumps are added later.
         self.statements: dict[int, str] = {}
         self.loops: dict[int, int] = {}
-        self.free = set(range(ADDRESSES))
+        self.free = set(range(ADDRESS_COUNT))
         for page in wiring.pages:
             for word in {0, *chance.sample(ORIGINS, 2)} if page == 0 else chance.sample(ORIGINS, chance.randrange(1, 4)):
                 self.put_part(256 * page + word, chance.randrange(4, 30))
@@ -91,7 +91,7 @@ class Program:
         """Adds phrases (short sequences of instructions) from an address on, as far as there is room. Usually ends them by a jump, or by a code that
         is not an instruction."""
         statement = [word for _n in range(phrases) for word in self.phrase()]
-        self.put(at, statement + self.chance.choice([["JUN"], ["JUN"], ["BBL 3"], [f"DB 0x{self.chance.choice(OUTSIDE):02X}"], []]))
+        self.put(at, statement + self.chance.choice([["JUN"], ["JUN"], ["BBL 3"], [f"DB 0x{self.chance.choice(INVALID_CODES):02X}"], []]))
 
     def put(self, at: int, statements: list[str]) -> None:
         """Adds statements from an address on, as far as there is room. `^4` in a jump is the target four statements before it."""
@@ -150,10 +150,10 @@ class Program:
 
     def any_instruction(self, value: int, pair: int) -> str:
         """Returns one of the 45 instructions."""
-        name = self.chance.choice([*ALONE, *ON_REGISTER, *ON_PAIR, *JUMPS, "FIM", "LDM", "BBL", "ISZ", "JMS"])
+        name = self.chance.choice([*CODES_WITHOUT_OPERAND, *CODES_ON_REGISTER, *CODES_ON_PAIR, *JUMPS, "FIM", "LDM", "BBL", "ISZ", "JMS"])
         if name == "FIM":
             return f"FIM P{pair}, 0x{self.chance.randrange(256):02X}"
-        operand = f" P{pair}" if name in ON_PAIR else f" R{value}" if name in (*ON_REGISTER, "ISZ") else ""
+        operand = f" P{pair}" if name in CODES_ON_PAIR else f" R{value}" if name in (*CODES_ON_REGISTER, "ISZ") else ""
         return name + (operand or (f" {value}" if name in ("LDM", "BBL", "JCN") else ""))
 
     def some_names(self) -> dict[int, str]:
@@ -165,7 +165,7 @@ class Program:
         """Returns the target of a jump, usually an instruction."""
         if at in self.loops:
             return self.names.get(self.loops[at], f"0x{self.loops[at]:03X}")
-        page = (at + 2) % ADDRESSES >> 8 if name in ("JCN", "ISZ") else self.chance.choice(self.wiring.pages)
+        page = (at + 2) % ADDRESS_COUNT >> 8 if name in ("JCN", "ISZ") else self.chance.choice(self.wiring.pages)
         there = [other for other in self.begins if other >> 8 == page]
         # The targets up to 12 bytes before the jump, which make a short loop.
         near = [other for other in there if at - 12 < other <= at]
@@ -212,7 +212,7 @@ class Seeded:
         ends = [at for at in self.program.begins if at & 0xFC == 0xFC]
         if ends and self.chance.random() < 0.2:
             return self.chance.choice(ends)
-        return self.chance.choice(self.program.begins) if self.chance.random() < 0.95 else self.chance.randrange(ADDRESSES)
+        return self.chance.choice(self.program.begins) if self.chance.random() < 0.95 else self.chance.randrange(ADDRESS_COUNT)
 
     def character(self) -> tuple[int, int]:
         """Returns a RAM nibble, usually of an existing chip."""

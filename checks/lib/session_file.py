@@ -1,7 +1,7 @@
 """Writes and reads session files as docs/FORMAT.md specifies, without the program. Implements the few commands with which the checks fill the files.
 
-`Kept` computes the expected bytes of a session's file after each accepted command: its snapshot, its records, and all other bytes, except the unused
-part of each snapshot area.
+`ExpectedSession` computes the expected bytes of a session's file after each accepted command: its snapshot, its records, and all other bytes, except
+the unused part of each snapshot area.
 """
 
 import copy
@@ -301,7 +301,7 @@ def put_record(file, at, record):
     file[at:at + 3 + len(record) + 1] = b"\x01" + number(len(record), 2) + record + b"\x00"
 
 
-class Kept:
+class ExpectedSession:
     """A session, and the expected bytes of its file."""
 
     def __init__(self, state=None, slot=0, version=2):

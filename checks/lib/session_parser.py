@@ -186,7 +186,7 @@ def read_command(record, version):
     return words, {"run": lambda: int(words[1]), "step": lambda: 2}.get(words[0], lambda: 0)()
 
 
-class Standing:
+class ParsedFile:
     """The contents of a session file: a bench in its state, the text of its board, and the version of the format."""
 
     def __init__(self, file):

@@ -80,7 +80,7 @@ WRONG_RECORDS = [
     # Two marks and one byte, one mark and two bytes.
     LOAD[:-1], bytes([2, 1]) + LOAD[2:],
 ]
-RIGHT_RECORDS = [bytes([3, 0, 0]), bytes([5, 0, 0, 0, 1]), bytes([7, 0, 15]), NEW_BOARD, LOAD]
+VALID_RECORDS = [bytes([3, 0, 0]), bytes([5, 0, 0, 0, 1]), bytes([7, 0, 15]), NEW_BOARD, LOAD]
 # Commands that exist in version 1, and commands that only version 2 has. All records are in the format of version 2.
 FIRST_COMMANDS = [wire(EACH_PART.text(), EACH_PART), wire(chained(2, 4).board.text(), chained(2, 4).board), step(),
                   written("poke pc 1", [7, 2, 0, 1], put("counter", 1)), run(1)]

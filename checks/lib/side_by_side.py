@@ -32,11 +32,11 @@ from browsers import installed_browsers  # noqa: E402
 
 TOP = pathlib.Path(__file__).resolve().parent.parent.parent
 CACHE = pathlib.Path(os.environ.get("XDG_CACHE_HOME") or pathlib.Path.home() / ".cache") / "fethsaim/check_seconds.json"
-# The time limit of a check is MIN_SECONDS plus TIMES times its usual time.
-MIN_SECONDS, TIMES = 900, 5
+# The time limit of a check is MIN_SECONDS plus TIME_FACTOR times its usual time.
+MIN_SECONDS, TIME_FACTOR = 900, 5
 END_TIMEOUT = 5
 # The minimum number of processors for running checks at the same time as the gate.
-ENOUGH = 4
+MIN_PROCESSORS = 4
 SUMMED = re.compile(r"^(\d+) passed, (\d+) failed", re.M)
 
 # The Debian packages of commands and files. A command that is not listed is in the package of the same name.
@@ -90,7 +90,7 @@ class Check:
 
     def limit(self):
         """Returns the number of seconds after which the check is ended."""
-        return int(os.environ.get("CHECK_SECONDS", MIN_SECONDS + TIMES * self.usual()))
+        return int(os.environ.get("CHECK_SECONDS", MIN_SECONDS + TIME_FACTOR * self.usual()))
 
 
 CHECKS = [
@@ -281,7 +281,7 @@ class Run:
         """Returns the number of checks that may run now, including the gate."""
         if self.gate is None or self.gate.is_over:
             return self.processors
-        if self.processors < ENOUGH or not os.environ["SHIPPED_PROGRAM"]:
+        if self.processors < MIN_PROCESSORS or not os.environ["SHIPPED_PROGRAM"]:
             return 1
         return self.processors if os.getloadavg()[0] < self.processors - 1 else 2
 

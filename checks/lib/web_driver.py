@@ -161,7 +161,7 @@ class WebKit(WebDriver):
     # visible.
     has_fingers = False
     hides_tabs = False
-    settles = 0.3
+    settle_seconds = 0.3
 
     def __init__(self, folder, downloads):
         home = pathlib.Path(folder)

@@ -2,16 +2,16 @@
 
 import random
 
-from board_spellings import TEXT_ENDS, EQUALS, KINDS, Raw, seeded_board, spelled_tables
+from board_spellings import TEXT_ENDS, EQUALS, KINDS, Raw, seeded_board, random_tables_text
 
-# Wrong values for each key, besides those in OF_NO_KEY, which are wrong for every key.
+# Wrong values for each key, besides those in INVALID_VALUES, which are wrong for every key.
 WRONG = {
     "chip": [16, -1, 99], "port": ["000", "00000", "iii2", "IIII", "o000"], "bank": [8, -1], "chips": [0, 9, 5], "clock": ["chain0.0", "rom00.1"],
     "data": ["ram0.4.0", "rom0"], "chain": [4, -1], "first": [80, -1], "rows": [0, 11], "line": ["rom16.0", "chain4.0", "ram8.0.0", "led"],
     "columns": [[], ["rom0.4"], ["chain0.0"], ["ram0.0.0"]],
 }
-OF_NO_KEY = [Raw(text) for text in ("1.0", "true", "inf", "{}", "{ a = 1 }", "[[]]", "1979-05-27", '"1"', "[1]", '["a"]')]
-UNKNOWN = ["lamps", "chip", "bank", "line", "port", "x", "Rom", "a-b", "a b", "", "a.b", "_1"]
+INVALID_VALUES = [Raw(text) for text in ("1.0", "true", "inf", "{}", "{ a = 1 }", "[[]]", "1979-05-27", '"1"', "[1]", '["a"]')]
+UNKNOWN_KEYS = ["lamps", "chip", "bank", "line", "port", "x", "Rom", "a-b", "a b", "", "a.b", "_1"]
 CHARACTERS = "\"'[]{}=.,#\\ \t0123456789abcdeiorxINF_-+:"
 
 
@@ -36,12 +36,12 @@ def lack_key(chance, tables):
 
 def add_key(chance, tables):
     if table := table_of(chance, tables):
-        table[chance.choice(UNKNOWN)] = chance.choice([1, "a", OF_NO_KEY[0]])
+        table[chance.choice(UNKNOWN_KEYS)] = chance.choice([1, "a", INVALID_VALUES[0]])
 
 
 def put_wrong(chance, tables):
     if (table := table_of(chance, tables)) and (key := chance.choice([*table])) in WRONG:
-        table[key] = chance.choice([*WRONG[key], chance.choice(OF_NO_KEY)])
+        table[key] = chance.choice([*WRONG[key], chance.choice(INVALID_VALUES)])
 
 
 def put_line(chance, tables):
@@ -96,7 +96,7 @@ def spoil_text(chance, text):
 
 def top_of(chance):
     """Returns a line that goes before all others."""
-    section, value = chance.choice([*KINDS, *UNKNOWN[:6]]), chance.choice(["1", "[1]", "[{}, 2]", "{}", "{ chip = 1 }", '"a"', "[\n]"])
+    section, value = chance.choice([*KINDS, *UNKNOWN_KEYS[:6]]), chance.choice(["1", "[1]", "[{}, 2]", "{}", "{ chip = 1 }", '"a"', "[\n]"])
     return f"{section}{chance.choice(EQUALS)}{value}{chance.choice(TEXT_ENDS)}"
 
 
@@ -109,7 +109,7 @@ def wrong_board(number):
     tables["rom"] = tables["rom"] if chance.random() < 0.3 else tables["rom"][-6:]
     for _n in range(chance.choice([1, 1, 1, 2, 4])):
         chance.choice(CHANGES)(chance, tables)
-    text = spelled_tables(chance, tables)
+    text = random_tables_text(chance, tables)
     if chance.random() < 0.1:
         text = top_of(chance) + text
     if chance.random() < 0.25:

@@ -18,7 +18,7 @@ from power.disk import Connection, Disk, Fault
 
 # The machine's init script. It loads modules, switches off the echo of its serial line, and then runs each shell line that arrives and prints its
 # exit status.
-FIRST = r"""#!/bin/busybox sh
+INIT_SCRIPT = r"""#!/bin/busybox sh
 /bin/busybox --install -s /bin
 mount -t proc proc /proc
 mount -t sysfs sys /sys
@@ -108,7 +108,7 @@ def initramfs(folder: pathlib.Path, kernel: Kernel, names: list[str], files: dic
     for place, file in files.items():
         (root / place).parent.mkdir(parents=True, exist_ok=True)
         shutil.copy(file, root / place)
-    (root / "init").write_text(FIRST)
+    (root / "init").write_text(INIT_SCRIPT)
     (root / "init").chmod(0o755)
     listed = "\n".join(sorted(str(path.relative_to(root)) for path in root.rglob("*")))
     packed = subprocess.run(["cpio", "--quiet", "-o", "-H", "newc"], input=listed.encode(), cwd=root, stdout=subprocess.PIPE, check=True)

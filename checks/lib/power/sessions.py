@@ -50,7 +50,7 @@ def commands(count: int) -> list[str]:
     return found[:count]
 
 
-def carried_back(data: bytes) -> bytes:
+def as_version_1(data: bytes) -> bytes:
     """Returns the version 1 form of a session file whose snapshot, of version 2, has no watches: without the version byte and without the
     number of watches."""
     slot = SLOTS[data[8] % 2]
@@ -62,7 +62,7 @@ def carried_back(data: bytes) -> bytes:
     return data[:slot] + len(first).to_bytes(LENGTH_BYTES, "big") + first + bytes(2) + data[begin + length:]
 
 
-def is_first(data: bytes) -> bool:
+def has_version_1(data: bytes) -> bool:
     """Returns true if a file contains a session of version 1."""
     found = read(data)
     return found is not None and found[0][VERSION_PLACE] != VERSION_2
@@ -108,7 +108,7 @@ class Sessions:
                 if number == SERVED_COMMANDS:
                     (self.folder / SERVED).write_bytes(data)
                 if number == FIRST_COMMANDS:
-                    (self.folder / FIRST).write_bytes(carried_back(data))
+                    (self.folder / FIRST).write_bytes(as_version_1(data))
         file.unlink()
         if len(set(self.states)) != len(self.states):
             raise Fault("two commands leave the same state")

@@ -21,20 +21,20 @@ from power.cases import (ALL_COMMANDS, CASES, FEW_COMMANDS, KINDS, MORE_COMMANDS
 from power.disk import Disk, Event, Fault
 from power.images import Builder, History, Image, Phase
 from power.machine import Machine
-from power.sessions import Sessions, is_first
+from power.sessions import Sessions, has_version_1
 from session_file import SIZE
 
 MEGA = 1 << 20
 # A shell line that starts another writer on the file system, so that the file system commits between the writes of the program.
-BUSY = "(cd /; n=/mnt/noise; while :; do echo noise >> $n/a; mv $n/a $n/b; sleep 0.3; mv $n/b $n/a; done) & busy=$!"
-# Shell lines. BEGIN starts the program with its serial line as input and output, and reports if the program ends unexpectedly. END ends all processes
-# that use the file system, and unmounts it, with a second attempt because a process can live for a moment longer.
-BEGIN = "{{ {wrong} mcs4 {words} <&3 >&3; reported=$?; [ -e /tmp/end ] || echo ended with status $reported >&3; }} &"
-END = "cd /; : > /tmp/end; kill $busy; killall mcs4; wait; rm /tmp/end; umount /mnt || { sleep 1; umount /mnt; }"
+START_OTHER_WRITER = "(cd /; n=/mnt/noise; while :; do echo noise >> $n/a; mv $n/a $n/b; sleep 0.3; mv $n/b $n/a; done) & busy=$!"
+# Shell lines. START_PROGRAM starts the program with its serial line as input and output, and reports if the program ends unexpectedly.
+# STOP_AND_UNMOUNT ends all processes that use the file system, and unmounts it, with a second attempt because a process can live for a moment longer.
+START_PROGRAM = "{{ {wrong} mcs4 {words} <&3 >&3; reported=$?; [ -e /tmp/end ] || echo ended with status $reported >&3; }} &"
+STOP_AND_UNMOUNT = "cd /; : > /tmp/end; kill $busy; killall mcs4; wait; rm /tmp/end; umount /mnt || { sleep 1; umount /mnt; }"
 # What can be found if the power is cut before the first answer of `new`, on a file system that shows only written data.
-BEFORE_NEW = ("absent", "size 0", "blank", 0)
+ALLOWED_BEFORE_NEW = ("absent", "size 0", "blank", 0)
 # The maximum number of errors to report for each recording, and of images to store in total.
-SHOWN, KEPT = 2, 6
+MAX_REPORTED, MAX_STORED = 2, 6
 
 # What was found on an image: the number of commands in a session, or a description of anything else.
 Found = int | str
@@ -143,15 +143,15 @@ class Runner:
         self.mount(kind, trial)
         self.machine.must("cd /mnt; mkdir -p noise; busy=")
         if trial.is_busy:
-            self.machine.must(BUSY)
+            self.machine.must(START_OTHER_WRITER)
         if stage.before:
             self.machine.must(stage.before)
         wrong = f"LD_PRELOAD=/omit.so WRONG='{trial.wrong}'" if trial.wrong not in ("", NO_BARRIER) else ""
-        self.machine.must(BEGIN.format(wrong=wrong, words=stage.words))
+        self.machine.must(START_PROGRAM.format(wrong=wrong, words=stage.words))
         self.serve(events, stage)
         self.disk.events = None
         self.disk.late = False
-        self.machine.must(END)
+        self.machine.must(STOP_AND_UNMOUNT)
         self.disk.take_back()
         snapshots = set() if case.name.startswith("carried") else self.sessions.snapshots
         return History(events, stage.first, stage.is_kept, snapshots, kind.whole_blocks, self.chance)
@@ -178,7 +178,7 @@ class Runner:
         builder.build(image)
         found = self.found(kind, self.options(kind, trial), case.file)
         self.disk.take_back()
-        return Seen(image, found, isinstance(found, int) and is_first(bytes(self.out.bytes[:SIZE])))
+        return Seen(image, found, isinstance(found, int) and has_version_1(bytes(self.out.bytes[:SIZE])))
 
     def found(self, kind: Kind, options: str, file: str) -> Found:
         """Returns what a machine finds on its disk after a cut: a number of commands, or a description."""
@@ -206,7 +206,7 @@ class Runner:
         if found == "not mounted" and image.is_torn:
             return "not mounted, with a torn block"
         if image.least is None:
-            is_good = found in BEFORE_NEW if case.words.startswith("new") and not kind.shows_stale else found != "not mounted"
+            is_good = found in ALLOWED_BEFORE_NEW if case.words.startswith("new") and not kind.shows_stale else found != "not mounted"
             return f"before the first answer {found}" if is_good else ""
         return "good" if isinstance(found, int) and image.least <= found <= image.most else ""
 
@@ -228,7 +228,7 @@ class Runner:
         del notes["good"]
         if notes:
             print("    " + "; ".join(f"{number} {note}" for note, number in sorted(notes.items())), flush=True)
-        faults = [self.words_of_fault(one, len(history.events)) for one in wrong[:SHOWN]]
+        faults = [self.words_of_fault(one, len(history.events)) for one in wrong[:MAX_REPORTED]]
         for words, one in zip(faults, wrong):
             if not trial.wrong:
                 print(f"FAULT in {name}: {words}", flush=True)
@@ -252,7 +252,7 @@ class Runner:
     def keep_image(self, trial: Trial, generation: int, builder: Builder, image: Image) -> None:
         """Stores an image in a file, with the expected result, and reports the command line that examines it again."""
         kind, case = KINDS[trial.kind], CASES[trial.case]
-        if self.kept == KEPT:
+        if self.kept == MAX_STORED:
             return
         self.kept += 1
         self.keep.mkdir(parents=True, exist_ok=True)
