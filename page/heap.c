@@ -52,7 +52,8 @@ static void *take(Word count) {
     if (end > have) {
         Word pages = (end - have + (1ULL << PAGE_POWER) - 1) >> PAGE_POWER;
         __builtin_wasm_memory_grow(0, pages);
-        // The size of the memory says whether it has grown: after a failure the call's result has other bits with 32-bit addresses.
+        // Compares the size of the memory to find whether it has grown. The result of the call is not reliable: after a failure, it is not -1 when
+        // the addresses have been lowered to 32 bits.
         if ((Word)__builtin_wasm_memory_size(0) << PAGE_POWER < end) return 0;
     }
     Byte *block = (Byte *)end_of_heap + HEADER;
@@ -78,7 +79,7 @@ static Tried tried(void *block) {
 // `alignment` divides 16, and `count` is less than 2^63.
 Tried rattle_alloc(Word count, Word alignment) { return tried(alignment > HEADER ? 0 : take(count)); }
 
-// Keeps the first `kept` bytes. If there is no memory, the block stays unchanged.
+// Copies the first `kept` bytes to the new block. If there is no memory, the old block stays unchanged.
 Tried rattle_realloc(void *block, Word kept, Word count, Word alignment) {
     if (power_for(count) <= (int)*power_of(block)) return tried(block);
     void *larger = alignment > HEADER ? 0 : take(count);
@@ -90,7 +91,7 @@ Tried rattle_realloc(void *block, Word kept, Word count, Word alignment) {
 
 void rattle_dealloc(void *block) { give_back(block); }
 
-// ---- for the page
+// ---- buffers for the calls of the page
 
 void *bench_buffer(Word count) { return take(count); }
 

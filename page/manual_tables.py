@@ -1,4 +1,4 @@
-"""The tables in the help of the page: from docs/MANUAL.md, so that each is written once, and from page/help.md, about the page itself."""
+"""Extracts the tables for the page's help: those about the bench from docs/MANUAL.md, and those about the page itself from page/help.md."""
 
 import pathlib
 import re

@@ -1,9 +1,9 @@
-"""Software of others in the page: esbuild bundles its modules, CodeMirror 6 is the editor of its texts, and pako unpacks its module.
+"""The software of others from which the page is built: esbuild bundles its modules, CodeMirror 6 is its editor, and pako unpacks its data.
 
 CodeMirror and pako are in page/codemirror, from Debian's packages of trixie. page/codemirror/fetch downloads them, and page/codemirror/SUMS
 has the checksum of each file. The program esbuild is searched for in page/from_npm, where `npm install --prefix page/from_npm
-esbuild@VERSION` puts it, and then in PATH. Another version of esbuild, or a zlib that packs differently, makes a page that differs from the
-shipped one. It is used after a message.
+esbuild@VERSION` puts it, and then in PATH. With another version of esbuild, or with a zlib that packs differently, the page differs from the shipped
+one. They are used all the same, after a message.
 """
 
 import hashlib
@@ -16,7 +16,7 @@ import zlib
 HERE = pathlib.Path(__file__).resolve().parent
 ESBUILD = "0.17.0"
 EDITOR = HERE / "codemirror"
-# A text, and the checksum (SHA-256) of that text packed by zlib.
+# A text, and the checksum (SHA-256) of this text packed by zlib. Another checksum shows that zlib packs differently here.
 PACKED_TEXT = " ".join(str(number * number) for number in range(20000)).encode()
 PACKED_SUM = "c9235e861439903a62dc18ba276c200da9cfd6a308ace067475943966a4aaa78"
 # The imports from the editor in js/page.
@@ -66,7 +66,7 @@ def packed(data):
 
 
 def other_parts():
-    """Returns a message for each part that differs from the one of the shipped page."""
+    """Returns a message for each part (esbuild, zlib) that differs from the one with which the shipped page was built."""
     found = subprocess.run([esbuild(), "--version"], stdout=subprocess.PIPE, text=True, check=True).stdout.strip()
     other_esbuild = [] if found == ESBUILD else [f"esbuild is {found}, not {ESBUILD}"]
     other_zlib = [] if hashlib.sha256(packed(PACKED_TEXT)).hexdigest() == PACKED_SUM else [f"zlib {zlib.ZLIB_RUNTIME_VERSION} packs otherwise"]

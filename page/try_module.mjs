@@ -1,9 +1,9 @@
-// Checks a module of the bench that page/wasm has made: `node try_module.mjs MODULE SHORT`. SHORT is the same module with a stack that is
-// too short for any call. The checks are those that no compiler does:
+// Checks a WebAssembly module of the bench that page/wasm has built: `node try_module.mjs MODULE SHORT`. SHORT is the same module with a stack that
+// is too short for any call. It checks properties that no compiler checks:
 // - MODULE has one memory, with 32-bit addresses and at most 256 MiB.
 // - If that memory cannot grow, calls answer `no 90` and leave the file unchanged. They work again when there is memory.
-// - The prover answers, also a question with more states than the memory has room for.
-// - The stack of SHORT ends in a trap.
+// - The prover answers questions, also one with more states than fit into memory.
+// - A stack overflow, which every call of SHORT causes, ends in a trap.
 import { readFileSync } from "node:fs";
 
 const MEMORY_SECTION = 5;
@@ -48,7 +48,7 @@ function start(path) {
   return new WebAssembly.Instance(new WebAssembly.Module(readFileSync(path)), {}).exports;
 }
 
-// Returns the buffers of a call: the file, the input, the answers and the report.
+// Allocates the buffers for calls (the file, the input, the answers and the report), and returns them.
 function desk(calls, input) {
   const size = calls.bench_file_size();
   const file = calls.bench_buffer(size);
@@ -63,7 +63,7 @@ function fileOf(calls, { file, size }) {
   return Buffer.from(new Uint8Array(calls.memory.buffer, Number(file), Number(size)).slice());
 }
 
-// Serves the input. Returns 0 if it was served, otherwise the number of the refusal.
+// Serves the input. Returns 0 if it was served, otherwise the number of the error.
 function serve(calls, name, { file, size, lines, count, answers, report }) {
   const served = calls[name](file, size, lines, count, answers, 4096n, report);
   return served ? 0 : new DataView(calls.memory.buffer, Number(report)).getUint32(0, true);
@@ -84,7 +84,7 @@ function tryMemory(bytes) {
 function tryWithoutMemory(calls) {
   const own = desk(calls, Buffer.from("poke r5 9\nregs\n"));
   expect("begin", calls.bench_begin(own.file, own.size) !== 0, true);
-  // The blocks that this call has used are free afterwards. The loop takes them, too.
+  // This call frees its blocks when it returns. The loop below must allocate these blocks, too, so that no memory is left.
   expect("serve", serve(calls, "bench_serve_and_settle", own), 0);
   const blocks = [];
   for (let size = BLOCK; size >= 16n; size /= 2n) {
@@ -110,7 +110,7 @@ function question(most, registers, never) {
     + `look: JCN 1, on\nLDM 0\nWMP\n${counts}JUN look\non: LDM 1\nWMP\n${counts}JUN look\n.\nnever\nin ramport 0 ${never}\nprove\n`;
 }
 
-// Returns the line of the answer; without an answer, the number and the count that the call returns.
+// Returns the line of the answer. If there is no answer, returns the error number and the count that the call returns.
 function prove(calls, text, room = 4096n) {
   const input = Buffer.from(text);
   const [lines, answers, report] = [BigInt(input.length), room, BigInt(REPORT_SIZE)].map((size) => calls.bench_buffer(size));

@@ -1,26 +1,27 @@
-"""An assembler written only from the manual's chapter. It returns a program's bytes or the first refusal. It shares no code with the bench."""
+"""A second assembler, written from the manual's chapter alone. It returns a program's bytes or its first error. It shares no code with the bench."""
 
 import re
 
-ALONE = {"NOP": 0x00, "WRM": 0xE0, "WMP": 0xE1, "WRR": 0xE2, "WR0": 0xE4, "WR1": 0xE5, "WR2": 0xE6, "WR3": 0xE7, "SBM": 0xE8, "RDM": 0xE9,
+CODES_WITHOUT_OPERAND = {
+         "NOP": 0x00, "WRM": 0xE0, "WMP": 0xE1, "WRR": 0xE2, "WR0": 0xE4, "WR1": 0xE5, "WR2": 0xE6, "WR3": 0xE7, "SBM": 0xE8, "RDM": 0xE9,
          "RDR": 0xEA, "ADM": 0xEB, "RD0": 0xEC, "RD1": 0xED, "RD2": 0xEE, "RD3": 0xEF, "CLB": 0xF0, "CLC": 0xF1, "IAC": 0xF2, "CMC": 0xF3,
          "CMA": 0xF4, "RAL": 0xF5, "RAR": 0xF6, "TCC": 0xF7, "DAC": 0xF8, "TCS": 0xF9, "STC": 0xFA, "DAA": 0xFB, "KBP": 0xFC, "DCL": 0xFD}
-ON_REGISTER = {"INC": 0x60, "ADD": 0x80, "SUB": 0x90, "LD": 0xA0, "XCH": 0xB0}
-ON_PAIR = {"SRC": 0x21, "FIN": 0x30, "JIN": 0x31}
+CODES_ON_REGISTER = {"INC": 0x60, "ADD": 0x80, "SUB": 0x90, "LD": 0xA0, "XCH": 0xB0}
+CODES_ON_PAIR = {"SRC": 0x21, "FIN": 0x30, "JIN": 0x31}
 # The instructions with values: the register kind before the values (P for a pair, R for a register), the code, and the maximum of each value.
-WITH_VALUES = {"LDM": ("", 0xD0, [15]), "BBL": ("", 0xC0, [15]), "JUN": ("", 0x40, [4095]), "JMS": ("", 0x50, [4095]),
+CODES_WITH_VALUES = {"LDM": ("", 0xD0, [15]), "BBL": ("", 0xC0, [15]), "JUN": ("", 0x40, [4095]), "JMS": ("", 0x50, [4095]),
                "FIM": ("P", 0x20, [255]), "ISZ": ("R", 0x70, [4095]), "JCN": ("", 0x10, [15, 4095])}
 REGISTERS = {f"R{k}": k for k in range(16)}
 PAIRS = {f"P{k}": k for k in range(8)}
-RESERVED = {*ALONE, *ON_REGISTER, *ON_PAIR, *WITH_VALUES, "WPM", "ORG", "DB", *REGISTERS, *PAIRS}
-ADDRESSES = 4096
-NAMES = 512
+RESERVED = {*CODES_WITHOUT_OPERAND, *CODES_ON_REGISTER, *CODES_ON_PAIR, *CODES_WITH_VALUES, "WPM", "ORG", "DB", *REGISTERS, *PAIRS}
+ADDRESS_COUNT = 4096
+MAX_NAMES = 512
 # The maximum number of errors in an answer.
 MAX_ERRORS = 100
 
 
 class Refused(Exception):
-    """A refusal: its number, and the line that it names, from 1 (0 if it names none)."""
+    """An error in a program: the error's number in the manual, and the number of the wrong line, from 1 (0 if no single line is wrong)."""
 
 
 def number_of(word):
@@ -34,22 +35,22 @@ def is_name(word):
 
 
 def tokens(line):
-    """Returns the tokens of a line: words, the three signs, and `?` for any other character."""
+    """Returns the tokens of a line: words, the signs `,`, `:` and `=`, and `?` for any other character."""
     return [token if re.match("[A-Za-z0-9_,:=]", token) else "?" for token in re.findall(r"[A-Za-z0-9_]+|[^ \t]", line.split(";")[0])]
 
 
 def values_of(words):
-    """Returns the values of words: a number for a number, and the text for a name. Returns None if any word is neither."""
+    """Converts each word that is a number to an integer, and leaves each name as it is. Returns None if any word is neither."""
     values = [number if (number := number_of(word)) is not None else word if is_name(word) else None for word in words]
     return None if None in values else values
 
 
 def statement(words):
-    """Returns a parsed statement: its kind (`ORG`, `DB`, a row of WITH_VALUES, or `CODE`) and its values. Returns None if the words are not a
+    """Parses a statement. Returns its kind (`ORG`, `DB`, a mnemonic with values, or `CODE`) and its values, or None if the words are not a
     statement."""
     name, rest = words[0].upper(), words[1:]
-    if name in ALONE:
-        return ("CODE", ALONE[name]) if not rest else None
+    if name in CODES_WITHOUT_OPERAND:
+        return ("CODE", CODES_WITHOUT_OPERAND[name]) if not rest else None
     if len(rest) % 2 == 0 or any(comma != "," for comma in rest[1::2]):
         return None
     operands = rest[::2]
@@ -59,13 +60,13 @@ def statement(words):
         return ("ORG", target) if len(operands) == 1 and target is not None else None
     if name == "DB":
         return ("DB", values) if (values := values_of(operands)) else None
-    if name in ON_REGISTER:
-        return ("CODE", ON_REGISTER[name] + REGISTERS[upper]) if len(operands) == 1 and upper in REGISTERS else None
-    if name in ON_PAIR:
-        return ("CODE", ON_PAIR[name] + 2 * PAIRS[upper]) if len(operands) == 1 and upper in PAIRS else None
-    if name not in WITH_VALUES:
+    if name in CODES_ON_REGISTER:
+        return ("CODE", CODES_ON_REGISTER[name] + REGISTERS[upper]) if len(operands) == 1 and upper in REGISTERS else None
+    if name in CODES_ON_PAIR:
+        return ("CODE", CODES_ON_PAIR[name] + 2 * PAIRS[upper]) if len(operands) == 1 and upper in PAIRS else None
+    if name not in CODES_WITH_VALUES:
         return None
-    before, code, most = WITH_VALUES[name]
+    before, code, most = CODES_WITH_VALUES[name]
     if before:
         place = (PAIRS if before == "P" else REGISTERS).get(upper)
         if place is None:
@@ -76,8 +77,9 @@ def statement(words):
     return (name, code, values) if values is not None and len(values) == len(most) else None
 
 
-def said(line):
-    """Parses a line into a name with a number, or into a label and a statement, each of which can be None. Returns None if the syntax is wrong."""
+def parse_line(line):
+    """Parses a line. Returns `=`, a name and its number for a definition; otherwise `:`, a label and a statement, which can both be None. Returns
+    None if the syntax is wrong."""
     words = tokens(line)
     if len(words) == 3 and words[1] == "=":
         return ("=", words[0], number_of(words[2])) if is_name(words[0]) and number_of(words[2]) is not None else None
@@ -100,8 +102,8 @@ def size_of(parsed):
     return 1 if parsed[0] in ("CODE", "LDM", "BBL") else 2
 
 
-class Places:
-    """The statements of the lines so far with their addresses, and the names."""
+class FirstPass:
+    """The first pass: the statements that were read so far with their addresses, and the values of the names."""
 
     def __init__(self):
         self.at, self.rows, self.names = 0, [], {}
@@ -109,22 +111,22 @@ class Places:
     def take(self, line):
         """Reads the next line. Raises Refused if the line is wrong on its own or because of the lines before it."""
         number = len(self.rows) + 1
-        whole = said(line)
+        whole = parse_line(line)
         if whole is None:
             raise Refused(30, number)
         sign, name, parsed = whole
         target = parsed if sign == "=" else parsed[1] if parsed and parsed[0] == "ORG" else 0
-        if target >= ADDRESSES:
+        if target >= ADDRESS_COUNT:
             raise Refused(33, number)
         if name in self.names:
             raise Refused(31, number)
-        if name is not None and len(self.names) == NAMES:
+        if name is not None and len(self.names) == MAX_NAMES:
             raise Refused(37, number)
         if sign == "=":
             self.names[name] = parsed
             self.rows.append((self.at, None))
             return
-        if name is not None and self.at == ADDRESSES or self.at + size_of(parsed) > ADDRESSES:
+        if name is not None and self.at == ADDRESS_COUNT or self.at + size_of(parsed) > ADDRESS_COUNT:
             raise Refused(36, number)
         if name is not None:
             self.names[name] = self.at
@@ -146,13 +148,13 @@ def bytes_of(at, parsed, names, number):
         if isinstance(value, str) and value not in names:
             raise Refused(32, number)
         values.append(names[value] if isinstance(value, str) else value)
-    most = [255] * len(values) if parsed[0] == "DB" else WITH_VALUES[parsed[0]][2]
+    most = [255] * len(values) if parsed[0] == "DB" else CODES_WITH_VALUES[parsed[0]][2]
     if any(value > limit for value, limit in zip(values, most)):
         raise Refused(33, number)
     if parsed[0] == "DB":
         return values
     name, code, last = parsed[0], parsed[1], values[-1]
-    if name in ("JCN", "ISZ") and last // 256 != (at + 2) % ADDRESSES // 256:
+    if name in ("JCN", "ISZ") and last // 256 != (at + 2) % ADDRESS_COUNT // 256:
         raise Refused(34, number)
     if name in ("LDM", "BBL"):
         return [code + last]
@@ -161,8 +163,8 @@ def bytes_of(at, parsed, names, number):
     return [code + values[0] if name == "JCN" else code, last % 256]
 
 
-class Image:
-    """The bytes by address. For each line, also its address and its number of bytes."""
+class SecondPass:
+    """The second pass: the assembled bytes by address, and the address and number of bytes of each line."""
 
     def __init__(self, names):
         self.bytes, self.spans, self.names = {}, [], names
@@ -179,18 +181,18 @@ class Image:
 
 def assemble(lines):
     """Returns the bytes by address, each line's address and number of bytes, and the names with their values."""
-    places = Places()
+    places = FirstPass()
     for line in lines:
         places.take(line)
-    image = Image(places.names)
+    image = SecondPass(places.names)
     for at, parsed in places.rows:
         image.take(at, parsed)
     return image.bytes, image.spans, image.names
 
 
 def errors_of(lines):
-    """Returns the number and line of each error. Errors in bytes are included only if no line is wrong on its own or because of earlier lines."""
-    places, found = Places(), []
+    """Returns the number and line of each error. The errors of the second pass are included only if the first pass found none."""
+    places, found = FirstPass(), []
     for line in lines:
         try:
             places.take(line)
@@ -199,7 +201,7 @@ def errors_of(lines):
             places.skip()
     if found:
         return found
-    image = Image(places.names)
+    image = SecondPass(places.names)
     for at, parsed in places.rows:
         try:
             image.take(at, parsed)
@@ -210,7 +212,7 @@ def errors_of(lines):
 
 
 def judge(lines):
-    """Raises Refused for errors that do not depend on the statements."""
+    """Raises Refused if the text or a line is too long, or has a character that is not allowed."""
     if sum(len(line) + 1 for line in lines) > 16384:
         raise Refused(13, 0)
     if any(len(line) > 255 for line in lines):

@@ -1,7 +1,8 @@
-"""The bench's answers to lines as docs/MANUAL.md ("Lines") defines them, with the board of board4004.py. It is a second implementation of the
-commands, of `regs`, `state`, `lamps`, `ram`, `list`, `breaks` and `seq`, and of `count` and `trace`, which run a copy. Python's TOML parser reads
-the texts of boards, and assembler.py reads the programs. The only rejections it supports are those of keys, places and ROM chips that the board
-lacks.
+"""A second implementation of the bench's answers to lines, which docs/MANUAL.md ("Lines") defines. It runs the board of board4004.py.
+
+It implements the commands and these queries: `regs`, `state`, `lamps`, `ram`, `list`, `breaks` and `seq`, and also `count` and `trace`, which run
+a copy of the board. Python's TOML parser reads the texts of boards, and assembler.py reads the programs. It rejects only a key, a RAM chip or a
+ROM chip that the board lacks, and assumes that all other lines are valid.
 """
 
 from __future__ import annotations
@@ -10,12 +11,12 @@ import re
 from collections import Counter
 from collections.abc import Callable, Iterable, Iterator
 
-from assembler import ADDRESSES, ON_PAIR, ON_REGISTER, assemble
+from assembler import ADDRESS_COUNT, CODES_ON_PAIR, CODES_ON_REGISTER, assemble
 from board4004 import CODES, TWO_WORDS, Board, line_of
 
 # The conditional jumps.
 BRANCHES = ("JCN", "ISZ")
-# How `trace` shows the places that have a single word, by the pattern of the place.
+# The places whose value `trace` prints as one word: the pattern of the place, and a function that returns the word.
 PLACES: list[tuple[str, Callable[..., str]]] = [
     (r"acc", lambda board: f"{board.acc:X}"),
     (r"cy", lambda board: f"{board.cy}"),
@@ -51,29 +52,29 @@ def reader_of(place: str) -> Callable[[Board], str]:
     raise ValueError(place)
 
 
-def counted(board: Board, most: int) -> tuple[Counter[int], Counter[int], int, str]:
-    """Runs a board. Returns how often an instruction began at each address, how often the next instruction was not at the following address, the
-    number of cycles, and the reason for the stop."""
+def count_instructions(board: Board, most: int) -> tuple[Counter[int], Counter[int], int, str]:
+    """Runs a board. Returns how often the instruction at each address was executed, how often it jumped, the number of cycles, and the reason for
+    the stop."""
     runs: Counter[int] = Counter()
     jumps: Counter[int] = Counter()
 
-    def begun(_done: int, at: int) -> None:
+    def on_instruction(_done: int, at: int) -> None:
         runs[at] += 1
-        jumps[at] += board.pc != (at + 2) % ADDRESSES
+        jumps[at] += board.pc != (at + 2) % ADDRESS_COUNT
 
-    return runs, jumps, *board.run(most, begun)
+    return runs, jumps, *board.run(most, on_instruction)
 
 
 def count_answer(board: Board, most: int) -> list[str]:
-    """Returns the answer to `count n`: the addresses at which a run would begin instructions and how often, and how often JCN and ISZ would jump."""
-    runs, jumps, done, stop = counted(board.copy(), most)
+    """Returns the answer to `count n`: how often a run would execute the instruction at each address, and how often its JCN and ISZ would jump."""
+    runs, jumps, done, stop = count_instructions(board.copy(), most)
     lines = [f"{at:03X} {runs[at]}" + (f" {jumps[at]}" if CODES[board.rom[at]][0] in BRANCHES else "") for at in sorted(runs)]
     return [f"count ran {done} {stop} lines {len(lines)}", *lines]
 
 
 def trace_answer(board: Board, most: int, places: list[str]) -> list[str]:
-    """Returns the answer to `trace n PLACE ..`: the instructions that a run would begin and that would change one of the places. Without places,
-    returns all instructions."""
+    """Returns the answer to `trace n PLACE ..`: the instructions in the next n cycles that would change one of the places, or all instructions if
+    no place is given."""
     ahead, readers = board.copy(), [reader_of(place) for place in places]
     lines: list[str] = []
 
@@ -82,13 +83,13 @@ def trace_answer(board: Board, most: int, places: list[str]) -> list[str]:
 
     first = last = row()
 
-    def begun(done: int, at: int) -> None:
+    def on_instruction(done: int, at: int) -> None:
         nonlocal last
         if not places or row() != last:
             last = row()
             lines.append(f"{done} {at:03X}{last}")
 
-    done, stop = ahead.run(most, begun)
+    done, stop = ahead.run(most, on_instruction)
     return [f"trace ran {done} {stop} lines {len(lines)}{first}", *lines]
 
 
@@ -106,21 +107,22 @@ def ram_answer(board: Board, bank: int) -> list[str]:
 
 def instruction_text(board: Board, at: int) -> str:
     """Returns an instruction in the format of `list`: address, bytes and text."""
-    byte, second = board.rom[at], board.rom[(at + 1) % ADDRESSES]
+    byte, second = board.rom[at], board.rom[(at + 1) % ADDRESS_COUNT]
     if byte not in CODES:
         return f"{at:03X} {byte:02X}    DB 0x{byte:02X}"
     name, low = CODES[byte]
-    on_page = f"0x{(at + 2) % ADDRESSES & 0xF00 | second:03X}"
+    on_page = f"0x{(at + 2) % ADDRESS_COUNT & 0xF00 | second:03X}"
     far = f" 0x{256 * low + second:03X}"
     operands = {"JCN": f" {low}, {on_page}", "FIM": f" P{low}, 0x{second:02X}", "ISZ": f" R{low}, {on_page}", "JUN": far, "JMS": far,
-                "LDM": f" {low}", "BBL": f" {low}", **{name: f" P{low}" for name in ON_PAIR}, **{name: f" R{low}" for name in ON_REGISTER}}
+                "LDM": f" {low}", "BBL": f" {low}", **{name: f" P{low}" for name in CODES_ON_PAIR},
+                **{name: f" R{low}" for name in CODES_ON_REGISTER}}
     return f"{at:03X} {byte:02X} {f'{second:02X}' if name in TWO_WORDS else '  '} {name}{operands.get(name, '')}"
 
 
 def list_answer(board: Board, at: int, most: int) -> list[str]:
     """Returns the answer to `list a n`. (A two-word instruction at FFF is not supported.)"""
     lines: list[str] = []
-    while at < ADDRESSES and len(lines) < most:
+    while at < ADDRESS_COUNT and len(lines) < most:
         lines.append(instruction_text(board, at))
         at += 2 if CODES.get(board.rom[at], ("", 0))[0] in TWO_WORDS else 1
     return lines
@@ -158,7 +160,7 @@ class Bench:
         self.seq = 0
 
     def dialogue(self, script: Iterable[str]) -> Iterator[tuple[str, list[str]]]:
-        """Yields the lines of a script that have an answer, each with its answer. Starts with the `session` line."""
+        """Yields each line of a script that has an answer, with that answer. Starts with the `session` line."""
         yield "", [f"session {self.seq}"]
         lines = iter(script)
         for line in lines:
@@ -169,7 +171,7 @@ class Bench:
                 yield line, self.answer(*words)
 
     def answer(self, word: str, *rest: object) -> list[str]:
-        """Returns the answer to a line, or to a text that a word opens."""
+        """Returns the answer to a line, or to a command word that is followed by a text."""
         if word in QUERIES:
             return QUERIES[word](self, *rest)
         reply = COMMANDS[word](self.board, *rest)
@@ -192,7 +194,7 @@ QUERIES: dict[str, Callable[..., list[str]]] = {
 }
 
 
-# ---- commands: each returns the words after `ok N`, or a refusal
+# ---- commands: each returns the words after `ok N`, or the answer `no N` if it rejects the command
 
 def wire(board: Board, text: list[str]) -> str:
     """Replaces the board."""
@@ -237,7 +239,7 @@ def put_test(board: Board, level: str) -> str:
 
 
 def poke(board: Board, place: str, text: str) -> str:
-    """Sets the value of a place."""
+    """Sets the value of a register or of a memory cell, which `place` names."""
     kind, *words = place.split(".")
     numbers, value = [number(word) for word in words], number(text)
     if kind == "rom":
@@ -259,7 +261,7 @@ def poke(board: Board, place: str, text: str) -> str:
     return ""
 
 
-def ran(cycles_and_stop: tuple[int, str]) -> str:
+def run_answer(cycles_and_stop: tuple[int, str]) -> str:
     """Returns the words after `ok N` for a run or a step."""
     return " ran {} {}".format(*cycles_and_stop)
 
@@ -269,8 +271,8 @@ COMMANDS: dict[str, Callable[..., str]] = {
     "asm": load,
     "press": lambda board, row, column: put_key(board, row, column, True),
     "release": lambda board, row, column: put_key(board, row, column, False),
-    "run": lambda board, most: ran(board.run(number(most))),
-    "step": lambda board: ran(board.step()),
+    "run": lambda board, most: run_answer(board.run(number(most))),
+    "step": lambda board: run_answer(board.step()),
     "poke": poke,
     "test": put_test,
     "reset": power_cycle,

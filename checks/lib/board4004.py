@@ -11,9 +11,9 @@ import pickle
 import tomllib
 from collections.abc import Callable
 
-from assembler import ALONE, ON_PAIR, ON_REGISTER, WITH_VALUES
+from assembler import CODES_WITHOUT_OPERAND, CODES_ON_PAIR, CODES_ON_REGISTER, CODES_WITH_VALUES
 
-ADDRESSES = 4096
+ADDRESS_COUNT = 4096
 TWO_WORDS = {"JCN", "FIM", "JUN", "JMS", "ISZ"}
 TWO_CYCLES = TWO_WORDS | {"FIN"}
 # A line of the board: `rom` with chip and line number, `ram` with bank, chip and line number, or `chain` with its number and a bit.
@@ -21,11 +21,11 @@ Line = tuple[str, tuple[int, ...]]
 
 
 def table() -> dict[int, tuple[str, int]]:
-    """Returns the instruction for each valid code, with the number in the code's lower half: a register, a pair or a value."""
-    codes = {code: (name, 0) for name, code in ALONE.items()}
-    for name, code in [*ON_REGISTER.items(), *((name, WITH_VALUES[name][1]) for name in ("JCN", "JUN", "JMS", "ISZ", "BBL", "LDM"))]:
+    """Returns the mnemonic for each valid code, with the number in the code's lower half: a register, a pair or a value."""
+    codes = {code: (name, 0) for name, code in CODES_WITHOUT_OPERAND.items()}
+    for name, code in [*CODES_ON_REGISTER.items(), *((name, CODES_WITH_VALUES[name][1]) for name in ("JCN", "JUN", "JMS", "ISZ", "BBL", "LDM"))]:
         codes.update({code + low: (name, low) for low in range(16)})
-    for name, code in [*ON_PAIR.items(), ("FIM", WITH_VALUES["FIM"][1])]:
+    for name, code in [*CODES_ON_PAIR.items(), ("FIM", CODES_WITH_VALUES["FIM"][1])]:
         codes.update({code + 2 * pair: (name, pair) for pair in range(8)})
     return codes
 
@@ -44,7 +44,7 @@ class Chips:
 
     def __init__(self, text: str = "") -> None:
         wiring = tomllib.loads(text)
-        # The masks have line 0 first.
+        # A port's text begins with line 3, and a mask begins with line 0.
         self.masks = {part["chip"]: part["port"][::-1] for part in wiring.get("rom", [])}
         self.chips = {part["bank"]: part["chips"] for part in wiring.get("ram", [])}
         self.clocks = [(line_of(part["clock"]), line_of(part["data"])) for part in wiring.get("chain", [])]
@@ -156,7 +156,7 @@ class Board:
 
     def __init__(self) -> None:
         self.chips = Chips()
-        self.rom = bytearray(ADDRESSES)
+        self.rom = bytearray(ADDRESS_COUNT)
         self.test = 1
         self.breaks: set[int] = set()
         self.watches: set[tuple[int, int]] = set()
@@ -196,7 +196,7 @@ class Board:
     # ---- cycles
 
     def is_outside(self) -> bool:
-        """Returns true if the code at the counter is not an instruction."""
+        """Returns true if the byte at the program counter is not the code of an instruction."""
         return self.rom[self.pc] not in CODES
 
     def cycle(self) -> None:
@@ -205,8 +205,8 @@ class Board:
             self.owed = 0
             return
         name, low = CODES[self.rom[self.pc]]
-        second = self.rom[(self.pc + 1) % ADDRESSES]
-        self.pc = (self.pc + (2 if name in TWO_WORDS else 1)) % ADDRESSES
+        second = self.rom[(self.pc + 1) % ADDRESS_COUNT]
+        self.pc = (self.pc + (2 if name in TWO_WORDS else 1)) % ADDRESS_COUNT
         self.owed = int(name in TWO_CYCLES)
         WORK[name](self, low, second)
 
@@ -234,21 +234,21 @@ class Board:
         """Returns the watched nibbles."""
         return [self.chips.ram[bank][src] for bank, src in self.watches]
 
-    def run(self, most: int, begun: Callable[[int, int], None] | None = None) -> tuple[int, str]:
-        """Runs at most `most` cycles. Returns their number, and the reason for the stop. Calls `begun` after the work of each instruction, with the
-        number of cycles before it and its address."""
+    def run(self, most: int, on_instruction: Callable[[int, int], None] | None = None) -> tuple[int, str]:
+        """Runs at most `most` cycles. Returns their number, and the reason for the stop. Calls `on_instruction` after the work of each instruction,
+        with the number of cycles before it and its address."""
         done, changed = 0, False
         while not (stop := self.stops(done, most, changed)):
             at, begins, watched = self.pc, not self.owed, self.watched()
             self.cycle()
             changed = watched != self.watched()
-            if begins and begun:
-                begun(done, at)
+            if begins and on_instruction:
+                on_instruction(done, at)
             done += 1
         return done, stop
 
 
-# ---- the instructions; the counter already points past their words
+# ---- the instructions; when they run, the program counter already points past their words
 
 def jump_on_page(board: Board, low: int) -> None:
     """Jumps to a word in the page of the counter."""

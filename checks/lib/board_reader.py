@@ -1,5 +1,5 @@
-"""A reader of board texts, written only from the manual's chapter. It finds the first error, and the part that contains it. It shares no code with
-the bench."""
+"""A second reader of board texts, written from the manual's chapter alone. It finds the first error, and the part of the text that contains it. It
+shares no code with the bench."""
 
 import re
 import tomllib
@@ -34,7 +34,7 @@ def is_line(value):
     return numbers_of(value) is not None
 
 
-# The keys that each table must have, with a test for their values, in the manual's order.
+# The keys that each table must have, in the manual's order, each with a function that tests its value.
 KEYS = {
     "rom": {"chip": is_within(0, 15), "port": lambda value: isinstance(value, str) and re.fullmatch("[i01]{4}", value, re.ASCII) is not None},
     "ram": {"bank": is_within(0, 7), "chips": is_within(1, 4)},
@@ -56,7 +56,7 @@ def longest_toml(lines, count):
 
 
 def tables_of(document):
-    """Yields the tables of each section, with their numbers from 1 (0 for the key matrix). Skips values that are not tables."""
+    """Yields each section's tables, with the section's name and the table's number from 1 (0 for the key matrix)."""
     for section in SECTIONS:
         whole = document.get(section, [])
         whole = [whole] if section == "keys" and "keys" in document else whole if isinstance(whole, list) else []
@@ -71,16 +71,16 @@ class BoardReading:
         self.document = document
         self.tables = list(tables_of(document))
 
-    def first(self):
-        """Returns the number of the refusal, the section, the number of the table and the key, as far as they apply. Returns None if the board is
-        valid."""
-        for find in (self.unknown, self.missing, self.badly_formed, self.too_many, self.twice):
+    def first_error(self):
+        """Returns the first error: its number, the section, the number of the table and the key, as far as they apply. Returns None if the board
+        is valid."""
+        for find in (self.unknown_keys, self.missing_keys, self.badly_formed_values, self.excess_parts, self.repeated_numbers):
             for part in find():
                 return part
         found = list(self.wrong_lines())
         return next((part for number in (25, 26) for part in found if part[0] == number), None)
 
-    def unknown(self):
+    def unknown_keys(self):
         for key in sorted(self.document):
             if key not in SECTIONS:
                 yield 21, "", 0, key
@@ -90,14 +90,14 @@ class BoardReading:
                     if key not in KEYS[section]:
                         yield 21, section, index, key
 
-    def missing(self):
+    def missing_keys(self):
         for section, index, table in self.tables:
             if isinstance(table, dict):
                 for key in KEYS[section]:
                     if key not in table:
                         yield 22, section, index, key
 
-    def badly_formed(self):
+    def badly_formed_values(self):
         for section in SECTIONS:
             if section != "keys" and not isinstance(self.document.get(section, []), list):
                 yield 23, section, 0, None
@@ -109,7 +109,7 @@ class BoardReading:
                 if not fits(table[key]):
                     yield 23, section, index, key
 
-    def too_many(self):
+    def excess_parts(self):
         for section in SECTIONS:
             tables = [table for kind, _index, table in self.tables if kind == section]
             if section in MAX_TABLES and len(tables) > MAX_TABLES[section]:
@@ -117,7 +117,7 @@ class BoardReading:
             if section == "keys" and any(len(table["columns"]) > MAX_COLUMNS for table in tables):
                 yield 27, "keys", 0, "columns"
 
-    def twice(self):
+    def repeated_numbers(self):
         for section, key in NUMBERED_PARTS.items():
             seen = set()
             for _section, index, table in (each for each in self.tables if each[0] == section):
@@ -152,29 +152,29 @@ class BoardReading:
             if section == "lamp":
                 yield from self.wrong_line(section, index, "line", [table["line"]], "ob")
 
-    def wrong_line(self, section, index, key, names, taken):
+    def wrong_line(self, section, index, key, names, allowed):
         found = [self.direction(name) for name in names]
         if None in found:
             yield 25, section, index, key
-        if any(direction is not None and direction not in taken for direction in found):
+        if any(direction is not None and direction not in allowed for direction in found):
             yield 26, section, index, key
 
 
-def is_there(document, section, index, key):
-    """Returns true if a text has a part."""
+def has_part(document, section, index, key):
+    """Returns true if a board's text has this table, or this key at the top level if `section` is empty."""
     if section == "":
         return key in document
     return section in document and (index <= 1 or not isinstance(document[section], list) or len(document[section]) >= index)
 
 
 def line_of(lines, part):
-    """Returns the first line, from 1, after which every TOML prefix of the text has a part."""
+    """Returns the number of lines in the shortest prefix of the text that is valid TOML and contains a part, as BoardReading returns it."""
     _number, section, index, key = part
     first, last = 0, len(lines)
     while last - first > 1:
         middle = (first + last) // 2
         count, document = longest_toml(lines[:middle], middle)
-        if is_there(document, section, index, key):
+        if has_part(document, section, index, key):
             last = count
         else:
             first = middle
@@ -186,7 +186,7 @@ def wiring_answer(lines):
     count, document = longest_toml(lines, len(lines))
     if count < len(lines):
         return f"no 20 line {count + 1}"
-    part = BoardReading(document).first()
+    part = BoardReading(document).first_error()
     if part is None:
         return "wiring valid"
     number, section, index, key = part

@@ -10,18 +10,18 @@ TEXT_ENDS = ("\n", "\n", "\n\n", " # one\n", "\t\n# one more\n")
 
 
 class Raw:
-    """A value with a fixed spelling."""
+    """A TOML value that is always written in the same way."""
 
     def __init__(self, text):
         self.text = text
 
 
 def seeded_board(chance):
-    """Returns a random board: any ROM chips and banks, up to four chains, usually keys if they are possible, up to 64 lamps."""
+    """Returns a random board: any ROM chips and banks, up to four chains, up to 64 lamps, and usually keys if the board has lines for them."""
     share = chance.choice([0, 0.5, 0.5, 0.5, 1])
     roms = {chip: "".join(chance.choices("i01", k=4)) for chip in range(16) if chance.random() < share}
     banks = {bank: chips for bank in range(8) if share and (chips := chance.randrange(5))}
-    # A port's text begins with line 3.
+    # The first character of a port's text is for line 3.
     lines = [(rom_line(chip, 3 - at), mark) for chip, port in roms.items() for at, mark in enumerate(port)]
     inputs = [line for line, mark in lines if mark == "i"]
     outputs = [line for line, mark in lines if mark != "i"]
@@ -64,45 +64,45 @@ def pairs_of(chance, table, before=""):
     return [f"{before}{key_text(chance, key)}{chance.choice(EQUALS)}{value_text(chance, value)}" for key, value in pairs]
 
 
-def inline(chance, table):
+def inline_table(chance, table):
     """Returns an inline table. Only its lists can span several lines."""
     return f"{{ {', '.join(pairs_of(chance, table))} }}"
 
 
 def top_lines(chance, below, tables):
-    """Returns the lines for tables that are before all headers."""
+    """Returns the lines for the tables that are written before the first header."""
     key = key_text(chance, below)
     if below != "keys":
-        rows = [f"  {inline(chance, table)},\n" for table in tables]
+        rows = [f"  {inline_table(chance, table)},\n" for table in tables]
         return [f"{key} = [\n{''.join(rows)}]" if rows else f"{key} = []"]
     if chance.random() < 0.5:
-        return [f"{key} = {inline(chance, table)}" for table in tables]
+        return [f"{key} = {inline_table(chance, table)}" for table in tables]
     return [line for table in tables for line in pairs_of(chance, table, f"{key}.")]
 
 
-def headed(chance, below, table):
+def lines_under_header(chance, below, table):
     """Returns the lines of a table under its header."""
     key = key_text(chance, below)
     return [f"[{key}]" if below == "keys" else f"[[{key}]]", *pairs_of(chance, table)]
 
 
-def spelled(chance, board):
-    """Returns a random text for a board. ROM chips, banks and the kinds of tables are in any order. Chains and lamps keep their order, because it
-    numbers them.
+def random_board_text(chance, board):
+    """Returns a random text for a board. ROM chips, banks and the kinds of tables are in random order. Chains and lamps keep their order, because
+    their position is their number.
     """
     tables = {below: [table for kind, table in board.tables() if kind == below] for below in KINDS}
     chance.shuffle(tables["rom"])
     chance.shuffle(tables["ram"])
-    return spelled_tables(chance, tables)
+    return random_tables_text(chance, tables)
 
 
-def spelled_tables(chance, tables):
-    """Returns a text of tables, by their kinds."""
+def random_tables_text(chance, tables):
+    """Returns the text of a board in random spelling. `tables` has the tables of each kind."""
     kinds = chance.sample(KINDS, len(KINDS))
     under_headers = [below for below in kinds if chance.random() < 0.5]
     lines = [line for below in kinds if below not in under_headers for line in top_lines(chance, below, tables[below])]
     order = [below for below in under_headers for _table in tables[below]]
     chance.shuffle(order)
     for below in order:
-        lines += headed(chance, below, tables[below].pop(0))
+        lines += lines_under_header(chance, below, tables[below].pop(0))
     return "".join(line + chance.choice(TEXT_ENDS) for line in lines)

@@ -35,7 +35,7 @@ def verdict(found, wanted, what):
 
 
 class Bridge:
-    """The page in the browser, and the extension in Node. Passes the messages of each to the other."""
+    """Connects the view's page in the browser with the extension in Node, and passes the messages of each to the other."""
 
     def __init__(self, folder, browser):
         self.browser = browser
@@ -60,7 +60,7 @@ class Bridge:
                 self.messages.append(message)
 
     def until(self, code, wanted, what):
-        """Waits until a script returns a value. Passes messages on in the meantime."""
+        """Waits until a script returns the wanted value, and passes messages on in the meantime."""
         end = time.monotonic() + WAIT
         found = None
         while time.monotonic() < end:

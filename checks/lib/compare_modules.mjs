@@ -1,8 +1,8 @@
-// Compares bench modules with each other: `node compare_modules.mjs EXAMPLES COUNT MODULE MODULE..`. All modules run the same COUNT random sessions.
-// The reports and answers of each call, and each byte of the file after it, must be the same. This also holds for files that are damaged or have
-// another size. The first module must also satisfy three laws. Serving and settling in one call has the same result, byte for byte, as serving and
-// then settling. Asking gives the same answers as serving and does not change the file. The file of a session can be settled. EXAMPLES is the folder
-// of the examples.
+// Compares WebAssembly modules of the bench with each other: `node compare_modules.mjs EXAMPLES COUNT MODULE MODULE..`. EXAMPLES is the folder of
+// the examples. All modules run the same COUNT random sessions. After each call, the reports, the answers and each byte of the file must be the same,
+// even if the file is damaged or has another size. (To settle a file is to replace its records with a snapshot.) The first module must also satisfy
+// three laws. Serving and settling in one call has the same result, byte for byte, as serving and then settling. Asking gives the same answers as
+// serving and does not change the file. The file of each session can be settled.
 import { readFileSync } from "node:fs";
 import { join } from "node:path";
 
@@ -118,7 +118,7 @@ function onAll(name, act) {
   return found[0];
 }
 
-// Checks the laws of the calls that serve and settle, and of the call that asks.
+// Checks the three laws of the calls that serve, settle and ask.
 function tryLaws(name, text) {
   const [instance] = instances;
   const before = instance.get();

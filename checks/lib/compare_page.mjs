@@ -1,7 +1,7 @@
-// Compares the page's module with the program: `node compare_page.mjs MODULE MCS4 COUNT`. Both serve examples and random scripts. The answers, the
-// exit status and each byte of the session file must be the same. This also holds if a script is split into two calls, if the file was settled
-// between them or has version 1, and if the file is damaged. When lines are split as the page splits long work, the answers must be
-// the same as in one call.
+// Compares the page's module with the program: `node compare_page.mjs MODULE MCS4 COUNT`. Both serve the examples and COUNT random scripts. The
+// answers, the exit status and each byte of the session file must be the same. This also holds if a script is split into two calls, if the file was
+// settled between them, if it has version 1, and if it is damaged. (To settle a file is to replace its records with a snapshot.) When the module gets
+// the lines in pieces, as the page does with long work, the answers must be the same as in one call.
 import { spawnSync } from "node:child_process";
 import { closeSync, existsSync, mkdtempSync, openSync, readFileSync, readdirSync, rmSync, writeFileSync } from "node:fs";
 import { tmpdir } from "node:os";
@@ -82,7 +82,7 @@ const path = join(work, "s.mcs");
 const inputPath = join(work, "input");
 
 // Returns the program's result for a script, in a new session (null) or in a session file.
-function byProgram(file, input) {
+function programResult(file, input) {
   rmSync(path, { force: true });
   if (file) writeFileSync(path, file);
   // The input comes from a file. A program that rejects its session exits without reading its input, so a write to a pipe would fail (EPIPE).
@@ -94,8 +94,8 @@ function byProgram(file, input) {
   return { output: ran.stdout.toString("latin1"), status: ran.status, file: readFileSync(path) };
 }
 
-// Returns the result of the page's call. `bench_serve` serves without settling.
-function byPage(engine, file, input, call = "bench_serve") {
+// Returns the result of a call of the page's module. `bench_serve` serves without settling.
+function pageResult(engine, file, input, call = "bench_serve") {
   try {
     const { status, opened, answers } = engine.callForAnswers(call, file || engine.begin(), input);
     const { instance } = engine;
@@ -113,7 +113,7 @@ function settle(engine, file) {
   return instance.view(instance.file, file.length).slice();
 }
 
-// Matches the beginning of the answer to an input, by the input's kind.
+// Patterns for the beginning of an answer, by the kind of input that it answers.
 const BEGINNINGS = {
   regs: /^acc /, list: /^[0-9A-F]{3} /, lamps: /^lamps /, ram: /^ram /, board: /^board$/,
   map: /^map lines /, wiring: /^wiring valid$/, errors: /^errors [0-9]+$/, breaks: /^breaks /, watches: /^watches /, seq: /^seq /, state: /^state seq /,
@@ -132,8 +132,8 @@ function isSplit(input, output) {
 let passed = 0;
 let failed = 0;
 function compare(name, engine, file, input) {
-  const wanted = byProgram(file, input);
-  const found = byPage(engine, file, input);
+  const wanted = programResult(file, input);
+  const found = pageResult(engine, file, input);
   const faults = [];
   if (found.output !== wanted.output) faults.push("answers");
   if (found.status !== wanted.status) faults.push(`status ${found.status}, not ${wanted.status}`);
@@ -145,8 +145,8 @@ function compare(name, engine, file, input) {
   return wanted.file;
 }
 
-// Returns a settled file in version 1, which does not have the version byte and the number of watches. Returns null if the file has watches.
-function asVersion1(file) {
+// Converts a settled file to version 1, which lacks the version byte and the number of watches. Returns null if the file has watches.
+function toVersion1(file) {
   const slot = file[8] % 2 === 0 ? 16 : 81936;
   const length = new DataView(file.buffer, file.byteOffset).getUint32(slot);
   const snapshot = file.slice(slot + 4, slot + 4 + length);
@@ -168,7 +168,7 @@ const QUESTIONS = "seq\nstate\nregs\nlamps\nports\nwatches\nbreaks\nboard\nram 0
 
 const ALL_ROM = [...Array(16).keys()].map((page) => `list ${page * 256} 256\n`).join("");
 
-// Counts a check that does not involve the program.
+// Counts a check that does not run the program.
 function verdict(name, isRight) {
   passed += isRight ? 1 : 0;
   failed += isRight ? 0 : 1;
@@ -185,9 +185,9 @@ function compareSource(name, engine, file) {
   verdict(`${name}: the source text made of ROM gives other bytes`, again.join() === answersTo(engine, file, ALL_ROM).join());
 }
 
-// Returns the contents of a file's active slot, as docs/FORMAT.md defines them: the number of commands and the version in its snapshot, and whether
-// records follow.
-function held(file) {
+// Reads a file's active slot, as docs/FORMAT.md defines it. Returns the number of commands and the version in its snapshot, and whether records
+// follow.
+function readActiveSlot(file) {
   const slot = file[8] % 2 === 0 ? 16 : 81936;
   const seq = new DataView(file.buffer, file.byteOffset).getUint32(slot + 4);
   return { seq, version: file[slot + 8], hasRecords: file[slot + 16384] === 1 };
@@ -195,14 +195,14 @@ function held(file) {
 
 // Checks that a settled file has a snapshot of all commands and no records.
 function checkSettled(name, file, seq) {
-  const found = held(file);
+  const found = readActiveSlot(file);
   const isRight = found.version === 2 && !found.hasRecords && found.seq === seq;
   verdict(`${name} has not settled the file: ${JSON.stringify(found)}, where ${seq} commands were accepted`, isRight);
 }
 
 const seqOf = (engine, file) => Number(answersTo(engine, file, "seq\n")[0].split(" ")[1]);
 
-// Splits lines as the page splits long work, serving and settling each piece. Checks that the answers are the same as in one call.
+// Serves lines in pieces, as the page does with long work, and settles after each piece. Checks that the answers are the same as in one call.
 function compareInPieces(name, engine, file, input) {
   const bytes = Uint8Array.from(file);
   const answers = [engine.ask(file, "").opened];
@@ -211,7 +211,7 @@ function compareInPieces(name, engine, file, input) {
     answers.push(...engine.serve(bytes, input.slice(at, end), bytes).answers);
     at = end;
   }
-  verdict(`${name}: lines that are cut are answered otherwise`, [...answers, ""].join("\n") === byPage(engine, file, input).output);
+  verdict(`${name}: lines that are cut are answered otherwise`, [...answers, ""].join("\n") === pageResult(engine, file, input).output);
 }
 
 function compareFiles(name, engine, file) {
@@ -222,10 +222,10 @@ function compareFiles(name, engine, file) {
   const both = new Uint8Array(file.length);
   engine.serve(file, "poke acc 1\npoke acc 2\n", both);
   checkSettled(`${name}: serving and settling`, both, seqOf(engine, file) + 2);
-  const output = byPage(engine, file, QUESTIONS).output;
+  const output = pageResult(engine, file, QUESTIONS).output;
   compare(`${name}, settled`, engine, settled, QUESTIONS);
-  verdict(`${name}: settling changed an answer`, byPage(engine, settled, QUESTIONS).output === output);
-  const old = asVersion1(settled);
+  verdict(`${name}: settling changed an answer`, pageResult(engine, settled, QUESTIONS).output === output);
+  const old = toVersion1(settled);
   if (old && isOfVersion1(engine, settled)) {
     compare(`${name}, of version 1`, engine, old, QUESTIONS);
     checkSettled(`${name}: settle of version 1`, settle(engine, Uint8Array.from(old)), seqOf(engine, old));
@@ -251,7 +251,7 @@ function speeds(engine) {
   const file = engine.begin();
   engine.serve(file, board, file);
   const page = 3e7 / fastest(() => engine.ask(file, runs));
-  const native = 3e7 / fastest(() => byProgram(file, runs));
+  const native = 3e7 / fastest(() => programResult(file, runs));
   return { page, native };
 }
 

@@ -1,4 +1,4 @@
-// A debug adapter client that follows the protocol. It starts `mcs4 dap`, sends requests, and waits for events.
+// A client for the Debug Adapter Protocol. It starts `mcs4 dap`, sends requests, and waits for events.
 import { MessageClient } from "./message_client.mjs";
 
 export class Client extends MessageClient {
@@ -59,7 +59,7 @@ export class Client extends MessageClient {
     return (await this.ask("stackTrace", { threadId: 1 })).stackFrames;
   }
 
-  /** Resolves to the variables of a scope, also by name. */
+  /** Resolves to the variables of a scope, in the adapter's order and by name. */
   async scope(name) {
     const { scopes } = await this.ask("scopes", { frameId: 1 });
     const { variablesReference } = scopes.find((each) => each.name === name);

@@ -9,7 +9,7 @@ const MCS4 = `${TOP}mcs4`;
 const [folder] = process.argv.slice(2);
 const STEPS = 200;
 /** The number of cycles that the program of the speed measurement runs. */
-const FAR = [1, 2, 3, 4, 5].reduce((sum, each) => sum + 2 * 12 * 16 ** (5 - each), 3 * 12 * 16 ** 5);
+const CYCLES_TO_BREAKPOINT = [1, 2, 3, 4, 5].reduce((sum, each) => sum + 2 * 12 * 16 ** (5 - each), 3 * 12 * 16 ** 5);
 
 function verdict(is, wanted, words) {
   const [one, other] = [JSON.stringify(is), JSON.stringify(wanted)];
@@ -18,7 +18,7 @@ function verdict(is, wanted, words) {
 
 const matches = (words, pattern, what) => console.log(pattern.test(words) ? `ok ${what}` : `fault: ${what}: ${words}`);
 
-/** Returns the program's answers to lines in a session file. */
+/** Serves lines in a session file with the program, and returns its answers. */
 const mcs4 = (word, file, input) => execFileSync(process.env.MCS4, [word, file], { input, encoding: "utf8" }).split("\n").slice(1, -1);
 
 /** Returns the state in a session file. Reads a copy, because a file in use cannot be opened. */
@@ -38,7 +38,7 @@ const example = (name) => ({
   board: `${TOP}examples/${name}/board.toml`, program: `${TOP}examples/${name}/${name}.asm`, project: `${TOP}examples/${name}`,
 });
 
-/** Creates a session file for an example with the native program only. */
+/** Creates a session file for an example with the native program, without the debug adapter. */
 function fileOf(name, lines = "") {
   const file = `${folder}/${name}.mcs`;
   execFileSync("rm", ["-f", file]);
@@ -61,7 +61,7 @@ async function seen(client) {
 
 const same = ({ acc, cy, pc, dcl, test, r }) => ({ acc, cy, pc, dcl, test, r });
 
-/** Compares an example's steps, forward and back, with the program's steps. */
+/** Compares steps of the adapter in an example, forward and back, with the program's steps. */
 async function trySteps(name) {
   const { lineAt, file } = fileOf(name);
   const wanted = mcs4("open", file, "state\nstep\n".repeat(STEPS)).filter((each) => each.startsWith("state ")).map(valuesOf);
@@ -112,8 +112,8 @@ async function tryBreakpoints(name) {
 }
 
 /**
- * Compares going back from arrival to arrival at a label with the program's stops on the way there. With a condition, only the arrivals at which the
- * condition holds are compared.
+ * Goes back from each arrival at a label to the previous one, and compares these stops with the program's stops while it runs forward. With a
+ * condition, only the arrivals at which the condition is true are compared.
  */
 async function tryArrivals(name, label, register) {
   const { file, names } = fileOf(name);
@@ -150,7 +150,7 @@ async function tryArrivals(name, label, register) {
   await client.end();
 }
 
-/** Compares set values and pressed keys with `poke`, `press` and `test`. */
+/** Compares the effects of setting values and pressing keys with those of `poke`, `press` and `test`. */
 async function trySetting() {
   const { file } = fileOf("lock");
   const wanted = valuesOf(mcs4("open", file, "poke r4 7\npoke acc 9\npoke pc 0x2E\npoke ram.0.0x13 5\npress 1 1\ntest 0\nstate\n").pop());
@@ -170,7 +170,7 @@ async function trySetting() {
   await client.end();
 }
 
-/** Checks that a session file contains the reported state at each stop, and that its breakpoints stay. */
+/** Checks that a session file contains the reported state at each stop, and that its breakpoints are unchanged. */
 async function trySession() {
   const { file } = fileOf("lock", "break 0x031\n");
   const client = new Client(MCS4);
@@ -207,7 +207,7 @@ async function trySession() {
   verdict(readdirSync(folder).filter((name) => name.startsWith("lock.mcs.") || name.startsWith(".")), [], "no other file is left");
 }
 
-/** Checks that files that are not sessions are rejected and stay unchanged. */
+/** Checks that the adapter rejects files that are not sessions, and does not change them. */
 async function tryFiles() {
   const { file } = fileOf("lock");
   const damaged = readFileSync(file);
@@ -229,7 +229,7 @@ async function tryFiles() {
   await client.end();
 }
 
-/** Checks that errors in messages are reported. */
+/** Checks that the adapter reports errors in messages. */
 async function tryMessages() {
   const client = new Client(MCS4);
   matches((await client.answer("threads")).message, /send initialize first/, "out of order");
@@ -274,10 +274,11 @@ async function timed(count, act) {
   return times;
 }
 
-/** Measures the time of a step, the time of a step back after ten million cycles, and the speed of a run to a distant breakpoint. */
+/** Measures the time of a step, the time of a step back after ten million cycles, and the speed of a run to a breakpoint far ahead. */
 async function trySpeed() {
   const program = `${folder}/far.asm`;
-  // R0 counts 12 * 16 ** 5 times, with NOP and ISZ in 3 cycles. Each of R1 to R5 counts after 16 turns of the previous register, in 2 cycles.
+  // R0 is incremented 12 * 16 ** 5 times, by NOP and ISZ in 3 cycles. Each of R1 to R5 is incremented once in 16 increments of the register before
+  // it, by an ISZ in 2 cycles.
   const count = [0, 1, 2, 3, 4, 5].map((each) => `count${each}: ISZ R${each}, turn\n`).join("");
   writeFileSync(program, `        FIM P0, 0\n        FIM P1, 0\n        FIM P2, 0x04\nturn:   NOP\n${count}far:    JUN far\n`);
   const client = new Client(MCS4);
@@ -298,7 +299,7 @@ async function trySpeed() {
   }
   const { result } = await client.ask("evaluate", { expression: "count 1", context: "repl" });
   verdict([stop.reason, /^count/.test(result)], ["function breakpoint", true], "a breakpoint far away");
-  console.log(`speed: ${(FAR / 1e6).toFixed(1)} million cycles to a breakpoint in ${time.toFixed(2)} s`);
+  console.log(`speed: ${(CYCLES_TO_BREAKPOINT / 1e6).toFixed(1)} million cycles to a breakpoint in ${time.toFixed(2)} s`);
   await client.end();
 }
 

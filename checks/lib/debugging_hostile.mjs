@@ -1,4 +1,4 @@
-// Tests of checks/debugging with wrong messages: frames with wrong lengths, requests in the wrong order, unknown requests, and some 2,000 requests
+// Tests of checks/debugging with wrong messages: messages with wrong lengths, requests in the wrong order, unknown requests, and some 2,000 requests
 // with wrong arguments. The adapter must answer each request once and continue, or print an error and end. Prints `ok WORDS` or `fault: WORDS` for
 // each check.
 import { Client } from "./dap_client.mjs";
@@ -16,14 +16,14 @@ function verdict(is, wanted, words) {
 
 const matches = (words, pattern, what) => console.log(pattern.test(words) ? `ok ${what}` : `fault: ${what}: ${words}`);
 
-// --- frames ---
+// --- messages with their header ---
 
 const frameMessage = (text, size = Buffer.byteLength(text)) => `Content-Length: ${size}\r\n\r\n${text}`;
 const request = (seq, command, args) => JSON.stringify({ seq, type: "request", command, arguments: args });
 const INITIALIZE = frameMessage(request(1, "initialize", {}));
 
-/** Byte sequences after which no message can follow, with the expected error. With `isOpen`, the stream stays open, but no more bytes arrive. */
-const LOST = [
+/** Byte sequences after which the adapter cannot find the next message, with the expected error. If `isOpen` is true, the stream stays open. */
+const FATAL_INPUTS = [
   { name: "the rest of a message never comes", bytes: frameMessage("{\"seq\":", 50), words: /^only 7 of the 50 bytes/, isOpen: true },
   { name: "the rest of a head never comes", bytes: "Content-Le", words: /^only a part of the head/, isOpen: true },
   { name: "a Content-Length that is too large", bytes: `${INITIALIZE}${frameMessage("{}", 9)}`, words: /^only 2 of the 9 bytes/ },
@@ -35,8 +35,8 @@ const LOST = [
   { name: "binary bytes", bytes: Buffer.from(Array.from({ length: 6000 }, (_, at) => (at * 7919) % 256)), words: /^the head|^a message begins/ },
 ];
 
-/** Checks that the error is sent and printed, and that the exit status is not 0. */
-async function tryLost({ name, bytes, words, isOpen = false }) {
+/** Checks that the adapter sends and prints the error, and exits with a status other than 0. */
+async function tryFatalInput({ name, bytes, words, isOpen = false }) {
   const client = new Client(ADAPTER);
   client.raw(bytes);
   if (!isOpen) client.child.stdin.end();
@@ -80,7 +80,7 @@ function given(depth = 0) {
   return Object.fromEntries(Array.from({ length: upTo(7) }, () => [oneOf(NAMES), value(depth)]));
 }
 
-/** Returns arguments that are nearly right, so that the later checks of the adapter are reached, too. */
+/** Returns arguments that are mostly valid, so that the adapter also reaches its later checks of the arguments. */
 function nearlyRight(command) {
   const right = { threadId: 1, frameId: 1, variablesReference: 1 + upTo(7), name: oneOf(["acc", "R4", "lamp 0"]), value: oneOf(TEXTS), expression: oneOf(TEXTS),
     context: oneOf(["repl", "watch", "hover", "clipboard"]), memoryReference: oneOf(["0x000", "0x10000", "ram.0"]), offset: upTo(300) - 20, count: upTo(5000),
@@ -145,6 +145,6 @@ async function tryRequests() {
   verdict([await client.end(), client.stderr], [0, ""], "and ends");
 }
 
-await Promise.all(LOST.slice(0, 3).map(tryLost));
-for (const each of LOST.slice(3)) await tryLost(each);
+await Promise.all(FATAL_INPUTS.slice(0, 3).map(tryFatalInput));
+for (const each of FATAL_INPUTS.slice(3)) await tryFatalInput(each);
 await tryRequests();

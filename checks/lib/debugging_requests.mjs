@@ -30,7 +30,7 @@ function answersOf(file, input) {
   return execFileSync(process.env.MCS4, ["open", `${folder}/asked.mcs`], { input, encoding: "utf8" }).split("\n").slice(1, -1);
 }
 
-/** Creates a session file for the lock with the native program only, and serves lines in it. */
+/** Creates a session file for the lock with the native program, without the debug adapter, and serves lines in it. */
 function sessionFile(name, lines) {
   const file = `${folder}/${name}.mcs`;
   const bare = (text, mark) => text.split("\n").map((line) => line.replace(new RegExp(`${mark}.*`), "").trimEnd()).join("\n");
@@ -65,7 +65,7 @@ async function look(client) {
   return { frames, scopes };
 }
 
-/** Checks that a session file stays unchanged, byte for byte, while the client is attached to it, even if the file is read-only. */
+/** Checks that attaching to a session file does not change any of its bytes, and works even if the file is read-only. */
 async function tryAttach() {
   const file = sessionFile("attached", "run 5000\npress 1 1\nbreak 0x031\n");
   chmodSync(file, 0o444);
@@ -101,7 +101,7 @@ async function tryAttach() {
 }
 
 /**
- * Checks that a session file in use is rejected with the name of the program that uses it. Also checks that files that are not sessions are rejected.
+ * Checks that the adapter rejects a session file in use, and names the program that uses it. Also checks that it rejects files that are not sessions.
  */
 async function tryRefused() {
   const file = sessionFile("held", "");
@@ -130,7 +130,7 @@ async function tryRefused() {
   await client.end();
 }
 
-/** Checks that data breakpoints stop where the program's trace shows a change of the place. */
+/** Checks that a data breakpoint stops at the changes that the program's trace shows. */
 async function tryWatches() {
   const file = sessionFile("watched", "run 400\n");
   for (const [dataId, probe] of [["r0", "r0"], ["acc", "acc"], ["chain0", "chain0"], ["rom0", "rom0"], ["cy", "cy"]]) {
@@ -156,7 +156,7 @@ async function tryWatches() {
   }
 }
 
-/** Compares step targets, frames, formats, memory and completion with the program. */
+/** Compares the answers about step targets, stack frames, number formats, memory and completion with the program's answers. */
 async function tryRequests() {
   const file = sessionFile("lock", "");
   const client = new Client(ADAPTER);
@@ -211,7 +211,7 @@ async function tryRequests() {
   verdict(await client.end(), 0, "it ends");
 }
 
-/** Checks that long work reports its progress, and that it ends if the client cancels it. */
+/** Checks that the adapter reports the progress of a long request, and ends the request when the client cancels it. */
 async function tryLong() {
   const program = `${folder}/long.asm`;
   writeFileSync(program, " FIM P0, 0\nturn: ISZ R0, turn\n ISZ R1, turn\n JUN turn\n");
@@ -232,7 +232,7 @@ async function tryLong() {
   const seq = client.number;
   client.send({ seq, type: "request", command: "evaluate", arguments: { expression: lines, context: "repl" } });
   const isAnswer = (message) => message.type === "response" && message.request_seq === seq;
-  // When its progress is reported, the request has begun. A fast machine can finish before that.
+  // The first progress report shows that the request has begun. A fast machine can finish the request before it reports progress.
   const first = await client.next((message) => isAnswer(message) || (message.type === "event" && message.event === "progressStart"));
   const isDone = isAnswer(first);
   if (!isDone) await client.ask("cancel", { requestId: seq });

@@ -1,5 +1,5 @@
-"""The names that the crates define. checks/documents uses them when a document says that a name is a definition, a function or a module. It is not
-enough that a name occurs somewhere, because comments and other languages can still contain an old name after a renaming.
+"""The names that the crates define. checks/documents looks them up when a document says that a name is a definition, a function or a module. A
+search of all files would not be enough: after a renaming, comments and other languages can still contain the old name.
 """
 
 import functools
@@ -30,14 +30,14 @@ def names_of_file(path):
 
 
 def defined_in(crate, module=None):
-    """Returns the names that a crate defines, including its modules, or the names that one of its modules defines."""
+    """Returns the names that a crate defines, including the names of its modules. With `module`, returns only the names that this module defines."""
     files = [path for path in files_of(crate) if module in (None, path.stem)]
     own = {path.stem for path in files} if module is None else set()
     return own.union(*(names_of_file(path) for path in files))
 
 
 def functions_of(crate, module=None):
-    """Returns the functions of a crate, or of one of its modules."""
+    """Returns the names of the functions of a crate, or of one of its modules."""
     files = [path for path in files_of(crate) if path.suffix == ".rt" and module in (None, path.stem)]
     return {name for path in files for name in re.findall(r"\bfn (\w+)", path.read_text())}
 
@@ -54,7 +54,7 @@ def crate_files():
 
 
 def unknown_in_comments():
-    """Yields each name that is in backticks in a comment of the crates, but nowhere outside of comments: its file, line and name."""
+    """Yields the file, line and name of each name that is in backticks in a comment of the crates, but that no code contains."""
     known = {word for path in crate_files() for line in path.read_text().splitlines() if not is_comment(line) for word in re.findall(r"\w+", line)}
     for path in crate_files():
         for number, line in enumerate(path.read_text().splitlines(), 1):

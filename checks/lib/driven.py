@@ -1,12 +1,13 @@
-"""The page actions that all browser drivers share. web_driver.py and marionette.py implement the drivers."""
+"""The actions on a page that all browser drivers share, such as clicking and typing. web_driver.py and marionette.py implement the drivers."""
 
 import re
 import time
 
 ELEMENT = "element-6066-11e4-a52e-4f735466cecf"
-# The pause between one finger and the next.
+# The pause between the touches of two fingers.
 PAUSE = {"type": "pause", "duration": 10}
-# A function that precedes every script. It returns true if an element is visible. The oldest browsers have no `checkVisibility`.
+# JavaScript that is inserted before every script: a function that returns true if an element is visible. The oldest browsers have no
+# `checkVisibility`.
 BEFORE_SCRIPTS = "const isShown = (element) => element.getClientRects().length > 0;\n"
 GET_PLACE_AND_TEXT = """
 const element = document.querySelector(arguments[0]);
@@ -23,13 +24,14 @@ def matches(found, wanted):
 
 
 class Driven:
-    # The driver's abilities: touches with several fingers, and whether a background tab is hidden.
+    # True if the driver can touch the page with several fingers.
     has_fingers = True
+    # True if a page in a background tab is hidden for its scripts.
     hides_tabs = True
     # True if a page that receives only `pagehide` when the user leaves it can still run its functions.
     runs_at_pagehide = True
     # The seconds after a scroll until the page has been drawn again.
-    settles = 0
+    settle_seconds = 0
 
     def show(self, selector):
         """Scrolls an element to the middle, so that nothing covers it."""
@@ -37,11 +39,11 @@ class Driven:
 
     def click(self, selector):
         self.show(selector)
-        time.sleep(self.settles)
+        time.sleep(self.settle_seconds)
         self.click_element(self.find(selector))
 
     def click_at_rest(self, selector):
-        """Clicks an element that may be moving, such as a row of the disassembly, once it has not moved for a third of a second."""
+        """Waits until an element, such as a row of the disassembly, has not moved for a third of a second, and clicks it."""
         self.show(selector)
         seen = None
         end = time.monotonic() + 10
@@ -53,7 +55,7 @@ class Driven:
     def hold(self, selector, time_down):
         """Presses the mouse button on an element for a time in milliseconds."""
         self.show(selector)
-        time.sleep(self.settles)
+        time.sleep(self.settle_seconds)
         self.actions({
             "type": "pointer", "id": "mouse", "parameters": {"pointerType": "mouse"},
             "actions": [
@@ -86,7 +88,7 @@ class Driven:
         } for number, selector in enumerate(selectors)])
 
     def touch(self, selector, time_down):
-        """Touches an element with one finger for a time in milliseconds. Unlike those of `fingers`, its events are a touch in every browser."""
+        """Touches an element with one finger for a time in milliseconds. (WebKit's driver cannot touch, so its class sends the events by script.)"""
         self.fingers([selector], time_down)
 
     def click_secondary(self, x, y):
@@ -123,8 +125,8 @@ class Driven:
         self.set_window_size(1280, 900)
 
     def until(self, code, wanted, seconds=30):
-        """Waits until a script returns the expected value, or a text that matches a pattern. Returns the last result. Repeats a script that fails,
-        because scripts fail while the page is being left."""
+        """Repeats a script until it returns the expected value, or a text that matches a pattern. Returns the last result. A script that fails is
+        also repeated, because scripts fail while the browser leaves the page."""
         end = time.monotonic() + seconds
         while True:
             try:

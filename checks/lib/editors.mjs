@@ -14,7 +14,7 @@ function verdict(is, wanted, words) {
   console.log(one === other ? `ok ${words}` : `fault: ${words}: ${one}, not ${other}`);
 }
 
-/** Returns what the proved program reports about a text: the addresses and sizes of its lines, and its names. */
+/** Returns the program's report about a source text: the address and size of each line, and the names with their values. */
 function bySession(board, program) {
   const file = `${folder}/session.mcs`;
   const input = `wire\n${board}.\nasm\n${program}.\nmap\n${program}.\n`;
@@ -29,7 +29,7 @@ function bySession(board, program) {
   return { lines, names };
 }
 
-/** Returns the names of the examples that are folders with texts. */
+/** Returns the names of the examples that are folders with a board and a program. */
 function examples() {
   return readdirSync(`${TOP}examples`, { withFileTypes: true }).filter((each) => each.isDirectory()).map(({ name }) => name);
 }
@@ -62,7 +62,7 @@ async function compare(client, name) {
 const middle = (list) => [...list].sort((one, other) => one - other)[Math.floor(list.length / 2)];
 const describedTimes = (list) => `${middle(list).toFixed(1)} ms in the middle, ${Math.max(...list).toFixed(1)} at most`;
 
-/** Measures the time of diagnostics and hovers in a text of maximum length. Each edit adds an error. */
+/** Measures the time until diagnostics and hovers arrive for a text of maximum length. Each edit adds an error. */
 async function trySpeed(client) {
   const uri = "file:///long.asm";
   const text = `start:\n${"LDM 5\n".repeat(2728)}NOP`;
@@ -85,7 +85,7 @@ async function trySpeed(client) {
   console.log(`speed: 1 to 15 faults of it, after an edit: ${describedTimes(faults)}`);
 }
 
-/** Checks that errors in messages are reported, and that the next request is answered. */
+/** Checks that the server reports errors in messages, and answers the next request. */
 async function tryWrong() {
   const client = new Client(MCS4);
   verdict((await client.answer("textDocument/hover", {})).error.code, -32002, "a request before initialize");
@@ -125,7 +125,7 @@ async function tryEnds() {
   verdict([await other.ended, other.stderr.split(",")[0]], [1, "lsp: a message begins with one line Content-Length: N"], "another protocol");
 }
 
-/** Checks that input is served in order if a client writes everything before it reads anything. */
+/** Checks that the server answers in order if a client writes all requests before it reads any answer. */
 async function tryAtOnce() {
   const hasty = new Client(MCS4);
   const uri = "file:///hasty.asm";
@@ -143,8 +143,8 @@ async function tryAtOnce() {
 }
 
 /**
- * Checks messages with wrong lengths, which must cause an error and the end of the server. The rest of the message is missing, belongs to the next
- * message, or is missing at the end of the stream.
+ * Checks messages with wrong lengths: the server must print an error and end. Three lengths are tried: one that is too large while the stream stays
+ * open, one that is too large at the end of the stream, and one that is too small.
  */
 async function tryWrongSizes() {
   const body = JSON.stringify({ jsonrpc: "2.0", id: 1, method: "initialize", params: {} });

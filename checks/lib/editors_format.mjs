@@ -27,7 +27,7 @@ function edited(text, edits) {
   return lines.join("\n");
 }
 
-/** Returns the program's answers to texts: for each text the map, the answer to loading it, and the whole ROM afterwards. */
+/** Returns the program's answers for each source text: the answer to `map`, the answer to `asm`, and then the contents of the whole ROM. */
 function answers(texts) {
   const input = ALL_ROMS + texts.map((text) => `map\n${text}.\nasm\n${text}.\n${LISTS}`).join("");
   const file = `${folder}/formatted.mcs`;

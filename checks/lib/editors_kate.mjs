@@ -1,13 +1,13 @@
 // Drives Kate's language client on a virtual display: `node editors_kate.mjs FOLDER`. FOLDER/home has Kate's settings as the manual describes them.
-// FOLDER/bin has an `mcs4` that writes everything that Kate sends to FOLDER/sent, and everything that Kate receives to FOLDER/received. Standard
-// output has a line for each observation. The script waits for the contents of these files and for the screen, never for a fixed time.
+// FOLDER/bin has a wrapper of `mcs4` that copies everything that Kate sends to FOLDER/sent, and everything that Kate receives to FOLDER/received. The
+// script prints a line for each result. It waits until these files or the screen have the expected contents, never for a fixed time.
 import { spawn, spawnSync } from "node:child_process";
 import { cpSync, existsSync, mkdirSync, readFileSync, rmSync, writeFileSync } from "node:fs";
 import { MessageClient } from "./message_client.mjs";
 
 /** The time in milliseconds to wait for each result. */
 const TIMEOUT = 90000;
-/** The time in milliseconds after which a key without effect is pressed again, and after which a display command is stopped. */
+/** The time in milliseconds after which a key that had no effect is pressed again, and after which a display command is ended. */
 const AGAIN = 20000;
 /** The window title of Kate's question about starting the server. */
 const QUESTION = "LSP server start requested";
@@ -17,7 +17,7 @@ const ends = new Set();
 const say = (line) => process.stdout.write(`${line}\n`);
 const shortly = () => new Promise((resume) => setTimeout(resume, 100));
 
-/** Waits until `look` returns a truthy value, and resolves to it. */
+/** Calls `look` repeatedly until it returns a truthy value, and resolves to that value. */
 async function once(what, look) {
   for (const end = Date.now() + TIMEOUT; Date.now() < end;) {
     const found = look();
@@ -27,7 +27,7 @@ async function once(what, look) {
   throw new Error(`${what}: not after ${TIMEOUT} ms`);
 }
 
-/** Returns the messages in one of the two files, by the file's name. */
+/** Returns the messages in the file `sent` or `received`. */
 function messagesOf(name) {
   const file = `${folder}/${name}`;
   return existsSync(file) ? MessageClient.messagesIn(readFileSync(file)).messages : [];
@@ -52,7 +52,7 @@ async function startDisplay() {
 }
 
 /**
- * Returns the number of pixels with the colour that Kate's theme uses for a line with an error: #FFE5E5, or a shade of it at the cursor. The
+ * Counts the pixels of a screenshot with the colour that Kate's theme uses for a line with an error: #FFE5E5, or a shade of it at the cursor. The
  * screenshot is an XWD picture: its first word is the length of its header, and its twentieth word is the number of its colours.
  */
 function marked() {
@@ -80,7 +80,7 @@ class Kate {
     }
     for (const name of ["sent", "received"]) rmSync(`${folder}/${name}`, { force: true });
     this.file = file;
-    // Kate has its own process group, so that ending the group also ends Kate's children.
+    // Kate gets its own process group, so that its child processes can be ended together with it.
     this.child = spawn("dbus-run-session", ["--", "kate", "-n", ...more, file],
       { cwd: `${folder}/lock`, env: this.environment, stdio: "ignore", detached: true });
     this.child.on("error", () => {});
@@ -102,7 +102,7 @@ class Kate {
     this.xdotool("windowfocus", window, "key", "--delay", "100", ...keys);
   }
 
-  /** Resolves to the errors in the text. If Kate asks whether it may start the server, confirms that. */
+  /** Waits for the server's diagnostics, and resolves to them. If Kate asks whether it may start the server, confirms that. */
   async answered() {
     let askedAt = 0;
     const faults = await once("faults", () => {
@@ -156,8 +156,8 @@ async function program(display) {
 }
 
 /**
- * Opens a text with the generated grammars, and a server that is configured only for the grammar's file type. If Kate asks about the server, it has
- * recognised the grammar.
+ * Checks that Kate uses the generated grammars. Its settings assign a server only to the file type that a grammar defines. So if Kate asks about the
+ * server when it opens a text, it has recognised the grammar.
  */
 async function grammar(display, file) {
   const settings = `${folder}/home/.config/kate/lspclient/settings.json`;

@@ -1,5 +1,5 @@
-// Tests of checks/editors with the sequence of requests that Visual Studio Code sends, on the lock as a project on disk. Prints `ok WORDS` or `fault:
-// WORDS` for each check, and `speed: WORDS` for a measurement.
+// Tests of checks/editors that send the requests of Visual Studio Code, in its order, for the lock example as a project on disk. Prints `ok WORDS` or
+// `fault: WORDS` for each check, and `speed: WORDS` for a measurement.
 import { copyFileSync, mkdirSync, readFileSync, symlinkSync, writeFileSync } from "node:fs";
 import { execFileSync } from "node:child_process";
 import { Client } from "./lsp_client.mjs";
@@ -17,7 +17,7 @@ function verdict(is, wanted, words) {
   console.log(one === other ? `ok ${words}` : `fault: ${words}: ${one}, not ${other}`);
 }
 
-/** The editor's capabilities that a server reads. */
+/** The capabilities that the editor reports to a server. */
 const CAPABILITIES = {
   workspace: {
     applyEdit: true, configuration: true, workspaceFolders: true, didChangeWatchedFiles: { dynamicRegistration: true },
@@ -101,7 +101,7 @@ async function change(client, { colours, resultId }) {
   verdict((await client.ask("textDocument/diagnostic", { textDocument })).items.length, 0, "the text as it was");
 }
 
-/** Opens the other texts of the project, runs a test, and changes a board, which causes a refresh. */
+/** Opens the other texts of the project, runs a test, and changes the board, so that the server requests a refresh. */
 async function others(client) {
   for (const [name, language] of [["lock.test", "mcs4-test"], ["lock.props", "mcs4-props"], ["board.toml", "toml"], ["mcs4.toml", "toml"]]) {
     open(client, name, language);
@@ -119,7 +119,7 @@ async function others(client) {
   verdict((await client.ask("workspace/symbol", { query: "several" })).length > 0, true, "names of the workspace");
 }
 
-/** Checks devices and pipes in place of texts. All requests must be answered. */
+/** Checks that the server answers all requests even if a file of the project is a device or a pipe. */
 async function devices(client) {
   const other = `${process.argv[2]}/devices`;
   mkdirSync(other);
@@ -139,7 +139,7 @@ async function devices(client) {
     "a project of devices");
 }
 
-/** Returns the processor time of a process so far, in milliseconds. */
+/** Returns the processor time that a process has used so far, in milliseconds. */
 function spent(pid) {
   const fields = readFileSync(`/proc/${pid}/stat`, "utf8").replace(/^.*\) /, "").split(" ");
   return (Number(fields[11]) + Number(fields[12])) * 10;

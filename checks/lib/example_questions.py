@@ -1,5 +1,5 @@
-"""Questions to mcs4-prove about the examples: the nevers, the times and the presses in their properties as comparisons, and the expected answers.
-Also mutants: examples in which one instruction is replaced by another one.
+"""Questions to mcs4-prove about the examples, with the expected answers. The conditions in the examples' properties (`never` lines, lines with a time
+limit, and lines with key presses) are written as comparisons of the machine's cells. Also has mutants: examples in which one instruction is replaced.
 """
 
 from __future__ import annotations
@@ -19,7 +19,7 @@ MUTANT_MAX_STATES, MUTANT_PAUSE = 120, 1000
 
 
 def texts_of(props: str) -> tuple[list[str], list[str]]:
-    """Returns the board and the program that belong to a properties file."""
+    """Returns the texts of the board and of the program that belong to a properties file."""
     path = EXAMPLE_FILES / props
     if path.with_name("board.toml").exists():
         texts = path.with_name("board.toml"), path.with_name(f"{path.parent.name}.asm")
@@ -35,7 +35,8 @@ def texts_of(props: str) -> tuple[list[str], list[str]]:
 
 
 def comparisons_of(words: str, names: dict[str, int]) -> list[Comparison]:
-    """Returns the comparisons in a list joined with `&`. `@label` compares the counter between two instructions."""
+    """Parses comparisons that are joined with `&`. `@label` becomes the comparison that the program counter is at that label, between two
+    instructions."""
     rows: list[Comparison] = []
     for each in words.split(" & "):
         if each.startswith("@"):
@@ -54,14 +55,14 @@ def question_of(props: str, nevers: list[str], most: int, pause: int) -> Questio
     return Question(board, program, [comparisons_of(never, names) for never in nevers], most, pause)
 
 
-FACES = " & ".join(f"out ramport 0 whole {value} {value}" for value in (0, 1, 3, 7, 8, 9, 11))
-DIGITS = {f"ram.0.{at} > 9": f"in character {at} whole 10 15" for at in (0, 64, 128, 192)}
+DIE_FACES = " & ".join(f"out ramport 0 whole {value} {value}" for value in (0, 1, 3, 7, 8, 9, 11))
+DIGIT_COMPARISONS = {f"ram.0.{at} > 9": f"in character {at} whole 10 15" for at in (0, 64, 128, 192)}
 GREEN, AMBER, WALK = "in ramport 0 line2 1 1", "in ramport 0 line1 1 1", "in ramport 1 line1 1 1"
 
 
 @dataclass
 class Example:
-    """The nevers of a properties file with their comparisons. Also the answer to all of them together, and the limits of the search."""
+    """The `never` conditions of a properties file with their comparisons, the answer to all of them together, and the limits of the search."""
 
     props: str
     answer: str
@@ -72,16 +73,16 @@ class Example:
 
 EXAMPLES = [
     Example("a_fault_to_find.props", "may fail after 1 values", {"lamp 8 on and lamp 2 on": "in ramport 0 line3 1 1 & in ramport 0 line1 1 1"}),
-    Example("counter.props", "too many", {never: DIGITS[never] for never in ("ram.0.0 > 9", "ram.0.64 > 9")}, most=20000),
+    Example("counter.props", "too many", {never: DIGIT_COMPARISONS[never] for never in ("ram.0.0 > 9", "ram.0.64 > 9")}, most=20000),
     # These comparisons do not include the maximum time of a key press.
     Example("counter_bounces.props", "may fail after 113 values", {"@count": "@count"}),
     Example("die.props", "holds 13", {
         "not lamps ...*... and not lamps *.....* and not lamps *..*..* and not lamps **...** and not lamps **.*.** and not lamps ***.*** "
-        "and not lamps none": FACES}),
+        "and not lamps none": DIE_FACES}),
     Example("lamps.props", "holds 2", {"lamp 2 on": "in ramport 0 line3 1 1"}),
     Example("running_light.props", "holds 2", {
         f"lamp {one} on and lamp {other} on": f"in chain0 {one} whole 1 1 & in chain0 {other} whole 1 1" for one, other in ((0, 1), (8, 9), (0, 9))}),
-    Example("stopwatch.props", "holds 10001", DIGITS),
+    Example("stopwatch.props", "holds 10001", DIGIT_COMPARISONS),
     Example("traffic_light.props", "holds 375558", {
         "lamp green on and lamp walk on": f"{GREEN} & {WALK}", "lamp amber on and lamp walk on": f"{AMBER} & {WALK}",
         "lamp green on and lamp amber on": f"{GREEN} & {AMBER}", "lamp stand on and lamp walk on": f"in ramport 1 line0 1 1 & {WALK}"}),
@@ -104,9 +105,9 @@ EXAMPLES = [
 ]
 # The answers of longer searches, which need a gigabyte of memory. The search of the clock takes minutes.
 LONGER = {"counter.props": "holds 2240113"}
-# The possible outputs of RAM ports, by index, in the examples whose mutants are searched. The lock, the traffic light and the three lamps never show
-# other values, whatever is pressed.
-SHOWN = {
+# The values that each RAM port, by its index, can output in the examples that have mutants. The lock, the traffic light and the three lamps never
+# output other values, whatever is pressed.
+POSSIBLE_OUTPUTS = {
     "die.props": {0: (0, 1, 3, 7, 8, 9, 11)},
     "lock/lock.props": {0: (0, 1, 2, 5)},
     "pictures/pictures.props": {2: (0, 1, 2, 4, 8), 3: (0, 1, 2, 4, 8)},
@@ -115,14 +116,14 @@ SHOWN = {
 }
 
 
-# The comparisons that describe the counter at power-on.
-AT_FIRST = "in counter 3 whole 0 0 & in counter 4 whole 0 0 & in counter 5 whole 0 0"
+# The comparisons that are true while the program counter has its value after power-on.
+AT_POWER_ON = "in counter 3 whole 0 0 & in counter 4 whole 0 0 & in counter 5 whole 0 0"
 
 
 @dataclass
-class Timed:
-    """A line of a properties file that limits a time: the comparisons that begin and end the time, the limit in cycles, and the answer. `longest` is
-    the longest possible time, or -1 if there are too many states to know it."""
+class TimeLimit:
+    """A line of a properties file that limits a time: the comparisons that start and stop the stopwatch, the limit in cycles, and the answer.
+    `longest` is the longest possible time, or -1 if it is unknown because there are too many states."""
 
     props: str
     line: str
@@ -142,52 +143,52 @@ class Timed:
         return question
 
 
-def lasting(props: str, line: str, condition: str, limit: int, answer: str, longest: int = -1, most: int = 1000000) -> Timed:
-    """Returns the question how long comparisons hold together. The time ends when any of them no longer holds."""
+def duration_question(props: str, line: str, condition: str, limit: int, answer: str, longest: int = -1, most: int = 1000000) -> TimeLimit:
+    """Returns the question how long comparisons are all true at the same time. The time ends when any of them becomes false."""
     comparisons = [each.split(" ", 1) for each in condition.split(" & ")]
     ends = [f"{'out' if word == 'in' else 'in'} {rest}" for word, rest in comparisons]
-    return Timed(props, line, [condition], ends, limit, answer, longest, most)
+    return TimeLimit(props, line, [condition], ends, limit, answer, longest, most)
 
 
 def all_off(name: str, indexes: Iterable[int]) -> str:
-    """Returns the comparisons that hold if the given cells of a list are 0."""
+    """Returns the comparisons that are true if these cells of a list are 0."""
     return " & ".join(f"in {name} {index} whole 0 0" for index in indexes)
 
 
 CLOCK, STACKER, LOCK, PICTURES, THREE = (f"{name}/{name}.props" for name in ("clock", "stacker", "lock", "pictures", "three_lamps"))
-TIMES = [
-    Timed("counter.props", "@count to @open within 53", ["@count"], ["@open"], 53, "too many", most=500),
-    lasting("die.props", "never lamps none for 1 ms", all_off("ramport", [0]), 93, "holds 13", 16),
-    Timed("die.props", "@hold to @hold within 15", ["@hold"], ["@hold"], 15, "holds 13", 15),
-    lasting("lamps.props", "never lamp 0 off and lamp 1 on for 1 ms", "in chain0 0 whole 0 0 & in chain0 1 whole 1 1", 93, "holds 2", 0),
-    lasting("running_light.props", "never lamps none for 1 ms", all_off("chain0", range(10)), 93, "holds 2", 9),
-    Timed("running_light.props", "every 8747 @step", [AT_FIRST, "@step"], ["@step"], 8747, "holds 2", 8747),
-    Timed("stopwatch.props", "every 926 @wait", [AT_FIRST, "@wait"], ["@wait"], 926, "holds 20002", 926),
-    lasting("traffic_light.props", "never lamps none for 1 ms", all_off("ramport", [0, 1]), 93, "holds 375558", 13),
-    Timed("traffic_light.props", "@stop to @light within 8.01 s", ["@stop"], ["@light"], 741667, "holds 375558", 740744),
-    lasting(CLOCK, "never r8 > 2 for 10 ms", "in register 8 whole 3 15", 926, "too many", most=500),
-    lasting(CLOCK, "never r10 > 5 for 10 ms", "in register 10 whole 6 15", 926, "too many", most=500),
-    lasting(CLOCK, "never not ram0.0 out 1 for 8.4 ms", "out ramport 0 whole 1 1", 778, "too many", most=500),
-    lasting(LOCK, "never lamps none for 1 ms", all_off("ramport", [0]), 93, "holds 297692", 11),
-    lasting(LOCK, "never lamp open on for 1.1 s", "in ramport 0 line1 1 1", 101852, "holds 297692", 96139),
-    lasting("music_box/music_box.props", "never lamp sound on for 5 ms", "in romport 0 line0 1 1", 463, "holds 2", 193),
-    lasting(PICTURES, "never r0 < 12 for 5 ms", "in register 0 whole 0 11", 463, "holds 9", 5),
-    Timed(PICTURES, "every 129 @row", [AT_FIRST, "@row"], ["@row"], 129, "holds 9", 129),
-    lasting(STACKER, "never lamps none for 0.3 s", all_off("ramport", range(16)), 27778, "too many", most=500),
-    *(lasting(STACKER, f"never lamp {above} on and lamp {below} off and not ram2.3 out 0 for 1 ms",
+TIME_LIMITS = [
+    TimeLimit("counter.props", "@count to @open within 53", ["@count"], ["@open"], 53, "too many", most=500),
+    duration_question("die.props", "never lamps none for 1 ms", all_off("ramport", [0]), 93, "holds 13", 16),
+    TimeLimit("die.props", "@hold to @hold within 15", ["@hold"], ["@hold"], 15, "holds 13", 15),
+    duration_question("lamps.props", "never lamp 0 off and lamp 1 on for 1 ms", "in chain0 0 whole 0 0 & in chain0 1 whole 1 1", 93, "holds 2", 0),
+    duration_question("running_light.props", "never lamps none for 1 ms", all_off("chain0", range(10)), 93, "holds 2", 9),
+    TimeLimit("running_light.props", "every 8747 @step", [AT_POWER_ON, "@step"], ["@step"], 8747, "holds 2", 8747),
+    TimeLimit("stopwatch.props", "every 926 @wait", [AT_POWER_ON, "@wait"], ["@wait"], 926, "holds 20002", 926),
+    duration_question("traffic_light.props", "never lamps none for 1 ms", all_off("ramport", [0, 1]), 93, "holds 375558", 13),
+    TimeLimit("traffic_light.props", "@stop to @light within 8.01 s", ["@stop"], ["@light"], 741667, "holds 375558", 740744),
+    duration_question(CLOCK, "never r8 > 2 for 10 ms", "in register 8 whole 3 15", 926, "too many", most=500),
+    duration_question(CLOCK, "never r10 > 5 for 10 ms", "in register 10 whole 6 15", 926, "too many", most=500),
+    duration_question(CLOCK, "never not ram0.0 out 1 for 8.4 ms", "out ramport 0 whole 1 1", 778, "too many", most=500),
+    duration_question(LOCK, "never lamps none for 1 ms", all_off("ramport", [0]), 93, "holds 297692", 11),
+    duration_question(LOCK, "never lamp open on for 1.1 s", "in ramport 0 line1 1 1", 101852, "holds 297692", 96139),
+    duration_question("music_box/music_box.props", "never lamp sound on for 5 ms", "in romport 0 line0 1 1", 463, "holds 2", 193),
+    duration_question(PICTURES, "never r0 < 12 for 5 ms", "in register 0 whole 0 11", 463, "holds 9", 5),
+    TimeLimit(PICTURES, "every 129 @row", [AT_POWER_ON, "@row"], ["@row"], 129, "holds 9", 129),
+    duration_question(STACKER, "never lamps none for 0.3 s", all_off("ramport", range(16)), 27778, "too many", most=500),
+    *(duration_question(STACKER, f"never lamp {above} on and lamp {below} off and not ram2.3 out 0 for 1 ms",
               f"in ramport 13 line{line} 1 1 & in ramport 15 line{line} 0 0 & out ramport 11 whole 0 0", 93, "too many", most=500)
       for above, below, line in ((52, 60, 3), (53, 61, 2))),
-    lasting(THREE, "never lamps none for 1 ms", all_off("ramport", [0]), 93, "holds 2", 7),
-    Timed(THREE, "every 6 ms @next", [AT_FIRST, "@next"], ["@next"], 556, "holds 2", 538),
+    duration_question(THREE, "never lamps none for 1 ms", all_off("ramport", [0]), 93, "holds 2", 7),
+    TimeLimit(THREE, "every 6 ms @next", [AT_POWER_ON, "@next"], ["@next"], 556, "holds 2", 538),
 ]
-# Time limits that are not tested. Their conditions need the digits of a display, and their programs have too many states.
+# Lines with a time limit that are not tested, because their conditions need the digits of a display and their programs have too many states.
 NOT_TIMED = {"never display -0 and st.0.0.2 3 for 20 ms"}
 
 
 @dataclass
-class Pressed:
-    """A line of a file of properties with a condition that becomes true only after presses: its comparisons, the keys by row and column, and the
-    answer."""
+class RequiredPresses:
+    """A line of a properties file that says that a condition becomes true only after key presses: the condition's comparisons, the keys to press, by
+    row and column, and the answer."""
 
     props: str
     line: str
@@ -204,13 +205,13 @@ class Pressed:
 
 
 PRESSED = [
-    Pressed(LOCK, "lamp open on only after press 4, press 7, press 1, press 1, press #", "in ramport 0 line1 1 1",
+    RequiredPresses(LOCK, "lamp open on only after press 4, press 7, press 1, press 1, press #", "in ramport 0 line1 1 1",
             [(1, 0), (2, 0), (0, 0), (0, 0), (3, 2)], "holds 2083023"),
 ]
 
 
 def pressed_in(props: str) -> list[str]:
-    """Returns the lines of a file of properties about presses that come first."""
+    """Returns the lines of a properties file that require key presses before a condition becomes true."""
     return [line for line in (EXAMPLE_FILES / props).read_text().splitlines() if " only after press " in line and not line.startswith("#")]
 
 
@@ -221,13 +222,13 @@ def times_in(props: str) -> list[str]:
 
 
 def nevers_in(props: str) -> list[str]:
-    """Returns the nevers of a properties file, except those with a time or a guard."""
+    """Returns the conditions of the `never` lines in a properties file, except those with a time or a guard."""
     lines = (EXAMPLE_FILES / props).read_text().splitlines()
     return [line.removeprefix("never ") for line in lines if line.startswith("never ") and " for " not in line]
 
 
-# The programs that make mistakes, with their mistakes. Lamps runs on into a missing ROM chip, and its second WRR has no output line.
-MADE = {"lamps.txt": ("rom", "wrr")}
+# The example programs that make mistakes, with their mistakes. lamps.txt runs on into a missing ROM chip, and its second WRR has no output line.
+MISTAKES_MADE = {"lamps.txt": ("rom", "wrr")}
 PROGRAM_MAX_STATES, PROGRAM_PAUSE = 60, 1000
 
 
@@ -238,7 +239,7 @@ def programs() -> list[str]:
 
 
 def mistakes_of(name: str, mistakes: tuple[str, ...] = MISTAKES) -> Question:
-    """Returns the question whether an example's program makes any of these mistakes."""
+    """Returns the question of whether an example's program makes any of these mistakes."""
     path = EXAMPLE_FILES / name
     board, program = texts_of(f"{name}/{name}.props" if path.is_dir() else str(path.with_suffix(".props").name))
     return Question(board, program, [[("mistake", *mistakes)]], PROGRAM_MAX_STATES, PROGRAM_PAUSE)
@@ -257,7 +258,7 @@ def program_of(image: dict[int, int]) -> list[str]:
 def mutant(seed: int) -> tuple[str, Question]:
     """Returns a question about an example with one instruction replaced by another one of the same size."""
     chance = random.Random(seed)
-    props, ports = chance.choice([*SHOWN.items()])
+    props, ports = chance.choice([*POSSIBLE_OUTPUTS.items()])
     others = [" & ".join(f"out ramport {port} whole {value} {value}" for value in values) for port, values in ports.items()]
     question = question_of(props, others, MUTANT_MAX_STATES, MUTANT_PAUSE)
     image, spans, _names = assemble(question.program)

@@ -6,11 +6,11 @@ from __future__ import annotations
 
 from collections import Counter
 
-from assembler import ADDRESSES, assemble
-from bench4004 import BRANCHES, counted, instruction_text
+from assembler import ADDRESS_COUNT, assemble
+from bench4004 import BRANCHES, count_instructions, instruction_text
 from board4004 import CODES, TWO_CYCLES, Board, Line
 
-# The changes in a wave: by time, then by line name.
+# The changes in a recording of lines: for each time, the new level of each line that changes, by the line's name.
 Changes = dict[int, dict[str, str]]
 
 
@@ -31,11 +31,11 @@ class Source:
         self.line_of = {at + i: number for number, (at, size) in enumerate(self.spans) for i in range(size)}
 
     def label_below(self, at: int) -> tuple[int, str]:
-        """Returns the label at an address, or the nearest one below it, with its address. Returns -1 and "" if there is none."""
+        """Finds the label at an address, or the nearest one below it. Returns its address and its name, or -1 and "" if there is none."""
         return max((pair for pair in self.labels.items() if pair[0] <= at), default=(-1, ""))
 
     def is_data(self, number: int) -> bool:
-        """Returns true if a line has bytes that are data."""
+        """Returns true if the bytes of a line are data."""
         return self.code(number).split(":")[-1].split()[:1] == ["DB"]
 
     def code(self, number: int) -> str:
@@ -47,11 +47,11 @@ class Source:
         return at in self.line_of and self.spans[self.line_of[at]][0] == at and not self.is_data(self.line_of[at])
 
     def place(self, at: int) -> str:
-        """Returns an address with its name and its source line."""
+        """Describes an address by its label and its source line."""
         if at not in self.line_of:
             return f"{at:03X}, which the source does not fill"
         there, name = self.label_below(at)
-        # After a gap in the source, labels before the gap are not used.
+        # A label is not used for an address if the source leaves a gap between the two.
         if any(between not in self.line_of for between in range(there, at)):
             name = ""
         named = f" ({name}{f' + {at - there}' if at > there else ''})" if name else ""
@@ -81,9 +81,8 @@ def written(before: Board, after: Board) -> list[str]:
 
 
 def trace_row(board: Board, cycle: int, rest: str, source: Source | None, with_lines: bool) -> str:
-    """Returns the row of an instruction. It has the instruction's label above it and the label of its target, or its source line, as far as these
-    exist.
-    """
+    """Returns the row of an instruction in the trace. If the instruction has a label, the label is on the line above. A jump's target is shown by its
+    label. With `with_lines`, the row shows the source line instead of the disassembled instruction."""
     at, text = board.pc, "(the second cycle)" if board.owed else instruction_text(board, board.pc)
     if source is None or board.owed:
         return f"{cycle:8}  {text:<{42 if with_lines else 25}}  {rest}".rstrip()
@@ -134,8 +133,8 @@ def levels(board: Board, source: Source) -> dict[str, str]:
 
 
 def wave_output(start: Board, cycles: int, names: list[str], source: Source) -> tuple[Changes, int]:
-    """Returns the expected result of `mcs4 wave`: the changes of the named lines by cycle, starting with their levels at 0, and the last cycle. The
-    counter and its label change when an instruction is complete."""
+    """Returns the expected result of `mcs4 wave`: the changes of the named lines by cycle, starting with their levels in cycle 0, and the last
+    cycle. The program counter and its label change when an instruction is complete."""
     board = start.copy()
     now = levels(board, source)
     changes, done = {0: {name: now[name] for name in names}}, 0
@@ -151,7 +150,7 @@ def wave_output(start: Board, cycles: int, names: list[str], source: Source) -> 
 
 
 def read_vcd(text: str) -> tuple[list[str], Changes, int]:
-    """Parses a VCD file. Returns the names of its lines, their changes, and its end in cycles. A time within a cycle is -1."""
+    """Parses a VCD file. Returns the names of its lines, their changes, and its end in cycles. A time that is not a whole number of cycles is -1."""
     names: dict[str, str] = {}
     changes: Changes = {}
     cycle = 0
@@ -177,7 +176,7 @@ def percent(part: int, whole: int) -> str:
 
 
 def spans_of(lines: list[int], chosen: list[int]) -> str:
-    """Returns the numbers of the chosen lines. Consecutive lines become a range."""
+    """Returns the numbers of the chosen lines as text, in which consecutive lines are written as a range."""
     spans: list[list[int]] = []
     before = None
     for line in lines:
@@ -191,7 +190,7 @@ def spans_of(lines: list[int], chosen: list[int]) -> str:
 
 def cover_output(start: Board, cycles: int, source: Source) -> str:
     """Returns the output of `mcs4 cover`: how often each line ran, how often its jump was taken, and the lines that never ran."""
-    runs, jumps, _done, _stop = counted(unstopped(start), cycles)
+    runs, jumps, _done, _stop = count_instructions(without_stops(start), cycles)
     lines = [i for i, (at, size) in enumerate(source.spans) if size and (not source.is_data(i) or runs[at])]
     ways = {i: (jumps[at], runs[at] - jumps[at]) for i, (at, size) in enumerate(source.spans)
             if i in lines and size == 2 and CODES[start.rom[at]][0] in BRANCHES}
@@ -212,7 +211,7 @@ def cover_output(start: Board, cycles: int, source: Source) -> str:
     return "".join(f"{row}\n" for row in rows)
 
 
-def unstopped(start: Board) -> Board:
+def without_stops(start: Board) -> Board:
     """Returns a copy of a board without breakpoints and watches."""
     board = start.copy()
     board.breaks, board.watches = set(), set()
@@ -233,7 +232,7 @@ class Calls:
         self.counts[target] = self.counts.get(target, 0) + 1
 
     def leave(self, time: int) -> None:
-        """Leaves a subroutine at a BBL or at the end. The time of recursive calls is counted only once."""
+        """Leaves a subroutine at a BBL, or at the end of the run. The time of nested calls of the same subroutine is counted once."""
         target, entered = self.open.pop()
         if all(other != target for other, _entered in self.open):
             self.times.setdefault(target, []).append(time - entered)
@@ -244,13 +243,13 @@ def profile_output(start: Board, cycles: int, source: Source) -> str:
     own: Counter[tuple[int, str]] = Counter()
     calls = Calls()
     begins: list[tuple[int, int]] = []
-    total = unstopped(start).run(cycles, lambda done, at: begins.append((done, at)))[0]
+    total = without_stops(start).run(cycles, lambda done, at: begins.append((done, at)))[0]
     for done, at in begins:
         name, low = CODES[start.rom[at]]
         end = min(done + 1 + (name in TWO_CYCLES), total)
         own[source.label_below(at)] += end - done
         if name == "JMS":
-            calls.enter(256 * low + start.rom[(at + 1) % ADDRESSES], end)
+            calls.enter(256 * low + start.rom[(at + 1) % ADDRESS_COUNT], end)
         elif name == "BBL" and calls.open:
             calls.leave(end)
     while calls.open:
@@ -276,6 +275,6 @@ def microseconds(cycles: int) -> str:
 
 
 def cycles_output(runs: list[tuple[int, int]], source: Source | None) -> str:
-    """Returns the output of `mcs4 cycles` for runs. Each run has its number of cycles and the counter at its end."""
+    """Returns the output of `mcs4 cycles` for runs. Each run is a number of cycles and the program counter at its end."""
     rows = [f"{microseconds(cycles)}, to {source.place(at)}" for cycles, at in runs] if source else []
     return "".join(f"{row}\n" for row in [*rows, microseconds(sum(cycles for cycles, _at in runs))])

@@ -103,7 +103,7 @@ const vscode = {
     "DocumentLink", "SymbolInformation", "CallHierarchyItem", "CallHierarchyIncomingCall", "CallHierarchyOutgoingCall"].map((name) => [name, class extends Plain {}])),
 };
 
-/** Checks the requests beyond help, names and errors, with the text `start:  JUN start` and a line below it. */
+/** Checks the features of the extension besides help, names and errors, with a text of the line `start:  JUN start` and a line below it. */
 async function tryFeatures() {
   const [formatted] = await providers.registerDocumentRangeFormattingEditProvider
     .provideDocumentRangeFormattingEdits(document, { start: { line: 1, character: 0 }, end: { line: 1, character: 3 } }, { tabSize: 4, insertSpaces: true })

@@ -1,4 +1,4 @@
-"""The figures about the tree that PROOF states, computed from the tree. Each is a phrase that PROOF must contain."""
+"""The numbers that docs/PROOF.md states about the repository, computed from the repository. Each of them is in a phrase that PROOF must contain."""
 
 import collections
 import pathlib
@@ -15,8 +15,8 @@ def edits_by_crate():
     return collections.Counter(path.parent.parent.name for path in TOP.glob("crates/*/must-fail/*.edit"))
 
 
-def edits():
-    """Yields the phrases about the edits, and about the crates without edits."""
+def edit_phrases():
+    """Yields the phrases about the must-fail edits, and about the crates without such edits."""
     by_crate = edits_by_crate()
     crates = sorted(path.parent.name for path in TOP.glob("crates/*/src"))
     without = [crate for crate in crates if crate not in by_crate and not re.match("test_|mcs_fixtures", crate)]
@@ -25,8 +25,8 @@ def edits():
     yield f"nor in {', '.join(without)} and the test crates"
 
 
-def sweeps():
-    """Yields the phrases about the extent of the checks in ./test and in ./test long."""
+def sweep_phrases():
+    """Yields the table rows that say how many cases a check tries in ./test, and how many in ./test long."""
     words_of = {check.name: (check.words.split(), check.long.split()) for check in CHECKS if check.long}
     for name, place, tried in (("locks", 0, "rounds"), ("assembler", 0, "seeded programs"), ("time", 0, "seeded boards and programs"),
                                ("time", 1, "sessions of tools"), ("prove", 0, "seeded questions"), ("calculator", 0, "seeded chains"),
@@ -35,8 +35,8 @@ def sweeps():
         yield f"| `{name}` | {tried} | {short} | {long} |"
 
 
-def checks():
-    """Yields the phrases about the checks, and about the things that they compare."""
+def check_phrases():
+    """Yields the phrases about the number of wrong implementations that the checks must detect, and the name of each check."""
     yield f"{len(WRONG_BOARDS) + len(WRONG_TOOLS)} wrong readings"
     yield f"{len(WRONG_SEARCHES)} wrong searches"
     boards = re.search(r"^BOARDS = (\d+)$", (TOP / "checks/runs").read_text(), re.M)
@@ -46,6 +46,6 @@ def checks():
             yield rf"`{path.name}`"
 
 
-def stated():
+def required_phrases():
     """Returns all phrases that PROOF must contain."""
-    return [*edits(), *sweeps(), *checks()]
+    return [*edit_phrases(), *sweep_phrases(), *check_phrases()]

@@ -1,6 +1,6 @@
-// Prints the syntax colours that a grammar gives to a text, for comparison with the page: `node grammars.mjs page|textmate|kate NAME.asm|board.toml`.
-// Prints a letter for each character of the text, as the page or the grammar's editor would colour it. The letters are: c comment, l label, k name
-// that = defines, i instruction, d directive, r register, n number, v name, t table, p key, s string, . nothing.
+// Prints the syntax highlighting of a text, so that a grammar can be compared with the page: `node grammars.mjs page|textmate|kate
+// NAME.asm|board.toml`. Prints one letter for each character of the text, for the kind as which the page or the grammar's editor highlights it: c
+// comment, l label, k name that `=` defines, i instruction, d directive, r register, n number, v other name, t table, p key, s string, . none.
 import { readFileSync } from "node:fs";
 import { readInstructions } from "../../js/core/help/manual.js";
 import { BoardLanguage } from "../../js/core/server/board_language.js";
@@ -13,7 +13,7 @@ const isBoard = name.endsWith(".toml");
 const text = readFileSync(name, "utf8");
 const lines = text.split("\n");
 
-/** Returns a line of letters that marks some ranges of a text line. */
+/** Returns the letters for a line of text, from ranges of the line with their letters. */
 function marked(line, stretches) {
   const letters = Array(line.length).fill(".");
   for (const { from, to, letter } of stretches) letters.fill(letter, from, to);

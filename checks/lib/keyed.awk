@@ -1,12 +1,15 @@
-# Turns a description of typing on examples/calculator into a script and its expected answers:
+# Converts a description of key presses on examples/calculator into a script and its expected answers:
 #
 #     awk -v script=FILE -v answers=FILE -f checks/lib/keyed.awk examples/calculator/board.toml examples/calculator/quotient.txt \
 #         examples/calculator/quotient.answers NAME.keys
 #
-# A row of NAME.keys is one of these: a comment after `#`; a key that goes down or up (`press 7`, `release 7`); cycles (`run 300`); or keys that
-# are pressed one after the other, a bar, and the expected display, up to another bar. The display has minus, `!` for an overflow, `?` for a
-# division by zero, and eight digits, each with its point or a blank. `E` is CE. The board names the keys. Wiring and program are those of
-# quotient.txt, up to its first key.
+# Each row of NAME.keys is one of these:
+# - a comment after `#`;
+# - a key that goes down or up (`press 7`, `release 7`);
+# - a number of cycles to run (`run 300`);
+# - keys that are pressed one after another, and then the expected display between two bars.
+# The display is a minus sign or a blank, `!` for an overflow, `?` for a division by zero, and eight digits, each followed by a point or a blank.
+# `E` is the key CE. The board's comments name the keys. The board and the program are those in quotient.txt, before its first key press.
 
 function accept(more) {
     print "ok " ++accepted more > answers
@@ -22,7 +25,7 @@ function run(cycles) {
     accept(" ran " cycles " end")
 }
 
-# The times that a key is down, and up until the next one: after an operator, until the calculator has worked it out.
+# Presses a key, and runs for the time that it is down, and then for the time that it is up. After an operator, that time is enough for the result.
 function stroke(name) {
     key("press", name)
     run(1000)
@@ -49,12 +52,12 @@ FNR == 1 {
     is_over = 0
 }
 
-# the board
+# Reads the names of the keys from the board's comments.
 file == 1 && /^# row [0-9]+:/ {
     for (i = 4; i <= NF; i++) place[$i == "CE" ? "E" : $i] = ($3 + 0) " " (i - 4)
 }
 
-# wiring and program, and their answers
+# Copies the board and the program to the script, and their answers to the answers.
 file == 2 && /^press / { is_over = 1 }
 file == 2 && !is_over { print > script }
 file == 3 && /^ok 4/ { is_over = 1 }

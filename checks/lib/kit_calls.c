@@ -1,5 +1,5 @@
-/* Prints the results of rattle_arg and the similar functions for its arguments. It is linked once with the kit's archives and once with
- * tools/lib/aarch64.c; both must have the same results. */
+/* Calls the C functions of the kit that the program uses, such as rattle_arg, and prints their results. It is linked once with the kit's archives
+ * and once with tools/lib/aarch64.c, and the results must be the same. */
 #include <stdint.h>
 #include <stdio.h>
 #include <string.h>
@@ -14,7 +14,7 @@ void rattle_set_errno(int number);
 int64_t rattle_arg_count(void);
 int64_t rattle_arg(uint64_t which, unsigned char *to, uint64_t most);
 
-/* Allocates 16 bytes or more, grows them, and prints whether they were kept. */
+/* Allocates at least 16 bytes, grows the block, and prints whether the bytes in it are unchanged. */
 static void try_heap(uint64_t size) {
     Tried lent = rattle_alloc(size, 8);
     if (lent.ok != 1 || (uint64_t)lent.at % 16) printf("no %llu bytes\n", (unsigned long long)size);

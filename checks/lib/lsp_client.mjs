@@ -1,4 +1,5 @@
-// A language server client that can send requests that editors do not have. It starts `mcs4 lsp`, sends requests, and waits for notifications.
+// A client for the Language Server Protocol, which can also send requests that no editor sends. It starts `mcs4 lsp`, sends requests, and waits for
+// notifications.
 import { MessageClient } from "./message_client.mjs";
 
 export class Client extends MessageClient {
@@ -35,7 +36,7 @@ export class Client extends MessageClient {
     return answer;
   }
 
-  /** Opens a text. Resolves to its errors when the server has reported them. */
+  /** Opens a text, and waits until the server has reported its errors. Resolves to these errors. */
   async open(uri, text, languageId = "asm") {
     this.notify("textDocument/didOpen", { textDocument: { uri, languageId, version: 1, text } });
     return this.faults(uri);

@@ -1,12 +1,12 @@
-# Checks that the manual shows what the tools print. A check reads this file by `.`; it has `verdict`, and `top`, `mcs4` and `folder`.
+# Checks that the manual shows the output of the tools. A check reads this file by `.`, after it has defined `verdict`, `top`, `mcs4` and `folder`.
 # shellcheck shell=sh
 
-# Runs each command of a chapter, in a folder with the tools, the examples and the program. Its output must be the text below the command. The
-# chapter must have at least a given number of commands.
+# Runs each command that a chapter shows, in a folder with the tools, the examples and the program. Its output must be the text below the command.
+# The chapter must have at least a given number of commands.
 as_shown() {
     mkdir -p "$folder/manual"
     ln -s "$top/tools" "$top/examples" "$folder/manual"
-    # The program itself serves sessions; the other commands are those in the top folder.
+    # `new` and `open` start the program itself. All other commands start the `mcs4` of the top folder.
     printf '#!/bin/sh\ncase ${1-} in new | open) exec "%s" "$@" ;; esac\nexec "%s/mcs4" "$@"\n' "$mcs4" "$top" > "$folder/manual/mcs4"
     chmod +x "$folder/manual/mcs4"
     awk -v title="## $1" '

@@ -27,7 +27,7 @@ def preferences(downloads):
 
 class Firefox(Driven):
     name = "Firefox"
-    # Firefox 153 often runs no functions at `pagehide`. It always sends `beforeunload` as well.
+    # Firefox 153 often calls no listeners at `pagehide`. It always sends `beforeunload` as well.
     runs_at_pagehide = False
     # With these settings, Firefox stores no site data.
     blocks_data = {"network.cookie.cookieBehavior": 2}

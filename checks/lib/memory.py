@@ -5,7 +5,7 @@ import statistics
 import time
 
 PAGE = 4096
-EVERY = 2
+SECONDS_BETWEEN_SAMPLES = 2
 
 
 def tree(root):
@@ -36,12 +36,12 @@ def resident(root):
     return total
 
 
-def grown(root, seconds):
+def memory_growth(root, seconds):
     """Returns the ratio of the memory at the end to the memory at the beginning. Each value is the median over a third of the time."""
     sizes = []
     end = time.monotonic() + seconds
     while time.monotonic() < end:
         sizes.append(resident(root))
-        time.sleep(EVERY)
+        time.sleep(SECONDS_BETWEEN_SAMPLES)
     third = max(1, len(sizes) // 3)
     return statistics.median(sizes[-third:]) / statistics.median(sizes[:third])

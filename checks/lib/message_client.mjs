@@ -1,4 +1,5 @@
-// The common part of the language server and debug adapter clients: a process, and messages with a header that has their length.
+// The common part of the clients for the language server and the debug adapter: it starts the server's process, and sends and receives messages,
+// each after a header with its length.
 import { spawn } from "node:child_process";
 
 /** The time in milliseconds to wait for an answer. */
@@ -24,7 +25,7 @@ export class MessageClient {
     });
   }
 
-  /** Splits bytes into the complete messages at their beginning and the remaining bytes. */
+  /** Splits received bytes into the complete messages at the beginning and the remaining bytes. */
   static messagesIn(bytes) {
     const messages = [];
     let rest = bytes;
@@ -49,7 +50,7 @@ export class MessageClient {
     this.wake();
   }
 
-  /** Checks a message from the server against the rules of the protocol. Subclasses override this method. */
+  /** Does nothing here. Subclasses override this method to check a message from the server against the rules of the protocol. */
   check() {}
 
   /** Sends bytes unchanged. */

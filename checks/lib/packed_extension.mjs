@@ -1,7 +1,7 @@
-// Starts the packed extension for Visual Studio Code with nothing else installed: `node packed_extension.mjs EXTENSION FOLDER`. EXTENSION is the
-// unpacked extension, and FOLDER is a folder for a workspace. The script acts like the editor, with a stand-in for its module: it activates the
-// extension, opens a text, waits for errors, runs and debugs a test, opens the front panel, prints, and runs a task. Prints `ok WORDS` or `fault:
-// WORDS` for each check.
+// Checks that the packed extension for Visual Studio Code works if nothing else of Fethsaim is installed: `node packed_extension.mjs EXTENSION
+// FOLDER`. EXTENSION is the unpacked extension, and FOLDER is a folder for a workspace. The script acts like the editor, with a stand-in for its
+// module. It activates the extension, opens a text, waits for errors, runs and debugs a test, opens the front panel, lets a board print, and runs a
+// task. Prints `ok WORDS` or `fault: WORDS` for each check.
 import { spawnSync } from "node:child_process";
 import { copyFileSync, cpSync, existsSync, mkdirSync, readFileSync, writeFileSync } from "node:fs";
 import Module, { createRequire } from "node:module";
@@ -43,7 +43,7 @@ function makeWorkspace() {
   writeFileSync(join(folder, "lone", "three_lamps.test"), "test it begins\n  run 10\n\ntest it fails\n  run 10\n  expect acc 9\n");
 }
 
-/** Sets up an environment in which nothing of the bench is on the PATH or named by a variable. */
+/** Sets up an environment in which no part of Fethsaim is on the PATH or in a variable. */
 function makeBare() {
   const bare = join(place, "nothing");
   mkdirSync(bare);
@@ -97,7 +97,8 @@ async function tryTests(editor) {
 }
 
 /**
- * Debugs like the editor, with the debug adapter that the extension provides. Passes the adapter's events to the extension. Resolves to the client.
+ * Starts a debug session as the editor does, with the debug adapter that the extension provides, and passes the adapter's events to the extension.
+ * Resolves to the adapter's client.
  */
 async function debug(editor, configuration) {
   const { registered, events } = editor;
@@ -176,7 +177,7 @@ function keyPlaceOf(legend) {
   return `${row} ${keys.indexOf(legend)}`;
 }
 
-/** Returns the matches of the problem matchers of package.json in a text. */
+/** Returns the problems that the problem matchers of package.json find in a text. */
 function matchesOf(text, matchers) {
   return text.split("\n").flatMap((line) => matchers.flatMap(({ pattern: { regexp, file, line: at, message } }) => {
     const found = new RegExp(regexp).exec(line);
@@ -219,7 +220,7 @@ await tryPanel(editor);
 await tryTasks(editor, own);
 await extension.deactivate();
 
-// The command in the setting does not exist. The extension's own mcs4 replaces it, and a message says so.
+// The command in the user's settings does not exist. The extension uses its own mcs4 instead, and shows a message about that.
 const other = standIn(folder, { command: join(place, "none", "mcs4") });
 Module._load = (name, ...more) => (name === "vscode" ? other.vscode : load(name, ...more));
 for (const name of Object.keys(require.cache)) if (name.startsWith(extensionFolder)) delete require.cache[name];

@@ -1,5 +1,5 @@
-"""The part of checks/page about users who cannot see the page or see it badly. Checks the names, roles and states that the browser reports to a
-screen reader (its accessibility tree), the order of the Tab key, and the contrast of all letters, borders, marks and lamps in both colour schemes."""
+"""The part of checks/page about accessibility. Checks the names, roles and states that the browser reports to a screen reader (its accessibility
+tree), the order in which the Tab key reaches the controls, and the contrast of all letters, borders, marks and lamps in both colour schemes."""
 
 import re
 
@@ -9,12 +9,12 @@ from verdicts import eventually, verdict
 from web_driver import Chromium
 
 # The roles of controls in the accessibility tree.
-CONTROLS = {"button", "textbox", "searchbox", "combobox", "checkbox", "slider", "tab", "option", "link", "spinbutton", "DisclosureTriangle",
+CONTROL_ROLES = {"button", "textbox", "searchbox", "combobox", "checkbox", "slider", "tab", "option", "link", "spinbutton", "DisclosureTriangle",
             "radio", "switch"}
-# Roles that need a name for orientation.
-PLACES = {"region", "group", "tablist", "tabpanel", "dialog", "table", "log", "complementary", "image", "alertdialog"}
-# Characters without meaning when a screen reader reads them aloud.
-SIGNS = re.compile("[\u25b2-\u25cf\u2713]")
+# The roles of regions and groups, which need a name so that a user of a screen reader can tell them apart.
+NAMED_ROLES = {"region", "group", "tablist", "tabpanel", "dialog", "table", "log", "complementary", "image", "alertdialog"}
+# Characters that mean nothing when a screen reader reads them aloud.
+UNSPOKEN_SIGNS = re.compile("[\u25b2-\u25cf\u2713]")
 
 
 def check(browser, page, _folder, _mcs4):
@@ -26,9 +26,7 @@ def check(browser, page, _folder, _mcs4):
 
 
 def check_answers_announced(browser):
-    """Checks that the answer to a sent line is announced, that a refusal is announced with its message, and that changes while time is running are
-    not announced.
-    """
+    """Checks that a screen reader announces the answer to a sent line, and an error with its message, but not the changes while time is running."""
     choose_example(browser, "three lamps")
     stop_time(browser)
     status = "return document.getElementById('answer-status').textContent"
@@ -89,13 +87,13 @@ def nodes_of(browser):
 
 
 def check_names(browser, view):
-    """Checks that each control has a name made of words, and so has each other role that needs one."""
+    """Checks that each control, region and group has a name that consists of words."""
     nodes = list(nodes_of(browser))
-    without = [role for role, name, _ in nodes if role in CONTROLS and not name]
+    without = [role for role, name, _ in nodes if role in CONTROL_ROLES and not name]
     verdict(f"{view}: all that can be used has a name", without, [])
-    without = [role for role, name, properties in nodes if role in PLACES and not name and role != "group"]
+    without = [role for role, name, properties in nodes if role in NAMED_ROLES and not name and role != "group"]
     verdict(f"{view}: so has each place", without, [])
-    signs = [name for role, name, _ in nodes if role in CONTROLS | PLACES | {"heading"} and SIGNS.search(name)]
+    signs = [name for role, name, _ in nodes if role in CONTROL_ROLES | NAMED_ROLES | {"heading"} and UNSPOKEN_SIGNS.search(name)]
     verdict(f"{view}: names are words", signs, [])
     return nodes
 

@@ -15,7 +15,7 @@ window.Worker = function (...words) {
   return window.benchWorker;
 };"""
 
-# In the worker: a fault that is requested by a message occurs at the next call of the module, or immediately.
+# Code for the worker: when a message requests a fault, the fault occurs at the next call of the module, or immediately.
 INSTALL_FAULTS = """
 (() => {
   const made = WebAssembly.Instance;

@@ -11,7 +11,7 @@ from web_driver import Chromium
 
 CONTROL, SHIFT, UP = "\ue009", "\ue008", "\ue013"
 F1, F5, F8, F9, F10, F11 = "\ue031", "\ue035", "\ue038", "\ue039", "\ue03a", "\ue03b"
-# F5 can pause time inside a subroutine or before a call, depending on the timing.
+# The messages after stepping over and out. F5 can pause time inside a subroutine or before a call, so each has two forms.
 STEPPED_OVER = re.compile(f"{STEPPED.pattern}|^Returned to [0-9A-F]{{3}}, after ")
 STEPPED_OUT = re.compile("^Returned to |no call is open here")
 IS_PALETTE_OPEN = "const palette = document.getElementById('palette'); return palette !== null && palette.open"
@@ -24,8 +24,8 @@ return option && option.getAttribute('aria-selected') === 'true' ? [...option.pa
 GET_FOCUSED_ID = "return document.activeElement.id"
 GET_TOOLTIP = "const tip = document.getElementById('tooltip'); return tip.hidden ? '' : tip.textContent"
 GET_FRONT_TAB = "return document.querySelector('#text-tabs [aria-selected=true]').id"
-# Buttons without a command. They answer, close or choose something in an open dialog, or belong to a field beside them.
-OF_WHAT_IS_OPEN = {
+# The buttons that have no command, because they answer, close or choose something in an open dialog, or belong to a field beside them.
+BUTTONS_WITHOUT_COMMAND = {
     "menu-button": "opens the menu of files", "view-button": "opens the menu of panels", "cancel": "of work that goes on",
     "tour-close": "of the tour", "tour-back": "of the tour", "tour-put": "of the tour", "tour-next": "of the tour", "first-program": "as help.tour",
     "hello-program": "as help.tour", "first-example": "as project.all", "help-close": "of the help", "close-sessions": "of the dialog",
@@ -55,7 +55,7 @@ def do(browser, words):
 
 
 def check_reach(browser):
-    """Checks that the palette has every command of the table, and that the table has a command for every button of the page."""
+    """Checks that the palette lists every command, and that every button of the page has a command."""
     choose_example(browser, "calculator")
     stop_time(browser)
     open_palette(browser)
@@ -63,7 +63,7 @@ def check_reach(browser):
     source = (TOP / "js/words/page_commands.js").read_text()
     table = re.search(r"export const COMMANDS = \{(.*?)\n\};", source, re.S).group(1)
     names = dict(re.findall(r'^  "([\w.]+)": "(.*)",$', table, re.M))
-    # The run button's label while time is running is not a command name.
+    # This is the run button's label while time is running, not a command of its own.
     names.pop("time.pause")
     verdict("the palette has each command", sorted(set(names.values()) - listed), [])
     verdict("and each text, panel, theme, speed and example", {"Show Source", "Show RAM", "Theme: dark", "Speed: full speed",
@@ -75,7 +75,7 @@ def check_reach(browser):
     buttons = set(re.findall(r'<button[^>]* id="([\w-]+)"', bench)) 
     tabs = set(re.findall(r'<button[^>]* role="tab" id="([\w-]+)"', bench))
     regions = {each for each in buttons if each.startswith("region-")} | {"drawer-button"}
-    without = {each for each in buttons - tabs - regions - set(OF_WHAT_IS_OPEN) if f'"{each}"' not in commands}
+    without = {each for each in buttons - tabs - regions - set(BUTTONS_WITHOUT_COMMAND) if f'"{each}"' not in commands}
     done_otherwise = {"back-stop", "back-breakpoint", "forward"}
     verdict("each button of the page has a command", sorted(without - done_otherwise), [])
 
@@ -149,7 +149,7 @@ def check_keys(browser):
 
 
 def check_places(browser):
-    """Checks Ctrl+P: labels, addresses, lines, texts and examples."""
+    """Checks that Ctrl+P finds labels, addresses, lines, texts and examples, and goes to them."""
     chord(browser, CONTROL, "p")
     eventually(browser, "Control and P open the palette for places", IS_PALETTE_OPEN, True)
     verdict("its name", browser.script("return document.getElementById('palette').getAttribute('aria-label')"), "Go to")
@@ -178,7 +178,7 @@ GET_KEY_ROWS = "return [...document.querySelectorAll('#help-sections tr')].map((
 
 
 def check_acts(browser):
-    """Checks one command of each kind through the palette."""
+    """Executes one command of each kind through the palette, and checks its effect."""
     do(browser, "show tests")
     eventually(browser, "a text is shown", GET_FRONT_TAB, "tests-tab")
     size = "return document.getElementById('texts').style.getPropertyValue('--text-size')"
@@ -210,7 +210,7 @@ GET_PAGE_COLOUR = "return getComputedStyle(document.body).backgroundColor"
 
 
 def check_theme(browser):
-    """Checks that a theme that the user chose stays after a reload, and that the theme follows the system by default."""
+    """Checks that the user's choice of a theme survives a reload, and that the theme follows the system by default."""
     light = browser.script(GET_PAGE_COLOUR)
     do(browser, "theme dark")
     eventually(browser, "the theme is dark", f"{GET_PAGE_COLOUR} !== {light!r}", True)
@@ -233,7 +233,7 @@ HOVER = {"type": "pointer", "id": "mouse", "parameters": {"pointerType": "mouse"
 
 
 def check_tooltips(browser):
-    """Checks a button's tooltip with its key: on focus, under a resting pointer, and on a long touch."""
+    """Checks that a button's tooltip, which names its key, appears on focus, under a resting pointer, and on a long touch."""
     browser.script("document.getElementById('back-instruction').focus()")
     browser.keys([TAB, TAB])
     eventually(browser, "it is shown where the focus is", GET_TOOLTIP, "Step over: one instruction; a subroutine that it calls runs whole F10")
@@ -348,7 +348,7 @@ def check_first_visit(browser, page):
     verdict("the cards were seen", browser.script(do_without_cards), False)
 
 
-# The element inside the tour's ring.
+# Describes the element that the tour's ring surrounds.
 DESCRIBE_TOUR_RING = """
 const ring = document.getElementById('tour-ring');
 if (ring.hidden) return '';

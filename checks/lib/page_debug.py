@@ -51,14 +51,14 @@ UNDO_EDIT = "document.querySelector('#program-editor .cm-editor').lineEditor.und
 # The form below a line that edits its breakpoint: its error and its contents.
 GET_ROW_FAULT = "const shown = document.querySelector('.breakpoint-row .fault'); return shown ? shown.textContent : 'no row'"
 GET_ROW_VALUES = "return [...document.querySelectorAll('.breakpoint-row input')].map((each) => each.value).join('; ')"
-# Fills in a field of the first breakpoint in the list: its condition, hit count or log message.
+# Fills in the condition, hit count or log message of the first breakpoint in the list.
 FILL_ROW = """
 document.querySelector("#breakpoint-list .edit").click();
 const row = document.querySelector(".breakpoint-row");
 row.querySelectorAll("input")[arguments[0]].value = arguments[1];
 row.requestSubmit()"""
 CONDITION, FROM, NOTE = range(3)
-# Changes the condition of the first breakpoint three times and starts time, all in one task of the page.
+# Changes the condition of the first breakpoint three times and starts time, without letting the page run in between.
 CHANGE_AND_RUN = """
 for (const words of arguments) {
   document.querySelector("#breakpoint-list .edit").click();
@@ -101,7 +101,7 @@ def begin(browser):
 
 
 def check_holds(browser):
-    """Checks that a breakpoint stays at its line when one or two bytes are inserted before it, and that time stops there after each assembly."""
+    """Checks that a breakpoint stays at its line when one or two bytes are inserted before it, and that a run stops there after each assembly."""
     browser.script(CLICK_MARGIN, JUN)
     eventually(browser, "a breakpoint in the margin", GET_BREAKPOINT_LINES, str(JUN))
     browser.script(INSERT_LINE, 2, "NOP")
@@ -196,7 +196,7 @@ def check_condition(browser):
 
 
 def check_typed(browser):
-    """Checks that a typed run also stops at a breakpoint, with a message."""
+    """Checks that a `run` typed at the console also stops at a breakpoint, with a message."""
     browser.script(FILL_ROW, CONDITION, "r9 = 9")
     lines_answered(browser, "reset")
     verdict("a line's run ends where the condition holds", lines_answered(browser, "run 100000"), re.compile(r"run (\d+)ok \d+ ran \1 end$"))
@@ -206,8 +206,9 @@ def check_typed(browser):
 
 
 def check_back(browser):
-    """Checks that going back leads to the last arrival at which a condition holds, however time was run, and to the beginning if there is none."""
-    # Run to the next arrival and beyond. R9 counts 16 more times, every 11 cycles.
+    """Checks that going back leads to the last arrival at which a condition was true, or to the beginning if there is none. The result must not
+    depend on how time was run."""
+    # Runs to the next arrival and beyond it. R9 is incremented 16 more times, every 11 cycles.
     for cycles in (150, 26, 77):
         lines_answered(browser, f"run {cycles}")
     browser.click("#back-breakpoint")

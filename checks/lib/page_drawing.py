@@ -1,5 +1,5 @@
-"""Drawing a board in a browser, by mouse, keyboard and touch: from an empty bench to four keys, four lamps and a running program. Each action edits
-the board's text and can be undone like any edit. Also checks the zoom of the picture."""
+"""The part of checks/page about drawing a board by mouse, keyboard and touch: from an empty bench to four keys, four lamps and a running program.
+Each action edits the board's text and can be undone like any edit. Also checks the zoom of the picture."""
 
 import re
 import time
@@ -91,7 +91,7 @@ def text_of(browser):
 def drag(browser, one, other, kind="mouse"):
     """Drags from the centre of one element to the centre of another, or by a distance in pixels."""
     browser.show("#wiring-picture")
-    time.sleep(browser.settles)
+    time.sleep(browser.settle_seconds)
     begin = browser.script(GET_MIDDLE, one)
     end = browser.script(GET_MIDDLE, other) if isinstance(other, str) else [begin[0] + other[0], begin[1] + other[1]]
     places = [[round(begin[each] + part * (end[each] - begin[each])) for each in (0, 1)] for part in (0, 0.5, 1)]
@@ -224,7 +224,7 @@ def check_part_is_dragged(browser):
 
 
 def check_chain_keeps_its_place(browser):
-    """Checks that a chain gets another number when an earlier chain is deleted. Its position in the picture stays as long as its text is the same."""
+    """Checks that deleting a chain changes the numbers of the later chains, but not their positions in the picture while their text is the same."""
     choose_example(browser, "calculator")
     show_text(browser, "wiring")
     eventually(browser, "a board has two chains", GET_WIRING_LINES, re.compile("Chain 0 .*Chain 1 "))
@@ -244,7 +244,7 @@ def check_chain_keeps_its_place(browser):
 
 
 def check_by_keyboard(browser):
-    """Checks the same by keyboard alone: adding a part, drawing a wire and ending it, deleting, and undo."""
+    """Checks that the keyboard alone suffices to add a part, begin and end a wire, delete, and undo."""
     choose_example(browser, "lock")
     browser.script("document.getElementById('wiring-tab').click(); document.getElementById('wiring-tab').focus()")
     before = text_of(browser)
@@ -305,8 +305,8 @@ return found && found.getAttribute("class")"""
 
 
 def check_zoom(browser):
-    """Checks that buttons, keys and the wheel zoom the picture, that the point under the pointer stays in place, and that wires can still be drawn.
-    """
+    """Checks that buttons, keys and the wheel zoom the picture, that the wheel keeps the point under the pointer in place, and that wires can still
+    be drawn."""
     choose_example(browser, "lock")
     browser.script("document.getElementById('wiring-tab').click()")
     browser.show("#wiring-picture")
@@ -361,7 +361,7 @@ def check_by_fingers(browser):
     eventually(browser, "a button undoes it", GET_DRAWING_STATUS, "Undone.")
 
 
-# Converts a screen point to sheet coordinates. GET_HEAD_PLACE returns the centre of a part's head in sheet coordinates.
+# Converts a point of the window to the coordinates of the drawing. GET_HEAD_PLACE returns the centre of a part's heading in these coordinates.
 GET_PLACE_ON_SHEET = """
 const [x, y] = arguments;
 const at = new DOMPoint(x, y).matrixTransform(document.querySelector("#wiring-picture svg").getScreenCTM().inverse());
@@ -417,7 +417,7 @@ def check_pulled(browser, kind):
 
 
 def check_shelf(browser):
-    """Checks that parts move from the shelf to the drop point, by mouse and touch, and to the sheet by keyboard."""
+    """Checks that a part that is dragged from the shelf by mouse or touch is added where it is dropped, and that the keyboard can add one, too."""
     for kind in ("mouse", "touch") if browser.has_fingers else ("mouse",):
         check_pulled(browser, kind)
     browser.script("document.getElementById('shelf-chain').focus()")
@@ -430,7 +430,7 @@ def check_shelf(browser):
 
 
 def check_scan_at_caret(browser):
-    """Checks that the key scan routine is inserted after the caret's line if the source has a caret, as one undo step."""
+    """Checks that the routine that scans the keys is inserted after the caret's line, if the source has the caret, and that one undo removes it."""
     choose_example(browser, "lock")
     source = browser.script(GET_SOURCE)
     show_text(browser, "program")
@@ -448,7 +448,7 @@ def check_scan_at_caret(browser):
 
 
 def check_scan(browser):
-    """Checks that the scan routine for a newly drawn key matrix is inserted into the source, assembles, and finds the key."""
+    """Checks that the page inserts a routine that scans a newly drawn key matrix, and that this routine assembles and detects a pressed key."""
     choose_example(browser, "empty bench")
     show_text(browser, "wiring")
     browser.click("#shelf-keys")
@@ -472,7 +472,7 @@ def check_scan(browser):
 
 
 def check_faults(browser):
-    """Checks that a text with errors is not drawn: the picture stays, and is updated when the errors are corrected."""
+    """Checks that the picture stays unchanged while the board's text has errors, and is updated when they are corrected."""
     text = text_of(browser)
     browser.script(PUT_INTO_EDITOR, BOARD, f"{text}\n[[lamp]]\n")
     eventually(browser, "a text with faults says so", GET_STATE, re.compile("^The bench rejects the board's text"))
@@ -486,7 +486,7 @@ def check_faults(browser):
 
 
 def check_other_boards(browser):
-    """Checks that sessions with more or fewer chips can be opened while the picture is visible."""
+    """Checks that the user can switch to sessions with more or fewer chips while the picture is visible."""
     for example, parts in (("calculator", "ROM 3 · 4001"), ("die", "ROM 0 · 4001"), ("calculator", "ROM 3 · 4001"), ("lock", "Keys · 4 × 3")):
         choose_example(browser, example)
         verdict(f"{example} is opened", "No session was made" in browser.script(GET_NOTICE), False)

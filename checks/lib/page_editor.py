@@ -22,7 +22,7 @@ GET_STATUS_OF = "return document.querySelector('{} .status-text').textContent"
 GET_MEANING = "return document.querySelector('{} .meaning').textContent"
 GET_LISTING = "return document.querySelector('#lines-of-program').textContent"
 IS_FOCUS_IN_PAPER = "return document.activeElement.closest('.paper') !== null"
-# The distances between the visible line numbers and their lines, at the end of a text that is wider than its box.
+# Returns the vertical distances between the visible line numbers and their lines, after scrolling to the end of a text that is wider than its box.
 GET_LINE_NUMBERS = f"""{FIND_EDITOR}
 editor.scrollTo(1e6);
 editor.view.scrollDOM.scrollLeft = 1000;
@@ -32,7 +32,7 @@ const numbers = shown(".cm-lineNumbers .cm-gutterElement");
 const apart = numbers.map((number) => Math.min(...lines.map((line) => Math.abs(number.getBoundingClientRect().top - line))));
 const last = numbers[numbers.length - 1].textContent;
 return [last, editor.getScrollInfo().width > editor.getScrollInfo().clientWidth, Math.max(...apart) < 2]"""
-# The time of a key, from the key event to the end of all its work. The result is the median of some keys.
+# Measures the time from a key event to the end of all the work that it causes. The result is the median of several keys.
 MEASURE_KEY_TIMES = f"""{FIND_EDITOR}
 editor.setCursor({{ line: arguments[1], ch: 0 }});
 const times = [];
@@ -44,7 +44,7 @@ for (let key = 0; key < 100; key++) {{
 editor.undo();
 times.sort((one, other) => one - other);
 return times[50]"""
-# The factor by which other work slows the browser down: the mean time of many short loops, divided by the shortest time.
+# Measures the factor by which other work on the machine slows the browser down: the mean time of many short loops, divided by the shortest time.
 MEASURE_SLOWNESS = """
 const times = [];
 let sum = 0;
@@ -79,7 +79,7 @@ def put(browser, editor, text):
 
 
 def check_faults(browser):
-    """Checks that all errors of a program are shown while the user types."""
+    """Checks that the editor shows all errors of a program while the user types."""
     put(browser, PROGRAM, "")
     browser.script(SET_CARET, PROGRAM, 0, 0)
     put(browser, PROGRAM, FAULTY)
@@ -178,7 +178,8 @@ other:  NOP
 
 
 def check_folding(browser):
-    """Checks that parts fold with the margin and with keys, that their contents stay, and that a part unfolds when it must be visible."""
+    """Checks that parts of the source can be folded by mouse and by keyboard, that folding loses no text, and that a part unfolds when it must be
+    visible."""
     put(browser, PROGRAM, FOLDING)
     browser.until("return document.querySelectorAll('#program-editor .fold-open').length", 4)
     browser.click(f"{PROGRAM} .fold-open")
@@ -200,10 +201,10 @@ def check_folding(browser):
     browser.click(f"{PROGRAM} .send")
     eventually(browser, "it is assembled as it is", GET_STATUS, re.compile("^Running"))
     stop_time(browser)
-    # On a busy machine, time can be paused before its first instruction, whose line is visible.
+    # On a busy machine, time can be paused before the first instruction, whose line is not folded.
     browser.click("#step")
     browser.until(GET_STATUS, STEPPED)
-    # Time is paused at the loop's label, where the line below stays folded, or at the next line.
+    # Time is paused either at the loop's label, so that the line below it stays folded, or at the next line.
     eventually(browser, "and the line at which time stands still is unfolded", GET_FOLDED, re.compile("^\u2026 1 line(,\u2026 1 line){1,2}$"))
 
 
@@ -225,7 +226,7 @@ def check_hidden(browser):
 
 
 def check_opened(browser, page):
-    """Checks that an opened text starts at its first line, however the previous text was scrolled, and that its visible part has colours."""
+    """Checks that an opened text is shown from its first line, even if the previous text was scrolled, and that its visible part is coloured."""
     open_anew(browser, page)
     choose_example(browser, "calculator")
     show_text(browser, "program")
@@ -240,7 +241,7 @@ return lines.length > 20 && lines.every((line) => line.querySelector('span') !==
 
 
 def check_limits(browser):
-    """Checks the longest text: typing stays fast, and a longer text is rejected with a message."""
+    """Checks that typing stays fast in a text of maximum length, and that a longer text is rejected with a message."""
     put(browser, PROGRAM, LONGEST)
     eventually(browser, "the counter", f"return document.querySelector('{PROGRAM} .size').textContent", "16,381 of 16,384 bytes")
     time_of_key, slowness = browser.script(MEASURE_KEY_TIMES, PROGRAM, 120), browser.script(MEASURE_SLOWNESS)
@@ -269,7 +270,7 @@ def check_sessions(browser):
 
 
 def check_running(browser):
-    """Checks that one button assembles and runs, and that the message of the other button says what stays unchanged."""
+    """Checks that one button assembles the source and runs it, and that the message after assembling alone says what it leaves unchanged."""
     choose_example(browser, "traffic light")
     browser.until(GET_STATUS, re.compile("^Running"))
     put(browser, PROGRAM, "\tLDM 7\nstop:\tJUN stop\n")
@@ -292,7 +293,7 @@ def check_running(browser):
 
 
 def check_empty(browser):
-    """Checks that an empty bench offers a board, and that a program without its ROM chip has an error at its line."""
+    """Checks that an empty bench offers a board, and that a line that needs a missing ROM chip has an error."""
     choose_example(browser, "empty bench")
     put(browser, PROGRAM, "; nothing yet\n\tLDM 1\n")
     eventually(browser, "a ROM that is lacking is reported at its line", GET_FAULTS.format(PROGRAM), re.compile(r"^line 2: this line is at 000, and the board has no ROM 0: wire a \[\[rom\]\]"))
@@ -313,14 +314,14 @@ size = 3
 [[lamp]]
 lime = "rom0.0"
 """
-# The corrections in order, each with the error before it and the underlined text.
+# The corrections in order: the text to replace, the new text, the error before that, and the text that is underlined.
 MENDED_BOARD = [("size = 3\n", "", "line 4: size is not a key of rom, which has chip, port", "size"),
                 ("lime", "line", "line 6: lime is not a key of lamp; line?", "lime"),
                 ("77", "7", "line 2: chip must be a unique number from 0 to 15", "77")]
 
 
 def check_board(browser):
-    """Checks the error in a board's text while the user types."""
+    """Checks that the editor shows the error in a board's text while the user types."""
     show_text(browser, "board")
     text = FAULTY_BOARD
     for wrong, right, words, underlined in MENDED_BOARD:
@@ -347,11 +348,11 @@ def check_board(browser):
 
 
 def compose(browser, *words, replacing=None):
-    """Enters words like a phone's keyboard: as a composition that grows, in place of existing text if `replacing` is given."""
+    """Enters words as a phone's keyboard does: as a composition that grows letter by letter. It replaces existing text if `replacing` is given."""
     place = {"replacementStart": replacing[0], "replacementEnd": replacing[1]} if replacing else {}
     for word in words:
         browser.command("Input.imeSetComposition", text=word, selectionStart=len(word), selectionEnd=len(word), **place)
-        # Errors are marked during this time.
+        # The editor marks errors during this time.
         time.sleep(0.4)
     browser.command("Input.insertText", text=words[-1])
 

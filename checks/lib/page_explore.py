@@ -1,7 +1,9 @@
-"""The part of checks/page about properties. An example has its properties. An error in its program is found with the same counterexample as by mcs4
-explore with the same seed, while the session keeps running. The counterexample opens as a session in the described state. Its test is added to the
-tests and fails there. A search can be stopped. Errors in properties, seconds and boards are reported. Also: a program whose states are all reached, a
-search from a state that a test saves, the keyboard, a phone's width, and saving the text with the session and in a project."""
+"""The part of checks/page about the search for counterexamples to properties.
+
+The page finds an error that was put into an example's program. Its counterexample is that of `mcs4 explore` with the same seed, and the session
+keeps running during the search. The counterexample opens as a session in the state that it describes. Its test can be added to the tests, and fails
+there. A search can be stopped. Errors in properties, seconds and boards are reported. Also: a program with so few states that its properties are
+proved, a search from a state that a test saves, the keyboard, a phone's width, and saving the text with the session and in a project."""
 
 import os
 import re
@@ -30,7 +32,7 @@ GET_CYCLES = "return Number(document.getElementById('cycles').textContent.match(
 GET_COUNTEREXAMPLE_TEST = "return document.querySelector('#property-list pre').textContent"
 CONTROL, ENTER = "\ue009", "\ue007"
 LOCK = TOP / "examples/lock"
-# The page gets the same time as the tool, because minimising a counterexample uses a fifth of it.
+# The seconds for a search, the same for the page and the tool, because a fifth of this time is used to minimise a counterexample.
 SECONDS = 10
 
 
@@ -55,7 +57,7 @@ def explore(browser, seconds, seed=1):
 
 
 def planted():
-    """Returns the lock's program with a planted error: it accepts any digit for one digit of the code."""
+    """Returns the lock's program with an error that the check puts into it: it accepts any digit for one digit of the code."""
     program = (LOCK / "lock.asm").read_text()
     changed = re.sub(r"^        JCN nonzero, wrong$", "        NOP", program, flags=re.M)
     verdict("the fault is put into the program", changed == program, False)
@@ -142,7 +144,7 @@ def check_opened(browser):
 def check_stopped(browser):
     """Checks that a search of ten minutes can be stopped immediately, also by keyboard."""
     explore(browser, 600)
-    # The first tenth of the time is for a proof.
+    # The page first attempts a proof, for a tenth of the time.
     eventually(browser, "it looks", GET_FIGURES, re.compile("^[1-9][0-9,]* steps"), 120)
     start = time.monotonic()
     browser.hold("#explore", 400)
@@ -192,7 +194,7 @@ PROGRAM = "look: JCN 1, lit\n LDM 0\n JUN put\nlit: LDM 1\nput: WMP\n JUN look\n
 
 
 def check_proof_first(browser):
-    """Checks a board and a program that reach few states: properties that hold in all of them are proved."""
+    """Checks that properties are proved if they are true in all states and the program reaches only a few states."""
     choose_example(browser, "empty bench")
     explore(browser, 5)
     eventually(browser, "without a board nothing may change", GET_PROPERTIES_STATUS, re.compile("^Nothing was run: Properties, line 1: nothing may change"))
@@ -206,7 +208,7 @@ def check_proof_first(browser):
 
 
 def check_from_a_state(browser):
-    """Checks a search that begins at a state that a test saves. The lines of that test precede a counterexample."""
+    """Checks a search that begins at a state that a test saves: the counterexample begins with the lines of that test."""
     put(browser, "tests", "test it is lit\n  set test 1\n  run 40\n  save lit\n")
     put(browser, "properties", "from lit\ntest\nwait 1 to 20\nnever lamp 0 on\nfrom dark\n")
     show_text(browser, "properties")

@@ -1,5 +1,5 @@
-"""A board's front panel in a browser: names, colours and positions of lamps, digits, TEST as a button or a switch, and errors in the front panel's
-comments."""
+"""The part of checks/page about a board's front panel: names, colours and positions of lamps, digits, TEST as a button or a switch, and errors in the
+comments that describe the front panel."""
 
 import base64
 import re
@@ -10,7 +10,7 @@ from picture import write_picture
 from verdicts import eventually, verdict
 
 TAB = "\ue004"
-# The heading also contains the panel's buttons.
+# Returns the title without the panel's buttons, which are in the same heading.
 GET_TITLE = """const heading = document.getElementById('front-title');
 return (heading.querySelector('.fold') || heading).textContent"""
 GET_NAMES = "return [...document.querySelectorAll('#front .bulb')].map((bulb) => bulb.getAttribute('aria-label')).join('; ')"
@@ -46,10 +46,10 @@ GET_DISPLAY = """
 return [document.getElementById("digits").textContent,
   [...document.querySelectorAll("#glass svg")].map((digit) => digit.querySelectorAll(".lit").length)];
 """
-# The number of lit segments of each digit's shape.
+# The number of segments that are on in the shape of each digit.
 SEGMENTS_OF = {"0": 6, "1": 2, "2": 5, "3": 5, "4": 4, "5": 5, "6": 6, "7": 3, "8": 7, "9": 6}
-# Records the announcements, and separately the announcements less than half a second after a change of the display. The page announces a display that
-# has not changed for a second. On a busy machine, the digits can stay that long while the stopwatch is running.
+# Records all announcements in `said`, and those less than half a second after a change of the display also in `saidEarly`. The page must announce the
+# display only after it has not changed for a second, which on a busy machine can happen even while the stopwatch is running.
 WATCH_ANNOUNCEMENTS = """
 const watch = (id, then) => new MutationObserver(then)
   .observe(document.getElementById(id), { childList: true, characterData: true, attributes: true, subtree: true });

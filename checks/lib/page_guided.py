@@ -1,5 +1,5 @@
-"""The story of an example in a browser. `?story=` opens the story, and each of its links shows what its text says, by pointer and keyboard, also on a
-phone. Also: an unknown story, and links to things that no longer exist."""
+"""The part of checks/page about stories, which guide the user through an example. `?story=` opens a story, and each of its links shows what its text
+says, by pointer and keyboard, also on a phone. Also: an unknown story, and links to things that no longer exist."""
 
 import re
 import time
@@ -27,7 +27,7 @@ GET_REGISTER = "return document.getElementById(`value-${arguments[0]}`).textCont
 
 
 def place(browser, words, time_after=0.2):
-    """Clicks the link with these words. A number after `#` selects one of several links with the same words."""
+    """Clicks the link of the story with these words. A number after `#` selects one of several links with the same words."""
     words, _, number = words.partition("#")
     found = [at for at, each in enumerate(browser.script(GET_PLACES)) if each == words]
     if not found:

@@ -79,7 +79,7 @@ def check_wiring(browser):
 
 
 def run_program(browser):
-    """Puts a step's program into the source with its button, then assembles and runs the program."""
+    """Clicks the button that copies a tour step's program into the source, then assembles and runs the program."""
     browser.click("#tour-put")
     browser.script("document.querySelector('#program-editor .status-text').firstChild.data = ''")
     browser.click("#program-editor .send")
@@ -88,7 +88,7 @@ def run_program(browser):
 
 
 def check_tour(browser):
-    """Checks the five steps of the tour as they are described."""
+    """Does what the texts of the tour's five steps say, and checks the results."""
     browser.click("#help-button")
     browser.click("#tour-begin")
     eventually(browser, "the first program begins", GET_TOUR_TITLE, "1 of 5: A lamp")

@@ -13,7 +13,7 @@ from verdicts import eventually, verdict
 
 TOP = pathlib.Path(__file__).resolve().parent.parent.parent
 GET_DIGITS = "return document.getElementById('digits').textContent"
-# The status text without the names after an address.
+# The status text without the label and the line number after an address.
 GET_STATUS = "return document.getElementById('status').textContent.replace(/ \\([^()]*line \\d+\\)/g, '')"
 GET_WHOLE_STATUS = "return document.getElementById('status').textContent"
 STEPPED = re.compile("^At [0-9A-F]{3}, after [12] cycles?, ")
@@ -39,7 +39,7 @@ GET_CONTROLS_WITHOUT_NAMES = """
 return [...document.querySelectorAll("button, input, select, textarea")].filter((each) => !each.textContent.trim()
   && !each.getAttribute("aria-label") && !each.labels?.length && !each.getAttribute("aria-labelledby")).length"""
 
-# Records the saved session while the page is hidden and when it is shown again.
+# Records the saved session several times: while the page is hidden, and when it is shown again.
 WATCH_HIDDEN = """
 window.keptWhenHidden = [];
 const id = location.hash.slice("#session=".length);
@@ -91,7 +91,7 @@ def until_ready(browser):
 
 
 def open_anew(browser, page):
-    """Opens the page again from a blank page."""
+    """Opens a blank page, and then the page again."""
     browser.go("about:blank")
     browser.go(page.as_uri())
     until_ready(browser)
@@ -122,7 +122,7 @@ def choose_example(browser, name):
 
 
 def step_with_marks(browser):
-    """Checks the lamps that are on, pausing, and the marks of changes after a step, with the traffic light."""
+    """Checks with the traffic light which lamps are on, that time can be paused, and that a step marks what it changed."""
     choose_example(browser, "traffic light")
     eventually(browser, "a lamp is lit", "return document.querySelectorAll('.bulb.lit').length > 0", True)
     stop_time(browser)
@@ -179,7 +179,7 @@ def as_version_1(file):
 def check_files(browser, folder, mcs4):
     browser.keys([ESCAPE, "6", "*", "7", ENTER])
     browser.until(GET_DIGITS, "42")
-    # A typed key stays down for a moment. A key that is down when time pauses is down in the file.
+    # Waits until no key is down, because a key that is down when time is paused is also down in the file.
     browser.until(COUNT_KEYS_DOWN, 0)
     stop_time(browser)
     of_file_menu(browser, "#save-session-button")
@@ -271,7 +271,7 @@ def check_narrow(browser):
 
 def check_hidden(browser):
     """Checks that time pauses in a hidden page, and in a page that the browser suspends."""
-    # An example is saved after the first key.
+    # Presses a key, because an example is saved only after the user has done something.
     browser.keys([ESCAPE])
     browser.until("return location.hash", re.compile("#session="))
     browser.script(WATCH_HIDDEN)
@@ -290,7 +290,7 @@ def check_hidden(browser):
 
 
 def check_hidden_at_full_speed(browser):
-    """Checks that at full speed a hidden page keeps running and is saved."""
+    """Checks that at full speed a hidden page keeps running, and saves its session."""
     browser.script(SET_SPEED, "full")
     eventually(browser, "full speed is faster", GET_RATE, re.compile("[1-9]......"))
     browser.script("window.keptWhenHidden = []")
@@ -305,8 +305,8 @@ def check_hidden_at_full_speed(browser):
 
 
 def check_speed_field(browser):
-    """Checks that time runs at the speed in the speed field. Some browsers restore the field after a reload, others when the user returns to the
-    page. The driver itself goes back, because Chromium ignores a page without user input when a script goes back."""
+    """Checks that time runs at the speed that the speed field shows. Some browsers restore this field after a reload, others when the user returns to
+    the page. (The driver goes back, not a script, because a script's going back would skip a page without user input in Chromium.)"""
     for what, come_again in {"a reload": lambda: browser.script("setTimeout(() => location.reload(), 50)"),
                              "coming back": lambda: (browser.go("about:blank"), browser.back())}.items():
         browser.type_into("#speed", "full")
@@ -321,8 +321,8 @@ def check_speed_field(browser):
 
 
 def show_text(browser, name):
-    """Selects a tab of the texts (`program`, `board`, `wiring`) or of the dock (`console`, `disassembly`). On a slow machine, redrawing can move the
-    tab away from the pointer. Then clicks again, as a user would."""
+    """Selects a tab of the texts (`program`, `board`, `wiring`) or of the dock (`console`, `disassembly`). Clicks again if the page has moved the tab
+    away from the pointer, which can happen on a slow machine."""
     selected = f"return document.getElementById('{name}-tab').getAttribute('aria-selected')"
     end = time.monotonic() + 30
     while time.monotonic() < end:
@@ -383,7 +383,7 @@ def check_two_tabs(browser):
 
 
 def check_use(browser, page, folder, mcs4):
-    """Checks the page in a browser with all features."""
+    """Checks the basic use of the page in a browser that lacks none of the features that it needs."""
     browser.go(page.as_uri())
     until_ready(browser)
     verdict("without a notice", browser.script(GET_NOTICE), "")
@@ -402,11 +402,11 @@ def check_use(browser, page, folder, mcs4):
 
 
 def check_by_chromium(browser, page):
-    """Checks that only Chromium's driver can make."""
+    """Runs the checks that need functions of Chromium's driver."""
     browser.go(page.as_uri())
     until_ready(browser)
     check_narrow(browser)
-    # A waiting script of a check can fail until its result is there. Such an error does not come from the page.
+    # The scripts with which checks wait can fail until their result is there. Such errors are not errors of the page.
     own = ("javascript ", "Script error", "favicon")
     verdict("no fault in the browser's log", [line for line in browser.log() if not any(word in line for word in own)], [])
 

@@ -1,4 +1,4 @@
-"""The part of checks/page about failures and missing browser features: a message describes each problem, and nothing is lost."""
+"""The part of checks/page about failures and missing browser features: the page describes each problem in a message, and loses nothing."""
 
 import re
 import time
@@ -9,7 +9,7 @@ from page_in_browser import (ENTER, ESCAPE, GET_DIGITS, GET_NOTICE, GET_STATUS, 
 from verdicts import eventually, verdict
 from web_driver import Chromium
 
-# The ways in which a browser can lack a store.
+# Scripts that take the store of sessions away, by the way in which a browser can lack one.
 NO_STORE = {
     "no IndexedDB": "Object.defineProperty(window, 'indexedDB', { value: undefined })",
     "IndexedDB and locks are refused": "IDBFactory.prototype.open = () => { throw new DOMException('', 'SecurityError'); };"
@@ -38,7 +38,7 @@ def dismiss(browser):
 
 
 def check_failures(browser, page, folder):
-    """Checks a trap, a lack of memory, a worker that dies or hangs, and a full store. The session stays in each case."""
+    """Checks that the session survives a trap in the module, a lack of memory, a worker that dies or hangs, and a full store."""
     browser.go(altered(page, folder, EXPOSE_WORKER, INSTALL_FAULTS).as_uri())
     until_ready(browser)
     choose_example(browser, "calculator")
@@ -97,8 +97,8 @@ def check_worker(browser):
     dismiss(browser)
 
 
-# Fills in 20,000,000 bytes of lines, which take a while to serve. After a cancellation, none of them may be executed. The field is hidden,
-# because a browser would need minutes for its layout.
+# Puts 20,000,000 bytes of lines, which take long to serve, into the console's field. After a cancellation, none of the lines may have been executed.
+# The field is hidden, because a browser would need minutes for its layout. `longest` becomes the longest time for which the page was blocked.
 START_LONG_WORK = """
 document.getElementById("lines").style.display = "none";
 document.getElementById("lines").value = "run 100000".padEnd(249).concat("\\n").repeat(80000);
@@ -108,8 +108,8 @@ window.ticking = setInterval(() => {
   window.longest = Math.max(window.longest, performance.now() - before);
   before = performance.now();
 }, 20)"""
-# With `?hang`, the page never finishes opening a session, nor the work for leaving the page. With `?deaf=EVENT`, the page does not receive that
-# event.
+# With `?hang` in the address, the page never finishes opening a session, and does not learn that the user leaves it. With `?deaf=EVENT`, the page
+# does not receive that event.
 MAKE_DEAF = """
 const deaf = (name) => addEventListener(name, (event) => event.stopImmediatePropagation(), true);
 if (location.search.startsWith("?deaf=")) deaf(location.search.slice(6));
@@ -137,7 +137,7 @@ def check_long_work(browser, page):
     open_anew(browser, page)
     choose_example(browser, "calculator")
     stop_time(browser)
-    # The log gets an entry about runs before the first of the sent lines.
+    # Sends a line, so that the entry about the runs so far is in the log before the long work begins.
     lines_answered(browser, "seq")
     before = lines_answered(browser, "seq")
     browser.script(START_LONG_WORK)
@@ -162,9 +162,8 @@ window.setTimeout = (act, time, ...rest) => wait(act, time === 10000 ? 300 : tim
 """
 
 
-def poor(page, folder, code):
-    """Returns a copy of the page for a browser that lacks something. This copy waits only briefly for a store, where the page would wait ten seconds.
-    """
+def page_without_feature(page, folder, code):
+    """Returns a copy of the page in which `code` takes a feature of the browser away. The copy waits only 0.3 seconds for a store, instead of ten."""
     return altered(page, folder, f"{SHORTEN_WAIT}{code}")
 
 
@@ -174,30 +173,30 @@ def notice_at_start(browser, page, code=GET_NOTICE, wanted=re.compile(".")):
     return browser.until(code, wanted)
 
 
-def works(browser, what):
+def check_works(browser, what):
     eventually(browser, what, IS_READY, True)
     browser.keys([ESCAPE, "6", "*", "7", ENTER])
     eventually(browser, "and the bench works all the same", GET_DIGITS, "42")
 
 
 def check_poor_browsers(browser, page, folder):
-    verdict("no bulk memory", notice_at_start(browser, poor(page, folder, "WebAssembly.validate = () => false")),
+    verdict("no bulk memory", notice_at_start(browser, page_without_feature(page, folder, "WebAssembly.validate = () => false")),
             re.compile(r"This browser has no WebAssembly with bulk memory.*97.*102.*16"))
     verdict("no button without a use", browser.script(GET_SHOWN_CONTROLS), ["Dismiss"])
     for lack, code in NO_STORE.items():
-        verdict(lack, notice_at_start(browser, poor(page, folder, code)), re.compile("stores nothing"))
-        works(browser, lack)
+        verdict(lack, notice_at_start(browser, page_without_feature(page, folder, code)), re.compile("stores nothing"))
+        check_works(browser, lack)
         verdict("a line is answered", lines_answered(browser, "poke r5 9"), re.compile(r"poke r5 9ok \d+"))
         browser.click("#sessions-button")
         eventually(browser, "the sessions of this page are shown", "return document.querySelectorAll('#kept li').length", 1)
         browser.click("#close-sessions")
-    verdict("a store that cannot be read", notice_at_start(browser, poor(page, folder, NO_READING)), re.compile("could not be read"))
-    works(browser, "a store that cannot be read")
+    verdict("a store that cannot be read", notice_at_start(browser, page_without_feature(page, folder, NO_READING)), re.compile("could not be read"))
+    check_works(browser, "a store that cannot be read")
     check_no_locks(browser, page, folder)
 
 
 def check_no_locks(browser, page, folder):
-    """Checks two tabs with the same session in a browser without locks: neither overwrites the other's changes."""
+    """Checks that in a browser without locks, two tabs with the same session do not overwrite each other's changes."""
     notice_at_start(browser, altered(page, folder, "Object.defineProperty(Navigator.prototype, 'locks', { value: undefined })"), IS_READY, True)
     address = browser.script("return location.href")
     first = browser.tab()
@@ -219,7 +218,7 @@ def check_blocked(kind, page, folder):
     browser = kind(folder / f"blocked{kind.name}", str(folder / "downloads"), **kind.blocks_data)
     try:
         verdict("blocked data of sites", notice_at_start(browser, page), re.compile("blocked by the settings"))
-        works(browser, "blocked data of sites")
+        check_works(browser, "blocked data of sites")
     finally:
         browser.end()
 
@@ -251,7 +250,7 @@ def reopen(browser, address):
 
 
 def hang(browser, address):
-    """Opens a session that never finishes opening. The flag gets an old time stamp, as if the page had hung for long."""
+    """Opens a session that never finishes opening. Sets the time stamp of its flag back, as if the page had hung for a long time."""
     browser.go("about:blank")
     browser.go(address.replace("html", "html?hang", 1))
     browser.until("return Boolean(window.hung)", True)
@@ -259,7 +258,7 @@ def hang(browser, address):
 
 
 def check_left_soon(browser, address, session):
-    """Checks that a page that is left within a second does not count as hung, whichever event announces its end."""
+    """Checks that a page that the user leaves within a second does not count as hung, whichever event tells the page that it is left."""
     for query in ("", *(["?deaf=beforeunload"] if browser.runs_at_pagehide else []), "?deaf=pagehide"):
         browser.go("about:blank")
         browser.go(address.replace(".html", f".html{query}") + session)
@@ -275,8 +274,8 @@ def check_left_soon(browser, address, session):
 
 
 def check_unended(browser, page, folder):
-    """Checks that a session that has hung the page is not opened automatically again. A message reports that, and the session can be opened or
-    deleted."""
+    """Checks that the page does not open a session automatically if the page hung when it opened this session the last time. A message reports that,
+    and the user can open or delete the session."""
     hanging = altered(page, folder, MAKE_DEAF).as_uri()
     reopen(browser, hanging)
     browser.script(REMOVE_FLAGS)

@@ -1,4 +1,5 @@
-"""The part of checks/page about the layout: positions at each window size, the scrolling of the disassembly, marks, cells, print, names."""
+"""The part of checks/page about the layout: the positions of panels and controls at each window size, the scrolling of the disassembly, the marks of
+changes, cells that are edited in place, printing, and accessible names."""
 
 import re
 import time
@@ -52,7 +53,7 @@ GET_SHOWN_EDITOR = "return [...document.querySelectorAll('#texts [role=tabpanel]
 
 
 def check_tabs(browser):
-    """Checks the tabs' ARIA pattern, and that no typed text is lost when another tab is selected."""
+    """Checks the ARIA pattern of the tabs, and that selecting another tab loses no text that the user has typed."""
     show_text(browser, "board")
     verdict("a click shows the board's text", browser.script(GET_SHOWN_EDITOR), "board-editor")
     browser.script("document.getElementById('board-tab').focus()")
@@ -99,7 +100,7 @@ def focus_row(browser, at):
 
 
 def check_listing(browser):
-    """Checks that keys, wheel and scroll bar reach all 4,096 bytes."""
+    """Checks that keys, wheel and scroll bar can bring each of the 4,096 addresses into view."""
     stop_time(browser)
     focus_row(browser, 3)
     browser.keys([HOME])
@@ -133,7 +134,7 @@ def check_listing(browser):
 
 
 def lines_of_program(browser):
-    """Returns the addresses up to 2FF at which instructions begin in a list that starts at 000."""
+    """Returns the addresses up to 2FF at which instructions begin, as `list` shows them from 000."""
     answers = lines_answered(browser, "list 0 256\nlist 0x100 256\nlist 0x200 256")
     return {found for found in re.findall(r"(?<![0-9A-F])([0-2][0-9A-F]{2}) (?:[0-9A-F]{2} ){1,2}", answers) if found <= "23F"} - {"list"}
 
@@ -179,15 +180,15 @@ COUNT_MARKS = """
 window.marks = 0;
 new MutationObserver((all) => { window.marks += all.filter((each) => each.target.classList.contains("changed")).length; })
   .observe(document.body, { subtree: true, attributes: true, attributeFilter: ["class"] })"""
-# Sets R5, then waits for about two seconds.
-SLOW = "FIM P0, 0x00\\nLDM 7\\nXCH R5\\nwait: ISZ R0, wait\\nISZ R1, wait\\nISZ R2, wait\\nISZ R3, wait\\nend: IAC\\nJUN end\\n"
+# A program that sets R5 and then waits for about two seconds.
+SLOW_PROGRAM = "FIM P0, 0x00\\nLDM 7\\nXCH R5\\nwait: ISZ R0, wait\\nISZ R1, wait\\nISZ R2, wait\\nISZ R3, wait\\nend: IAC\\nJUN end\\n"
 
 
 def check_marks(browser):
-    """Checks that the marks at a pause show the differences from the previous pause, however long ago the values changed."""
+    """Checks that after a pause, everything that differs from the previous pause is marked, even if it changed long before."""
     choose_example(browser, "three lamps")
     stop_time(browser)
-    lines_answered(browser, f"asm\n{SLOW}.\nreset\nbreak 12".replace("\\n", "\n"))
+    lines_answered(browser, f"asm\n{SLOW_PROGRAM}.\nreset\nbreak 12".replace("\\n", "\n"))
     eventually(browser, "after a reset the status is true", GET_STATUS, "The board was reset; it is at 000.")
     browser.script(COUNT_MARKS)
     browser.click("#run")
@@ -220,7 +221,7 @@ def double_click(browser, selector):
 
 
 def check_cells(browser):
-    """Checks that registers and RAM are edited in place, that a refusal appears at the cell, and that a read-only cell shows a message."""
+    """Checks that registers and RAM are edited in place, that an error appears at the cell, and that a read-only cell shows a message."""
     edit(browser, "#value-R5", F2, ["b", ENTER])
     eventually(browser, "F2 and a digit poke a register", "return document.getElementById('value-R5').textContent", "B")
     verdict("the focus is back at the cell", browser.script("return document.activeElement.id"), "value-R5")
@@ -260,7 +261,7 @@ GET_POPUP = "const shown = document.querySelector('.popup-message'); return show
 
 
 def check_refusals(browser):
-    """Checks that the rejections of the ninth watch and the thirty-third breakpoint appear at the click."""
+    """Checks that the errors about the ninth watch and the thirty-third breakpoint appear at the click."""
     lines_answered(browser, "\n".join(f"watch 7 {at}" for at in range(8)))
     browser.click(".ram button:nth-child(5)")
     eventually(browser, "a watch too many is refused at its cell", GET_POPUP, re.compile("8 characters"))
@@ -278,7 +279,7 @@ def check_refusals(browser):
 GET_WRONGLY_NAMED_CELLS = """
 return [...document.querySelectorAll(".ram button")].filter((each) => !/^[0-9A-F]$/.test(each.textContent)
   || each.getAttribute("aria-label") || !/bank \\d, chip \\d, register \\d, (character \\d+: SRC byte [0-9A-F]{2}|status character \\d)/.test(each.title)).length"""
-# Counts the announcements while time is running: changes in live regions within a number of seconds.
+# Counts the changes in live regions within a number of seconds, which a screen reader would announce.
 COUNT_ANNOUNCEMENTS = """
 window.said = 0;
 const places = [...document.querySelectorAll("output, [aria-live], [role=status], [role=alert], [role=log]")];
@@ -408,7 +409,7 @@ def check_sizes(browser):
 
 
 def check_narrow_sizes(browser):
-    """Checks widths that browser windows do not allow. The driver sets them for the page."""
+    """Checks widths that are too small for a browser window. The driver sets them for the page alone."""
     check_not_covered(browser, 699, 320)
     browser.resize_back()
 
@@ -421,7 +422,7 @@ def check_not_covered(browser, *widths):
         verdict(f"and each one is whole at {width}", browser.script(FIND_OUTSIDE), [])
 
 
-# Errors in the visible control rows: controls that are cut off or that overlap.
+# Returns the controls in the visible rows of controls that are cut off or overlap.
 FIND_WRONG_CONTROLS = """
 const rows = [...document.querySelectorAll("#wave-bar, .editor > .bar, #wiring > .bar, #statusbar")].filter(isShown);
 return rows.flatMap((row) => {

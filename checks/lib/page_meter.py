@@ -1,7 +1,7 @@
 """Scripts that measure a page from outside without changing its own scripts."""
 
-# Runs before the page's script. `frames` gets the milliseconds of work in each real-time frame. A handler's work continues in its promises, so the
-# script waits for some of them.
+# A script to insert before the page's own. It stores the milliseconds of work in each real-time frame in `frames`. The work of a handler continues in
+# its promises, so the script waits for some of them.
 INSTALL_PAGE_METER = """
 window.frames = [];
 let spent = 0;
@@ -28,7 +28,7 @@ Worker.prototype.addEventListener = function (kind, act) {
 };"""
 GET_FRAMES = "return window.frames"
 
-# Runs before the worker's script. Adds to each reply the milliseconds since its request.
+# A script to insert before the worker's own. It adds the milliseconds since the request to each reply.
 INSTALL_WORKER_METER = """
 let begun = 0;
 addEventListener("message", () => { begun = performance.now(); });
@@ -36,7 +36,8 @@ const post = postMessage.bind(self);
 self.postMessage = (message, transfer) => post({ ...message, took: performance.now() - begun }, transfer);
 """
 
-# At full speed, the worker reports to the page twice a second which fraction of the time it has spent in the module.
+# A script to insert before the worker's own. At full speed, it reports to the page twice a second the fraction of the time that the worker has spent
+# in the module.
 INSTALL_MODULE_METER = """
 (() => {
   const made = WebAssembly.Instance;
@@ -57,7 +58,7 @@ INSTALL_MODULE_METER = """
     return { exports: { ...exports, bench_serve_and_settle } };
   };
 })();"""
-# Runs before the page's script. `parts` gets the fractions that INSTALL_MODULE_METER reports.
+# A script to insert before the page's own. It stores the fractions that INSTALL_MODULE_METER reports in `parts`.
 INSTALL_PARTS_METER = """
 window.parts = [];
 const listen = Worker.prototype.addEventListener;
@@ -69,7 +70,7 @@ Worker.prototype.addEventListener = function (kind, act) {
 };"""
 GET_PARTS = "return window.parts"
 
-# A separate worker with the page's module, for RUN_MODULE_ALONE.
+# Starts another worker with the page's module, for RUN_MODULE_ALONE.
 RUN_MODULE_BESIDE = """
 const work = `
 let instance, file, size, input, room, answers, report;
@@ -110,10 +111,10 @@ Promise.all([unpacked("module").arrayBuffer(), unpacked("data").json()]).then(([
   calculator = examples.find(({ name }) => name === "calculator");
   window.serveAlone(true);
 });"""
-# Measures the cycles per second of one long call of the module in that worker. The result is in `alone`.
+# Makes one long call of the module in that worker, and stores its cycles per second in `alone`.
 RUN_MODULE_ALONE = "window.serveAlone(false)"
 
-# Measures the time between the next key press and the next change of the digits.
+# Measures the time from the next key press to the next change of the digits, and stores it in `seen`.
 MEASURE_KEY = """
 window.seen = 0;
 addEventListener("keydown", () => { window.went = performance.now(); }, { capture: true, once: true });
@@ -123,7 +124,8 @@ new MutationObserver((_, own) => {
 }).observe(document.getElementById("digits"), { childList: true, characterData: true, subtree: true })"""
 GET_KEY_TIME = "return window.seen"
 
-# Clicks a button that searches for a goal. For a change, the goal is a place that never changes. `searched` gets the cycles per second.
+# Clicks a button that searches for a goal, and stores the cycles per second in `searched`. A search for a change looks for a value that never
+# changes.
 START_SEARCH = """
 window.searched = 0;
 document.getElementById("change-place").value = "st.0.3.3";

@@ -1,4 +1,4 @@
-"""Reads the parts that page/build has embedded in a page."""
+"""Reads and changes the parts that page/build has embedded in a page: its WebAssembly module and its worker's script."""
 
 import base64
 import re

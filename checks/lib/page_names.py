@@ -1,4 +1,4 @@
-"""The part of checks/page about the connection of source and machine: lines, names and addresses, compared with the output of mcs4 listing."""
+"""The part of checks/page about the source's lines, names and addresses in the machine's panels. Compares them with the output of `mcs4 listing`."""
 
 import os
 import pathlib
@@ -73,7 +73,7 @@ const { left, top, width, height } = node.getBoundingClientRect();
 const at = { clientX: left + width / 2, clientY: top + height / 2, button: 0, buttons: 1, bubbles: true, cancelable: true, detail: 1 };
 for (const kind of ["mousedown", "mouseup", "click"]) node.dispatchEvent(new MouseEvent(kind, at));"""
 
-# The screen position of a word in a line, after scrolling the line into view.
+# Scrolls a line into view, and returns the position of a word in it.
 SCROLL_TO_WORD = """
 const editor = document.querySelector("#program-editor .cm-editor").lineEditor;
 const [line, word] = arguments;
@@ -92,8 +92,7 @@ def listing_of(mcs4, *words):
 
 
 def listed(mcs4):
-    """Returns the contents of mcs4 listing: the numbers and texts of source lines by the addresses at which they begin, and the values of the names.
-    """
+    """Reads the output of `mcs4 listing`. Returns the number and text of the source line that begins at each address, and the values of the names."""
     listing = listing_of(mcs4).splitlines()
     # Continuation rows of a line have no text.
     rows = [row for row in listing if row[17:] or not re.match("[0-9A-F]{3} ", row)]
@@ -185,7 +184,7 @@ def point_at(browser, line, word):
 
 
 def check_pointing(browser, source, values, lines):
-    """Checks the description of a word under the pointer: a label with its address and line, a number with its value, an instruction, a register."""
+    """Checks the description of the word under the pointer: a label's address and line, a named number's value, an instruction, a register."""
     line_of = {word: next(number for number, text in enumerate(lines, 1) if re.search(pattern, text)) for word, pattern in {
         "scan": r"JMS scan\b", "nonzero": r"^nonzero\s*=", "JMS": r"JMS scan\b", "P1": r"FIM P1,"}.items()}
     for word, words in {

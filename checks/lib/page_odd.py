@@ -1,5 +1,5 @@
-"""The part of checks/page with unusual input: markup in each field and each name, files of all kinds, numbers out of range, many clicks at once, and
-a reload right after an edit. None of the input may become an element or a script, and the bench must still answer after each."""
+"""The part of checks/page about unusual input: markup in each field and each name, files of all kinds, numbers out of range, many clicks at once, and
+a reload right after an edit. No input may become an element or a script, and the bench must still answer afterwards."""
 
 import base64
 import re
@@ -106,7 +106,7 @@ def check_files(browser):
         eventually(browser, f"{what} is opened, asked for or refused in words",
               f"{IS_DIALOG_OPEN.replace('return', 'const asks =')}; {GET_NOTICE.replace('return', 'const text =')}; return asks || text !== ''", True)
         check_alive(browser, what)
-    # The last drop has 60 programs, which the page reads one after another. The last text to arrive closes any dialog that is open by then.
+    # The last drop has 60 programs, which the page reads one after another. The last of them closes any dialog that is open by then.
     browser.until(GET_NOTICE, re.compile(r"^59\.asm is in Source"))
     until_ready(browser)
     browser.script(CLOSE_ALL)

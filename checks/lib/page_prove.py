@@ -1,6 +1,6 @@
-"""The part of checks/page about proofs. The properties of an example are proved with the same numbers of states as by mcs4 prove. An edit removes a
-mark, and undoing the edit restores it. A proof can be cancelled. A counterexample opens before the step that breaks its property, and time can go
-back from there. Also: goals, wrong numbers and texts, the keyboard, and a phone's width."""
+"""The part of checks/page about proofs. The page proves the properties of an example with the same numbers of states as `mcs4 prove`. Editing a text
+removes the mark that shows that a property is proved, and undoing the edit restores it. A proof can be cancelled. A counterexample opens before the
+step that breaks its property, and time can go back from there. Also: goals, wrong numbers and texts, the keyboard, and a phone's width."""
 
 import os
 import re
@@ -24,7 +24,7 @@ COUNT_LAMPS_LIT = "return document.querySelectorAll('.bulb.lit').length"
 COUNT_LIT_ROWS = "return [...document.querySelectorAll('#proof-list .lit')].length"
 CONTROL, SHIFT, ENTER = "\ue009", "\ue008", "\ue007"
 # The maximum time of a search in seconds, on a busy machine.
-LONG = 900
+LONGEST = 900
 # The number of common mistakes for which every program is checked.
 MISTAKES = 7
 CHANGED = "the program, the board or the text has changed since then"
@@ -43,9 +43,9 @@ def prove(browser, states=1000000):
 
 
 def prove_to_end(browser, what, states=1000000):
-    """Starts a proof and waits for its end, when the button has its first label again."""
+    """Starts a proof and waits for its end, which the button shows by its original label."""
     prove(browser, states)
-    eventually(browser, what, GET_BUTTON_WORD, "Prove", LONG)
+    eventually(browser, what, GET_BUTTON_WORD, "Prove", LONGEST)
 
 
 def proved_by_tool(browser, folder, mcs4):
@@ -59,7 +59,7 @@ def proved_by_tool(browser, folder, mcs4):
 
 
 def check_example(browser, folder, mcs4):
-    """Checks the stopwatch example, which has one more state than the first question may search."""
+    """Checks the proofs for the stopwatch example, which has one state more than the page's first, short search may visit."""
     choose_example(browser, "stopwatch")
     properties = [line for line in text_of(browser, "properties").splitlines() if line.startswith(("never", "every"))]
     proved = proved_by_tool(browser, folder, mcs4)
@@ -67,9 +67,10 @@ def check_example(browser, folder, mcs4):
     verdict("of which there are seven", len(proved) - len(properties), MISTAKES)
     prove(browser)
     eventually(browser, "the button cancels it", GET_BUTTON_WORD, "Cancel")
-    eventually(browser, "it is said how many states were searched", GET_PROGRESS, f"Property 1 of {len(proved)}: more than 10,000 states so far", LONG)
+    progress = f"Property 1 of {len(proved)}: more than 10,000 states so far"
+    eventually(browser, "it is said how many states were searched", GET_PROGRESS, progress, LONGEST)
     verdict("as the bar shows", browser.script(GET_BAR), [10000, 1000000])
-    eventually(browser, "it comes to its end", GET_BUTTON_WORD, "Prove", LONG)
+    eventually(browser, "it comes to its end", GET_BUTTON_WORD, "Prove", LONGEST)
     verdict("each property is proved, with as many states as the tool has", browser.script(GET_ROWS),
             [f"proved | {text} | for all inputs: {states}" for text, states in proved])
     verdict("with a lit mark", browser.script(COUNT_LIT_ROWS), len(proved))
@@ -100,7 +101,7 @@ return editor.getLine(editor.getCursor('from').line).trim()"""), second)
 
 
 def check_counterexample(browser):
-    """Checks the counterexample about the lamp that can be on: its test, and the session before the step that turns the lamp on."""
+    """Checks the counterexample to `never lamp lit on`: its test, and the session before the step that turns the lamp on."""
     before = text_of(browser, "tests")
     row = "#proof-list li:nth-of-type(2) .bar button"
     browser.click(f"{row}:nth-of-type(2)")
@@ -173,7 +174,7 @@ def check_cancelled(browser):
     put(browser, "program", COUNTING)
     put(browser, "properties", "never lamp 1 on\n")
     prove(browser, 999999999)
-    eventually(browser, "it searches", GET_PROGRESS, re.compile("more than .* states so far"), LONG)
+    eventually(browser, "it searches", GET_PROGRESS, re.compile("more than .* states so far"), LONGEST)
     start = time.monotonic()
     browser.hold("#prove", 300)
     eventually(browser, "it stops", GET_BUTTON_WORD, "Prove", 10)

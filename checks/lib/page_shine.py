@@ -1,6 +1,6 @@
-"""The brightness of lamps in a browser. While time is running, the brightness corresponds to the fraction of time for which a lamp is on, as `trace`
-reports it. While time is paused, it shows the instant. A display that is rewritten in each turn of the main loop always shows its number. A display
-that is shifted in after a key shows its number when the shifting is complete."""
+"""The part of checks/page about the brightness of lamps. While time is running, the brightness corresponds to the fraction of time for which a lamp
+is on, as `trace` reports it. While time is paused, a lamp is either on or off. A display that is rewritten in each turn of the main loop always
+shows its number. A display that is shifted in after a key press shows its number when the shifting is complete."""
 
 import re
 
@@ -11,7 +11,7 @@ ROM = '[[rom]]\nchip = 0\nport = "0000"\n'
 PULSES_BOARD = ROM + "".join(f'[[lamp]]\nline = "rom0.{line}"\n' for line in range(4))
 # In each turn, lamp 0 is on for 3 cycles and lamp 1 for the other cycles. Lamp 2 is always on, lamp 3 never.
 PULSES = "FIM P0, 0\nSRC P0\nloop: LDM 5\nWRR\nNOP\nLDM 6\nWRR\nFIM P1, 0\nwait: ISZ R2, wait\nJUN loop\n"
-# A program that shifts out 42 all the time, segment by segment.
+# A board with a display, and a program that shifts the number 42 into it again and again, segment by segment.
 REFRESHED_BOARD, REFRESHED = ((TOP / f"js/test/two_digits.{kind}").read_text() for kind in ("toml", "asm"))
 GET_BRIGHTNESS_STATUS = "return document.getElementById('brightness-status').textContent"
 # Records in each frame the brightness of each lamp and the text of the display.

@@ -1,5 +1,5 @@
-"""The board's buzzer in a browser: its samples and their timing. The buzzer is silent until the user switches sound on, at other speeds, and without
-Web Audio."""
+"""The part of checks/page about the board's buzzer: its samples and their timing. The buzzer is silent until the user switches sound on, at speeds
+other than real time, and without Web Audio."""
 
 import re
 import time
@@ -25,8 +25,8 @@ wait:   ISZ R3, wait
 """
 # A sound block arrives about every 50 ms, 90 ms before it is heard. If it arrives more than this time in seconds after the previous block, the host
 # was too busy.
-HELD_UP = 0.1
-# Records the blocks that are played: their start and arrival by the audio clock and by the page's clock.
+MAX_BLOCK_INTERVAL = 0.1
+# Records each block of samples that is played: its start by the audio clock, its arrival by the audio clock and by the page's clock, and its edges.
 WATCH_SOUND = """
 window.played = [];
 const start = AudioBufferSourceNode.prototype.start;
@@ -48,7 +48,7 @@ IS_TIME_PAUSED = "return window.played.every(({ now }) => now === 0)"
 IS_SOUND_PRESSED = "return document.getElementById('sound-button').getAttribute('aria-pressed')"
 GET_SOUND_STATUS = "return document.getElementById('sound-status').textContent"
 COUNT_PLAYED = "return window.played.length"
-# The time in seconds before it is heard at which the first block must be sent, in at least one of some attempts.
+# The first block must arrive at least EARLY seconds before it is heard, in at least one of TRIES attempts.
 EARLY, TRIES = 0.08, 5
 
 
@@ -89,7 +89,7 @@ def check_tone(browser):
     gaps = [(one, other) for one, other, length in zip(played, played[1:], lengths) if abs(one["when"] + length - other["when"]) > 1e-6]
     gap_words = [f"{other['at'] - one['at']:.3f} s" for one, other in gaps]
     verdict(f"{len(played)} pieces follow each other without a gap, but where the host held one up: {gap_words}",
-            all(other["at"] - one["at"] > HELD_UP for one, other in gaps), True)
+            all(other["at"] - one["at"] > MAX_BLOCK_INTERVAL for one, other in gaps), True)
     verdict("and most of them follow", 2 * len(gaps) < len(played), True)
 
 

@@ -1,6 +1,6 @@
-"""The part of checks/page that acts like a first-time user, by keyboard alone. An empty bench gets a board. A program is typed, rejected, corrected,
-run, paused and stepped, lost and restored, saved, and opened again with the same bytes. Then a project example is opened, whose session is in the
-state that its texts describe."""
+"""The part of checks/page that acts like a first-time user, by keyboard alone. It gives an empty bench a board. It types a program, which is
+rejected, and corrects, runs, pauses and steps it. It loses and restores the program, saves it, and opens it again with the same bytes. Then it opens
+the example that is a project, whose session is in the state that its texts describe."""
 
 import re
 import time
@@ -19,7 +19,7 @@ IS_BOARD_OFFERED = "return document.getElementById('board-offer').checkVisibilit
 IS_SESSIONS_OPEN = "return document.getElementById('sessions').open"
 IN_SOURCE = "e.closest('#program-editor .cm-editor') !== null"
 GET_REGISTERS = "return document.getElementById('registers').textContent"
-# A program whose lamps show which keys are down. A source disassembled from ROM would lack its comment.
+# A program whose lamps show which keys are down. Its comment distinguishes it from a source that is disassembled from ROM.
 TYPED = ["; my first program", "LDM 3", "WRR", "read: RDR", "WMQ", "JUN read"]
 FAULT = "line 5: WMQ is not an instruction; WMP?"
 DROP_FILE = """

@@ -1,5 +1,5 @@
-"""The printer tape in a browser: typed and computed text, by pointer and keyboard, at any speed, after going back, after a reload, and after
-clearing. Also errors in the description of a printer."""
+"""The part of checks/page about the printer tape: operands and results that are printed, by pointer and keyboard, at any speed, after going back,
+after a reload, and after clearing. Also errors in the description of a printer."""
 
 import re
 import time

@@ -1,6 +1,6 @@
-"""The part of checks/page about the tests of programs. An example's tests pass. An error in the program makes a test fail at its line, and the
-session opens in that state. Counts are beside the source. Also: a text with errors, a text without tests, a run that is cancelled, and saving the
-text with the session and in a project."""
+"""The part of checks/page about the tests of programs. An example's tests pass. An error in the program makes a test fail at one of its lines, and
+the session opens in the state of that failure. The source shows how often each line ran. Also: a text with errors, a text without tests, a run that
+is cancelled, and saving the text with the session and in a project."""
 
 import re
 import time
@@ -45,7 +45,7 @@ def check_passing(browser):
 
 
 def check_failing(browser):
-    """Checks a delay that is one turn too short. The session opens at the failure with the texts of the test."""
+    """Checks that a test fails if a delay of the program is one turn too short, and that the session opens at the failure, with the test's texts."""
     program = browser.script(GET_TEXT_OF_EDITOR, "#program-editor")
     browser.script(PUT_INTO_EDITOR, "#program-editor", program.replace("0x0C", "0x0D"))
     verdict("an edit takes the counts away", browser.script(GET_COUNTS), [])

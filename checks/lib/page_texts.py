@@ -1,4 +1,4 @@
-"""The part of checks/page about texts, projects and links: nothing that a user has made is lost."""
+"""The part of checks/page about texts, projects and links: the page loses nothing that a user has made."""
 
 import base64
 import pathlib
@@ -27,13 +27,13 @@ GET_QUESTION = "return document.getElementById('ask').open ? document.getElement
 COUNT_KEPT = "return document.querySelectorAll('#kept li').length"
 UNDO = "#notice button:not(.dismiss)"
 
-# A board and a program with comments, names and non-ASCII letters, which only a saved text preserves.
+# A board and a program with comments, names and non-ASCII letters, which are lost unless the page saves the texts themselves.
 BOARD = (TOP / "examples/three_lamps/board.toml").read_text() + "# row 0: WALK\n"
 PROGRAM = "; my own light\nstart:\tFIM P0, 0x00\t; f\u00fcr the first lamp\n\tJUN start"
 
 
 def kept_download(folder, name):
-    """Returns a file that the page saves, after it is complete."""
+    """Waits until a file that the page saves is complete, and returns its path."""
     saved = folder / "downloads" / name
     end = time.monotonic() + 20
     # Some browsers first create an empty file.
@@ -178,8 +178,8 @@ def check_deleting(browser, kept):
 
 
 def check_notices(browser, folder):
-    """Checks that notices of different kinds appear together, that a new notice replaces the last one of its kind, and that the status is right after
-    a reset."""
+    """Checks that notices of different kinds are shown together, that a new notice replaces the last one of its kind, and that the status is right
+    after a reset."""
     choose_example(browser, "calculator")
     stop_time(browser)
     browser.type_into("#file", str(folder / "cut.mcsp"))
@@ -273,7 +273,7 @@ def check_link(browser, page):
 
 
 def link_of(name, board, program):
-    """Returns a forged link."""
+    """Returns a link with this name and these texts, as somebody else could write it."""
     rest = f"name {name}\nwire\n{board}.\nasm\n{program}.\n".encode()
     total = subprocess.run(["cksum"], input=rest, stdout=subprocess.PIPE, check=True).stdout.split()[0]
     packer = zlib.compressobj(wbits=-15)

@@ -1,5 +1,5 @@
-"""The part of checks/page about time: cycles, steps over, out and to goals, going back and forward, slow motion. The page's messages
-are compared with the program, mcs4 trace and mcs4 cycles on the same session."""
+"""The part of checks/page about time: running cycles, step over, step out, run to a goal, going back and forward, and slow motion. The page's
+messages are compared with the output of the program, `mcs4 trace` and `mcs4 cycles` for the same session."""
 
 import os
 import pathlib
@@ -32,7 +32,7 @@ ALL = "seq\nstate\nram 0\nbreaks\nwatches"
 
 
 class Program:
-    """The program, which runs on separate sessions while the page runs."""
+    """Runs the program and its tools on separate sessions, for comparison with the page."""
 
     def __init__(self, folder, mcs4):
         self.folder = folder
@@ -62,7 +62,7 @@ def texts_of(name):
 
 
 def first_call(program, name):
-    """Returns the first JMS of an example: the cycles before it, the cycles of its subroutine, its address, and the next address."""
+    """Finds the first JMS that an example executes. Returns the cycles before it, the cycles of its subroutine, its address, and the next address."""
     file, _ = program.session(name, texts_of(name))
     lines = [line for line in program.tool("trace", file, 3000).splitlines() if re.match(r" *\d+  [0-9A-F]{3} ", line)]
     at = next(at for at, line in enumerate(lines) if " JMS " in line)
@@ -78,17 +78,17 @@ def counted(cycles):
     return f"{cycles:,} cycles, " + (f"{time:.3f} ms" if time < 1000 else f"{time / 1000:.3f} s")
 
 
-def stand(browser):
+def pause_time(browser):
     """Pauses time if it is running."""
     if browser.script("return document.getElementById('run').textContent") == "Pause":
         stop_time(browser)
 
 
-def at_rest(browser, name):
+def open_paused_example(browser, name):
     """Opens a new session of an example, paused after a reset."""
     choose_example(browser, name)
     browser.until("return document.getElementById('run').textContent", "Pause", 3)
-    stand(browser)
+    pause_time(browser)
     lines_answered(browser, "reset")
     browser.until(GET_CYCLES_SINCE_RESET, "0 cycles, 0.000 ms")
 
@@ -100,9 +100,9 @@ def state(browser):
 
 
 def check_over(browser, program, name, example):
-    """Checks steps over a JMS, into it, out of it, and to the next line. The cycles match the trace, and no breakpoint remains."""
+    """Checks stepping over a JMS, into it, out of its subroutine, and to the next line. The cycles must match the trace. No breakpoint may remain."""
     before, over, address, behind = first_call(program, example)
-    at_rest(browser, name)
+    open_paused_example(browser, name)
     lines_answered(browser, f"run {before}")
     browser.click("#over")
     eventually(browser, f"{name}: Over comes back behind the JMS at {address}", GET_STATUS, f"Returned to {behind}, after {counted(over)}.")
@@ -138,8 +138,8 @@ return row.textContent.match(/[0-9A-F]{3}/)[0]""")
 
 
 def check_run_to_source(browser):
-    """Checks a run to the caret's source line with Ctrl+F10, and a run to a change of a named lamp."""
-    at_rest(browser, "three lamps")
+    """Checks a run to the source line of the caret with Ctrl+F10, and a run until a named lamp changes."""
+    open_paused_example(browser, "three lamps")
     browser.script("""
 const editor = document.querySelector("#program-editor .cm-editor").lineEditor;
 editor.setCursor({ line: editor.getValue().split("\\n").findIndex((line) => line.startsWith("turn:")), ch: 0 });
@@ -152,10 +152,10 @@ editor.getInputField().dispatchEvent(new KeyboardEvent("keydown", { key: "F10", 
 
 
 def check_many(browser, program):
-    """Checks a step of several instructions, which must have the same cycles as the trace."""
+    """Checks that a step of several instructions takes the number of cycles that the trace shows."""
     file, _ = program.session("many", texts_of("three_lamps"))
     lines = [line for line in program.tool("trace", file, 400).splitlines() if re.match(r" *\d+  [0-9A-F]{3} ", line)]
-    at_rest(browser, "three lamps")
+    open_paused_example(browser, "three lamps")
     browser.script(CHANGE_FIELD, "#step-count", "50")
     browser.click("#step-many")
     eventually(browser, "50 instructions", GET_STATUS, f"50 instructions were done, after {counted(int(lines[50].split()[0]))}.")
@@ -165,7 +165,8 @@ def check_many(browser, program):
 
 
 def check_far(browser):
-    """Checks a step over a delay of 24 seconds, counted separately, and a step back before it. A search for a change that never happens must end."""
+    """Checks a step over a delay of 24 seconds, whose cycles are computed here, and a step back before it. Checks that a search for a change that
+    never happens ends."""
     choose_example(browser, "empty bench")
     loops = "".join(f"ISZ R{each}, loop\n" for each in range(5))
     lines_answered(browser, "wire\n[[rom]]\nchip = 0\nport = \"0000\"\n.\nasm\nJMS wait\nend: JUN end\n"
@@ -191,7 +192,7 @@ def check_far(browser):
 
 def check_stopwatch(browser):
     """Checks that a hundredth of a second of the stopwatch is 926 cycles, measured between two markers."""
-    at_rest(browser, "stopwatch")
+    open_paused_example(browser, "stopwatch")
     lines_answered(browser, "test 0")
     browser.script(CHANGE_FIELD, "#change-place", "lamps")
     for _ in range(2):
@@ -216,13 +217,13 @@ def check_stopwatch(browser):
 
 
 def check_back(browser):
-    """Checks going back and forward over keys that were pressed while time was running. The answers and the file must be the same."""
-    at_rest(browser, "calculator")
+    """Checks going back and forward past key presses. Afterwards, the answers and the file must be the same as before."""
+    open_paused_example(browser, "calculator")
     browser.click("#run")
     for legend in "12":
         browser.fingers([key(legend)], 60)
     browser.until(GET_DIGITS, "12")
-    stand(browser)
+    pause_time(browser)
     there = state(browser)
     browser.script(READ_KEPT_FILE)
     file = browser.until(GET_KEPT_FILE, re.compile("."))
@@ -257,7 +258,7 @@ def check_back(browser):
 
 
 def check_never(browser):
-    """Checks that a run to an unreachable goal can be ended with Stop, F8 and a reload, and that the session then has only its runs."""
+    """Checks that Stop, F8 and a reload end a run to an unreachable goal, and that the session then contains nothing but its runs."""
     choose_example(browser, "empty bench")
     lines_answered(browser, 'wire\n[[rom]]\nchip = 0\nport = "0000"\n.\nasm\nJMS round\nround: JUN round\n.\nstep')
     for what, stop in {"F8": lambda: browser.script(PRESS_KEY, "F8", False), "Stop": lambda: browser.click("#run")}.items():
@@ -320,7 +321,7 @@ def check_waiting(browser):
 
 def check_slow(browser):
     """Checks slow motion, and that the page follows the running line."""
-    at_rest(browser, "three lamps")
+    open_paused_example(browser, "three lamps")
     verdict("the speeds", browser.script("return [...document.getElementById('speed').options].map((each) => each.textContent).join(', ')"),
             "real time, 1/10, 1/100, 1/1,000, an instruction a second, full speed")
     browser.click("#run")
@@ -330,16 +331,16 @@ def check_slow(browser):
     eventually(browser, "the line that runs is marked", "return document.querySelectorAll('#lines-of-program .next').length", 1)
     browser.script("window.firstLine = document.querySelector('#lines-of-program .next').textContent")
     eventually(browser, "and followed", "return document.querySelector('#lines-of-program .next').textContent !== window.firstLine", True)
-    stand(browser)
+    pause_time(browser)
     browser.script(SET_SPEED, "instruction")
     browser.click("#run")
     browser.until(GET_CYCLES_SINCE_STOP, re.compile("^[3-9] cycles"))
-    stand(browser)
+    pause_time(browser)
     verdict("an instruction a second ends between instructions", re.search("owed 0", lines_answered(browser, "regs")) is not None, True)
     browser.script(SET_SPEED, "real")
     browser.click("#run")
     eventually(browser, "and real time is held again", GET_RATE, re.compile("^9[0-4]...$"))
-    stand(browser)
+    pause_time(browser)
 
 
 def check(browser, page, folder, mcs4):

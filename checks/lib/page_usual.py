@@ -1,5 +1,5 @@
-"""The checks for common mistakes on the page. Each mistake is reported with its line when it happens, while time keeps running. If its check box is
-on, time pauses before the mistake and can continue. A program without mistakes has no report."""
+"""The part of checks/page about common mistakes in programs. The page reports each mistake with its line when it happens, while time keeps running.
+If the mistake's check box is on, time pauses before the mistake, and can continue. For a program without mistakes, the page reports nothing."""
 
 import re
 import time
@@ -12,7 +12,7 @@ IS_PANEL_SHOWN = "return isShown(document.getElementById('usual'))"
 BOARD = """rom = [{ chip = 0, port = "0000" }, { chip = 1, port = "iiii" }]
 ram = [{ bank = 0, chips = 1 }]
 """
-# RDR reads the keys. The following WRR has no SRC of its own.
+# The SRC for RDR selects ROM 1, whose lines are inputs. The WRR after it lacks its own SRC, so it writes to ROM 1, which is a mistake.
 PROGRAM = """keys:   FIM P0, 0x10
         SRC P0
         RDR

@@ -33,7 +33,7 @@ const editor = document.querySelector("#program-editor .cm-editor").lineEditor;
 editor.focus();
 editor.setCursor({ line: arguments[0] - 1, ch: editor.getLine(arguments[0] - 1).indexOf(arguments[1]) })"""
 GET_NEXT_LINE = "return document.querySelector('#program-editor .next').textContent"
-# The instruction after each step from ADD, worked out manually.
+# The next instruction after each step, starting at ADD, worked out manually.
 STEPS = ("BBL", "JUN turn", "turn:", "SRC", "LDM", "WRM", "INC", "JMS", "JUN turn")
 GET_LINE_VALUES = "return [...document.querySelectorAll('#program-editor .line-values')].map((each) => each.textContent)"
 GET_WATCHES = """return [...document.querySelectorAll("#watched-list li")].map((row) =>
@@ -46,7 +46,7 @@ def line_of(text):
 
 
 def pointed(browser, line, word, shown, wanted):
-    """Rests the pointer on a word. Repeats that if the page has moved in the meantime."""
+    """Rests the pointer on a word until its value is shown. Moves the pointer again if the page has moved the word in the meantime."""
     for _ in range(4):
         point_at(browser, line, word)
         if matches(browser.until(shown, wanted, 5), wanted):
@@ -103,7 +103,7 @@ def check_edit(browser):
 
 
 def check_lines(browser):
-    """Checks that the last lines that ran end with their changes, and that a call ends with all changes of its subroutine."""
+    """Checks that the values that a line has changed are shown after it, and after a call, all values that its subroutine has changed."""
     for step in range(9):
         browser.click("#over")
         browser.until(GET_NEXT_LINE, re.compile(STEPS[step]))
@@ -113,7 +113,7 @@ def check_lines(browser):
 
 
 def check_watched(browser):
-    """Checks named values: a wrong one causes an error, the others are shown, and all are saved with the session."""
+    """Checks watched values: a wrong expression causes an error, the other values are shown, and all of them are saved with the session."""
     browser.type_into("#watched-field", "count = R16" + ENTER)
     eventually(browser, "what is nothing to watch is reported", "return document.querySelector('#watched-status').textContent",
                "R16: no such place; the registers are r0 to r15 (column 9)")
@@ -134,7 +134,7 @@ MOVE_FOCUS = "document.activeElement.blur(); document.querySelector(arguments[0]
 
 
 def check_last_change(browser):
-    """Checks that a cell reports its last change and the instruction that made it, and that going back to this change leads there."""
+    """Checks that the tip of a cell reports its last change and the instruction that made it, and that going back to the change leads there."""
     if browser.script("return document.getElementById('run').textContent") == "Pause":
         stop_time(browser)
     lines_answered(browser, "run 100\npoke ram.0.0x13 5\nrun 7")

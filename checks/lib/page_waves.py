@@ -1,5 +1,5 @@
-"""Waves in the browser. A recording looks and is saved as mcs4 wave writes it for the same session, and the cursors confirm the times that the
-examples state."""
+"""The part of checks/page about recording and showing the levels of lines as waves. A saved recording must equal the output of `mcs4 wave` for the
+same session, and the times between the cursors must be those that the examples state."""
 
 import base64
 import os
@@ -102,7 +102,7 @@ def check_stopwatch(browser):
 
 
 def check_long(browser):
-    """Checks a recording of half a minute, whose last hundredth of a second is as long as the first."""
+    """Checks a recording of half a minute: the last hundredth of a second in it must be as long as the first one."""
     verdict("a long recording", record(browser, 3000000), "3,000,000 cycles recorded, 32.400 s.")
     browser.script(FOCUS_CANVAS)
     browser.keys(["a", END, "p", "b", END, "p", "p"], 1, 1)
@@ -118,7 +118,7 @@ def check_click(browser):
     box = browser.script("const b = document.getElementById('wave-canvas').getBoundingClientRect(); return [b.width, b.height]")
     browser.show("#wave-canvas")
     browser.click("#wave-canvas")
-    # The driver clicks at the centre of the element. The names of the lines occupy this width on the left, and a click can snap to a nearby edge.
+    # The driver clicks at the centre of the element. The names of the lines occupy `gutter` pixels on the left, and a click can snap to a near edge.
     gutter = 150 if box[0] >= 600 else 112
     middle = 30000 * (box[0] / 2 - gutter) / (box[0] - gutter)
     found = int(browser.until("return document.getElementById('wave-canvas').getAttribute('aria-valuenow')", re.compile("[1-9]")))
@@ -164,7 +164,7 @@ def check_file(browser, folder, mcs4):
 
 
 def check_before(browser):
-    """Checks a recording of the last cycles before a pause. They are repeated with the keys that were pressed."""
+    """Checks a recording of the last cycles before a pause. The page runs these cycles again, with the key presses in them."""
     choose_example(browser, "calculator")
     stop_time(browser)
     lines_answered(browser, "run 300\npress 0 0\nrun 5000\nrelease 0 0\nrun 3000")
@@ -187,7 +187,7 @@ GET_COUNT = "return document.getElementById('scope-count').textContent"
 
 
 def check_live(browser, folder, mcs4):
-    """Checks that a running machine is recorded while keys work, and that mcs4 wave writes the same for the session at the start of the recording."""
+    """Checks that the page records a running machine while keys are pressed. `mcs4 wave` must write the same for the session as it was before."""
     choose_example(browser, "calculator")
     stop_time(browser)
     session = folder / "live.mcs"
@@ -253,7 +253,7 @@ def difference(some, others):
 
 
 def check_triggers(browser):
-    """Checks that a trigger ends a recording with cycles before and after it, and pauses time on request."""
+    """Checks that a recording with a trigger has cycles before and after the trigger, and that the trigger pauses time on request."""
     choose_example(browser, "stopwatch")
     lines_answered(browser, "test 0")
     stop_time(browser)

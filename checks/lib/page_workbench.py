@@ -60,7 +60,7 @@ def in_menu(browser, panel, what):
 
 
 def check_panels(browser):
-    """Checks that each panel can be closed, reopened and maximised, and that a new page has the layout of the last one."""
+    """Checks that each panel can be closed, reopened and maximised, and that a newly opened page has the same layout as the page before."""
     verdict("all panels are there", browser.script(GET_SHOWN, PANELS), PANELS)
     for panel in PANELS:
         in_menu(browser, panel, "input")
@@ -103,7 +103,7 @@ def check_arrangement(browser):
 
 # --- the first impression
 
-# True if a part of an element is visible: the element is shown, and no scrolling box hides all of it.
+# Defines `inView`, which returns true if a part of an element is visible, and `controls`, the visible controls.
 FIND_IN_VIEW = """
 const inView = (element) => {
   if (!element.getClientRects().length || getComputedStyle(element).visibility !== "visible") return false;
@@ -118,10 +118,10 @@ const inView = (element) => {
 };
 const controls = [...document.querySelectorAll("button, input, select, textarea, summary, a[href]")].filter(inView);
 """
-# Blocks that count as one control, because each is one tab stop: the board's keys, the registers, a RAM bank, the rows of the disassembly.
+# Groups of controls that count as one, because each is one tab stop: the board's keys, the registers, a RAM bank, the rows of the disassembly.
 BLOCKS = "#keys, .ram, .cells, .stack, #lines-of-program"
 COUNT_CONTROLS = FIND_IN_VIEW + f"return new Set(controls.map((each) => each.closest('{BLOCKS}') || each)).size"
-# A checkbox is as large as its label.
+# Returns the controls that are too small. The size of a checkbox is that of its label, because a click on the label also works.
 FIND_SMALL_CONTROLS = FIND_IN_VIEW + """
 const sizeOf = (each) => (each.type === "checkbox" && each.labels.length > 0 ? each.labels[0] : each).getBoundingClientRect();
 return controls.filter((each) => sizeOf(each).width < arguments[0] - 0.5 || sizeOf(each).height < arguments[0] - 0.5)
@@ -148,7 +148,7 @@ return arguments[0].filter((id) => {
 IS_TRACE_LARGE = """
 const { width, height } = document.getElementById("wave-canvas").getBoundingClientRect();
 return width > 400 && height > 100"""
-TOGETHER = ["processor", "calls", "watched", "breakpoints", "memory"]
+DEBUGGER_PANELS = ["processor", "calls", "watched", "breakpoints", "memory"]
 MAX_CONTROLS, MAX_WORDS, MIN_LINES = 60, 350, 25
 
 
@@ -168,7 +168,7 @@ def check_first_glance(browser, page, at_size):
     browser.click("#record")
     eventually(browser, "a trace is seen", IS_TRACE_LARGE, True)
     verdict(f"with {MIN_LINES} lines of the source", browser.script(COUNT_LINES) >= MIN_LINES, True)
-    verdict("and these panels, whole", browser.script(GET_WHOLE_PANELS, TOGETHER), TOGETHER)
+    verdict("and these panels, whole", browser.script(GET_WHOLE_PANELS, DEBUGGER_PANELS), DEBUGGER_PANELS)
     show_text(browser, "disassembly")
     for text in ("board", "wiring", "tests", "properties", "program"):
         show_text(browser, text)
@@ -256,7 +256,7 @@ def first_word(browser, word):
 
 
 def check_watch_rows(browser):
-    """Checks that four watched values need as much space as four lines of text with a margin."""
+    """Checks that the rows of four watched values have 24 pixels each."""
     stop_time(browser)
     for words in ("count = R5", "R6", "acc", "P2"):
         browser.type_into("#watched-field", words + ENTER)
@@ -356,7 +356,7 @@ def check_newcomer(browser):
     show_text(browser, "program")
 
 
-# The elements that moved without user input, if the browser measures a layout shift above 0.005. A shift of 0 is none, 0.1 is much.
+# Returns the elements that moved without user input, if the browser measures a layout shift above 0.005. (At 0 nothing moved; 0.1 is a lot.)
 MEASURE_SHIFTS = """
 return new Promise((done) => {
   let sum = 0;

@@ -1,9 +1,9 @@
-"""Finds errors in the sentences of a document: sentences with too many words, and words that have a better replacement."""
+"""Finds errors in the sentences of a document: sentences that are too long, and words that have a better replacement."""
 
 import re
 
-WORDS = 30
-# Words at which a native reader stops, and what to write instead.
+MAX_WORDS = 30
+# Patterns for words that make a native reader stop, each with the words to write instead.
 AVOIDED = {
     r"tells?|told|telling": "report, print, say or show",
     r"(?:comes?|came) (?:to|about)": "reach or happen",
@@ -36,14 +36,14 @@ AVOIDED = {
 }
 BETTER = list(AVOIDED.values())
 ANY_AVOIDED = re.compile("|".join(rf"\b(?P<word{n}>{words})\b" for n, words in enumerate(AVOIDED)), re.I)
-# The beginnings of sentences that stay as they are, with the reasons.
+# Sentences that are exempt, by their beginnings, with the reasons.
 EXCEPTIONS = {
     "*Whatever bytes the shell reads, and wherever the machine stops,": "the headline of PROOF stays word for word",
 }
-# Code, or a list of code, counts as one word.
+# Matches a piece of code, or a list of them, which counts as one word.
 CODE = r"`[^`]*`(?:(?:,| and|, and)? \(?`[^`]*`\)?)*"
 # The beginning of a new block: a table row, a list item, a heading.
-BEGINS = r"\s*(?:\||- |\d+\. )|#"
+BLOCK_BEGIN = r"\s*(?:\||- |\d+\. )|#"
 
 
 def blocks_of(text):
@@ -51,11 +51,11 @@ def blocks_of(text):
     block, first, fenced = [], 1, False
     for number, line in enumerate([*text.splitlines(), ""], 1):
         is_fence = line.startswith("```")
-        if block and (not line.strip() or is_fence or re.match(BEGINS, line)):
+        if block and (not line.strip() or is_fence or re.match(BLOCK_BEGIN, line)):
             yield first, " ".join(block)
             block = []
         fenced ^= is_fence
-        if fenced or is_fence or (line.startswith("    ") and not block and not re.match(BEGINS, line)):
+        if fenced or is_fence or (line.startswith("    ") and not block and not re.match(BLOCK_BEGIN, line)):
             continue
         if line.startswith("|"):
             yield from ((number, cell.strip()) for cell in line.strip("|").split("|"))
@@ -65,8 +65,8 @@ def blocks_of(text):
 
 
 def sentences_of(text):
-    """Yields each sentence with the number of its block's first line, without link targets and without the contracts after the dash of a
-    promise."""
+    """Yields each sentence with the number of the first line of its block. Omits the targets of links, and in PROOF's promises the contracts after
+    the dash."""
     for number, block in blocks_of(text):
         plain = re.sub(CODE, "CODE", re.sub(r"\]\([^)]*\)", "]", block)).partition(" \u2014 ")[0]
         yield from ((number, sentence) for sentence in re.split(r"(?<=[.?!])[*)\"]*\s+", plain))
@@ -78,8 +78,8 @@ def errors_of(text):
         if sentence.startswith(tuple(EXCEPTIONS)):
             continue
         words = len(re.findall(r"\w[\w'/-]*", sentence))
-        if words > WORDS:
-            yield number, f"a sentence of {words} words, with a limit of {WORDS}: {sentence[:60]}.."
+        if words > MAX_WORDS:
+            yield number, f"a sentence of {words} words, with a limit of {MAX_WORDS}: {sentence[:60]}.."
         for found in ANY_AVOIDED.finditer(sentence):
             near = sentence[max(0, found.start() - 20):found.end() + 20]
             yield number, f"\"{found[0]}\" in \"{near}\": write {BETTER[int(found.lastgroup.removeprefix('word'))]}"

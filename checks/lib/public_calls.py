@@ -1,7 +1,7 @@
 #!/usr/bin/env python3
-"""Finds the public interface of the crates: types with their public fields and variants, constants, and calls with the types of their parameters.
-`checks/lib/public_calls.py CRATE..` prints the interface of crates, in the form of public_calls.txt. That file contains the interface that must
-be kept: checks/documents compares it with the sources.
+"""Finds the public interface of the crates: types with their public fields and variants, constants, and functions with the types of their parameters.
+`checks/lib/public_calls.py CRATE..` prints the interface of crates, in the format of public_calls.txt. That file lists the part of the interface that
+must not change. checks/documents compares it with the sources.
 """
 
 import functools
@@ -11,7 +11,7 @@ import sys
 
 TOP = pathlib.Path(__file__).resolve().parent.parent.parent
 LIST = TOP / "checks/lib/public_calls.txt"
-# The end of an item's head: a clause, the body, or a semicolon.
+# Matches the end of a function's signature: a clause, the body, or a semicolon.
 END = re.compile(r"^\s*(?:requires|ensures|ghost|decreases)\b|[{;]\s*$")
 
 
@@ -40,7 +40,7 @@ def type_of(parameter):
 
 
 def call_of(head):
-    """Returns the call that the head of a function declares: the name, the types of the parameters, and the type of the result."""
+    """Converts a function's signature to the format of public_calls.txt: the name, the types of the parameters, and the type of the result."""
     head = re.sub(r"\s+", " ", head).strip()
     name, _, rest = re.sub(r"^(?:pub )?(?:const )?fn ", "", head).partition("(")
     end = next(at for at in range(len(rest)) if rest[:at + 1].count(")") > rest[:at + 1].count("("))
@@ -48,7 +48,7 @@ def call_of(head):
 
 
 def head_at(lines, at):
-    """Returns the head of the function that begins at a line."""
+    """Returns the signature of the function that begins at a line."""
     head = []
     for line in lines[at:]:
         end = END.search(line)
@@ -66,7 +66,7 @@ def block_at(lines, at):
 
 
 def calls_in(lines, at, form):
-    """Returns the calls of a block."""
+    """Returns the functions in a block. `form` is a pattern for the words before `fn`."""
     block = block_at(lines, at)
     return [call_of(head_at(block, number)) for number, line in enumerate(block) if re.match(rf"    {form}fn ", line)]
 
@@ -104,8 +104,8 @@ def items_of_file(path):
     return items
 
 
-def handed_on(text):
-    """Yields the names that `pub use` in a root file re-exports, as pairs of the first word of the path and the name."""
+def reexported_names(text):
+    """Yields the names that a crate's root file re-exports by `pub use`. Each comes with the first word of its path."""
     for path, names in re.findall(r"^pub use ((?:\w+::)*)(\{[^}]*\}|\w+);", text, re.M):
         for name in re.findall(r"\w+", names):
             yield path.partition("::")[0], name
@@ -116,7 +116,7 @@ def calls_of(crate):
     source = TOP / "crates" / crate / "src"
     text = without_comments((source / "lib.rt").read_text())
     open_modules = set(re.findall(r"^pub mod (\w+);", text, re.M)) | {"lib"}
-    named = set(handed_on(text))
+    named = set(reexported_names(text))
     names = {name for _, name in named}
     for path in sorted(source.rglob("*.rt")):
         yield from (line for name, line in items_of_file(path) if path.stem in open_modules or name in names)
@@ -124,7 +124,7 @@ def calls_of(crate):
 
 
 def kept():
-    """Returns the lines of public_calls.txt for each crate."""
+    """Reads public_calls.txt. Returns the lines for each crate."""
     crates = {}
     for line in LIST.read_text().splitlines():
         if line.startswith("    "):
@@ -135,7 +135,7 @@ def kept():
 
 
 def missing():
-    """Yields the lines of that file that a crate no longer has, each with its crate."""
+    """Yields the lines of public_calls.txt that the crate's interface no longer contains, each with its crate."""
     for crate, lines in kept().items():
         given = set(calls_of(crate))
         yield from ((crate, line) for line in lines if line not in given)

@@ -1,16 +1,16 @@
-/* Records the system calls of a program on its files, its input and its output. The program is started with this library loaded before the C
-   library (LD_PRELOAD). The file that the variable CALLS names gets a line for each call. The call with the number CALL, counted from 1, can be
-   changed by CALL_DOES:
+/* Records the calls of the C library that a program makes on its files, its input and its output. The program is started with this library loaded
+   before the C library (LD_PRELOAD). These environment variables control it. CALLS names the file to which a line for each call is written. CALL is
+   the number of one call, counted from 1, and CALL_DOES says how this call is changed:
      fail E      it does nothing and returns the error with number E
      head K      a write writes only its first K bytes, and the program is killed
      tail K      a write writes only its bytes from the K-th on, and the program is killed
      noise K     a write writes its first K bytes and then other bytes, and the program is killed
-     rename F    before a lock, the name of its file is given to the file F
-     remove      before a lock, the name of its file is removed
-     cut K       before a read, its file is cut to its first K bytes
-     other K     before a read, its file gets another byte at K
-   CALL_MOST=M: no read or write of a file moves more than M bytes at once. CALL_AGAIN=1: each call on a file fails once with EINTR before it
-   is done; these failures have no line. */
+     rename F    before a lock, the file F replaces the locked file under its name
+     remove      before a lock, the name of the locked file is removed
+     cut K       before a read, the file is truncated to its first K bytes
+     other K     before a read, the byte of the file at offset K is changed
+   CALL_MOST=M limits each read or write of a file to M bytes. With CALL_AGAIN=1, each call on a file first fails once with EINTR; these failures
+   are not recorded. */
 #define _GNU_SOURCE
 #include <dlfcn.h>
 #include <errno.h>
@@ -23,8 +23,8 @@
 #include <sys/file.h>
 #include <unistd.h>
 
-static char names[64][256]; /* what stands after a descriptor; empty where it is none of the program's */
-static int calls;           /* so many calls were recorded */
+static char names[64][256]; /* the file name of each descriptor; empty if the program did not open it */
+static int calls;           /* the number of calls that were recorded */
 static int record = -1;
 
 static ssize_t (*real_write)(int, const void *, size_t);
@@ -50,7 +50,7 @@ static void put(const char *line) {
     if (record >= 0 && real_write(record, line, strlen(line)) < 0) _exit(99);
 }
 
-/* Writes the line of a call; returns the change to make to it, or NULL. */
+/* Records a call. Returns the change to make to it, which CALL_DOES names, or NULL. */
 static const char *does(const char *form, ...) {
     char line[1024];
     va_list parts;
@@ -64,14 +64,14 @@ static const char *does(const char *form, ...) {
     return number && what && atoi(number) == calls ? what : NULL;
 }
 
-/* Returns true if a call must fail, and sets errno. */
+/* Returns true and sets errno if the change is that the call fails. */
 static int fails(const char *what) {
     if (!what || strncmp(what, "fail ", 5) != 0) return 0;
     errno = atoi(what + 5);
     return 1;
 }
 
-/* Returns true if a call on a file must fail with EINTR, once. */
+/* Returns true and sets errno if a call on a file must fail with EINTR first. */
 static int interrupts(int fd) {
     static int answered;
     answered = !answered && *name_of(fd) && getenv("CALL_AGAIN");
@@ -111,7 +111,7 @@ int unlink(const char *file) {
     return fails(does("remove %s", end ? end + 1 : file)) ? -1 : real(file);
 }
 
-/* Gives the name of a descriptor's file to another file, or removes it, if that is the change. */
+/* Replaces or removes the file of a descriptor under its name, if the change is `rename` or `remove`. */
 static void renames(int fd, const char *what) {
     int (*real_unlink)(const char *) = dlsym(RTLD_NEXT, "unlink");
     if (what && strncmp(what, "rename ", 7) == 0 && rename(what + 7, name_of(fd)) < 0) _exit(99);
@@ -148,7 +148,7 @@ int fdatasync(int fd) {
     return fails(does("sync data %s", name_of(fd))) ? -1 : real(fd);
 }
 
-/* Changes the bytes of a descriptor's file, if that is the change. */
+/* Truncates the file of a descriptor, or changes one of its bytes, if the change is `cut` or `other`. */
 static void spoils(int fd, const char *what) {
     int (*real_ftruncate)(int, off_t) = dlsym(RTLD_NEXT, "ftruncate");
     ssize_t (*real_pread)(int, void *, size_t, off_t) = dlsym(RTLD_NEXT, "pread");

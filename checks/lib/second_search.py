@@ -1,11 +1,12 @@
-"""A second implementation of mcs4-prove over the board of board4004.py. It searches everything that a machine can do, breadth-first, with any
-keys and any TEST pin, and tests conditions at the same time. It shares no code with the program.
+"""A second implementation of mcs4-prove, which runs the board of board4004.py and shares no code with the program. It searches breadth-first through
+everything that a machine can do with any keys and any level of TEST, and tests the conditions of a question on the way.
 
-A state is everything in a machine except its inputs. A state includes the reading of the stopwatch, if the question has a stopwatch, and the number
-of marks seen, if the question has marks.
-There is a state at power-on, before each cycle that reads an input (RDR, or JCN with TEST), and after a fixed number of cycles without such a read.
-The search continues from a state once for each value that the next cycle can read, with keys and TEST that give this value. It stops at the next
-state, or when the machine repeats an earlier state. Conditions are tested after each cycle.
+A state is everything in a machine except its inputs. It includes the number of cycles that the stopwatch shows, if the question has a stopwatch, and
+the number of marks that were seen, if the question has marks. (A mark is a key that the program must read as up or as down.)
+
+The search saves a state at power-on, before each cycle that reads an input (RDR, or JCN with TEST), and after a fixed number of cycles without such a
+read. From each state it continues once for each value that the next cycle can read, with keys and TEST that produce this value, until the next state
+or until the machine repeats an earlier state. It tests the conditions after each cycle.
 """
 
 from __future__ import annotations
@@ -15,14 +16,14 @@ from collections.abc import Callable, Iterable
 from dataclasses import dataclass, field
 
 import bench4004
-from board4004 import ADDRESSES, CODES, TWO_WORDS, Board
+from board4004 import ADDRESS_COUNT, CODES, TWO_WORDS, Board
 
 # A comparison, in the words of a question: `in` or `out`, the list, the index, the part, the minimum and the maximum.
 Comparison = tuple[str, str, int, str, int, int]
 # The condition that the next cycle makes one of these mistakes: `mistake`, then their names.
 Mistakes = tuple[str, ...]
 Row = list[Comparison | Mistakes]
-# A mark: `up` or `down`, and the row and the column of a key that a read must show at that level.
+# A mark: `up` or `down`, and the row and the column of a key. The program sees the mark when it reads a value that shows that the key is up or down.
 Mark = tuple[str, int, int]
 # The keys that are down, by row and column, and the level of TEST.
 Levels = tuple[frozenset[tuple[int, int]], int]
@@ -31,15 +32,16 @@ NO_LEVELS: Levels = (frozenset(), 1)
 
 
 def rows_of(word: str, rows: list[Row]) -> list[str]:
-    """Returns the lines of rows of conditions, with this word before each row."""
+    """Returns the lines of a question for rows of conditions. Each row begins with a line of this word."""
     return [line for row in rows for line in (word, *(" ".join(map(str, words)) for words in row))]
 
 
 @dataclass
 class Question:
-    """A board and a program, the conditions that must never be met (all conditions of a row at once), the maximum number of states, and the
-    maximum length of a stretch. With `within` there is a stopwatch, which must never show more cycles. A row of `begins` begins it, and a row of
-    `ends` ends it. No row of `opens` must be met before all `marks` were seen in order, since such a row was met last."""
+    """A question about a board and a program. A row is met when all its conditions are true. No row of `nevers` may ever be met. `most` is the
+    maximum number of states, and `pause` the maximum number of cycles from one state to the next. If `within` is given, there is a stopwatch, which
+    must never show more cycles than that. It starts when a row of `begins` is met, and stops when a row of `ends` is met. A row of `opens` may only
+    be met after all `marks` were seen in order since the last time that such a row was met."""
 
     board: list[str]
     program: list[str]
@@ -59,13 +61,14 @@ class Question:
                 *rows_of("end", self.ends), *rows_of("open", self.opens), *(" ".join(map(str, mark)) for mark in self.marks), "prove"]
 
     def begun(self) -> list[str]:
-        """Returns the session lines that set up its board and program."""
+        """Returns the session lines that set up the question's board and program."""
         return ["wire", *self.board, ".", "asm", *self.program, "."]
 
 
 @dataclass
 class Found:
-    """A verdict (`holds`, `may fail` or `too many`), the number of states found, and the values that lead to the failure."""
+    """The result of a search: a verdict (`holds`, `may fail` or `too many`), the number of states found, and the values that the program reads on the
+    way to the failure."""
 
     verdict: str
     states: int
@@ -79,7 +82,7 @@ class Found:
 # ---- the values that conditions compare
 
 def addresses(board: Board) -> list[int]:
-    """Returns the counter and the return addresses, each as two bytes."""
+    """Returns the program counter and the return addresses, each as two bytes."""
     return [half for address in (board.pc, *board.ret) for half in divmod(address, 256)]
 
 
@@ -108,7 +111,8 @@ OPEN_CALLS = 3
 # The instructions that access a RAM chip: its characters, its status characters and its port.
 FOR_RAM = {"WRM", "RDM", "ADM", "SBM", "WMP", *(f"{way}{k}" for way in ("WR", "RD") for k in range(4))}
 MISTAKES = ("code", "call", "return", "ram", "rom", "rdr", "wrr")
-# The attributes of a board with the number of its open calls, its stopwatch, what that shows, what it looks for, and the marks seen.
+# The attributes that the search adds to a board: the number of open calls, the stopwatch, the cycles that it shows, the marks to see, and the number
+# of marks that were seen.
 CALLS, STOPWATCH, ELAPSED, MARK_SEQUENCE, SEEN = "calls", "stopwatch", "elapsed", "mark_sequence", "seen"
 
 
@@ -124,7 +128,7 @@ def set_calls(board: Board, calls: int) -> None:
 
 @dataclass
 class Stopwatch:
-    """Counts cycles from the place where it starts to the place where it stops."""
+    """Counts cycles from the time at which `begins` becomes true until `ends` becomes true."""
 
     begins: Condition
     ends: Condition
@@ -157,19 +161,19 @@ def elapsed_after(board: Board) -> int:
 
 @dataclass
 class MarkSequence:
-    """The marks that must be seen, in order, from the cycle in which the condition `opens` fails to the cycle in which it holds."""
+    """The marks that must be seen, in order, between two times at which the condition `opens` is true."""
 
     opens: Condition
     marks: list[Mark]
 
 
 def mark_sequence_of(board: Board) -> MarkSequence | None:
-    """Returns the marks that a board counts, or None."""
+    """Returns the marks that must be seen on a board, or None if the question has no marks."""
     return getattr(board, MARK_SEQUENCE, None)
 
 
 def seen_of(board: Board) -> int:
-    """Returns the number of marks seen. While the condition holds, and in the cycle after that, returns one more than there are."""
+    """Returns the number of marks seen so far. While the condition is true, and in the cycle after that, returns the number of all marks plus 1."""
     return getattr(board, SEEN, 0)
 
 
@@ -193,8 +197,8 @@ def all_keys(board: Board) -> list[tuple[int, int]]:
 
 
 def is_shown(board: Board, mark: Mark) -> bool:
-    """Returns true if the next cycle reads a port, and the value can be read only with the key of a mark at its level: the line of its column is 1
-    although the other keys cannot pull it, or it is 0 although this key would pull it."""
+    """Returns true if the next cycle sees a mark: it reads a port, and the value that it reads proves that the mark's key is down or up. The key is
+    down if the line of its column is 1 although no other key can pull it to 1. It is up if the line is 0 although this key would pull it to 1."""
     level, *place = mark
     key, chips = (place[0], place[1]), board.chips
     if begins(board)[0] != "RDR" or key not in all_keys(board):
@@ -208,7 +212,7 @@ def is_shown(board: Board, mark: Mark) -> bool:
 
 
 def seen_after(board: Board) -> int:
-    """Returns how many marks were seen after the next cycle."""
+    """Returns the number of marks that will have been seen after the next cycle, as `seen_of` counts them."""
     sequence = mark_sequence_of(board)
     if not sequence:
         return 0
@@ -219,14 +223,14 @@ def seen_after(board: Board) -> int:
 
 
 def is_early(board: Board) -> bool:
-    """Returns true if the condition holds before all marks were seen."""
+    """Returns true if the condition is true although not all marks were seen."""
     sequence = mark_sequence_of(board)
     return sequence is not None and seen_of(board) < len(sequence.marks) and sequence.opens(board)
 
 
-def read_by(board: Board, name: str) -> list[int]:
+def words_read(board: Board, name: str) -> list[int]:
     """Returns the addresses of the ROM words that the instruction at the counter reads: its own words, and for FIN the word that it loads."""
-    behind = (board.pc + 1) % ADDRESSES
+    behind = (board.pc + 1) % ADDRESS_COUNT
     return [board.pc] + ([behind] if name in TWO_WORDS else []) + ([behind & 0xF00 | board.pair(0)] if name == "FIN" else [])
 
 
@@ -242,15 +246,15 @@ def mistakes(board: Board) -> set[str]:
         "call": name == "JMS" and calls_of(board) == OPEN_CALLS,
         "return": name == "BBL" and calls_of(board) == 0,
         "ram": name in FOR_RAM and not chips.has_ram(board.dcl, chips.bank_src[board.dcl]),
-        "rom": any(address >> 8 not in chips.masks for address in read_by(board, name)),
+        "rom": any(address >> 8 not in chips.masks for address in words_read(board, name)),
         "rdr": name == "RDR" and "i" not in port,
         "wrr": name == "WRR" and port.strip("i") == "",
     }.items() if is_made}
 
 
 def cycle(board: Board) -> None:
-    """Does one cycle, which can open or close a call. A fourth call replaces the first one. At a code outside the table, only the stopwatch
-    and the search for marks continue."""
+    """Executes one cycle, which can open or close a call. A fourth nested call replaces the first one. At a code that is not an instruction, only the
+    stopwatch and the number of marks can change."""
     elapsed, seen = elapsed_after(board), seen_after(board)
     if board.owed or not board.is_outside():
         name = "" if board.owed else CODES[board.rom[board.pc]][0]
@@ -275,7 +279,7 @@ def is_met(board: Board, condition: Comparison | Mistakes) -> bool:
 
 
 def condition_of(rows: list[Row]) -> Condition:
-    """Returns the function that tests whether all conditions of any row are met at the same time."""
+    """Returns a function that returns true if all conditions of at least one row are met."""
     return lambda board: any(all(is_met(board, each) for each in row) for row in rows)
 
 
@@ -285,7 +289,8 @@ def is_late(board: Board, within: int | None) -> bool:
 
 
 def fault_of(question: Question) -> Condition:
-    """Returns the function that tests whether the forbidden conditions are met, the stopwatch is late, or a condition comes before its marks."""
+    """Returns a function that returns true if the question's property fails: a row of `nevers` is met, the stopwatch exceeds its limit, or a row of
+    `opens` is met before its marks were seen."""
     is_bad = condition_of(question.nevers)
     return lambda board: is_bad(board) or is_late(board, question.within) or is_early(board)
 
@@ -293,7 +298,8 @@ def fault_of(question: Question) -> Condition:
 # ---- what a machine reads
 
 def begins(board: Board) -> tuple[str, int]:
-    """Returns the instruction that takes effect in the next cycle, and its lower half. The name is empty if there is none."""
+    """Returns the mnemonic of the instruction that takes effect in the next cycle, and the lower half of its code. The mnemonic is "" if there is no
+    such instruction."""
     return ("", 0) if board.owed or board.is_outside() else CODES[board.rom[board.pc]]
 
 
@@ -304,8 +310,7 @@ def is_reading(board: Board) -> bool:
 
 
 def port_values(board: Board) -> dict[int, Levels]:
-    """Returns the values that RDR can read, each with keys that produce it. Keys combine: two keys together pull all lines that either of them
-    pulls."""
+    """Returns the values that RDR can read, each with keys that produce it. Two keys together pull all lines that either of them pulls."""
     chips = board.chips
     port = chips.rom_src >> 4
 
@@ -334,7 +339,8 @@ def values_read(board: Board) -> dict[int, Levels]:
 # ---- from state to state
 
 def saved(board: Board) -> tuple:
-    """Returns the whole state of a machine except its inputs, the number of open calls, what the stopwatch shows, and the marks seen."""
+    """Returns the state of a machine: everything except its inputs, and also the number of open calls, the cycles that the stopwatch shows, and the
+    number of marks seen."""
     chips = board.chips
     return (board.acc, board.cy, board.pc, board.dcl, board.owed, tuple(board.r), tuple(board.ret), chips.rom_src, tuple(chips.bank_src),
             tuple(chips.rom_latch.values()), tuple(chips.ram_latch.values()), tuple(map(tuple, chips.chains)),
@@ -356,8 +362,8 @@ def load(board: Board, state: tuple) -> None:
 
 
 def go_on(board: Board, levels: Levels, is_bad: Condition, pause: int) -> tuple[int, bool]:
-    """Executes one cycle at these levels, then continues to the next state. Returns the number of cycles, and true if the forbidden conditions were
-    met after the last one."""
+    """Executes one cycle with these levels of keys and TEST, and then continues to the next state. Returns the number of cycles, and true if the
+    property failed after the last one."""
     board.chips.down, board.test = set(levels[0]), levels[1]
     at, state = board.pc, saved(board)
     for cycles in range(1, pause + 2):
@@ -388,7 +394,7 @@ def power_on(question: Question) -> Board:
 
 
 def search(question: Question) -> Found:
-    """Returns the verdict on a question."""
+    """Searches for a failure of the question's property, and returns the result."""
     board, is_bad = power_on(question), fault_of(question)
     if is_bad(board):
         return Found("may fail", 1)
@@ -400,7 +406,7 @@ def search(question: Question) -> Found:
         for value, levels in sorted(values_read(board).items()):
             load(board, state)
             if go_on(board, levels, is_bad, question.pause)[1]:
-                return Found("may fail", len(states), [*way_to(came, at), value])
+                return Found("may fail", len(states), [*values_leading_to(came, at), value])
             there = saved(board)
             if there not in known:
                 if len(states) == question.most:
@@ -411,8 +417,8 @@ def search(question: Question) -> Found:
     return Found("holds", len(states))
 
 
-def way_to(came: list[tuple[int, int]], at: int) -> list[int]:
-    """Returns the values that lead to a state."""
+def values_leading_to(came: list[tuple[int, int]], at: int) -> list[int]:
+    """Returns the values that the program reads on the way to a state."""
     way = []
     while at:
         at, value = came[at]
@@ -421,7 +427,7 @@ def way_to(came: list[tuple[int, int]], at: int) -> list[int]:
 
 
 def is_met_when_driven(question: Question, chance: random.Random, cycles: int) -> bool:
-    """Returns true if the forbidden conditions are met within a number of cycles, with random keys and a random TEST level before each."""
+    """Returns true if the property fails within a number of cycles when keys and TEST are set at random before each cycle."""
     board, is_bad = power_on(question), fault_of(question)
     chips = board.chips
     for _cycle in range(cycles):
@@ -443,8 +449,8 @@ def commands(levels: Levels, before: Levels) -> list[str]:
 
 
 def replayed(question: Question, way: list[int]) -> tuple[list[str], str]:
-    """Returns the session lines that replay a counterexample up to the cycle that meets the forbidden conditions, or a description of the
-    error."""
+    """Returns the session lines that replay a counterexample up to the cycle in which the property fails, and a description of the error, or "" if
+    there is none."""
     board, is_bad, before = power_on(question), fault_of(question), NO_LEVELS
     lines, bad = [*question.begun(), "reset"], is_bad(board)
     for n, value in enumerate(way):

@@ -1,17 +1,17 @@
 """Random boards, programs and commands, reproducible by a seed. All of them are texts as a user types them.
 
-Many contain details that tools once reported incorrectly: addresses such as 0E0 and 1E2, and the names `inf` and `nan`, which some parsers read as
-numbers; and a single chain of up to 80 bits that is clocked often.
+Many contain details that tools once reported incorrectly: addresses such as 0E0 and 1E2 and the names `inf` and `nan`, which some parsers read as
+numbers, and a chain of up to 80 bits that is clocked often.
 """
 
 from __future__ import annotations
 
 import random
 
-from assembler import ADDRESSES, ALONE, ON_PAIR, ON_REGISTER
+from assembler import ADDRESS_COUNT, CODES_WITHOUT_OPERAND, CODES_ON_PAIR, CODES_ON_REGISTER
 from board4004 import Board
 
-OUTSIDE = [*range(1, 16), 0xE3, 0xFE, 0xFF]
+INVALID_CODES = [*range(1, 16), 0xE3, 0xFE, 0xFF]
 JUMPS = ("JUN", "JMS", "JCN", "ISZ")
 NAMES = ("inf", "nan", "INFINITY", "infinity", "NaN", "INF", "e0", "E1", "_0E0", "x1e2")
 ORIGINS = (0x00, 0x02, 0x1E, 0x40, 0xD9, 0xDE, 0xE0, 0xE1, 0xF0, 0xF9)
@@ -20,12 +20,12 @@ LONGEST = 16384
 
 
 class Wiring:
-    """A board: its text, and the parts that a program can use."""
+    """A random board: its text, and the parts that a program can use."""
 
     def __init__(self, chance: random.Random) -> None:
         self.chance = chance
         pages = {0, *chance.choices([1, 1, 2, 14, 15, chance.randrange(16)], k=chance.randrange(1, 3))}
-        # Also the page after a page, because instructions at the end of a page continue there.
+        # Often includes the page after each page, because instructions at the end of a page continue there.
         self.pages = sorted(pages | {(page + 1) % 16 for page in pages if chance.random() < 0.4})
         ports = {*self.pages, *chance.sample(range(16), chance.randrange(4))}
         self.ports = {chip: chance.choice(["0000", "0000", "1111", "".join(chance.choices("i01", k=4)), "iiii"]) for chip in sorted(ports)}
@@ -71,14 +71,14 @@ class Wiring:
 
 
 class Program:
-    """A program for a board: instructions at several addresses, then targets for its jumps."""
+    """A random program for a board: instructions at several addresses, and then targets for its jumps."""
 
     def __init__(self, chance: random.Random, wiring: Wiring) -> None:
         self.chance, self.wiring = chance, wiring
-        # The address and the words of each statement; the targets of jumps are added later.
+        # The text of the statement at each address. The targets of jumps are added later.
         self.statements: dict[int, str] = {}
         self.loops: dict[int, int] = {}
-        self.free = set(range(ADDRESSES))
+        self.free = set(range(ADDRESS_COUNT))
         for page in wiring.pages:
             for word in {0, *chance.sample(ORIGINS, 2)} if page == 0 else chance.sample(ORIGINS, chance.randrange(1, 4)):
                 self.put_part(256 * page + word, chance.randrange(4, 30))
@@ -88,13 +88,13 @@ class Program:
         self.names = self.some_names()
 
     def put_part(self, at: int, phrases: int) -> None:
-        """Adds phrases from an address on, as far as there is room, and an end: a jump, a code that is not an instruction, or whatever
-        follows."""
+        """Adds phrases (short sequences of instructions) from an address on, as far as there is room. Usually ends them by a jump, or by a code that
+        is not an instruction."""
         statement = [word for _n in range(phrases) for word in self.phrase()]
-        self.put(at, statement + self.chance.choice([["JUN"], ["JUN"], ["BBL 3"], [f"DB 0x{self.chance.choice(OUTSIDE):02X}"], []]))
+        self.put(at, statement + self.chance.choice([["JUN"], ["JUN"], ["BBL 3"], [f"DB 0x{self.chance.choice(INVALID_CODES):02X}"], []]))
 
     def put(self, at: int, statements: list[str]) -> None:
-        """Adds statements from an address on, as far as there is room. `^4` jumps back by four of them."""
+        """Adds statements from an address on, as far as there is room. `^4` in a jump is the target four statements before it."""
         put: list[int] = []
         for statement in statements:
             statement, _sign, back = statement.partition(" ^")
@@ -150,10 +150,10 @@ class Program:
 
     def any_instruction(self, value: int, pair: int) -> str:
         """Returns one of the 45 instructions."""
-        name = self.chance.choice([*ALONE, *ON_REGISTER, *ON_PAIR, *JUMPS, "FIM", "LDM", "BBL", "ISZ", "JMS"])
+        name = self.chance.choice([*CODES_WITHOUT_OPERAND, *CODES_ON_REGISTER, *CODES_ON_PAIR, *JUMPS, "FIM", "LDM", "BBL", "ISZ", "JMS"])
         if name == "FIM":
             return f"FIM P{pair}, 0x{self.chance.randrange(256):02X}"
-        operand = f" P{pair}" if name in ON_PAIR else f" R{value}" if name in (*ON_REGISTER, "ISZ") else ""
+        operand = f" P{pair}" if name in CODES_ON_PAIR else f" R{value}" if name in (*CODES_ON_REGISTER, "ISZ") else ""
         return name + (operand or (f" {value}" if name in ("LDM", "BBL", "JCN") else ""))
 
     def some_names(self) -> dict[int, str]:
@@ -165,9 +165,9 @@ class Program:
         """Returns the target of a jump, usually an instruction."""
         if at in self.loops:
             return self.names.get(self.loops[at], f"0x{self.loops[at]:03X}")
-        page = (at + 2) % ADDRESSES >> 8 if name in ("JCN", "ISZ") else self.chance.choice(self.wiring.pages)
+        page = (at + 2) % ADDRESS_COUNT >> 8 if name in ("JCN", "ISZ") else self.chance.choice(self.wiring.pages)
         there = [other for other in self.begins if other >> 8 == page]
-        # A loop of a few instructions ends soon.
+        # The targets up to 12 bytes before the jump, which make a short loop.
         near = [other for other in there if at - 12 < other <= at]
         if name == "ISZ" and near and self.chance.random() < 0.7:
             there = near
@@ -191,7 +191,7 @@ class Program:
 
 
 class Seeded:
-    """A board, a program, and the commands before the first question."""
+    """A random board and program, and random commands for a session with them."""
 
     def __init__(self, seed: int) -> None:
         self.chance = random.Random(seed)
@@ -201,7 +201,7 @@ class Seeded:
         self.program_text = self.program.text()
 
     def begun(self) -> list[str]:
-        """Returns the lines that set up the session."""
+        """Returns the session lines that set up the board and the program."""
         return ["wire", *self.board_text, ".", "asm", *self.program_text, "."]
 
     def somewhere(self) -> int:
@@ -212,7 +212,7 @@ class Seeded:
         ends = [at for at in self.program.begins if at & 0xFC == 0xFC]
         if ends and self.chance.random() < 0.2:
             return self.chance.choice(ends)
-        return self.chance.choice(self.program.begins) if self.chance.random() < 0.95 else self.chance.randrange(ADDRESSES)
+        return self.chance.choice(self.program.begins) if self.chance.random() < 0.95 else self.chance.randrange(ADDRESS_COUNT)
 
     def character(self) -> tuple[int, int]:
         """Returns a RAM nibble, usually of an existing chip."""
@@ -233,7 +233,7 @@ class Seeded:
         return chance.choice(kinds)
 
     def stop(self, board: Board) -> str:
-        """Returns a command that sets or removes a breakpoint or a watch, usually one that the board reaches, or the one at which it stopped."""
+        """Returns a command that sets or removes a breakpoint or a watch, usually one that the program soon reaches, or at which it has stopped."""
         ahead, visited, written = board.copy(), [board.pc], [self.character()]
         ahead.breaks = set()
 

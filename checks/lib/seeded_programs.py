@@ -1,7 +1,7 @@
-"""Programs for the checks: those of the examples, and random ones. Most of the random ones have no error, and some have one or more.
+"""Programs for the checks: those of the examples, and random ones, some of which have errors.
 
-As a command, `seeded_programs.py FOLDER ACCEPTED REFUSED` writes random programs into a folder, as `NUMBER.asm`: ACCEPTED programs that the
-assembler of the checks accepts, and among them REFUSED programs that it rejects.
+As a command, `seeded_programs.py FOLDER ACCEPTED REFUSED` writes random programs into a folder, as `NUMBER.asm`. ACCEPTED of them are accepted by the
+second assembler (assembler.py), and REFUSED of them are rejected, in random order.
 """
 
 import itertools
@@ -28,7 +28,7 @@ def seeded(number):
     """Returns a random program. Most have no error, and some have one or more."""
     chance = random.Random(number)
     names = [f"n{i}" for i in range(8)]
-    # The names that are not defined yet. Those that remain are defined at the end, so that most programs are accepted.
+    # The names that no line has defined so far. The names that are left are defined at the end, so that most programs are accepted.
     free = list(names)
     chance.shuffle(free)
 
@@ -55,13 +55,13 @@ def seeded(number):
     return lines + [f"{name}:" for name in free if chance.random() < 0.98]
 
 
-# Lines with each kind of error. Some are wrong on their own, and some only in most programs.
+# Lines with each kind of error. Some are always wrong, and others only in most programs.
 WRONG = ("FOO", "LDM", "NOP NOP", "1: NOP", "DB 1,, 2", "ORG 4096", "n9 = 5000", "n0: NOP", "n1 = 7", "P1 = 3", "ORG 4095", "JUN n20", "LDM 16",
          "DB 256", "FIM P0, 300", "ISZ R1, 0xF00", "JCN 4, 2000", "BBL n21")
 
 
 def wrong(number):
-    """Returns a random program with wrong lines. In half of the programs, the errors are only in the bytes of these lines."""
+    """Returns a random program with wrong lines. In half of the programs, only the assembler's second pass finds these errors."""
     chance = random.Random(number)
     lines = seeded(number)
     rows = WRONG if chance.random() < 0.5 else WRONG[11:]

@@ -1,6 +1,6 @@
-"""Random questions to mcs4-prove, reproducible by a seed: a random board (seeded_boards.py), a short program that reads keys and TEST in loops,
-and comparisons of values that such a program changes. Some of the comparisons become true, some never. Some questions also ask for mistakes, a
-quarter of them for a time, and a quarter for marks.
+"""Random questions to mcs4-prove, reproducible by a seed. Each has a random board (seeded_boards.py), a short program that reads keys and TEST in
+loops, and comparisons of values that such a program changes. Some of the comparisons become true, and some never do. Some questions also ask for
+mistakes of the program. A quarter of the questions have a stopwatch, and a quarter have marks (second_search.py explains these words).
 """
 
 from __future__ import annotations
@@ -10,21 +10,21 @@ import dataclasses
 import random
 from collections.abc import Iterator
 
-from assembler import ALONE
+from assembler import CODES_WITHOUT_OPERAND
 from board4004 import Board
 from second_search import (
     MISTAKES, Comparison, Mark, Question, Row, all_keys, cell, elapsed_of, go_on, is_shown, power_on, values_read)
-from seeded_boards import OUTSIDE, Program, Seeded, Wiring
+from seeded_boards import INVALID_CODES, Program, Seeded, Wiring
 
 # Most of the instructions that do not access a chip.
-HANDY = ["CLB", "CLC", "IAC", "CMC", "CMA", "RAL", "RAR", "TCC", "DAC", "TCS", "STC", "DAA", "KBP"]
+CHIPLESS = ["CLB", "CLC", "IAC", "CMC", "CMA", "RAL", "RAR", "TCC", "DAC", "TCS", "STC", "DAA", "KBP"]
 LENGTHS = {"character": 2048, "status": 512, "ramport": 32, "romport": 16, "banksrc": 8, "register": 16, "counter": 14,
            "chain0": 256, "chain1": 256, "chain2": 256, "chain3": 256}
-# The maximum number of states in a walk that looks for values, and the number of walks that look for a time.
-WALK, WAYS = 12, 8
+# The maximum number of states in a random walk that records values, and the number of random walks that measure a time.
+MAX_WALK_STATES, TIMED_WALKS = 12, 8
 
 
-class Asking(Program):
+class ReadingProgram(Program):
     """A short program that reads keys and TEST repeatedly."""
 
     def __init__(self, chance: random.Random, wiring: Wiring) -> None:
@@ -32,14 +32,14 @@ class Asking(Program):
         self.statements, self.loops, self.names = {}, {}, {}
         self.free = set(range(0x1000))
         self.registers = chance.sample(range(16), 2)
-        words = [word for _n in range(chance.randrange(0, 3)) for word in self.prepared()]
+        words = [word for _n in range(chance.randrange(0, 3)) for word in self.phrases_before_loop()]
         words += [word for _n in range(chance.randrange(2, 7)) for word in self.loop_phrases()]
-        ends = [["JUN"]] * 8 + [["BBL 3"], [f"DB 0x{chance.choice(OUTSIDE):02X}"], []]
+        ends = [["JUN"]] * 8 + [["BBL 3"], [f"DB 0x{chance.choice(INVALID_CODES):02X}"], []]
         self.put(0, words + chance.choice(ends))
         self.begins = [at for at, statement in self.statements.items() if not statement.startswith("DB")]
 
-    def prepared(self) -> list[str]:
-        """Returns the phrases before the loop, which shift bits into a chain, or write a value to a port."""
+    def phrases_before_loop(self) -> list[str]:
+        """Returns the phrases before the program's loop. They shift bits into a chain, or write a value to a port."""
         if self.wiring.chains and self.chance.random() < 0.8:
             clock, data, _chips = self.chance.choice([self.wiring.chains[self.wiring.driver], self.chance.choice(self.wiring.chains)])
             return self.pulses(clock, data)
@@ -73,23 +73,23 @@ class Asking(Program):
         if kind < 0.65:
             return [f"INC R{register}"] if chance.random() < 0.5 else [f"ISZ R{register}"]
         if kind < 0.75:
-            return self.prepared()
+            return self.phrases_before_loop()
         if kind < 0.80:
             return [chance.choice(["JMS", "BBL 1", f"LDM {chance.randrange(16)}", "JUN"])]
         if kind < 0.88:
             return [chance.choice(["RDM", "ADM", "SBM", "RD0", "RD1"]), *self.used(register)]
-        return [self.any_instruction(register, register // 2)] if chance.random() < 0.3 else [chance.choice(HANDY)]
+        return [self.any_instruction(register, register // 2)] if chance.random() < 0.3 else [chance.choice(CHIPLESS)]
 
     def used(self, register: int) -> list[str]:
         """Returns phrases that use a value that was read."""
         chance = self.chance
-        written = [name for name in ALONE if name.startswith("W") and name != "WPM"]
+        written = [name for name in CODES_WITHOUT_OPERAND if name.startswith("W") and name != "WPM"]
         return chance.choice([
             [], ["KBP"], [f"XCH R{register}"], [chance.choice(written)], [chance.choice(written)], [f"JCN {chance.choice([4, 12])}"],
-            ["RAR", f"JCN {chance.choice([2, 10])}"], [f"ADD R{register}"], [chance.choice(HANDY)], [f"INC R{register}"], ["RAR", "TCC", "WMP"]])
+            ["RAR", f"JCN {chance.choice([2, 10])}"], [f"ADD R{register}"], [chance.choice(CHIPLESS)], [f"INC R{register}"], ["RAR", "TCC", "WMP"]])
 
 
-class Keys(Wiring):
+class KeyWiring(Wiring):
     """A small board with a key matrix."""
 
     def __init__(self, chance: random.Random) -> None:
@@ -103,11 +103,11 @@ class Keys(Wiring):
         self.columns = chance.choices(self.inputs, k=chance.randrange(1, 4))
 
 
-class AskingKeys(Asking):
-    """A short program that drives rows of keys and reads their columns."""
+class KeyReadingProgram(ReadingProgram):
+    """A short program that drives the rows of a key matrix and reads the columns."""
 
-    def prepared(self) -> list[str]:
-        """Returns phrases that drive rows."""
+    def phrases_before_loop(self) -> list[str]:
+        """Returns phrases that drive rows of the key matrix."""
         return [phrase for _n in range(2) for phrase in self.pulses("rom0.0", "rom0.1")]
 
     def loop_phrases(self) -> list[str]:
@@ -117,11 +117,11 @@ class AskingKeys(Asking):
         return super().loop_phrases()
 
 
-def walked(question: Question, chance: random.Random) -> Iterator[Board]:
+def random_walk(question: Question, chance: random.Random) -> Iterator[Board]:
     """Yields the machine at several states of a random walk."""
     board = power_on(question)
     yield board
-    for _n in range(chance.randrange(WALK)):
+    for _n in range(chance.randrange(MAX_WALK_STATES)):
         values = values_read(board)
         go_on(board, values[chance.choice(sorted(values))], lambda _board: False, min(question.pause, 50))
         yield board
@@ -138,7 +138,8 @@ def cells_of(wiring: Wiring) -> list[tuple[str, int]]:
 
 
 def comparison(chance: random.Random, wiring: Wiring, boards: list[dict[tuple[str, int], int]]) -> Comparison:
-    """Returns a comparison, usually of a cell that changes on the walk, with a value that it has there or with another one."""
+    """Returns a comparison, usually of a cell that changes on a random walk. It compares the cell with one of its values there, or with another
+    value."""
     name, index = chance.choice(cells_of(wiring))
     changing = [each for each in boards[0] if len({seen[each] for seen in boards}) > 1]
     if changing and chance.random() < 0.8:
@@ -157,18 +158,18 @@ def comparison(chance: random.Random, wiring: Wiring, boards: list[dict[tuple[st
 
 
 def at_address(seen: dict[tuple[str, int], int]) -> Row:
-    """Returns comparisons that hold between two instructions at the counter of a recorded state."""
+    """Returns comparisons that are true when the program counter has the value in a recorded state, between two instructions."""
     return [("in", "counter", 3, "whole", 0, 0), *(("in", "counter", n, "whole", *[seen["counter", n]] * 2) for n in (4, 5))]
 
 
 def opposite(words: Comparison) -> Comparison:
-    """Returns the comparison that holds when another one does not."""
+    """Returns the comparison that is true when another one is false."""
     return ("out" if words[0] == "in" else "in", *words[1:])
 
 
-def timed(question: Question, chance: random.Random, wiring: Wiring, boards: list[dict[tuple[str, int], int]]) -> None:
-    """Adds a time to a question: how long a condition holds, or the time from one address to another. Its limit is near the longest time on several
-    walks."""
+def add_stopwatch(question: Question, chance: random.Random, wiring: Wiring, boards: list[dict[tuple[str, int], int]]) -> None:
+    """Adds a stopwatch to a question. It measures how long a condition is true, or the time from one address to another. Its limit is near the
+    longest time on several random walks."""
     if chance.random() < 0.5:
         question.nevers = []
     kind = chance.random()
@@ -181,29 +182,30 @@ def timed(question: Question, chance: random.Random, wiring: Wiring, boards: lis
         question.begins = [[comparison(chance, wiring, boards)] for _row in range(chance.choice([1, 2]))]
         question.ends = [[comparison(chance, wiring, boards), *([("mistake", *MISTAKES)] if chance.random() < 0.2 else [])] for _row in range(chance.choice([1, 2]))]
     if chance.random() < 0.15:
-        # The reading of the stopwatch itself, in its lowest byte.
+        # Compares the lowest byte of the number that the stopwatch shows.
         question.ends.append([("in", "counter", 16, "whole", chance.randrange(1, 6), 255)])
     question.within = max(0, longest_seen(question, chance) + chance.choice([-1, 0, 0, 0, 1, 3]))
 
 
 def longest_seen(question: Question, chance: random.Random) -> int:
-    """Returns the longest time that the stopwatch of a question shows on several walks."""
+    """Returns the longest time that the stopwatch of a question shows on several random walks."""
     shown = [0]
 
     def note(board: Board) -> bool:
         shown.append(elapsed_of(board))
         return False
 
-    for _way in range(WAYS):
+    for _way in range(TIMED_WALKS):
         board = power_on(dataclasses.replace(question, within=0))
-        for _n in range(WALK):
+        for _n in range(MAX_WALK_STATES):
             values = values_read(board)
             go_on(board, values[chance.choice(sorted(values))], note, min(question.pause, 50))
     return max(shown)
 
 
-def marked(question: Question, chance: random.Random, wiring: Wiring) -> None:
-    """Adds marks that must be seen before a condition is met: mostly such as reads show on some way, before a value is there first."""
+def add_marks(question: Question, chance: random.Random, wiring: Wiring) -> None:
+    """Adds marks that must be seen before a cell has a certain value. On a random walk, the cell gets this value for the first time after reads that
+    usually show these marks."""
     if chance.random() < 0.5:
         question.nevers = []
     cells, way = cells_of(wiring), marks_on_way(question, chance)
@@ -220,13 +222,13 @@ def marked(question: Question, chance: random.Random, wiring: Wiring) -> None:
     places = sorted(chance.sample(range(len(shown)), min(len(shown), chance.choice([1, 1, 1, 2, 2, 3]))))
     question.marks = [shown[place] for place in places] or [("up", 0, 0), ("down", 0, 0)][:chance.choice([1, 2])]
     if chance.random() < 0.15:
-        # How many marks were seen, itself.
+        # Compares the number of marks that were seen.
         question.nevers.append([("in", "counter", 17, "whole", chance.randrange(1, len(question.marks) + 2), 255)])
 
 
-def waiting(chance: random.Random, wiring: Wiring) -> Question:
-    """Returns a question about a program that waits for keys of a row, one after the other, and then shows a number in a register. Some of these
-    programs do not wait until a key is up, some drive other rows as well, and some questions ask for other marks."""
+def key_waiting_question(chance: random.Random, wiring: Wiring) -> Question:
+    """Returns a question about a program that waits until keys of a row are pressed, one after another, and then stores a number in a register. Some
+    of these programs do not wait until a key is up, some drive other rows as well, and some questions have marks of other keys."""
     row, register, number = chance.randrange(wiring.rows), chance.randrange(12), chance.randrange(1, 16)
     program, marks = [" FIM P7, 0", " SRC P7"], []
     for bit in range(wiring.first + row + 1):
@@ -249,7 +251,7 @@ def waiting(chance: random.Random, wiring: Wiring) -> Question:
 def marks_on_way(question: Question, chance: random.Random) -> list[tuple[Board, list[Mark]]]:
     """Returns the machine at some states of a random walk, each with the marks that the next cycle shows."""
     board, way = power_on(question), []
-    for _n in range(2 * WALK):
+    for _n in range(2 * MAX_WALK_STATES):
         values = values_read(board)
         levels = values[chance.choice(sorted(values))]
         board.chips.down = set(levels[0])
@@ -267,25 +269,25 @@ def seeded_question(seed: int, most: int) -> Question:
         seeded = Seeded(seed)
         wiring, question = seeded.wiring, Question(seeded.board_text, seeded.program_text)
     elif seed % 8 == 6:
-        wiring = Keys(chance)
-        question = waiting(chance, wiring)
+        wiring = KeyWiring(chance)
+        question = key_waiting_question(chance, wiring)
     elif seed % 8 == 2:
-        wiring = Keys(chance)
-        question = Question(wiring.text(), AskingKeys(chance, wiring).text())
+        wiring = KeyWiring(chance)
+        question = Question(wiring.text(), KeyReadingProgram(chance, wiring).text())
     else:
         wiring = Wiring(chance)
-        question = Question(wiring.text(), Asking(chance, wiring).text())
+        question = Question(wiring.text(), ReadingProgram(chance, wiring).text())
     question.most, question.pause = most, chance.choice([1, 2, 7, 30, 100, 300])
     if seed % 8 == 6:
         return question
     cells = cells_of(wiring)
-    boards = [{each: cell(board, *each) for each in cells} for board in walked(question, chance)]
+    boards = [{each: cell(board, *each) for each in cells} for board in random_walk(question, chance)]
     question.nevers = [[comparison(chance, wiring, boards) for _each in range(chance.choice([1, 2, 2, 3]))] for _row in range(chance.choice([0, 1, 1, 1, 2]))]
     if chance.random() < 0.5:
         mistake_condition = ("mistake", *chance.sample(MISTAKES, chance.choice([1, 1, 2, len(MISTAKES)])))
         question.nevers.append([mistake_condition, *([comparison(chance, wiring, boards)] if chance.random() < 0.2 else [])])
     if seed % 4 == 1:
-        timed(question, chance, wiring, boards)
+        add_stopwatch(question, chance, wiring, boards)
     if seed % 8 == 2:
-        marked(question, chance, wiring)
+        add_marks(question, chance, wiring)
     return question

@@ -1,7 +1,7 @@
-"""Writes and reads session files as docs/FORMAT.md specifies, without the program, and has a bench with a few commands to fill them.
+"""Writes and reads session files as docs/FORMAT.md specifies, without the program. Implements the few commands with which the checks fill the files.
 
-`Kept` contains the expected contents of a session's file after each accepted command: its snapshot, its records, and all other bytes, except the
-unused rest of a snapshot area.
+`ExpectedSession` computes the expected bytes of a session's file after each accepted command: its snapshot, its records, and all other bytes, except
+the unused part of each snapshot area.
 """
 
 import copy
@@ -44,7 +44,8 @@ def name_of(line):
 
 @dataclasses.dataclass
 class Board:
-    """Ports by chip, chips by bank, chains as (clock, data, chips), keys as (chain, first, rows, columns), and lamps as lines."""
+    """A board: the ports by the ROM's number, the numbers of RAM chips by bank, chains as (clock, data, chips), keys as (chain, first, rows,
+    columns), and lamps as lines."""
     roms: dict = dataclasses.field(default_factory=dict)
     banks: dict = dataclasses.field(default_factory=dict)
     chains: list = dataclasses.field(default_factory=list)
@@ -68,7 +69,7 @@ class Board:
         return self.keys[2] * len(self.keys[3]) if self.keys else 0
 
     def tables(self):
-        """Returns the tables of the board's text, each with the key that it is below: ROMs and banks by number, then chains, keys and lamps."""
+        """Returns the tables of the board's text, each with the name of its section: ROMs and banks by number, then chains, keys and lamps."""
         found = [("rom", {"chip": chip, "port": self.roms[chip]}) for chip in sorted(self.roms)]
         found += [("ram", {"bank": bank, "chips": self.banks[bank]}) for bank in sorted(self.banks)]
         found += [("chain", {"clock": name_of(clock), "data": name_of(data), "chips": chips}) for clock, data, chips in self.chains]
@@ -151,7 +152,7 @@ class State:
             assert code == 0, f"the checks have no instruction {code:02X}"
 
     def run(self, cycles):
-        """Runs a number of cycles, or up to a breakpoint. Returns the words about the number of cycles and the reason for the stop."""
+        """Runs a number of cycles, or up to a breakpoint. Returns the part of the answer with the number of cycles and the reason for the stop."""
         start = self.place()
         done = left_out = 0
         while done + left_out < cycles:
@@ -168,7 +169,7 @@ class State:
         return self.counter, self.owed, self.accumulator, self.carry, bytes(self.registers)
 
     def step(self):
-        """Runs one instruction, or the second cycle of one. Returns the words about its cycles."""
+        """Runs one instruction, or its pending second cycle. Returns the part of the answer about its cycles."""
         was_owed = self.owed
         self.cycle()
         if not self.owed or was_owed:
@@ -189,8 +190,8 @@ class State:
 
 @dataclasses.dataclass
 class Command:
-    """A command: its lines, its record, its effect on a state (which can add to the answer `ok N`), and the number of cycles that it counts in a
-    log."""
+    """A command: its lines, its record, the function that applies it to a state and returns what the answer has after `ok N`, and the number of
+    cycles that it contributes to the cycles of a log."""
     text: str
     record: bytes
     do: object
@@ -225,12 +226,12 @@ def load(text, image):
 
 
 def run(cycles):
-    """Returns the command for a run. It counts all its cycles, even if a breakpoint stops it."""
+    """Returns the command for a run. A log counts all cycles of the command, even if a breakpoint stops the run."""
     return Command(f"run {cycles}\n", bytes([5]) + number(cycles, 4), lambda state: state.run(cycles), cycles)
 
 
 def step():
-    """Returns the command for a step. It counts two cycles."""
+    """Returns the command for a step. A log counts it as two cycles."""
     return Command("step\n", bytes([6]), State.step, 2)
 
 
@@ -267,7 +268,7 @@ def watch(bank, source):
 # --- files
 
 def read(file):
-    """Returns the snapshot and the records in a file, or None if the file does not have them."""
+    """Returns the snapshot and the records in a file, or None if the file is damaged."""
     if len(file) != SIZE or file[:8] != NAME or any(file[9:16]):
         return None
     slot = SLOTS[file[8] % 2]
@@ -300,8 +301,8 @@ def put_record(file, at, record):
     file[at:at + 3 + len(record) + 1] = b"\x01" + number(len(record), 2) + record + b"\x00"
 
 
-class Kept:
-    """A session, and the expected contents of its file."""
+class ExpectedSession:
+    """A session, and the expected bytes of its file."""
 
     def __init__(self, state=None, slot=0, version=2):
         """Starts a session at this state, with a snapshot in one of the slots."""
@@ -326,7 +327,7 @@ class Kept:
         self.held = (snapshot, [])
 
     def checkpoint(self):
-        """Replaces the contents with a snapshot in the other slot."""
+        """Writes a snapshot with an empty log to the other slot, and makes this slot the active one."""
         self._put_snapshot(1 - self.slot, 2)
         self.file[8] = self.slot
         self.version = 2

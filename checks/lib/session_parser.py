@@ -1,5 +1,5 @@
-"""Reads a session file as docs/FORMAT.md specifies: an independent parser for the bytes of states and commands. bench4004.py implements the effects
-of commands and their answers.
+"""A second reader of session files, written from docs/FORMAT.md alone: it parses the bytes of states and commands. bench4004.py then executes the
+commands and answers lines.
 """
 
 import re
@@ -11,26 +11,26 @@ MAX_COMMANDS = 2**32 - 1
 # The maximum numbers of chains, and of chips in a chain, by version.
 MAX_CHAINS = {1: 2, 2: 4}
 MAX_CHIPS = {1: 4, 2: 8}
-# Places by their numbers: the form of each, the maxima of the numbers in it, and the maximum of its value.
+# The places that `poke` sets, by their numbers in a record: the format of each, the maxima of the numbers in it, and the maximum of its value.
 PLACES = (("acc", 15), ("cy", 1), ("pc", 4095), ("r{}", 15, 15), ("dcl", 7), ("rom.{}", 4095, 255), ("ram.{}.{}", 7, 255, 15),
           ("st.{}.{}.{}", 7, 15, 3, 15))
-# The other commands whose operands are all numbers, by their tags.
+# The other commands whose operands are all numbers, by the first byte of their record, each with the maxima of its operands.
 COMMANDS = {3: ("press", 255, 255), 4: ("release", 255, 255), 5: ("run", 2**32 - 1), 6: ("step",), 8: ("test", 1), 9: ("reset",),
             10: ("break", 4095), 11: ("unbreak", 4095), 12: ("watch", 7, 255), 13: ("unwatch", 7, 255)}
 
 
 class Refused(Exception):
-    """The number of the refusal of a file."""
+    """Raised for a file that the program must reject, with the number of the error."""
 
 
 def require(holds):
-    """Raises the refusal of a damaged file if a condition does not hold."""
+    """Raises the error about a damaged file if a condition is false."""
     if not holds:
         raise Refused(51)
 
 
 class Reader:
-    """A reader of bytes, one after another."""
+    """Reads bytes from the beginning to the end."""
 
     def __init__(self, given):
         self.given, self.at = bytes(given), 0
@@ -41,13 +41,13 @@ class Reader:
         return self.given[self.at - count:self.at]
 
     def numbers(self, count, most):
-        """Returns `count` numbers of one byte each."""
+        """Reads `count` numbers of one byte each. None may be larger than `most`."""
         found = self.take(count)
         require(all(byte <= most for byte in {*found}))
         return bytearray(found)
 
     def number(self, most):
-        """Returns a number of 1, 2 or 4 bytes, depending on its maximum."""
+        """Reads a number of 1, 2 or 4 bytes, depending on its maximum."""
         found = int.from_bytes(self.take(1 if most < 256 else 2 if most < 65536 else 4), "big")
         require(found <= most)
         return found
@@ -59,7 +59,7 @@ class Reader:
 # --- boards
 
 def has_line(board, line):
-    """Returns true if a board has a line. A number that is not used is 0."""
+    """Returns true if a board has a line. The numbers that this kind of line does not use must be 0."""
     kind, number, second, third = line
     if kind == 0:
         return number in board.roms and second < 4 and third == 0
@@ -129,7 +129,7 @@ def read_state(snapshot):
 
 
 def absent_parts(state):
-    """Yields the parts that must be 0, because their chip is missing, or because an input line stores nothing."""
+    """Yields the parts of a state that must be 0, because their chip is missing, or because an input line stores nothing."""
     for chip in range(16):
         port = state.board.roms.get(chip, "iiii")
         yield b"" if chip in state.board.roms else state.rom[256 * chip:256 * chip + 256]
@@ -164,8 +164,8 @@ def bench_of(state):
 # --- commands
 
 def read_command(record, version):
-    """Returns the words of the session line of a record, and the cycles that it counts in a log. A text is a list of lines. A board is its whole
-    text."""
+    """Converts a record to the words of its session line. Returns them with the number of cycles that the log counts for the record. The text of a
+    program is a list of lines, and the text of a board is a single string."""
     reader = Reader(record)
     tag = reader.number(13 if version == 2 else 11)
     if tag == 1:
@@ -186,11 +186,11 @@ def read_command(record, version):
     return words, {"run": lambda: int(words[1]), "step": lambda: 2}.get(words[0], lambda: 0)()
 
 
-class Standing:
-    """What a file contains: a bench, the text of its board, and the version."""
+class ParsedFile:
+    """The contents of a session file: a bench in its state, the text of its board, and the version of the format."""
 
     def __init__(self, file):
-        """Reads a file. Raises `Refused` if it contains no state."""
+        """Reads a file. Raises `Refused` if the program must reject the file."""
         if len(file) != SIZE or file[:8] != NAME:
             raise Refused(50)
         held = read(file)

@@ -9,26 +9,27 @@ EACH_PART = Board({0: "1i0i"}, {1: 2}, [(rom_line(0, 1), rom_line(0, 3), 3)], (0
 
 
 def put(part, value):
-    """Returns a change that sets a part of a state to a value."""
+    """Returns a function that sets a part of a state to a value."""
     return lambda state: setattr(state, part, value)
 
 
 def put_at(part, place, value):
-    """Returns a change that sets an element of a part of a state to a value."""
+    """Returns a function that sets an element of a part of a state to a value."""
     return lambda state: getattr(state, part).__setitem__(place, value)
 
 
 def written(text, record, do):
-    """Returns a command with its line and its bytes."""
+    """Returns a command with this session line, this record, and the function that applies it."""
     return Command(f"{text}\n", bytes(record), do)
 
 
 def wired(board, record):
-    """Returns the command that wires a board, with its bytes."""
+    """Returns the command that wires a board, with this record."""
     return Command(wire(board.text(), board).text, record, wire("", board).do)
 
 
-# Boards: an empty one; the port characters of a ROM, for lines 3, 2, 1, 0; one with each part; one with the maximum of each part.
+# Boards with their records: an empty one; one that shows the order of a port's characters (lines 3, 2, 1, 0); one with each part; and one with the
+# maximum of each part.
 BOARDS = [
     wired(Board(), b"\1" + NO_ROMS + bytes(11)),
     wired(TWO_KEYS, b"\1" + b"0000" + b"1i0i" + NO_ROMS[:56]
@@ -66,7 +67,7 @@ COMMANDS = [
     written("poke ram.1.0xFF 3", [7, 6, 1, 0xFF, 3], put_at("ram", 256 + 0xFF, 3)),
     written("poke st.7.15.3 8", [7, 7, 7, 15, 3, 8], put_at("status", 511, 8)),
 ]
-# Bytes that are not a command. A reader that accepted such bytes on the largest board would find a command that is accepted.
+# Invalid records. On the largest board, a reader that does not reject them takes them for a command that the bench accepts.
 NEW_BOARD = b"\1" + Board().bytes()
 LOAD = bytes([2, 3, *bytes(513)])
 WRONG_RECORDS = [
@@ -79,8 +80,8 @@ WRONG_RECORDS = [
     # Two marks and one byte, one mark and two bytes.
     LOAD[:-1], bytes([2, 1]) + LOAD[2:],
 ]
-RIGHT_RECORDS = [bytes([3, 0, 0]), bytes([5, 0, 0, 0, 1]), bytes([7, 0, 15]), NEW_BOARD, LOAD]
-# Commands that version 1 has, and commands that it does not have. All records are of version 2.
+VALID_RECORDS = [bytes([3, 0, 0]), bytes([5, 0, 0, 0, 1]), bytes([7, 0, 15]), NEW_BOARD, LOAD]
+# Commands that exist in version 1, and commands that only version 2 has. All records are in the format of version 2.
 FIRST_COMMANDS = [wire(EACH_PART.text(), EACH_PART), wire(chained(2, 4).board.text(), chained(2, 4).board), step(),
                   written("poke pc 1", [7, 2, 0, 1], put("counter", 1)), run(1)]
 LATER_COMMANDS = [wire(chained(3, 1).board.text(), chained(3, 1).board), wire(chained(1, 5).board.text(), chained(1, 5).board),

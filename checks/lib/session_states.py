@@ -8,12 +8,12 @@ WORKED = Board({0: "0000", 1: "iiii", 2: "iiii"}, {0: 1, 1: 1}, [(rom_line(0, 0)
                [chain_line(0, 0), chain_line(0, 1), ram_line(0, 0, 3)])
 LARGEST = Board(dict.fromkeys(range(16), "1i0i"), dict.fromkeys(range(8), 4), [(rom_line(0, 1), rom_line(0, 3), 8)] * 4,
                 (3, 70, 10, [rom_line(15, 0)] * 8), [chain_line(3, 79)] * 64)
-# The first and the last place of each part of a state that version 2 stores.
+# The first and the last index in each part of a state that is stored as a list.
 ENDS = {"rom": (0, 4_095), "ram": (0, 2_047), "status": (0, 511), "ram_ports": (0, 31), "rom_ports": (0, 15), "bank_sources": (0, 7)}
 
 
 def zeros_but(size, values):
-    """Returns bytes that are 0 except at these places."""
+    """Returns `size` bytes that are 0 except at the offsets in `values`."""
     found = bytearray(size)
     for place, value in values.items():
         found[place] = value
@@ -39,7 +39,7 @@ def in_rom_0(port):
     return State(board=Board({0: port}))
 
 
-# States with their names, and questions to their sessions with the answers. The questions change nothing. Both versions have these states.
+# States that both versions can store. Each has a name, queries to a session in this state, and the answers to them.
 STATES = [
     ("a new one", State(), "", ""),
     ("a count of commands of four bytes", State(seq=0xFF00_0000), "seq\n", "seq 4278190080\n"),
@@ -68,7 +68,7 @@ STATES = [
      "1.0.3 000000000000000F 000E\n1.0 out 0\n"),
     ("two chains of four chips", chained(2, 4), "", ""),
 ]
-# States that only version 2 has.
+# States that only version 2 can store, in the same form.
 LATER_STATES = [
     ("two watches", State(watches=[(0, 1), (5, 0x3F)]), "watches\n", "watches 0.01 5.3F\n"),
     ("three watches", State(watches=[(0, 1), (5, 0x3F), (7, 0xFF)]), "watches\n", "watches 0.01 5.3F 7.FF\n"),
@@ -145,6 +145,7 @@ WRONG_SNAPSHOTS = [
 ]
 
 
-# The longest state: the maximum number of breakpoints and watches, and a key of the largest board. The breakpoints stop runs immediately.
+# The number of bytes in the longest state, and the commands that lead to it: the largest board, the maximum number of breakpoints and watches, and a
+# pressed key. The breakpoints stop runs immediately.
 LONGEST = 7_632
 LONGEST_COMMANDS = [wire(LARGEST.text(), LARGEST), *map(break_at, range(32)), *(watch(7, source) for source in range(8)), press(9, 7)]

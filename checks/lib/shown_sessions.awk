@@ -1,6 +1,7 @@
-# Turns what a chapter of a document shows (`title`) into a script. The commands, `$ ..`, with the lines that are typed after them, go into
-# `script`, and their output into `printed`. Typed lines stand between output lines: they are a text (after wire or asm, up to its dot), or lines
-# that are not answers. A command can have its own text, `<< 'EOF'`. Pictures are left out.
+# Extracts the sessions that a chapter of a document shows. The variable `title` is the heading of the chapter. The commands after `$ ` and the lines
+# that are typed after them are written to the file `script`, and their output is written to the file `printed`. In a session, typed lines are mixed
+# with output. A line counts as typed if it is in a text (after wire or asm, up to the dot), or if it does not look like an answer. A command can have
+# its own text, `<< 'EOF'`. Images are skipped.
 
 function is_answer(line) {
     return line ~ /^(session|ok|no) [0-9]|^(lamps|breaks|watches|seq|state|acc|keys) .|^[0-9A-F][0-9A-F][0-9A-F] [0-9A-F][0-9A-F]( |$)|^[0-7]\.[0-3](\.[0-3])? |^ram [0-7] chips|^(rom|ram|chain)[0-9].* (in|out) |^mcs4: /

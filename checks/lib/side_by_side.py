@@ -32,11 +32,11 @@ from browsers import installed_browsers  # noqa: E402
 
 TOP = pathlib.Path(__file__).resolve().parent.parent.parent
 CACHE = pathlib.Path(os.environ.get("XDG_CACHE_HOME") or pathlib.Path.home() / ".cache") / "fethsaim/check_seconds.json"
-# The time limit of a check: at least this many seconds, plus this factor times its usual time.
-MIN_SECONDS, TIMES = 900, 5
+# The time limit of a check is MIN_SECONDS plus TIME_FACTOR times its usual time.
+MIN_SECONDS, TIME_FACTOR = 900, 5
 END_TIMEOUT = 5
 # The minimum number of processors for running checks at the same time as the gate.
-ENOUGH = 4
+MIN_PROCESSORS = 4
 SUMMED = re.compile(r"^(\d+) passed, (\d+) failed", re.M)
 
 # The Debian packages of commands and files. A command that is not listed is in the package of the same name.
@@ -55,9 +55,9 @@ PACKAGES = {
 
 @dataclass(frozen=True)
 class Check:
-    """A script in checks/. Its fields: the commands and files that it needs, and those that parts of it need; its usual time in seconds, and the
-    seconds that each installed browser adds; its arguments, by mode if they differ; whether it runs alone; whether it reads what the gate builds;
-    which part of it this is, if its parts run in parallel."""
+    """A script in checks/, with the commands and files that it needs, and those that only parts of it need. Also: its usual time in seconds, and the
+    seconds that each installed browser adds; its arguments, by mode if they differ; whether it must run alone; whether it reads what the gate builds;
+    and which part of the script this is, if its parts run in parallel."""
 
     name: str
     needs: str = ""
@@ -73,7 +73,7 @@ class Check:
 
     @property
     def label(self):
-        """The name of the check, with its part."""
+        """Returns the name of the check, with the part of it."""
         return f"{self.name} {self.part}".rstrip()
 
     def command(self, mode):
@@ -85,12 +85,12 @@ class Check:
         return " ".join(self.command(mode))
 
     def usual(self):
-        """Its usual time in seconds, with the installed browsers."""
+        """Returns the usual time of the check in seconds, with the installed browsers."""
         return self.seconds + self.browser_seconds * len(installed_browsers())
 
     def limit(self):
-        """The number of seconds after which the check is ended."""
-        return int(os.environ.get("CHECK_SECONDS", MIN_SECONDS + TIMES * self.usual()))
+        """Returns the number of seconds after which the check is ended."""
+        return int(os.environ.get("CHECK_SECONDS", MIN_SECONDS + TIME_FACTOR * self.usual()))
 
 
 CHECKS = [
@@ -129,14 +129,14 @@ CHECKS = [
     Check("sizes", "python3", 10, quick=""),
     Check("memory", "", 5, quick=""),
 ]
-# The gate has no limit: without cached proofs it takes an hour or more.
+# The gate, `rt ci`. It has no time limit, because without cached proofs it takes an hour or more.
 GATE = Check("lib/gate", "rt", 3000)
 
 
 @dataclass
 class Running:
-    """A running check: its process, the file of its output, and its start time. Its mark is in the environment of all processes that it
-    starts."""
+    """A running check: its process, the file for its output, and its start time. Its mark is a variable in the environment of all processes that the
+    check starts."""
 
     check: Check
     process: subprocess.Popen
@@ -189,7 +189,7 @@ def command_of(process):
 
 
 def end_processes(mark):
-    """Ends the processes that a check has left: asks twice, so that they can clean up, then kills them."""
+    """Ends the processes that a check has left running. Sends them two signals, so that they can clean up, and then kills them."""
     for number in (signal.SIGINT, signal.SIGTERM, signal.SIGKILL):
         end = time.monotonic() + END_TIMEOUT
         found = processes_with(mark)
@@ -206,7 +206,7 @@ def end_processes(mark):
 
 
 class Run:
-    """The gate and the checks of a mode, while they run."""
+    """A run of the gate and the checks of a mode."""
 
     def __init__(self, mode, folder):
         self.mode = mode
@@ -281,7 +281,7 @@ class Run:
         """Returns the number of checks that may run now, including the gate."""
         if self.gate is None or self.gate.is_over:
             return self.processors
-        if self.processors < ENOUGH or not os.environ["SHIPPED_PROGRAM"]:
+        if self.processors < MIN_PROCESSORS or not os.environ["SHIPPED_PROGRAM"]:
             return 1
         return self.processors if os.getloadavg()[0] < self.processors - 1 else 2
 
@@ -299,7 +299,7 @@ class Run:
         return None
 
     def turn(self):
-        """Finishes the checks that have ended, and starts others."""
+        """Ends checks that exceed their time limit, counts the checks that have ended, and starts the next one."""
         for each in list(self.running):
             if each.process.poll() is None and each.is_late():
                 with each.output.open("a") as file:
@@ -327,11 +327,11 @@ class Run:
             time.sleep(0.2)
 
     def show(self, text):
-        """Prints a text, and the progress line below it."""
+        """Prints a text in place of the progress line."""
         print(f"\r\033[K{text}" if sys.stdout.isatty() else text, flush=True)
 
     def progress(self):
-        """On a terminal, prints what is done, what is running, and the estimated remaining time."""
+        """On a terminal, prints the progress line: the number of finished checks, the running ones, and the estimated remaining time."""
         if not sys.stdout.isatty():
             return
         spent = {each.check.label: each.seconds() for each in self.running}
@@ -353,7 +353,7 @@ class Run:
 
 
 class Gate:
-    """The growing output of the gate, the number of crates that it has finished, and the number of those that it has proved again."""
+    """The gate while it runs: its growing output, the number of crates that it has finished, and how many of these it has proved again."""
 
     def __init__(self, output):
         self.output = output
@@ -363,7 +363,7 @@ class Gate:
         self.crates = len(re.findall(r"^\w+:", (TOP / "crates.txt").read_text(), re.M))
 
     def show(self, show):
-        """Shows the new complete lines."""
+        """Shows the complete lines that the gate has printed since the last call. `show` is the function that prints them."""
         with self.output.open("rb") as file:
             file.seek(self.shown)
             text = file.read()

@@ -1,4 +1,4 @@
-"""The common part of the checks in Python: they count verdicts, and report the failed ones."""
+"""The common part of the checks in Python: functions that count the passed and failed verdicts, and report the failed ones."""
 
 import pathlib
 import sys
@@ -6,7 +6,7 @@ import sys
 from driven import matches
 
 CHECK = f"checks/{pathlib.Path(sys.argv[0]).name}"
-# The maximum length of a value that is printed. Of a longer value, the end is printed.
+# The maximum number of characters of a value that are printed. Only the end of a longer value is printed.
 LONGEST_SHOWN = 2000
 
 # `again` counts the topics of checks/page that passed only at the second attempt.
@@ -14,23 +14,23 @@ counts = {"passed": 0, "failed": 0, "again": 0}
 
 
 def judge(is_right, what):
-    """Counts a check, and prints an error."""
+    """Counts a check. Prints its description if it failed."""
     counts["passed" if is_right else "failed"] += 1
     if not is_right:
         print(f"{CHECK}: {what}", file=sys.stderr)
 
 
 def verdict(what, found, wanted):
-    """Counts a check. If the expected value is a pattern, it must be found in the value."""
+    """Checks that a value equals the expected one, or matches it if that is a pattern. Counts the check, and prints an error if it failed."""
     judge(matches(found, wanted), f"{what}: is {repr(found)[-LONGEST_SHOWN:]}, must be {repr(wanted)[-LONGEST_SHOWN:]}")
 
 
 def eventually(browser, what, code, wanted, seconds=30):
-    """Counts a check of a script's result, which must be right within a number of seconds."""
+    """Checks that a script returns the expected result within a number of seconds, and counts the check."""
     verdict(what, browser.until(code, wanted, seconds), wanted)
 
 
 def end_check():
-    """Prints the last line, and exits."""
+    """Prints the numbers of passed and failed checks, and exits."""
     print(f"{counts['passed']} passed, {counts['failed']} failed")
     sys.exit(0 if counts["failed"] == 0 else 1)

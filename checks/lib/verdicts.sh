@@ -1,13 +1,13 @@
-# The common part of the checks in shell: they count verdicts, report the wrong ones, and can run parts of a check alone. A check reads this file
-# by `.`, after it has set `top`, the folder of the repository.
+# The common part of the checks in shell: functions that count the passed and failed verdicts, report the failed ones, and run all or some parts of a
+# check. A check reads this file by `.`, after it has set `top`, the folder of the repository.
 # shellcheck shell=sh disable=SC1090,SC2154
 
 check=checks/${0##*/}
 passed=0
 failed=0
 
-# Changes to the top folder, sets `mcs4` to the program for the check and the tools, and makes `folder`, in memory if possible, which is removed
-# at the end. Standard input is empty, unless it is redirected.
+# Changes to the top folder. Sets `mcs4` to the program that the check and the tools start. Makes a temporary folder, `folder`, in memory if possible,
+# and removes it when the check ends. Standard input is empty, unless it is redirected.
 begin_check() {
     cd "$top"
     mcs4=$(checks/lib/program)
@@ -25,7 +25,7 @@ fault() {
     echo "$check: $1" >&2
 }
 
-# Counts a check. Arguments: the value, the expected value, and a description.
+# Compares a value with the expected one, and counts the check. Arguments: the value, the expected value, and a description.
 verdict() {
     if [ "$1" = "$2" ]; then
         passed=$((passed + 1))
@@ -38,7 +38,7 @@ verdict() {
     fi
 }
 
-# Counts a check of two files.
+# Compares two files, and counts the check. Arguments: the file, the expected file, and a description.
 verdict_of_files() {
     if cmp -s -- "$1" "$2"; then
         passed=$((passed + 1))
@@ -48,7 +48,7 @@ verdict_of_files() {
     fi
 }
 
-# Runs a client that writes lines `ok ..` and `fault: ..` to a file, and counts these. Arguments: the file, and the command.
+# Runs a client that prints lines `ok ..` and `fault: ..`, and counts them as checks. Arguments: a file for the client's output, and the command.
 run_client() {
     report=$1
     shift
@@ -60,7 +60,7 @@ run_client() {
     if [ "$status" -ne 0 ]; then failed=$((failed + 1)); fi
 }
 
-# Prints the output of a command, with standard error, and its status.
+# Prints the output and the errors of a command, and then its exit status.
 outcome() {
     status=0
     "$@" 2>&1 || status=$?
@@ -84,12 +84,13 @@ status 2"
     verdict "$(outcome "$@" | short_use)" "$wanted" "$*"
 }
 
-# Shortens the usage of a command to its name.
+# Shortens a usage message to the name of the command.
 short_use() {
     sed '/^       mcs4 /d; s/^\(usage: mcs4 [a-z]*\).*/\1/'
 }
 
-# Begins a new session in the folder, or continues one, by its name: lines are read from standard input, and `answers` gets the answers.
+# Serves the lines from standard input in a new session (`begins`) or in an existing one (`goes_on`). Argument: the name of the session's file in the
+# folder, without .mcs. The answers are written to the file `answers`.
 begins() {
     rm -f -- "$folder/$1.mcs"
     "$mcs4" new "$folder/$1.mcs" > "$folder/answers"
@@ -99,8 +100,8 @@ goes_on() {
     "$mcs4" open "$folder/$1.mcs" > "$folder/answers"
 }
 
-# Runs the parts that are named, or all parts: the scripts in the check's folder in checks/lib/. Each has its own variables, and its own folder
-# below the check's folder, `whole`.
+# Runs the parts of a check that the arguments name, or all parts. The parts are the scripts in the check's folder in checks/lib/. Each part runs in a
+# subshell, and with its own folder below the check's temporary folder (`whole`).
 run_parts() {
     parts=$(cd "checks/lib/${0##*/}" && echo *.sh | sed 's/\.sh//g')
     for part in "$@"; do
@@ -142,7 +143,7 @@ run_part() {
     rm -rf -- "${whole:?}/$part"
 }
 
-# Prints the last line, and exits.
+# Prints the numbers of passed and failed checks, and exits.
 end_check() {
     echo "$passed passed, $failed failed"
     exit $((failed > 0))

@@ -1,9 +1,10 @@
-"""Files of version 1, written by the build of commit a1f6da2, the last one that wrote version 1, and their contents."""
+"""Session files of version 1 with their contents. The program of commit a1f6da2, the last one that wrote version 1, has written these files."""
 
 from session_file import SIZE, State, poke_register, run, step
 from session_states import WORKED, zeros_but
 
-# Ranges of a file: an offset, bytes, and the number of repetitions. All files have these ranges, which are the snapshot of a new bench.
+# The parts of a file that are not zero are ranges: an offset, bytes, and how many times the bytes are repeated. All files have these ranges, which
+# are the snapshot of a new bench.
 NEW_BENCH = [(0, b"MCS4BEN1", 1), (18, b"\x1A\xA6", 1), (24, b"-", 64), (6_840, b"\x01", 1)]
 POKE = b"\1\0\4\7\3\5\x09"
 # The worked board: three ROMs, two RAM chips, a chain of ten bits, eighty keys, three lamps.
@@ -14,7 +15,7 @@ KEYS_PROGRAM = bytes.fromhex("d3e2 d2e2 d3e2 2010 21 ea fc")
 
 
 def file_with(stretches, boards=()):
-    """Returns a file with these ranges, and with the bytes of the worked board at these offsets."""
+    """Returns a file with these ranges, and with the bytes of the worked board at each offset in `boards`."""
     file = bytearray(SIZE)
     on_boards = [(board + place, more, times) for board in boards for place, more, times in BOARD]
     for place, more, times in [*NEW_BENCH, *on_boards, *stretches]:
@@ -30,7 +31,8 @@ def worked_state(program, chain=(), down=(), **parts):
 
 READ_KEYS = {"chain": (0, 1), "down": ((0, 1), (1, 2)), "rom_source": 0x10, "bank_sources": zeros_but(8, {0: 0x10}),
              "rom_ports": zeros_but(16, {0: 3})}
-# The commands, the slot, the file, its state, commands that are executed then, and lines after them with their answers.
+# For each file: a description of the commands in it, the active slot, the file, its state, commands to execute after opening it, and queries after
+# these with their answers.
 FILES = [
     ("poke r5 9", 0, file_with([(16_400, POKE, 1)]), State(seq=1, registers=zeros_but(16, {5: 9})),
      [poke_register(5, 3)], "", ""),
@@ -63,8 +65,8 @@ FILES = [
      file_with([(16_400, bytes.fromhex("01000505000186a0"), 39), (16_712, bytes.fromhex("010005050001869f"), 1)]),
      State(seq=40, counter=0x8FF),
      [step(), run(1)], "", ""),
-    # The program of the keys with WRM and JUN 0x123 after it, both keys, break 0x200, test 0, run 13, 9,263 times poke r5 9 (the last one after
-    # a snapshot in the second slot), and poke r6 4. Then the instruction that reads the keys is executed once more.
+    # The commands: the program that reads the keys, with WRM and JUN 0x123 after it; both keys; break 0x200; test 0; run 13; 9,263 times poke r5 9
+    # (the last one after a snapshot in the second slot); and poke r6 4. The queries execute the instruction that reads the keys once more.
     ("all places of a snapshot", 1,
      file_with([(8, b"\1", 1), (16_400, b"\1\0\x85\1", 1), (16_536, b"\1\2\x0F\2\xFF\x3F", 1),
                 (17_052, KEYS_PROGRAM + bytes.fromhex("e0 4123 010003030001 010003030102 0100030a0200 0100020800 010005050000000d"), 1),

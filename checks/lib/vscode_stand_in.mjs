@@ -1,5 +1,5 @@
-// A stand-in for the module `vscode`, as far as the extension in editors/vscode calls it. `standIn()` creates one. `registered` contains the
-// registrations of the extension, by kind and name. The stand-in stores the open texts and what the user would see.
+// A stand-in for the parts of the module `vscode` that the extension in editors/vscode uses. `standIn()` creates one. Its `registered` contains
+// everything that the extension has registered, by kind and name, and its `shown` contains what the user would see.
 import { readFileSync, readdirSync, statSync } from "node:fs";
 import { basename, join, sep } from "node:path";
 import { pathToFileURL } from "node:url";
@@ -25,7 +25,7 @@ class Uri {
     Object.assign(this, { scheme, fsPath, path: fsPath, text });
   }
   static file(path) {
-    // In the editor's spelling of addresses: a colon is %3A, and a space is %20.
+    // The editor encodes characters in addresses: a colon is %3A, and a space is %20.
     return new Uri("file", path, String(pathToFileURL(path)).replace(/(?<=^file:\/\/\/[A-Za-z]):/, "%3A"));
   }
   static parse(text) {
@@ -53,7 +53,7 @@ class Range {
   }
 }
 
-/** A collection of test items, by their ids. */
+/** A collection of test items, which have ids. */
 class Items {
   constructor(parent) {
     this.parent = parent;
@@ -123,7 +123,7 @@ export function standIn(folder, settings = {}) {
   };
   const languages = new Proxy({
     createDiagnosticCollection: () => ({ set: (uri, list) => shown.diagnostics.set(uri.toString(), list), dispose: () => {} }),
-    // When a text gets another language, it is closed and opened again.
+    // The editor closes a text and opens it again when its language changes.
     setTextDocumentLanguage: async (document, languageId) => {
       events.close.fire(document);
       document.languageId = languageId;

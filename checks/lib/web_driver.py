@@ -14,7 +14,7 @@ import urllib.request
 
 from driven import BEFORE_SCRIPTS, ELEMENT, Driven, Fault
 
-# The events of a touch, and of a click with the secondary mouse button.
+# Scripts that dispatch the events of a touch, and of a click with the secondary mouse button, for drivers that cannot do these.
 TOUCH_ELEMENT = """
 const [selector, time] = arguments;
 const node = document.querySelector(selector);
@@ -30,14 +30,15 @@ for (const kind of ["pointerdown", "contextmenu", "pointerup"]) {
 
 
 def free_port():
-    """Returns a free port. (Not all drivers that choose a port themselves report it.)"""
+    """Returns a free TCP port. (A driver could choose a port itself, but not all drivers report it.)"""
     with socket.socket() as line:
         line.bind(("127.0.0.1", 0))
         return line.getsockname()[1]
 
 
 class WebDriver(Driven):
-    """A browser: `self.root` is the address of its driver, and `self.session` the path of its session there."""
+    """A browser that a WebDriver server controls. `self.root` is the address of this server, and `self.session` the path of the browser's session
+    there."""
 
     def _ask(self, method, path, body=None):
         data = None if body is None else json.dumps(body).encode()
@@ -87,7 +88,7 @@ class WebDriver(Driven):
         return self.do("GET", "/window")
 
     def new_tab(self):
-        """Opens a new tab in front of this one, and switches to it."""
+        """Opens a new tab in the foreground, and switches to it."""
         self.show_tab(self.do("POST", "/window/new", {"type": "tab"})["handle"])
 
     def show_tab(self, handle):
@@ -116,7 +117,7 @@ class WebDriver(Driven):
 
 class Chromium(WebDriver):
     name = "Chromium"
-    # With these settings, it does not store data of any site.
+    # With these settings, Chromium stores no site data.
     blocks_data = {"profile.default_content_setting_values.cookies": 2}
 
     def __init__(self, folder, downloads, flags=(), **settings):
@@ -150,16 +151,17 @@ class Chromium(WebDriver):
 
 
 class WebKit(WebDriver):
-    """The MiniBrowser of Debian's WebKitGTK, or the one that MINIBROWSER names. It has no headless mode, so Xvfb is its display."""
+    """WebKit's MiniBrowser: the one of Debian's WebKitGTK, or the one that MINIBROWSER names. It has no headless mode, so it runs on an Xvfb
+    display."""
 
     name = "WebKit"
     # WebKit has no setting that blocks site data.
     blocks_data = None
-    # The driver of WebKit has only a mouse pointer, no touch. It opens each tab as a separate window, so a tab in the background still counts as
+    # WebKit's driver has only a mouse pointer, and no touch. It opens each tab as a separate window, so a page in a background tab still counts as
     # visible.
     has_fingers = False
     hides_tabs = False
-    settles = 0.3
+    settle_seconds = 0.3
 
     def __init__(self, folder, downloads):
         home = pathlib.Path(folder)
@@ -182,11 +184,11 @@ class WebKit(WebDriver):
         self.script(TOUCH_ELEMENT, selector, time_down)
 
     def click_secondary(self, x, y):
-        # After a press of this button, the driver would type every character without Shift.
+        # Dispatches the events by script, because after a press of this button the driver would type every character without Shift.
         self.script(CLICK_SECONDARY, x, y)
 
     def _display(self):
-        """Starts Xvfb with a display number that Xvfb chooses. Returns the name of the display."""
+        """Starts Xvfb, which chooses the number of its display. Returns the name of the display."""
         self.screen = subprocess.Popen(["Xvfb", "-displayfd", "1", "-screen", "0", "1920x1200x24"], stdout=subprocess.PIPE,
                                        stderr=subprocess.DEVNULL, text=True)
         number = self.screen.stdout.readline().strip()

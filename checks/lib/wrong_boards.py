@@ -1,22 +1,22 @@
-"""Random texts of boards with errors, reproducible by a seed. Most are wrong in one part. Some are not TOML."""
+"""Random texts of boards with errors, reproducible by a seed. Most have an error in one part, and some are not TOML."""
 
 import random
 
-from board_spellings import TEXT_ENDS, EQUALS, KINDS, Raw, seeded_board, spelled_tables
+from board_spellings import TEXT_ENDS, EQUALS, KINDS, Raw, seeded_board, random_tables_text
 
-# Wrong values for each key, in addition to the values that no key can have.
+# Wrong values for each key, besides those in INVALID_VALUES, which are wrong for every key.
 WRONG = {
     "chip": [16, -1, 99], "port": ["000", "00000", "iii2", "IIII", "o000"], "bank": [8, -1], "chips": [0, 9, 5], "clock": ["chain0.0", "rom00.1"],
     "data": ["ram0.4.0", "rom0"], "chain": [4, -1], "first": [80, -1], "rows": [0, 11], "line": ["rom16.0", "chain4.0", "ram8.0.0", "led"],
     "columns": [[], ["rom0.4"], ["chain0.0"], ["ram0.0.0"]],
 }
-OF_NO_KEY = [Raw(text) for text in ("1.0", "true", "inf", "{}", "{ a = 1 }", "[[]]", "1979-05-27", '"1"', "[1]", '["a"]')]
-UNKNOWN = ["lamps", "chip", "bank", "line", "port", "x", "Rom", "a-b", "a b", "", "a.b", "_1"]
+INVALID_VALUES = [Raw(text) for text in ("1.0", "true", "inf", "{}", "{ a = 1 }", "[[]]", "1979-05-27", '"1"', "[1]", '["a"]')]
+UNKNOWN_KEYS = ["lamps", "chip", "bank", "line", "port", "x", "Rom", "a-b", "a b", "", "a.b", "_1"]
 CHARACTERS = "\"'[]{}=.,#\\ \t0123456789abcdeiorxINF_-+:"
 
 
 def other_line(chance, tables):
-    """Returns the name of a line that boards can have, usually one of an existing part."""
+    """Returns the name of a line, usually one of a part that the board has."""
     there = [table.get("chip") for table in tables["rom"]] if chance.random() < 0.7 else []
     chip = chance.choice([*there, chance.randrange(16)])
     return chance.choice([f"rom{chip}.{chance.randrange(4)}", f"rom{chip}.{chance.randrange(4)}", f"chain0.{chance.randrange(20)}",
@@ -24,7 +24,7 @@ def other_line(chance, tables):
 
 
 def table_of(chance, tables):
-    """Returns one of the tables, or None if there is none."""
+    """Returns one of the tables at random, or None if there is none."""
     below = chance.choice([kind for kind in KINDS if tables[kind]] or [None])
     return chance.choice(tables[below]) if below else None
 
@@ -36,16 +36,16 @@ def lack_key(chance, tables):
 
 def add_key(chance, tables):
     if table := table_of(chance, tables):
-        table[chance.choice(UNKNOWN)] = chance.choice([1, "a", OF_NO_KEY[0]])
+        table[chance.choice(UNKNOWN_KEYS)] = chance.choice([1, "a", INVALID_VALUES[0]])
 
 
 def put_wrong(chance, tables):
     if (table := table_of(chance, tables)) and (key := chance.choice([*table])) in WRONG:
-        table[key] = chance.choice([*WRONG[key], chance.choice(OF_NO_KEY)])
+        table[key] = chance.choice([*WRONG[key], chance.choice(INVALID_VALUES)])
 
 
 def put_line(chance, tables):
-    """Replaces a line with another one, which may not exist on the board, or may have the wrong direction."""
+    """Replaces the name of a line with another one. The board can lack that line, or the line can have the wrong direction."""
     if table := table_of(chance, tables):
         for key in {"clock", "data", "line"} & {*table}:
             table[key] = other_line(chance, tables)
@@ -96,7 +96,7 @@ def spoil_text(chance, text):
 
 def top_of(chance):
     """Returns a line that goes before all others."""
-    section, value = chance.choice([*KINDS, *UNKNOWN[:6]]), chance.choice(["1", "[1]", "[{}, 2]", "{}", "{ chip = 1 }", '"a"', "[\n]"])
+    section, value = chance.choice([*KINDS, *UNKNOWN_KEYS[:6]]), chance.choice(["1", "[1]", "[{}, 2]", "{}", "{ chip = 1 }", '"a"', "[\n]"])
     return f"{section}{chance.choice(EQUALS)}{value}{chance.choice(TEXT_ENDS)}"
 
 
@@ -109,7 +109,7 @@ def wrong_board(number):
     tables["rom"] = tables["rom"] if chance.random() < 0.3 else tables["rom"][-6:]
     for _n in range(chance.choice([1, 1, 1, 2, 4])):
         chance.choice(CHANGES)(chance, tables)
-    text = spelled_tables(chance, tables)
+    text = random_tables_text(chance, tables)
     if chance.random() < 0.1:
         text = top_of(chance) + text
     if chance.random() < 0.25:

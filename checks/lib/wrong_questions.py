@@ -5,7 +5,7 @@ from __future__ import annotations
 BOARD = ["wire", "[[rom]]", "chip = 0", 'port = "0000"', "."]
 PROGRAM = ["asm", "next: RDR", " JUN next", "."]
 BEGUN = ["most 9", "pause 9", *BOARD, *PROGRAM]
-# Invalid lines after BEGUN.
+# Lines that are invalid after BEGUN.
 NO_LINES = [
     "most", "most x", "most -1", "most 1 2", "most 4000000001", f"most {'9' * 5000}", "most 0x", "most 1.5", "Most 1", "pause", "pause 0", "pause 1000000001",
     "pause 0x", "memory", "memory x", "memory 1000001", "wire", "wire x", "asm", "asm x", ".", "[[rom]]", "never x", "nevermore", "prove it", "proved",
@@ -20,13 +20,13 @@ NO_COMPARISONS = [
     "in register 65536 whole 0 0", "in register 4294967296 whole 0 0", "in register -1 whole 0 0", "in register x whole 0 0", "in register 0 line4 0 0",
     "in register 0 line 0 0", "in register 0 0 0 0", "in register 0 whole 256 0", "in register 0 whole 0 256", "in register 0 whole 0 99999999999",
     "in register 0 whole 0x100 0", "in register 0 whole a b", "mistake", "mistake x", "mistake code x", "mistake code,call", "Mistake code", "mistakes code"]
-# A condition that never begins.
+# Lines that start a stopwatch with a condition that is never true.
 NEVER_BEGUN = ["begin", "in register 0 whole 9 3"]
-# Each entry has a question, the exit status, and the answer.
+# The lines of each question, with the exit status and the answer.
 ANSWERS: list[tuple[list[str], int, str]] = [
     ([], 2, "no question"), ([""], 2, "no question"), (["prove"], 2, "no question"), ([*BOARD, "prove"], 2, "no question"),
     ([*PROGRAM, "prove"], 2, "no question"), (BEGUN, 2, "no question"), ([*BEGUN, "never"], 2, "no question"),
-    # A text without its end includes everything that follows.
+    # If the end of a text is missing, all lines that follow belong to the text.
     (["asm", "NOP", *BOARD, "wire", "prove"], 2, "no question"), ([*PROGRAM, *BOARD[:-1], "prove"], 2, "no question"),
     ([*BEGUN, "prove", ""], 2, f"wrong line {len(BEGUN) + 2}"), ([*BEGUN, "prove", "prove"], 2, f"wrong line {len(BEGUN) + 2}"),
     *(([*BEGUN, line, "prove"], 2, f"wrong line {len(BEGUN) + 1}") for line in NO_LINES),
@@ -40,7 +40,7 @@ ANSWERS: list[tuple[list[str], int, str]] = [
     *(([*BEGUN, "never", f"mistake {kind}", "prove"], 0, "holds 1") for kind in ("code", "call", "return", "ram", "rom", "wrr", "code code")),
     *(([*BEGUN, "never", line, "prove"], 0, "may fail") for line in ("mistake rdr", "mistake wrr code rdr")),
     ([*BEGUN, "never", "mistake rdr", "in register 0 whole 1 1", "prove"], 0, "holds 1"),
-    # A stopwatch needs a limit and conditions that begin and end it. It cannot be combined with sets of states.
+    # A stopwatch needs a limit and conditions that start and stop it. It cannot be combined with sets of states.
     *(([*BEGUN, *lines, "prove"], 2, "no question") for lines in (
         ["within 5"], ["within 5", "begin"], ["within 5", "end"], ["begin", "end"], ["sets 9", "within 5", "begin", "end"])),
     *(([*BEGUN, "within 5", "begin", "end", line, "prove"], 2, f"wrong line {len(BEGUN) + 4}") for line in NO_COMPARISONS),
@@ -49,7 +49,7 @@ ANSWERS: list[tuple[list[str], int, str]] = [
     ([*BEGUN, "within 16777214", "end", "begin", "mistake rdr", "prove"], 0, "holds 1"),
     ([*BEGUN, "within 0", "within 1", "begin", "end", "prove"], 0, "holds 2"),
     ([*BEGUN, "never", "within 1", "begin", "end", "prove"], 0, "may fail"),
-    # Marks have conditions that open, and are at most 200; sets of states show none. The board has no keys.
+    # Marks need conditions that they must precede, and there can be at most 200. They cannot be combined with sets of states. The board has no keys.
     *(([*BEGUN, *lines, "prove"], 2, "no question") for lines in (
         ["open"], ["up 0 0"], ["down 255 255"], ["open", *201 * ["up 0 0"]], ["sets 9", "open", "up 0 0"], ["within 5", "open", "up 0 0"])),
     *(([*BEGUN, "up 0 0", "open", line, "prove"], 2, f"wrong line {len(BEGUN) + 3}") for line in NO_COMPARISONS),

@@ -1,10 +1,10 @@
-/* What the program calls of the Rattle kit's own C code, for Linux on aarch64, where the kit has it compiled for x86-64 alone: the heap,
- * errno, the arguments. Each function does what the kit's of that name does, by the same calls of the C library. */
+/* The C functions of the Rattle kit that the program calls (the heap, errno, the arguments), for Linux on aarch64. The kit contains them compiled
+ * only for x86-64. Each function does the same as the kit's function of that name, by the same calls of the C library. */
 #include <errno.h>
 #include <stdint.h>
 #include <stdlib.h>
 
-/* Whether there is memory, and where; where there is none, the pointer is to a byte that nobody owns. */
+/* The result of an allocation: whether it succeeded, and the block. After a failure the pointer is to a byte that no block contains. */
 typedef struct { uint64_t ok; void *at; } Tried;
 
 static unsigned char nothing;
@@ -13,7 +13,7 @@ static char **words;
 
 static Tried tried(void *at) { return (Tried){ at != 0, at ? at : &nothing }; }
 
-/* malloc aligns to 16, and more is never wanted. */
+/* malloc aligns blocks to 16 bytes, and the program never requests more. */
 Tried rattle_alloc(uint64_t size, uint64_t align) { return tried(malloc(size ? size : align)); }
 
 Tried rattle_realloc(void *old, uint64_t had, uint64_t size, uint64_t align) { return (void)had, tried(realloc(old, size ? size : align)); }
@@ -29,7 +29,7 @@ __attribute__((constructor)) static void keep(int given, char **arguments) { cou
 
 int64_t rattle_arg_count(void) { return count; }
 
-/* The length of an argument that was copied; -1 where there is none, -2 where it is longer than `most`. */
+/* Copies an argument. Returns its length, or -1 if there is no such argument, or -2 if it is longer than `most`. */
 int64_t rattle_arg(uint64_t which, unsigned char *to, uint64_t most) {
     if (which >= (uint64_t)count || !words[which]) return -1;
     uint64_t length = 0;

@@ -1,27 +1,28 @@
-# Compiles a crate once more, for another processor or as an object alone, over the libraries that the gate or tools/build has proved here.
-# A script reads it by `.`, after tools/lib/sums.sh.
+# Functions that compile a crate once more, for another processor or only as an object file, with the libraries that the gate or tools/build has
+# proved here. A script reads this file by `.`, after tools/lib/sums.sh.
 # shellcheck shell=sh
 
-# The file that lists the libraries below a crate as they were built here, each with the checksum of its file `format`, to which its others are held.
+# Prints the name of the file that lists the libraries on which a crate depends, as they were built here. Each has the checksum of its file `format`,
+# with which the library's other files are verified.
 libraries_of() {
     echo "$top/crates/$1/out/libraries"
 }
 
-# Notes the libraries below a crate, which were just proved and built from the sources that are here.
+# Records the libraries on which a crate depends, which were just proved and built from the present sources.
 note_libraries() {
     mkdir -p "$top/crates/$1/out"
     lines_of "$1" | crates_of_lines | grep -vxF -- "$1" | sed 's|.*|crates/&/out/rlib/&.rlib/format|' | sums_of_files > "$(libraries_of "$1")"
     note_built "$(sum_of_crate "$1")" "$(libraries_of "$1")"
 }
 
-# Whether the libraries below a crate are still those that this user proved and built here from the sources that are here.
+# Succeeds if the libraries on which a crate depends are those that this user has proved and built here from the present sources.
 has_libraries() {
     is_own_note && [ -f "$(libraries_of "$1")" ] && grep -qxF -- "$(sum_of_crate "$1") $(sum_of_input < "$(libraries_of "$1")")" "$built_from" &&
         (cd "$top" && sha256sum --status -c "$(libraries_of "$1")")
 }
 
-# Proves a crate over the libraries that are here and compiles it: its name, its source, the file for what rattle prints, and more words for `rattle build`.
-# The status is 0 if rattle says that it is proved.
+# Proves a crate with the libraries that were built here, and compiles it. Arguments: its name, its source file, the file for rattle's output, and
+# further arguments for `rattle build`. Succeeds if rattle reports that the crate is proved.
 compile_crate() {
     crate=$1 source=$2 log=$3
     shift 3
@@ -37,8 +38,8 @@ compile_crate() {
     esac
 }
 
-# Makes the object of a program that was built here, if there is none: of its crate's name, the file for what the kit prints. Linked as the kit links
-# it, it must be that program.
+# Compiles the object file of a program that was built here, if it does not exist. Arguments: the name of the crate, and the file for the kit's
+# output. Linked as the kit links it, the object file must give the same program.
 need_object() {
     made=$top/crates/$1/out/$1
     if [ -f "$made.o" ]; then return; fi

@@ -2,7 +2,7 @@
 # repository.
 # shellcheck shell=sh disable=SC2034
 
-# The program that was proved and built here.
+# The path of the program that was proved and built here.
 built=$top/crates/mcs4/out/mcs4
 # The shipped programs: the usual one, the static one for systems with another or an older C library, and the one for aarch64.
 shipped=$top/shipped/mcs4
@@ -90,7 +90,7 @@ is_installed() {
     [ -f "$top/installed" ] && [ ! -e "$top/crates.txt" ]
 }
 
-# The beginnings of two messages: the program is for other systems; it is for this system, but does not run.
+# The beginnings of two messages: one if the program is for other systems, and one if it is for this system but does not run.
 is_for="it is for Linux on"
 does_not_run="it does not run on this system"
 
@@ -177,7 +177,7 @@ find_program() {
     fi
 }
 
-# Finds the program if that is possible without comparing sources and without a message: it is installed, or an earlier start found it.
+# Finds the program if that is possible without comparing sources and without a message: if it is installed, or if an earlier start has cached it.
 find_known() {
     program=
     fault=

@@ -76,7 +76,7 @@ names_of_crates() {
 # The files that make the program for aarch64 from the crate mcs4.
 made_for_aarch64='tools/aarch64 tools/lib/aarch64.c tools/lib/compile.sh'
 
-# Prints the checksum of the sources of a crate: its line in crates.txt and those of the crates below it, and their code, definitions and
+# Prints the checksum of the sources of a crate and of the crates on which it depends: their lines in crates.txt, and their code, definitions and
 # proofs. Tests and must-fail edits are not included.
 sum_of_crate() {
     lines=$(lines_of "$1")
@@ -95,7 +95,7 @@ sum_of_aarch64() {
     } | sum_of_input
 }
 
-# Prints the Debian packages that link the program for aarch64, with their versions, as one word.
+# Prints the Debian packages with which the program for aarch64 is linked, with their versions, as one word.
 packages_for_aarch64() {
     dpkg-query -W -f '${Package}=${Version},' libc6-dev-arm64-cross 'gcc-[0-9]*-aarch64-linux-gnu' binutils-aarch64-linux-gnu 2> /dev/null || echo unknown
 }
@@ -157,7 +157,7 @@ fault_of_shipped() {
     fi
 }
 
-# Prints the checksum of the sources of the page's module: the crate `wasm` with those below it, and the files that compile it.
+# Prints the checksum of the sources of the page's module: the crate `wasm` and the crates on which it depends, and the files that compile the module.
 sum_of_module() {
     {
         sum_of_crate wasm
@@ -179,7 +179,7 @@ sum_of_commands() {
     (cd "$top" && find shipped/commands -type f) | sums_of_files | sum_of_input
 }
 
-# Prints the checksum of the modules that these files are made from.
+# Prints the checksum of the modules from which the files in shipped/commands are generated.
 sum_of_command_sources() {
     (cd "$top" && find js/core js/words js/node -type f) | sums_of_files | sum_of_input
 }

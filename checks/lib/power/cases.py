@@ -1,5 +1,5 @@
-"""The trials: the file systems, the actions on them before a session is served, the wrong programs, and the combinations that a run of the check
-tries.
+"""The trials of checks/power: the file systems, the cases (what happens on a file system before a session is served), the wrong programs, and the
+combinations of these that a run of the check tries.
 """
 
 from __future__ import annotations
@@ -11,8 +11,8 @@ from typing import NamedTuple
 
 class Kind(NamedTuple):
     """A file system: the size of its disk in MiB, the command that creates it, that command's Debian package, its type, the mount options besides
-    noatime, the options that make it commit every second, and its modules. `whole_blocks`: its blocks of 4 KiB must be written whole. `shows_stale`:
-    parts of a file that were not written yet can contain old disk data."""
+    noatime, the options that make it commit every second, and its kernel modules. `whole_blocks` is true if the file system tolerates no block of
+    4 KiB that is half written. `shows_stale` is true if parts of a file that were not written yet can contain old data of the disk."""
     name: str
     size: int
     make: tuple[str, ...]
@@ -31,12 +31,12 @@ MAKE_BTRFS = ("mkfs.btrfs", "-q", "-f", "-K")
 
 
 def ext(name: str, options: str = "", *more: str) -> Kind:
-    """Returns ext4 with mount options, created with more arguments."""
+    """Returns the kind ext4 with these mount options. `more` are further arguments of mkfs.ext4."""
     return Kind(name, 64, (*MAKE_EXT, *more), "e2fsprogs", "ext4", options, "commit=1", ("ext4",))
 
 
 def btrfs(name: str, options: str = "") -> Kind:
-    """Returns the file system kind for btrfs with these mount options."""
+    """Returns the kind btrfs with these mount options."""
     return Kind(name, 128, MAKE_BTRFS, "btrfs-progs", "btrfs", options, "commit=1", ("btrfs",), whole_blocks=True)
 
 
@@ -54,7 +54,7 @@ KINDS = {kind.name: kind for kind in (
     Kind("exfat", 32, ("mkfs.exfat",), "exfatprogs", "exfat", "", "", ("exfat", "nls_utf8"), shows_stale=True),
     # Linux before 6.5 does not always flush the disk when a file on this file system is synced.
     ext("ext4-nojournal", "", "-O", "^has_journal")._replace(often="", shows_stale=True),
-    # This file system loses acknowledged data.
+    # Without barriers the file system loses acknowledged data, which the check must detect.
     ext("ext4-nobarrier", "nobarrier"),
 )}
 
@@ -62,9 +62,9 @@ KINDS = {kind.name: kind for kind in (
 
 
 class Case(NamedTuple):
-    """A case: the actions that are synced first, the actions after that which are not synced, the program's arguments, and the name of its file in
-    the search after the cut. `begins`: the number of commands in the session at the beginning. `is_kept`: the session already existed durably.
-    `has_room`: the session has room for all commands."""
+    """What happens on a file system before and while a session is served: shell commands whose effects are synced, shell commands after these whose
+    effects are not synced, the program's arguments, and the name of the session file after the cut. `begins` is the number of commands in the session
+    at the beginning. `is_kept` is true if the session is already durable at the beginning. `takes_all` is true if all commands are sent to it."""
     name: str
     setup: str
     before: str
@@ -78,7 +78,7 @@ class Case(NamedTuple):
 LONG = "a_session_with_a_long_name_that_takes_several_slots_of_a_folder_on_a_file_system_of_that_sort.mcs"
 SEED = "mcs4 new seed < /dev/null > /dev/null"
 OTHERS = "for i in 1 2 3 4 5 6 7 8 9 10; do : > f$i; done"
-# Sessions that are copied to the machine: one with a number of commands, and one of version 1.
+# Session files that are copied into the machine, and the number of commands in each. The second one has version 1 of the format.
 SERVED, FIRST = "served.mcs", "first.mcs"
 SERVED_COMMANDS, FIRST_COMMANDS = 60, 30
 
@@ -108,14 +108,15 @@ OPENED = ("linked", "copied", "moved", "replaced", "long-copied", "long-moved", 
 
 # --- the trials of a run
 
-# The numbers of commands in a new session, in a session that continues, and in the case with a name.
+# The numbers of commands that are sent: to the session whose case takes all, to a session that is already durable or is opened again, and to each of
+# the others.
 ALL_COMMANDS, MORE_COMMANDS, FEW_COMMANDS = 110, 24, 12
 
 
 class Trial(NamedTuple):
     """A case on a kind of file system. `images` is the number of images to examine after the first cut. `generations` is how many times one of them
-    becomes the disk and the power is cut again. `is_busy`: other work uses the file system, which commits every second. `wrong`: the step that the
-    program or the mount omits; the trial must detect the loss."""
+    becomes the disk and the power is cut again. `is_busy` is true if another program writes to the file system, which then commits every second.
+    `wrong` names the step that the program or the mount omits, if any. The trial must then detect that data is lost."""
     kind: str
     case: str
     images: int
@@ -130,7 +131,7 @@ class Trial(NamedTuple):
 
 
 NO_BARRIER = "no barrier"
-# Errors that must be detected. The last but one is an `open` that does not sync the file's folder.
+# Trials with an omitted step, which must detect that data is lost. In the last but one, `open` does not sync the file's folder.
 WRONG = (
     Trial("ext4-nobarrier", "served", 60, wrong=NO_BARRIER),
     Trial("ext4", "served", 60, wrong="no sync"),
@@ -147,7 +148,7 @@ WRONG = (
 
 
 def cases_of(kind: str) -> list[str]:
-    """Returns the names of the short cases for a kind of file system. Kinds that show stale data have no case `new-link`; FAT has no links."""
+    """Returns the names of the short cases for a kind of file system. Kinds that show stale data have no case `new-link`: FAT has no links."""
     return [*NEW, *([] if KINDS[kind].shows_stale else ["new-link"]), *OPENED]
 
 

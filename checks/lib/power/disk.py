@@ -1,4 +1,4 @@
-"""A virtual machine's disk, which this process serves, and the list of its events.
+"""A virtual machine's disk, which this process serves, and the list of the events on it.
 
 QEMU reads and writes the disk as an NBD client over a Unix socket. Each write and each flush therefore has two events: its arrival and its
 answer. A power cut between the two can lose the written data, whatever the machine assumes.
@@ -31,8 +31,8 @@ class Fault(Exception):
 
 
 class Event(NamedTuple):
-    """An event. For the disk: a `write` arrived and was answered (`wrote`), or a `flush` arrived and was answered (`flushed`). Each such pair has a
-    number. For the program: a command was `sent` or `answered`, by its number."""
+    """An event on the disk or in the program. On the disk, a `write` arrives and is answered later (`wrote`), and a `flush` arrives and is answered
+    later (`flushed`); both events of a request have its number. In the program, the command with this number was `sent` or `answered`."""
     what: str
     number: int
     place: int = 0
@@ -55,7 +55,7 @@ class Disk:
 
     @property
     def file(self) -> str:
-        """The path with which a program on this host can open the bytes."""
+        """The path by which other programs on this host can open the bytes of the disk."""
         return f"/proc/{os.getpid()}/fd/{self.memory}"
 
     def close(self) -> None:

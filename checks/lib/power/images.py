@@ -1,9 +1,10 @@
 """The images that a power cut can leave on a disk, computed from the list of events on it.
 
-A write is durable once a flush has been answered that arrived after the write was answered. All other writes are pending. An image has none
-of the pending writes (`none`), all of them (`all`), or all, none or random sectors of each one (`some`). The same list contains the program's
-acknowledgements. So the bounds of what must be found are known at each place: at least the acknowledged commands, at most one more that was
-sent after them.
+A write is durable once a flush has been answered that arrived after the write was answered. All other writes are pending. An image has none of the
+pending writes (`none`), all of them (`all`), or all, none or random sectors of each one (`some`).
+
+The list of events also contains the program's acknowledgements. So for a cut after any event, the number of commands that may be found is known: at
+least the acknowledged commands, and at most one more, which was sent after them.
 """
 
 from __future__ import annotations
@@ -16,22 +17,23 @@ from typing import Literal
 from power.disk import Disk, Event
 
 SECTOR, BLOCK = 512, 4096
-# At each write and at each flush, this many random parts are drawn for each pending write, from at most this many pending writes.
+# After each write and each flush, PARTS random images are drawn for each pending write, but for at most MAX_PENDING of these writes.
 PARTS, MAX_PENDING = 12, 4
-# The number of events after the first answer that still count as the beginning.
+# The number of events after the first answer that belong to the phase "beginning".
 BEGINNING = 20
 
 # The phase of a cut: before the program's first answer, soon after it, while a snapshot is written, or at any other time.
 Phase = Literal["opening", "beginning", "snapshot", "serving"]
 PHASES: tuple[Phase, ...] = ("opening", "beginning", "snapshot", "serving")
-# The part of a pending write that an image contains: None for the whole write, otherwise the size of a sector, and a bit for each new sector.
+# The part of a pending write that an image contains: None for the whole write, otherwise the size of a sector, and a bit for each sector that is new.
 Part = tuple[int, int] | None
 
 
 @dataclasses.dataclass
 class Image:
-    """The possible contents of the disk after a cut at a place in the list, and at other places up to `last`. `least` and `most` are the bounds
-    of the number of commands that may be found after all these cuts. Before the first answer `least` is None if no session existed."""
+    """Possible contents of the disk after a power cut. A cut after the event with the number `place` can leave the image, and so can cuts up to the
+    event `last`. At least `least` and at most `most` commands must be found after all these cuts. `least` is None before the first answer if no
+    session existed at the beginning."""
     place: int
     last: int
     phase: Phase
@@ -43,11 +45,11 @@ class Image:
 
     @property
     def is_torn(self) -> bool:
-        """True if a block of the file system can be half old and half new, which the file system need not tolerate."""
+        """Returns true if a block of the file system can be half old and half new, which the file system need not tolerate."""
         return any(part is not None and part[0] < BLOCK for part in self.kept.values())
 
     def tighten(self, place: int, least: int | None, most: int) -> None:
-        """Adds a cut at another place that leaves the same image."""
+        """Adds a cut after another event that leaves the same image."""
         self.last = place
         if least is not None:
             self.least = least if self.least is None else max(self.least, least)
@@ -59,15 +61,15 @@ class History:
 
     def __init__(self, events: list[Event], first: int, is_kept: bool, snapshots: set[int], whole_blocks: bool,
                  chance: random.Random) -> None:
-        """`first` is the number of commands in the session at the beginning; if `is_kept`, the session existed durably before. `snapshots` are
-        the commands at which a snapshot is written. If `whole_blocks` is true, a block of 4,096 bytes is never torn."""
+        """`first` is the number of commands in the session at the beginning. `is_kept` is true if the session was durable then. `snapshots` has the
+        numbers of the commands at which a snapshot is written. If `whole_blocks` is true, a block of 4,096 bytes is never half written."""
         self.events, self.first, self.snapshots, self.chance = events, first, snapshots, chance
         self.start = first if is_kept else None
         self.whole_blocks = whole_blocks
         durable_at = self.durable_at()
         never = len(events) + 1
         self.writes = {event.number: event for event in events if event.what == "write"}
-        # The order in which they become durable, so that the durable writes of an image are a prefix.
+        # Sorted by the time at which they become durable, so that the durable writes of each image are the first ones in this list.
         self.by_durability = sorted(self.writes, key=lambda number: (durable_at.get(number, never), number))
         self.durable_places = [durable_at.get(number, never) for number in self.by_durability]
         self.rank = {number: rank for rank, number in enumerate(self.by_durability)}
@@ -77,8 +79,8 @@ class History:
         return sum(event.what == what for event in self.events)
 
     def durable_at(self) -> dict[int, int]:
-        """Returns for each write that becomes durable the place in the list from which on it is durable: a flush was answered that arrived after
-        the write was answered."""
+        """Returns the number of the event that makes each write durable. This event is the answer to a flush that arrived after the write was
+        answered. Writes that never become durable are omitted."""
         at: dict[int, int] = {}
         answered: list[int] = []
         covered: dict[int, list[int]] = {}
@@ -116,7 +118,7 @@ class History:
         return list(found.values())
 
     def phase(self, place: int, first_answer: int, answered: int | None, sent: int) -> Phase:
-        """Returns the phase of a cut at a place."""
+        """Returns the phase of a cut after the event with the number `place`."""
         if not first_answer:
             return "opening"
         if sent != answered and sent in self.snapshots:
@@ -124,14 +126,14 @@ class History:
         return "beginning" if place < first_answer + BEGINNING else "serving"
 
     def ways(self, event: Event, pending: list[int]) -> list[tuple[str, dict[int, Part]]]:
-        """Returns the ways in which the pending writes can be partly on the disk after an event."""
+        """Returns some of the ways in which the pending writes can be on the disk after an event: for each its name, and the part of each write."""
         found: list[tuple[str, dict[int, Part]]] = [("none", {}), ("all", dict.fromkeys(pending))]
         if event.what in ("write", "flushed"):
             found += [("some", self.part_of(pending)) for _ in range(PARTS * min(len(pending), MAX_PENDING))]
         return found
 
     def part_of(self, pending: list[int]) -> dict[int, Part]:
-        """Returns a random part of these writes: all, none or some of the sectors of each one."""
+        """Returns a random selection from these writes: all, none or some of the sectors of each one."""
         unit = BLOCK if self.whole_blocks else self.chance.choice((SECTOR, BLOCK))
         found: dict[int, Part] = {}
         for write in pending:
@@ -143,7 +145,7 @@ class History:
         return found
 
     def draw(self, images: list[Image], count: int) -> list[Image]:
-        """Returns at most `count` of these images, in chronological order: the same number from each phase, and more if another phase has too few."""
+        """Returns at most `count` of these images, in chronological order. Each phase has the same share, or more if another phase has too few."""
         groups = sorted(([image for image in images if image.phase == phase] for phase in PHASES), key=len)
         drawn: list[Image] = []
         for index, group in enumerate(groups):
@@ -152,7 +154,7 @@ class History:
 
 
 class Builder:
-    """Writes the images of a history to the disk as it was at the beginning, one after another, in chronological order."""
+    """Writes the images of a history to its disk, one after another, in chronological order. The disk must be as it was before the history."""
 
     def __init__(self, disk: Disk, history: History) -> None:
         self.disk, self.history = disk, history

@@ -1,4 +1,4 @@
-"""Sequences of writes and flushes whose possible disk images are known in advance. They check images.py and its builder without a machine."""
+"""Tests of images.py that need no machine: sequences of writes and flushes whose possible disk images are known in advance."""
 
 from __future__ import annotations
 
@@ -12,7 +12,7 @@ OLD = bytes(SECTOR)
 
 
 def history(events: list[Event], whole_blocks: bool = False, seed: int = 0, first: int = 0) -> History:
-    """Returns a history of events, for a session that did not exist before."""
+    """Returns the history of these events, with a session that did not exist before them."""
     return History(events, first, False, set(), whole_blocks, random.Random(seed))
 
 
@@ -88,7 +88,7 @@ def bounds_of_a_copy() -> bool:
 
 
 def settled() -> bool:
-    """Checks that after an image has been settled, later images build on it."""
+    """Checks that an image can be written permanently, and then another one, regardless of the first."""
     events = history([write(1, 0, A), done("wrote", 1), done("flush", 2), done("flushed", 2), write(3, 0, B)])
     disk = Disk(BLOCK)
     builder = Builder(disk, events)

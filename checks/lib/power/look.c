@@ -1,6 +1,6 @@
-/* Runs in the machine. For each input line `TYPE FILE OPTIONS` it mounts /dev/vda as a file system of that type at /mnt, copies FILE from it
-   to /dev/vdb, unmounts it, and prints a line: `size N`, `absent`, `unreadable` or `not mounted`. An empty line ends it. One process looks at
-   all images, because without KVM the start of a process takes longer than looking at an image. */
+/* Examines disk images inside the virtual machine. For each input line `TYPE FILE OPTIONS` it mounts /dev/vda as a file system of that type at
+   /mnt, copies FILE from it to /dev/vdb, unmounts it, and prints a line: `size N`, `absent`, `unreadable` or `not mounted`. An empty line ends the
+   program. One process examines all images, because without KVM starting a process takes longer than examining an image. */
 #include <errno.h>
 #include <fcntl.h>
 #include <linux/fs.h>
@@ -16,7 +16,7 @@ enum { MAX_BYTES = 1 << 20 };
 
 static char bytes[MAX_BYTES];
 
-/* Drops the kernel's caches of the disk, whose contents have been replaced. */
+/* Makes the kernel drop its caches of /dev/vda, because the contents of the disk have been replaced. */
 static void forget(void) {
     int disk = open("/dev/vda", O_RDONLY);
     if (disk < 0 || ioctl(disk, BLKFLSBUF, 0) < 0 || close(disk) < 0) {
@@ -25,7 +25,7 @@ static void forget(void) {
     }
 }
 
-/* Writes bytes to the disk for found files; they are durable when this returns. */
+/* Writes `size` bytes of the file to /dev/vdb, and syncs them. */
 static void hand_on(size_t size) {
     int disk = open("/dev/vdb", O_WRONLY);
     if (disk < 0 || pwrite(disk, bytes, size, 0) != (ssize_t)size || fsync(disk) < 0 || close(disk) < 0) {
@@ -34,7 +34,7 @@ static void hand_on(size_t size) {
     }
 }
 
-/* Copies a file, and writes its description to `state`. */
+/* Copies a file to /dev/vdb, and writes the answer about it (`size N`, `absent` or `unreadable`) to `state`. */
 static void copy(const char *file, char state[32]) {
     struct stat found;
     int opened = open(file, O_RDONLY);
@@ -65,7 +65,7 @@ int main(void) {
             copy(file, state);
             if (umount("/mnt") < 0) return 1;
         }
-        /* From here on, the disk is not accessed: its contents can be replaced at any time. */
+        /* The answer tells the host that it can replace the contents of the disk, so the disk is not accessed until the next line arrives. */
         puts(state);
         fflush(stdout);
     }

@@ -1,4 +1,4 @@
-"""A virtual machine: QEMU without KVM, a Debian kernel, and an initramfs with busybox, modules, the program and its libraries."""
+"""The virtual machine of checks/power: QEMU without KVM, a Debian kernel, and an initramfs with busybox, modules, the program and its libraries."""
 
 from __future__ import annotations
 
@@ -16,8 +16,9 @@ from typing import NamedTuple
 
 from power.disk import Connection, Disk, Fault
 
-# The machine's init script: it loads modules, silences the lines, and then runs each line that arrives and prints its status.
-FIRST = r"""#!/bin/busybox sh
+# The machine's init script. It loads modules, switches off the echo of its serial line, and then runs each shell line that arrives and prints its
+# exit status.
+INIT_SCRIPT = r"""#!/bin/busybox sh
 /bin/busybox --install -s /bin
 mount -t proc proc /proc
 mount -t sysfs sys /sys
@@ -35,7 +36,7 @@ KERNEL_WORDS = "console=ttyS0 loglevel=5 panic=-1 mitigations=off random.trust_c
 PROCESSOR = "Nehalem"
 MEMORY = 512
 BOOT_SECONDS = 900
-# The seconds that a late answer of a disk waits for others.
+# The seconds for which a disk holds back an answer, so that other answers can overtake it.
 LATE = 0.0005
 
 
@@ -107,7 +108,7 @@ def initramfs(folder: pathlib.Path, kernel: Kernel, names: list[str], files: dic
     for place, file in files.items():
         (root / place).parent.mkdir(parents=True, exist_ok=True)
         shutil.copy(file, root / place)
-    (root / "init").write_text(FIRST)
+    (root / "init").write_text(INIT_SCRIPT)
     (root / "init").chmod(0o755)
     listed = "\n".join(sorted(str(path.relative_to(root)) for path in root.rglob("*")))
     packed = subprocess.run(["cpio", "--quiet", "-o", "-H", "newc"], input=listed.encode(), cwd=root, stdout=subprocess.PIPE, check=True)
@@ -117,7 +118,7 @@ def initramfs(folder: pathlib.Path, kernel: Kernel, names: list[str], files: dic
 
 
 class Line:
-    """A serial line: the texts that the machine wrote to it."""
+    """A serial line of the machine, with the text that the machine has written to it."""
 
     def __init__(self) -> None:
         self.channel: socket.socket | None = None
@@ -137,7 +138,7 @@ class Line:
 
 
 class Machine:
-    """A running machine, with its disks and its two lines."""
+    """A running machine, with its disks and its two serial lines."""
 
     def __init__(self, folder: pathlib.Path, kernel: Kernel, archive: pathlib.Path, disks: dict[str, Disk]) -> None:
         self.disks, self.release = disks, kernel.release
@@ -153,7 +154,7 @@ class Machine:
             listener.listen()
             self.selector.register(listener, selectors.EVENT_READ, name)
         self.started = time.monotonic()
-        # It ends with this process, however this process ends.
+        # QEMU is killed when this process ends, however that happens.
         words = ["setpriv", "--pdeathsig", "KILL", *self.words(folder, kernel, archive)]
         with open(self.errors, "wb") as errors:
             self.process = subprocess.Popen(words, stdin=subprocess.DEVNULL, stderr=errors)
@@ -171,7 +172,7 @@ class Machine:
         return words
 
     def boot(self) -> float:
-        """Waits until the machine accepts lines. Returns the number of seconds since its start."""
+        """Waits until the machine accepts shell lines. Returns the number of seconds since its start."""
         if self.hear(self.shell, BOOT_SECONDS) != "ready":
             raise Fault(f"the machine does not begin; its last lines:\n{self.last_lines()}")
         return time.monotonic() - self.started
@@ -200,7 +201,7 @@ class Machine:
         channel.close()
 
     def turn(self, seconds: float) -> None:
-        """Serves data that has arrived or arrives within a number of seconds. If none arrives, sends late answers."""
+        """Serves the data that arrives within a number of seconds. If none arrives, sends answers that the disks have held back."""
         waiting = [connection for connection in self.connections if connection.waiting]
         found = self.selector.select(LATE if waiting else seconds)
         for key, _ in found:

@@ -1,5 +1,5 @@
-/* Wrong implementations of a program's syncs, for a program that is started with this library loaded before the C library (LD_PRELOAD). The
-   variable WRONG selects one:
+/* A library with wrong implementations of the calls that sync a file. The program is started with this library loaded before the C library
+   (LD_PRELOAD). The environment variable WRONG selects one:
      no sync             a sync of data does nothing
      no first sync       the sync of a record or of a snapshot does nothing; the sync of its commit byte or selector is done
      no second sync      the sync of the commit byte or selector does nothing
@@ -15,11 +15,11 @@
 #include <sys/stat.h>
 #include <unistd.h>
 
-/* A commit byte or a selector, a header with its selector, and a snapshot with the commit byte after it. */
+/* The lengths of the writes: of a commit byte or a selector, of a header with its selector, and of a snapshot with the commit byte after it. */
 enum { COMMIT = 1, HEADER = 16, SNAPSHOT = 16385 };
 
-static size_t length; /* of what was written last */
-static int owed = -1; /* the file whose byte, or whose sync, is put off */
+static size_t length; /* the length of the last write */
+static int owed = -1; /* the file whose write of a byte, or whose sync, is still to be done; -1 if there is none */
 static char byte;
 static off_t place;
 

@@ -22,12 +22,12 @@ MEGA = 1 << 20
 
 
 def path_with_system() -> str:
-    """Returns the PATH with the folders in which Debian has the programs that make file systems."""
+    """Returns the PATH, extended by the folders in which Debian installs the programs that create file systems."""
     return os.environ.get("PATH", "") + ":/usr/sbin:/sbin"
 
 
 def memory_folder() -> str | None:
-    """Returns a folder in memory, if there is one, because the program syncs its file thousands of times."""
+    """Returns a folder in memory, or None if there is none. (The program syncs its file thousands of times, which is slow on a disk.)"""
     return "/dev/shm" if os.access("/dev/shm", os.W_OK) else None
 
 
@@ -79,8 +79,7 @@ def fetch_kernel() -> int:
 
 
 def lack_of_room(folder: pathlib.Path, disk: int) -> str:
-    """Returns a message about missing memory for a machine and a disk of this size, or about missing space for its images, or "" if there is
-    enough."""
+    """Returns a message if there is too little memory for a machine with a disk of this size, or too little space for its images; otherwise ""."""
     needed = MEMORY * MEGA + 3 * disk
     memory = pathlib.Path("/proc/meminfo").read_text()
     available = re.search(r"MemAvailable: +(\d+) kB", memory)

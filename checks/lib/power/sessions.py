@@ -1,4 +1,4 @@
-"""The sessions that are served: their commands, the state after each command, and which of these states a file contains."""
+"""The sessions that checks/power serves: their commands, the state after each command, and the number of commands in a file that is found."""
 
 from __future__ import annotations
 
@@ -13,7 +13,7 @@ from session_file import LENGTH_BYTES, SLOTS, read
 
 ROMS = 16
 BOARD = "wire\n" + "".join(f'[[rom]]\nchip = {chip}\nport = "0000"\n' for chip in range(ROMS)) + "[[ram]]\nbank = 0\nchips = 4\n."
-# Counts in all nibbles of bank 0, so each run leaves a different state.
+# A program that counts in all nibbles of bank 0, so each run leaves a different state.
 PROGRAM = """asm
 again:  FIM P0, 0x00
 next:   SRC P0
@@ -27,17 +27,17 @@ next:   SRC P0
 ."""
 # Queries about everything on a board: registers and chips, RAM, ROM.
 QUERIES = "state\nram 0\n" + "".join(f"list {256 * chip} 256\n" for chip in range(ROMS))
-# Before this command, cycles fill the log. After it, bytes fill it.
+# The number of the first commands, which are short, so that their cycles fill the log. The later ones are long, so that their bytes fill it.
 SHORT_COMMANDS = 48
-# The number of bytes in a long text.
+# The number of lines in a long text, and the number of bytes in each of them.
 LINES, BYTES_OF_LINE = 37, 100
-# The fifth byte of a state of version 1 is not its version.
+# The offset of the version in a state, and version 2. A state of version 1 has something else at this offset.
 VERSION_PLACE, VERSION_2 = 4, 2
 
 
 def commands(count: int) -> list[str]:
-    """Returns the texts of commands. A snapshot is written at the 49th, when cycles have filled the log, and then at every 20th, when bytes have
-    filled it: three in four commands have a record of two blocks, with 4,213 bytes."""
+    """Returns `count` commands as text. A snapshot is written at the 49th command, when cycles have filled the log, and then at every 20th command,
+    when bytes have filled it: three in four of these commands have a record of 4,213 bytes, which takes two blocks."""
     found = [BOARD, PROGRAM]
     for number in range(len(found), count):
         if number >= SHORT_COMMANDS and number % 4:
@@ -50,7 +50,7 @@ def commands(count: int) -> list[str]:
     return found[:count]
 
 
-def carried_back(data: bytes) -> bytes:
+def as_version_1(data: bytes) -> bytes:
     """Returns the version 1 form of a session file whose snapshot, of version 2, has no watches: without the version byte and without the
     number of watches."""
     slot = SLOTS[data[8] % 2]
@@ -62,7 +62,7 @@ def carried_back(data: bytes) -> bytes:
     return data[:slot] + len(first).to_bytes(LENGTH_BYTES, "big") + first + bytes(2) + data[begin + length:]
 
 
-def is_first(data: bytes) -> bool:
+def has_version_1(data: bytes) -> bool:
     """Returns true if a file contains a session of version 1."""
     found = read(data)
     return found is not None and found[0][VERSION_PLACE] != VERSION_2
@@ -74,7 +74,7 @@ def digest(answers: bytes) -> str:
 
 
 class Sessions:
-    """The sessions after each number of commands, as the program reports them, and the sessions in the files that are found."""
+    """The state after each number of commands, as the program reports it. It also tells to which of these states a file that is found belongs."""
 
     def __init__(self, program: str, folder: pathlib.Path, count: int) -> None:
         self.program, self.folder = program, folder
@@ -91,7 +91,7 @@ class Sessions:
         return first.decode(errors="replace"), others
 
     def serve_all(self) -> None:
-        """Records the state after each command, and the commands at which a snapshot is written, and creates the sessions that are copied to the
+        """Records the state after each command, and the commands at which a snapshot is written. Creates the sessions that are copied into the
         machine."""
         file = self.folder / "model.mcs"
         slot = 0
@@ -108,13 +108,13 @@ class Sessions:
                 if number == SERVED_COMMANDS:
                     (self.folder / SERVED).write_bytes(data)
                 if number == FIRST_COMMANDS:
-                    (self.folder / FIRST).write_bytes(carried_back(data))
+                    (self.folder / FIRST).write_bytes(as_version_1(data))
         file.unlink()
         if len(set(self.states)) != len(self.states):
             raise Fault("two commands leave the same state")
 
     def after(self, served: subprocess.Popen[bytes], number: int) -> tuple[str, str]:
-        """Returns the first word of a running program's answer to a command, and the state after it."""
+        """Sends a command to a running program. Returns the first word of the answer, and a hash of the state after the command."""
         assert served.stdin is not None and served.stdout is not None
         text = (self.commands[number - 1] + "\n" if number else "") + QUERIES + "seq\n"
         served.stdin.write(text.encode())
@@ -126,7 +126,7 @@ class Sessions:
         return begun.decode().split(" ")[0], digest(state)
 
     def found_in(self, data: bytes) -> int | str:
-        """Returns the number of commands in a session file, if its state is the one after these commands, otherwise a message."""
+        """Returns the number of commands in a session file if the file has the state after these commands, otherwise a message."""
         key = hashlib.sha256(data).digest()
         if key not in self.verdicts:
             self.verdicts[key] = self.opened(data)

@@ -1,4 +1,4 @@
-"""A trial: a session is served in the machine, the images that a cut can leave are mounted there in turn, and the results are evaluated.
+"""A trial serves a session in the machine, mounts there one image after another that a power cut can leave, and evaluates the results.
 
 Then one of the images becomes the disk, the session is opened there and continues, and the power is cut again: while the file system
 recovers, while the session is opened, and later.
@@ -21,22 +21,22 @@ from power.cases import (ALL_COMMANDS, CASES, FEW_COMMANDS, KINDS, MORE_COMMANDS
 from power.disk import Disk, Event, Fault
 from power.images import Builder, History, Image, Phase
 from power.machine import Machine
-from power.sessions import Sessions, is_first
+from power.sessions import Sessions, has_version_1
 from session_file import SIZE
 
 MEGA = 1 << 20
-# Another program that writes at the same time, so that the file system commits between the writes of the program.
-BUSY = "(cd /; n=/mnt/noise; while :; do echo noise >> $n/a; mv $n/a $n/b; sleep 0.3; mv $n/b $n/a; done) & busy=$!"
-# BEGIN starts the program on its line, and reports an unexpected end. END stops everything in the file system, where a process can still run for
-# a moment.
-BEGIN = "{{ {wrong} mcs4 {words} <&3 >&3; reported=$?; [ -e /tmp/end ] || echo ended with status $reported >&3; }} &"
-END = "cd /; : > /tmp/end; kill $busy; killall mcs4; wait; rm /tmp/end; umount /mnt || { sleep 1; umount /mnt; }"
-# What `new` can leave before its first answer, on a file system that shows only written data.
-BEFORE_NEW = ("absent", "size 0", "blank", 0)
+# A shell line that starts another writer on the file system, so that the file system commits between the writes of the program.
+START_OTHER_WRITER = "(cd /; n=/mnt/noise; while :; do echo noise >> $n/a; mv $n/a $n/b; sleep 0.3; mv $n/b $n/a; done) & busy=$!"
+# Shell lines. START_PROGRAM starts the program with its serial line as input and output, and reports if the program ends unexpectedly.
+# STOP_AND_UNMOUNT ends all processes that use the file system, and unmounts it, with a second attempt because a process can live for a moment longer.
+START_PROGRAM = "{{ {wrong} mcs4 {words} <&3 >&3; reported=$?; [ -e /tmp/end ] || echo ended with status $reported >&3; }} &"
+STOP_AND_UNMOUNT = "cd /; : > /tmp/end; kill $busy; killall mcs4; wait; rm /tmp/end; umount /mnt || { sleep 1; umount /mnt; }"
+# What can be found if the power is cut before the first answer of `new`, on a file system that shows only written data.
+ALLOWED_BEFORE_NEW = ("absent", "size 0", "blank", 0)
 # The maximum number of errors to report for each recording, and of images to store in total.
-SHOWN, KEPT = 2, 6
+MAX_REPORTED, MAX_STORED = 2, 6
 
-# A number of commands, or a description of what was found.
+# What was found on an image: the number of commands in a session, or a description of anything else.
 Found = int | str
 
 
@@ -64,7 +64,7 @@ class Outcome:
 @dataclasses.dataclass
 class Stage:
     """How a session is served: the arguments of the program, the shell command just before it, the number in the first answer, the last command, and
-    whether the session existed durably before."""
+    whether the session was already durable before."""
     words: str
     before: str
     first: int
@@ -74,7 +74,7 @@ class Stage:
 
 
 class Runner:
-    """Runs trials on a machine with the disks `disk` and `out`. Files that are found are copied to `out`."""
+    """Runs trials on a machine with two disks. Images are written to `disk`. The machine copies the session files that it finds to `out`."""
 
     def __init__(self, machine: Machine, sessions: Sessions, keep: pathlib.Path, show: str, seed: int) -> None:
         """Images with errors are stored in `keep`. `show` is the command line that examines a stored image again, without the name of the image."""
@@ -120,7 +120,7 @@ class Runner:
         self.machine.must(f"blockdev --flushbufs /dev/vda; mount -t {kind.type} -o {options} /dev/vda /mnt")
 
     def make(self, kind: Kind, trial: Trial, case: Case) -> None:
-        """Makes a new file system on the disk, whose free blocks do not contain zeros, and prepares the case on it."""
+        """Creates a new file system, whose free blocks contain other bytes than zeros, and runs the synced shell commands of the case on it."""
         size = kind.size * MEGA
         blank = Disk(size)
         for place in range(0, size, MEGA):
@@ -143,15 +143,15 @@ class Runner:
         self.mount(kind, trial)
         self.machine.must("cd /mnt; mkdir -p noise; busy=")
         if trial.is_busy:
-            self.machine.must(BUSY)
+            self.machine.must(START_OTHER_WRITER)
         if stage.before:
             self.machine.must(stage.before)
         wrong = f"LD_PRELOAD=/omit.so WRONG='{trial.wrong}'" if trial.wrong not in ("", NO_BARRIER) else ""
-        self.machine.must(BEGIN.format(wrong=wrong, words=stage.words))
+        self.machine.must(START_PROGRAM.format(wrong=wrong, words=stage.words))
         self.serve(events, stage)
         self.disk.events = None
         self.disk.late = False
-        self.machine.must(END)
+        self.machine.must(STOP_AND_UNMOUNT)
         self.disk.take_back()
         snapshots = set() if case.name.startswith("carried") else self.sessions.snapshots
         return History(events, stage.first, stage.is_kept, snapshots, kind.whole_blocks, self.chance)
@@ -178,7 +178,7 @@ class Runner:
         builder.build(image)
         found = self.found(kind, self.options(kind, trial), case.file)
         self.disk.take_back()
-        return Seen(image, found, isinstance(found, int) and is_first(bytes(self.out.bytes[:SIZE])))
+        return Seen(image, found, isinstance(found, int) and has_version_1(bytes(self.out.bytes[:SIZE])))
 
     def found(self, kind: Kind, options: str, file: str) -> Found:
         """Returns what a machine finds on its disk after a cut: a number of commands, or a description."""
@@ -200,18 +200,18 @@ class Runner:
 
     @staticmethod
     def verdict(trial: Trial, seen: Seen) -> str:
-        """Returns `good`, a note, or "" for an error."""
+        """Judges what was found on an image. Returns `good`, a note if other contents are allowed there, or "" for an error."""
         kind, case = KINDS[trial.kind], CASES[trial.case]
         image, found = seen.image, seen.found
         if found == "not mounted" and image.is_torn:
             return "not mounted, with a torn block"
         if image.least is None:
-            is_good = found in BEFORE_NEW if case.words.startswith("new") and not kind.shows_stale else found != "not mounted"
+            is_good = found in ALLOWED_BEFORE_NEW if case.words.startswith("new") and not kind.shows_stale else found != "not mounted"
             return f"before the first answer {found}" if is_good else ""
         return "good" if isinstance(found, int) and image.least <= found <= image.most else ""
 
     def judge(self, trial: Trial, generation: int, history: History, seen: list[Seen], builder: Builder, seconds: float) -> Outcome:
-        """Reports what was found on the images of a recording, and stores some of the images with errors."""
+        """Prints what was found on the images of a history, and stores some of the images with errors."""
         notes: collections.Counter[str] = collections.Counter()
         wrong = []
         for one in seen:
@@ -228,7 +228,7 @@ class Runner:
         del notes["good"]
         if notes:
             print("    " + "; ".join(f"{number} {note}" for note, number in sorted(notes.items())), flush=True)
-        faults = [self.words_of_fault(one, len(history.events)) for one in wrong[:SHOWN]]
+        faults = [self.words_of_fault(one, len(history.events)) for one in wrong[:MAX_REPORTED]]
         for words, one in zip(faults, wrong):
             if not trial.wrong:
                 print(f"FAULT in {name}: {words}", flush=True)
@@ -252,7 +252,7 @@ class Runner:
     def keep_image(self, trial: Trial, generation: int, builder: Builder, image: Image) -> None:
         """Stores an image in a file, with the expected result, and reports the command line that examines it again."""
         kind, case = KINDS[trial.kind], CASES[trial.case]
-        if self.kept == KEPT:
+        if self.kept == MAX_STORED:
             return
         self.kept += 1
         self.keep.mkdir(parents=True, exist_ok=True)

@@ -1,8 +1,8 @@
-# Conditions, states and failures, worked out manually.
+# mcs4 test: conditions, saved states and failures. The expected results were worked out manually.
 # shellcheck shell=sh
 
 cat > "$folder/lamps.test" <<'end_of_tests'
-# The right lamp is on first: FIM, SRC, LDM, XCH, LD and WMP are 7 cycles.
+# The right lamp is on first, after 7 cycles: FIM, SRC, LDM, XCH, LD and WMP.
 test the right lamp is lit first
     until lamps right within 7
     expect cycles 7
@@ -86,7 +86,7 @@ tested() {
         "$(cat "$folder/printed")" "$1"
 }
 tested "conditions and failures"
-# Every awk prints the same; mawk reads a pipe line by line with an option.
+# Checks that every awk prints the same. (mawk needs an option to read a pipe line by line.)
 for other in gawk mawk original-awk "busybox awk"; do
     if command -v "${other%% *}" > /dev/null; then
         mkdir -p "$folder/bin"
@@ -101,7 +101,7 @@ for other in gawk mawk original-awk "busybox awk"; do
     fi
 done
 
-# Each kind of condition, at times that follow from the programs below.
+# Checks each kind of condition. The times follow from the program below.
 cat > "$folder/kinds.asm" <<'program'
         FIM P0, 0x00
         SRC P0
@@ -137,10 +137,10 @@ awk 'BEGIN {
     for (i = 1; i <= count; i++) {
         split(kinds[i], parts, ":")
         print "test " kinds[i] "\n press a\n until " parts[1] " within 40\n expect cycles " parts[2]
-        # A state within an instruction.
+        # The run ends within an instruction.
         print "test inside " kinds[i] "\n press a\n run 1\n until " parts[1] " within 40\n expect cycles " parts[2]
     }
-    # An event that never happens, and one that happens in the last cycle.
+    # Tests an event that never happens, and one that happens in the last cycle.
     print "test not there\n until not pc 0 within 40\n expect cycles 2"
     print "test never\n until rom1 in 10 within 40"
     print "test too late\n press a\n until acc 7 within 20"
@@ -158,7 +158,7 @@ not ok 63 - TEST
   message: \"it did not become true within 10 cycles: test is 1, but must be 0\"
 status 1" "each kind of condition"
 
-# The last instructions before a failure, with keys that were pressed.
+# Checks that a failure shows the last instructions before it, and the key presses among them.
 printf 'test t\npress 5\nrun 12\nexpect lamps open\n' > "$folder/one.test"
 verdict "$(outcome ./mcs4 test $lock/board.toml $lock/lock.asm "$folder/one.test" | sed -n '/trace/,$p')" \
     "  trace: |

@@ -1,4 +1,4 @@
-# mcs4 cover: the counts are those of single steps; LCOV's format; a report that was worked out manually.
+# mcs4 cover: the counts, compared with those of single steps; the LCOV format; and a report that was worked out manually.
 # shellcheck shell=sh
 
 make_count
@@ -20,7 +20,7 @@ never run: line 7
 only one way: line 5 (never taken)
 status 0
 covered
-# FIM 2, twice JMS 2, CLC 1, BBL 1, ISZ 2, then JCN 2 and JUN 2: 18 cycles, and 11 times 2 up to 40.
+# The cycles: FIM 2, twice (JMS 2, CLC 1, BBL 1, ISZ 2), then JCN 2 and JUN 2 are 18, and 11 more JUN of 2 cycles make 40.
 sed 's/^        10 /        11 /' < "$folder/covered" > "$folder/covered_by_hand"
 verdict "$(outcome ./mcs4 cover --lcov "$folder/count.info" $three/board.toml "$folder/count.asm" "$folder/count.test")" \
     "$(cat "$folder/covered_by_hand")" "coverage by hand"
@@ -68,7 +68,7 @@ only one way: line 2 (always taken)
 status 0" "coverage of a jump that is always taken"
 verdict "$(sed -n '/^BR/p' "$folder/always.info" | tr '\n' ' ')" "BRDA:2,0,0,8 BRDA:2,0,1,0 BRF:2 BRH:1 " "LCOV's format of a jump that is always taken"
 
-# The counts in 6,000 cycles of the calculator with a key down, by \`cover\` and by \`step\` and \`regs\`.
+# Compares the counts in 6,000 cycles of the calculator with a key down: by `cover`, and by `step` and `regs`.
 ./mcs4 script $calculator/board.toml $calculator/calculator.asm > "$folder/script"
 {
     cat "$folder/script"
@@ -111,7 +111,7 @@ else
     echo "not run: genhtml (Debian's package lcov)"
 fi
 
-# The file in LCOV's format is written last, and replaces only such a file; any other file stays unchanged.
+# Checks that a file that is not in the LCOV format stays unchanged. (The LCOV file is written last, and may replace only such a file.)
 stays() {
     cp "$1" "$folder/stayed"
     file=$1

@@ -1,4 +1,4 @@
-# The tests of the examples, run by prove; and with a bug in some programs.
+# The tests of the examples: perl's `prove` runs them, and they fail if a bug is put into some of the programs.
 # shellcheck shell=sh
 
 proves() {
@@ -22,7 +22,7 @@ test 1
 run 8
 lamps" "what is at TEST, by its name"
 
-# Puts a bug into a copy of a program: replaces a text in the n-th line that contains it. Arguments: the program, n, the text, the new text.
+# Puts a bug into a copy of a program: replaces a text in the N-th line that contains it. Arguments: the program, N, the text, the new text.
 plant() {
     awk -v n="$2" -v old="$3" -v new="$4" '{
         at = index($0, old)
@@ -37,21 +37,21 @@ finds() {
     verdict "$(outcome ./mcs4 test "$1" "$folder/planted" "$2" | sed -n 's/^not ok [0-9]* - //p; /^status/p')" "$3
 status 1" "a bug found by $2"
 }
-# A division by zero is reported as an overflow.
+# The following bugs are tried. A division by zero is reported as an overflow.
 plant $calculator/calculator.asm 1 "LDM 2		; division by zero" "LDM 1		; division by zero"
 finds $calculator/board.toml $calculator/calculator.test "division by zero"
-# After several keys four scans are enough.
+# After several keys at once, four scans are enough.
 plant $calculator/calculator.asm 1 "after_several = 11" "after_several = 12"
 finds $calculator/board.toml $calculator/calculator.test "a press of 520 cycles after a press of two other keys is not accepted"
-# A right code does not reset the count of wrong codes.
+# A correct code does not reset the count of wrong codes.
 plant $lock/lock.asm 2 "LDM 13" "LD R12"
 finds $lock/board.toml $lock/lock.test "a right code resets the count of wrong codes"
-# Several keys in a row count as none, so a key that is held counts again.
+# Several keys down in one row count as none, so a key that stays down counts again.
 plant $lock/lock.asm 1 "several: LDM 14" "several: LDM 15"
 finds $lock/board.toml $lock/lock.test "a key that is held counts once even if its neighbour is pressed"
-# Pedestrians have two seconds.
+# The time for pedestrians is two seconds.
 plant examples/traffic_light.txt 1 "FIM P7, 0xD0" "FIM P7, 0xE0"
 finds "$folder/planted" examples/traffic_light.test "the phases after amber"
-# A hundredth takes one more cycle.
+# A hundredth of a second takes one more cycle.
 plant examples/stopwatch.txt 1 "NOP             ; the last" "FIM P0, 0x00    ; the last"
 finds "$folder/planted" examples/stopwatch.test "a hundredth of a second takes 926 cycles"

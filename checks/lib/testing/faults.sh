@@ -1,4 +1,4 @@
-# Texts that are not tests: each error has its file and line, and nothing is run. Also wrong programs.
+# Errors in the texts of tests: each is reported with its file and line, and no test is run. Also tests of wrong programs.
 # shellcheck shell=sh
 
 printf 'test t\n run 5\n' > "$folder/one.test"
@@ -145,7 +145,7 @@ verdict "$(MCS4=$folder/no_bench outcome ./mcs4 test $lock/board.toml $lock/lock
 status 1" "a program that is none"
 verdict "$(MCS4=$folder/none outcome ./mcs4 names $lock/lock.asm)" "names: $folder/none does not answer; MCS4 names the program where it is not the mcs4 at the top
 status 1" "a program that is not there"
-# In a clone whose program must be built first, the output of tools/build appears while it builds. (Here it builds nothing.)
+# If a clone must first build its program, the output of tools/build appears while it builds. (In this check, it builds nothing.)
 if [ -e tools/lib/sums.sh ]; then
     tree=$folder/tree
     mkdir -p "$tree/tools" "$tree/crates/mcs4/out"

@@ -1,4 +1,4 @@
-# The manual shows about testing what the tools print.
+# The manual's chapter about testing shows the output of the tools.
 # shellcheck shell=sh
 
 . "$top/checks/lib/manual.sh"

@@ -1,4 +1,4 @@
-# mcs4 profile: where the cycles are spent, worked out manually.
+# mcs4 profile: the cycles spent in each part of a program. The expected numbers were worked out manually.
 # shellcheck shell=sh
 
 make_count
@@ -33,7 +33,7 @@ look:   SRC P1
         WMP             ; the key is the lamp: SRC, RDR, SRC and WMP are 4 cycles
         JUN look
 program
-# 100 cycles are 16 turns of 6 and 4 more; then JUN and those 4 up to the lamp: 106.
+# 100 cycles are 16 turns of 6 cycles and 4 more. Then 2 cycles of JUN and 4 more lead to the lamp, which makes 106.
 printf 'test t\nrun 9\npress a\nrun 100\nrelease a\nrun 100\n' > "$folder/key.test"
 verdict "$(outcome ./mcs4 profile "$folder/key.toml" "$folder/key.asm" "$folder/key.test" | tail -n 3)" \
     "key                 presses  answered        longest to a lamp         to the last lamp

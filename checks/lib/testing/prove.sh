@@ -1,4 +1,4 @@
-# mcs4 prove: verdicts, counterexamples that mcs4 test must see fail, wrong provers, and interruptions.
+# mcs4 prove: verdicts, counterexamples that must fail as tests of mcs4 test, wrong provers, and interruptions.
 # shellcheck shell=sh disable=SC2034
 
 export MCS4_PROVE="${MCS4_PROVE:-$(. tools/lib/start.sh && find_prover && echo "$program")}"
@@ -6,14 +6,14 @@ if [ -z "$MCS4_PROVE" ]; then
     unset MCS4_PROVE
     echo "not run: mcs4 prove, in checks/testing (its program: tools/build mcs4_prove)"
 else
-    # Prints the remarks about the properties in a text. The properties that every program gets begin with "no".
+    # Prints the remarks about the properties that the text states. The properties that every program gets begin with "no".
     remarks() {
         sed -n '/ok [0-9]* - no /d; s/^\(not \)\{0,1\}ok .*# //p; /^status/p' "$@"
     }
     of_every_program() {
         sed -n 's/^\(not \)\{0,1\}ok [0-9]* - \(no .*\)/\1\2/p'
     }
-    # The die shows only its six faces, and each of them for 15 cycles.
+    # Proves that the die shows only its six faces, and each of them for 15 cycles.
     verdict "$(outcome ./mcs4 prove examples/die.txt examples/die.txt examples/die.props | results)" "$(
         sed -n 's/^never \(not .*\)/ok 1 - never \1 # proved for all inputs (13 states)/p' examples/die.props)
 ok 2 - never lamps none for 1 ms # proved for all inputs (13 states)
@@ -29,7 +29,7 @@ ok 9 - no ROM that is absent # proved for all inputs (22 sets of states)
 ok 10 - no RDR of a port without inputs # proved for all inputs (22 sets of states)
 ok 11 - no WRR to a port without outputs # proved for all inputs (22 sets of states)
 status 0" "the die"
-    # Each time is exact: a cycle less is too little.
+    # Checks that each time is exact: with a limit of one cycle less, the property is broken.
     printf 'press THROW\n@hold to @hold within %s\nnever lamps none for %s\nevery %s @hold\n' 15 16 16 > "$folder/times.props"
     verdict "$(outcome ./mcs4 prove examples/die.txt examples/die.txt "$folder/times.props" | remarks)" "proved for all inputs (13 states)
 proved for all inputs (13 states)
@@ -49,7 +49,7 @@ status 0" "all is proved"
     verdict "$(outcome ./mcs4 prove examples/die.txt examples/die.txt "$folder/faces.props" --most 12 | remarks)" \
         "TODO not decided: more than 12 states; --most allows more
 status 3" "one state too few"
-    # A face is wrong: the printed test fails, and fails only there.
+    # Puts a wrong face into the die. The printed test must fail on this program, and pass on the right one.
     sed 's/DB 8, 1, 9, 3, 11, 7/DB 8, 1, 9, 2, 11, 7/' examples/die.txt > "$folder/wrong.txt"
     verdict "$(cmp -s examples/die.txt "$folder/wrong.txt" && echo the same)" "" "a program with a wrong face"
     verdict "$(outcome ./mcs4 prove "$folder/wrong.txt" "$folder/wrong.txt" "$folder/faces.props" > "$folder/out"; remarks "$folder/out")" \
@@ -61,12 +61,12 @@ $(outcome ./mcs4 test examples/die.txt examples/die.txt "$folder/found.test" | s
 status 1
 ok 1
 status 0" "its test"
-    # Keys that the text excludes.
+    # Checks a property that only key presses can break that the text excludes.
     printf 'press THROW\nheld at most 1\nnever lamps ***.***\n' > "$folder/held.props"
     verdict "$(outcome ./mcs4 prove examples/die.txt examples/die.txt "$folder/held.props" | remarks)" \
         "TODO not decided: so far, only inputs that the text excludes break it (1 step)
 status 3" "a key that is held for too long"
-    # A program without a read, and a board without inputs.
+    # Checks a program that reads nothing, and a board without inputs.
     printf '[[rom]]\nchip = 0\nport = "0000"\n' > "$folder/board.toml"
     printf '; nothing\n' > "$folder/empty.asm"
     printf 'never acc > 0\nalways pc < 0x800\nat @no r1 = 0\n' > "$folder/empty.props"
@@ -77,7 +77,7 @@ status 3" "a key that is held for too long"
         "proved for all inputs (1 state)
 broken, 0 steps
 status 1" "an empty program"
-    # A program that makes each mistake after another key, and a text without a property. mcs4 prove has mcs4 test confirm each test.
+    # Checks a program that makes a different mistake after each key, with a text without properties. mcs4 prove runs each counterexample as a test.
     cat > "$folder/wrong.toml" << 'END'
 # test: button WALK
 [[rom]]
@@ -129,7 +129,7 @@ not pc 0x2F0
 not @fourth
 not @here
 status 1" "mistakes"
-    # Wrong provers: one with an invalid counterexample, one with invalid output, and one that does not end.
+    # Checks wrong provers: one that gives an invalid counterexample, one with invalid output, and one that does not end.
     prover_that() {
         printf '#!/bin/sh\ncat > /dev/null\n%s\n' "$1" > "$folder/prover"
         chmod +x "$folder/prover"

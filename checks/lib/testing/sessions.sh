@@ -1,7 +1,7 @@
-# Counting over sessions: with breakpoints and watches, within an instruction, read-only; and a program that ends.
+# Tools on session files: with breakpoints and watches, paused within an instruction, and read-only. Also a program that ends early.
 # shellcheck shell=sh
 
-# FIM, SRC, LDM, XCH, LD, WMP are 7 cycles, JMS and FIM 4 more: 011 is in the middle of the first ISZ R3, which has jumped.
+# FIM, SRC, LDM, XCH, LD and WMP are 7 cycles, and JMS and FIM 4 more. After 12 cycles, the first ISZ R3 has jumped, and its second cycle is pending.
 ./mcs4 script $three/board.toml $three/three_lamps.asm | sed 's/^run 2000$/run 12/' | begins inside
 verdict "$(outcome ./mcs4 cover --session "$folder/inside.mcs" 4 $three/three_lamps.asm | sed -n '/[0-9] .*ISZ/p; /^status/p')" \
     "         2 2/0            turn:   ISZ R3, turn
@@ -21,7 +21,7 @@ label             at          own  own %     calls with calls    longest
 x                 002           7   77.8
 y                 000           2   22.2
 status 0" "the cycles of a test that ends within an instruction"
-# Calls that leave the return addresses unchanged count, too. The oldest of the three open calls was entered at 6.
+# Calls that leave the return addresses unchanged count, too. The oldest of the three open calls began in cycle 6.
 printf 'here: JMS here\n' > "$folder/odd.asm"
 verdict "$(outcome ./mcs4 profile $three/board.toml "$folder/odd.asm" "$folder/odd.test" | sed -n '4p; $p')" "here              000           9  100.0         5          3          3
 status 0" "calls that change no return address"
@@ -34,7 +34,7 @@ for words in "cover --session SESSION 5000 $three/three_lamps.asm" "profile --se
     behind=${words#*SESSION}
     verdict "$(outcome ./mcs4 $before"$folder/stopped.mcs"$behind)" "$(outcome ./mcs4 $before"$folder/free.mcs"$behind)" "a session with breakpoints and watches: $words"
 done
-# A read-only session is read all the same.
+# Checks that a read-only session can be read.
 chmod 755 "$whole" "$folder"
 mkdir -m 777 "$folder/anyone"
 chmod 444 "$folder/stopped.mcs"
@@ -48,7 +48,7 @@ for words in "trace SESSION 3" "trace --source $three/three_lamps.asm SESSION 3"
     verdict "$(outcome env TMPDIR="$folder/anyone" $reader ./mcs4 $before"$folder/stopped.mcs"$behind)" "$(outcome ./mcs4 $before"$folder/stopped.mcs"$behind)" "a session that may not be written: $words"
 done
 
-# A program that ends before it has answered.
+# A program that ends before it has answered, in place of the native program.
 cat > "$folder/ending" <<'program'
 #!/bin/sh
 if [ "$1" != open ]; then exec "$ANSWERING" "$@"; fi

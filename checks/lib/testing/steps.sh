@@ -1,8 +1,9 @@
-# Repeated lines, shared steps, keys chosen by values, the label that was passed last.
+# mcs4 test: repeated lines, shared steps, keys that are chosen by values, and the label that was passed last.
 # shellcheck shell=sh
 
-# Each lamp is on for 538 cycles. From there on the turns of the wait begin after 4, 6, 8, 10 and 14, the last one after 520, the JCN to `first`
-# after 532. `first` begins 4 cycles before a lamp is on. From power-on, `first` is passed after 3 cycles, `next` after 5.
+# Each lamp is on for 538 cycles. Counted from the cycle in which a lamp is on, the turns of the waiting loop begin after 4, 6, 8, 10 and 14 cycles,
+# the last turn begins after 520, and the JCN to `first` after 532. `first` begins 4 cycles before a lamp is on. Counted from power-on, `first` is
+# passed after 3 cycles, and `next` after 5.
 cat > "$folder/shared.test" <<'end_of_tests'
 steps begin
     until lamps right within 7
@@ -82,7 +83,7 @@ not ok 8 - not in this test
   at: \"$folder/shared.test:53\"
 status 1" "what is done more than once"
 
-# Keys chosen by values: RAM that the lock does not use has the values; its code is 4711.
+# Checks keys that are chosen by values. The values are in RAM that the lock does not use. The lock's code is 4711.
 cat > "$folder/chosen.test" <<'end_of_tests'
 steps ready
     run 100 ms

@@ -1,7 +1,7 @@
-# Several texts, pipes, comments after a line, microseconds, lamps next to a display.
+# mcs4 test: several texts of tests, pipes in place of files, comments after a line, microseconds, and boards with lamps and a display.
 # shellcheck shell=sh
 
-# A state belongs to its text.
+# Checks that a saved state is known only in its own text.
 printf 'test a\n press 1 2 ; keys\n run 5   # a moment\n save begun ; here\ntest b # 1\n from begun\n release 1 2\n' > "$folder/first.test"
 printf 'test c\n press #\n release # ; the key #\n save begun\ntest d\n from begun\n run 54 us\n expect cycles 54us # five\n' > "$folder/second.test"
 verdict "$(outcome ./mcs4 test $lock/board.toml $lock/lock.asm "$folder/first.test" "$folder/second.test")" "TAP version 13
@@ -14,7 +14,7 @@ status 0" "two texts that save a state of one name"
 printf 'test e\n from begun\n' > "$folder/third.test"
 refuses 1 "test: $folder/third.test:2: no earlier test saves a state begun" ./mcs4 test $lock/board.toml $lock/lock.asm "$folder/first.test" "$folder/third.test"
 
-# A test whose state was not saved fails, even if it is the last one.
+# Checks that a test fails if the state from which it begins was not saved, even if it is the last test.
 printf 'test a\n expect acc 1\n save begun\ntest b\n from begun\n' > "$folder/unsaved.test"
 verdict "$(outcome ./mcs4 test $lock/board.toml $lock/lock.asm "$folder/unsaved.test" | results)" "not ok 1 - a
   message: \"acc is 0, but must be 1\"
@@ -23,12 +23,12 @@ not ok 2 - b
   message: \"the state begun is missing, because the test \`a\` did not reach its \`save\`\"
   at: \"$folder/unsaved.test:5\"
 status 1" "a state that was not saved"
-# A text that is not UTF-8 is read as Latin 1, and printed in UTF-8.
+# Checks that a text that is not UTF-8 is read as Latin-1, and printed in UTF-8.
 printf 'loop: JUN loop ; \344\n' > "$folder/latin.asm"
 verdict "$(outcome ./mcs4 cover $lock/board.toml "$folder/latin.asm" "$folder/unsaved.test" | sed -n 's/.*loop:/loop:/p')" \
     "loop: JUN loop ; $(printf '\303\244')" "a program in Latin 1"
 
-# The shared steps of a text are known in later texts. If one of them fails, its text and line are reported, and the line that runs the steps.
+# Checks that shared steps of a text are known in later texts. If a step fails, its text and line are reported, and the line that runs the steps.
 printf 'steps opened\n expect lamps open\nsteps enter # the code\n keys 4711#\n do opened\n' > "$folder/steps.test"
 printf 'test it opens\n run 100 ms\n do enter\ntest it does not\n run 100 ms\n keys 3\n do enter\n' > "$folder/opens.test"
 verdict "$(outcome ./mcs4 test $lock/board.toml $lock/lock.asm "$folder/steps.test" "$folder/opens.test" | results)" "ok 1 - it opens
@@ -48,7 +48,7 @@ refuses 1 "test: $folder/again.test:1: the steps opened are already at $folder/s
 test: $folder/again.test:3: the steps enter are already at $folder/steps.test:3" \
     ./mcs4 test $lock/board.toml $lock/lock.asm "$folder/steps.test" "$folder/again.test" "$folder/opens.test"
 
-# Pipes and standard input in place of texts.
+# Checks pipes and standard input in place of files.
 mkfifo "$folder/board.pipe" "$folder/test.pipe"
 cat $lock/board.toml > "$folder/board.pipe" &
 cat "$folder/first.test" > "$folder/test.pipe" &
@@ -69,7 +69,7 @@ verdict "$(outcome ./mcs4 test $lock/board.toml $lock/lock.asm "$folder/test.pip
 status 1" "a fault in a pipe"
 refuses 1 "test: - is empty" ./mcs4 test $lock/board.toml - "$folder/first.test"
 
-# If a board has a display, its lamps do not matter in patterns of lamps, unless they have a name.
+# Checks that if a board has a display, patterns of lamps ignore the lamps of the display, unless they have a name.
 cat > "$folder/display.toml" <<'board'
 # lamp 0: first
 # lamp 5: go

@@ -1,4 +1,4 @@
-# Wrong arguments have status 2 in each command, and print its usage; -h is --help.
+# Wrong arguments: each command exits with status 2, and prints its usage. Also: -h means --help.
 # shellcheck shell=sh
 
 begins session < $calculator/quotient.txt
@@ -9,7 +9,7 @@ for each in $commands; do
     verdict "$(outcome ./mcs4 "$each" -h)" "$(outcome ./mcs4 "$each" --help)" "mcs4 $each -h"
     verdict "$(outcome ./mcs4 help "$each")" "$(outcome ./mcs4 "$each" --help)" "mcs4 help $each"
 done
-# A word, a number with a sign, one with a unit, and numbers just outside of the range.
+# Tries a word, a number with a sign, one with an exponent, and numbers just outside of the range.
 for wrong in "" x -1 1e3 0 100000001; do
     case $wrong in
     -1) for tool in trace wave; do misuses "there is no option -1" ./mcs4 "$tool" "$session" "$wrong"; done ;;
@@ -57,7 +57,7 @@ for words in "trace::10" "wave::10" "back:" "import:" "listing:" "explain:" "res
 usage: mcs4 $tool
 status 2" "$tool with an empty argument"
 done
-# A mistyped command, with and without `help`: one letter is wrong, missing or extra, or two are exchanged.
+# Tries mistyped commands, with and without `help`: one letter is wrong, missing or extra, or two letters are exchanged.
 for pair in TEST:test tesst1:test tset:test tes:test testt:test tast:test lisitng:listing hlep:help opne:open ls:lsp; do
     word=${pair%:*}
     refuses 2 "mcs4: there is no command $word; did you mean ${pair#*:}? mcs4 help lists the commands" ./mcs4 "$word"
@@ -66,7 +66,7 @@ done
 for word in frobnicate tt -x; do
     refuses 2 "mcs4: there is no command $word; mcs4 help lists the commands" ./mcs4 "$word"
 done
-# Options can be anywhere, `--` ends them, a value is missing, one is extra, a mistyped option has a suggestion.
+# Checks options: they can be anywhere, and `--` ends them. A missing value and an extra one are errors. For a mistyped option, one is suggested.
 verdict "$(outcome ./mcs4 listing $lock/lock.asm --names)" "$(outcome ./mcs4 listing --names $lock/lock.asm)" "an option behind the arguments"
 verdict "$(outcome ./mcs4 listing --folder $lock --labels)" "$(outcome ./mcs4 listing -C $lock --labels)" "a long option and a short one"
 verdict "$(outcome ./mcs4 listing "-C$lock" --labels)" "$(outcome ./mcs4 listing "--folder=$lock" --labels)" "options with their values"

@@ -1,16 +1,16 @@
-# The commands of mcs4, with their help and manual pages, started through links, and without Node.
+# The commands of mcs4: their help and manual pages, starting them through links, and starting them without Node.
 # shellcheck shell=sh
 
 cp $lock/lock.asm "$folder/program.asm"
 
-# Prints standard output, standard error, and the status of a command.
+# Prints the standard output, the standard error and the exit status of a command.
 apart() {
     status=0
     "$@" > "$folder/output" 2> "$folder/errors" || status=$?
     echo "$(wc -l < "$folder/output") $(wc -l < "$folder/errors") $status" | tr -s ' '
 }
 
-# Each module of a command has its help, which names the command and its exit statuses, and fits the width.
+# Checks that each command has help that names the command and its exit statuses, and whose lines are short enough.
 commands=$(./mcs4 help | sed -n 's/^  \([a-z]\{3,9\}\) .*/\1/p' | LC_ALL=C sort)
 verdict "$(ls js/node/commands | sed 's/\.mjs//; /^table$/d' | LC_ALL=C sort)" "$commands" "mcs4 help"
 node js/node/command_pages.mjs "$folder/pages" > /dev/null
@@ -40,7 +40,7 @@ for word in frob build lib ../mcs4 "" speed table constructor; do
     refuses 2 "mcs4: there is no command $word; mcs4 help lists the commands" ./mcs4 help "$word"
     if [ -n "$word" ]; then refuses 2 "mcs4: there is no command $word; mcs4 help lists the commands" ./mcs4 "$word" x; fi
 done
-# If standard output is full, mcs4 reports it. Wrong arguments have their status even if standard error is full.
+# Checks that mcs4 reports a full standard output. Wrong arguments must have status 2 even if standard error is full.
 for stream in "> /dev/full" ">&-"; do
     for words in help --help "help refusals" "help new" "help open" "help help" "help version" "help cover" version --version; do
         verdict "$(outcome sh -c "./mcs4 $words $stream" | sed 's/standard output is closed/not all was written; is there room where it goes to?/')" "mcs4: not all was written; is there room where it goes to?
@@ -51,7 +51,7 @@ status 1" "mcs4 $words $stream"
         verdict "$(outcome sh -c "./mcs4 $words $stream" | sed -n '/^status/p')" "status 2" "mcs4 $words $stream"
     done
 done
-# Through a symbolic link, and through a link to a link in a folder that is a link.
+# Starts mcs4 through a symbolic link, and through a link to a link in a folder that is itself a link.
 mkdir "$folder/links" "$folder/more"
 ln -s "$folder/more" "$folder/linked"
 ln -s "$top/mcs4" "$folder/more/command"
@@ -64,7 +64,7 @@ $(./mcs4 2>&1 || :)" ./mcs4 version 4
 refuses 2 "mcs4: 'rom' is one argument too many
 $(./mcs4 2>&1 || :)" ./mcs4 help listing rom
 
-# Without Node: help, version, new and open work; other commands say what they need.
+# Checks that without Node, help, version, new and open work, and other commands report that they need Node.
 mkdir "$folder/no_node"
 for each in sh sed awk cat env grep tr cut sort uname sha256sum stat xargs find readlink dirname mkdir rm date cmp head tail id ls mv tee wc; do
     if command -v $each > /dev/null; then ln -s "$(command -v $each)" "$folder/no_node/$each"; fi
@@ -74,7 +74,7 @@ verdict "$(without_node version)" "$(outcome ./mcs4 version)" "mcs4 version with
 case $(./mcs4 version) in
 *"none so far"*) echo "not run: mcs4 new without Node, in checks/tools (the program in shipped/ is not of these sources)" ;;
 *)
-    # The message that appears once to each user has appeared before.
+    # Starts the program once, so that the message that each user sees only once does not appear later.
     ./mcs4 open "$folder/none.mcs" < /dev/null > "$folder/printed" 2>&1 || :
     verdict "$(echo seq | without_node new "$folder/plain.mcs")" "session 0
 seq 0
@@ -100,7 +100,7 @@ done
 verdict "$(without_node open -x.mcs)" "mcs4: there is no option -x.mcs; a file of this name is ./-x.mcs
 status 2" "mcs4 open -x.mcs without Node"
 
-# A Node of 2019 has no modules whose names begin with `node:`.
+# Stands in for a Node of 2019, which has no modules whose names begin with `node:`.
 mkdir "$folder/old_node"
 cat > "$folder/older.cjs" << 'end'
 const modules = require("module");
@@ -120,7 +120,7 @@ for words in "listing $lock/lock.asm" help "help listing" "frob"; do
 status 1" "mcs4 $words with Node 12"
 done
 
-# Names of sessions that look like options, and an empty one.
+# Tries session files whose names look like options, and an empty name.
 (
     cd "$folder"
     verdict "$(outcome "$top/mcs4" new -x.mcs)" "new: there is no option -x

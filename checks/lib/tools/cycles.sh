@@ -1,12 +1,12 @@
 # mcs4 cycles.
 # shellcheck shell=sh
 
-# Where runs stopped, by the source.
+# Checks the report of the addresses at which runs stopped, with the labels and lines of the source.
 make_source
 printf 'run 1\nregs\nstep\nseq\nstate\nrun 1\nrun 2\nreset\nregs\nrun 5\npoke pc 0x100\nrun 100\nregs\n' > "$folder/runs.txt"
 cp "$folder/source.mcs" "$folder/ran.mcs"
 goes_on ran < "$folder/runs.txt"
-# LDM, JUN, XCH and two IAC are six cycles; ROM 1 is missing, and reads as NOP.
+# LDM, JUN, XCH and two IAC are six cycles. ROM 1 is missing, and its words are read as NOP.
 verdict "$(outcome ./mcs4 cycles --source "$folder/source.asm" "$folder/ran.mcs" < "$folder/answers")" \
     "1 cycle, 10.8 microseconds, to 001 (alone), line 3: JUN on
 2 cycles, 21.6 microseconds, to 003 (on), line 5: on: XCH R2
@@ -27,7 +27,7 @@ refuses 1 "cycles: the session $folder/source.txt was rejected: no 50: not a ses
 refuses 2 "cycles: SESSION is missing
 usage: mcs4 cycles [--source PROGRAM SESSION] [FIRST LAST] < ANSWERS" ./mcs4 cycles --source "$folder/source.asm"
 
-# Times: 1 + 4000 + 12 cycles of 10.8 microseconds are 43,340.4; the first two are 43,210.8.
+# The expected times: 1 + 4000 + 12 cycles of 10.8 microseconds are 43,340.4, and without the last 12 they are 43,210.8.
 printf 'session 0\nok 1 ran 1 end\nok 2\nok 3 ran 4000 break\r\nlamps *\nok 4 ran 12 code\n' > "$folder/answers"
 verdict "$(outcome ./mcs4 cycles < "$folder/answers")" "4013 cycles, 43340.4 microseconds
 status 0" "cycles of all lines"

@@ -26,7 +26,7 @@ echo "lamps *..........***......*.." > "$folder/answers"
 verdict "$(outcome ./mcs4 display "$folder/board.toml" < "$folder/answers")" "-1.82
 status 0" "a display with points"
 
-# Multiplexed digits: what trace reports about 30 ms, in contrast to one instant.
+# Checks multiplexed digits: the display over 30 ms, which differs from the lamps at one instant.
 ./mcs4 script examples/clock/board.toml examples/clock/clock.asm | sed '/^run /d' > "$folder/clock.txt"
 begins clock < "$folder/clock.txt"
 verdict "$(outcome ./mcs4 keys examples/clock/board.toml SET | tail -n 3)" "run 16000
@@ -49,7 +49,7 @@ status 1" "an answer that is cut"
 printf 'trace ran 2778 end lines 0 .**.\n' > "$folder/answers"
 verdict "$(outcome ./mcs4 display examples/clock/board.toml < "$folder/answers")" "display: line 1 of the answers has 4 lamps, and the display of examples/clock/board.toml needs 12
 status 1" "fewer lamps than a display that is scanned has"
-# Errors in comments that no number depends on are not reported.
+# Checks that errors in a board's comments are not reported if the displayed number does not depend on these comments.
 board_of 8 '# display 0: 2 digits\n# colour 0: pink\n# die 0: 9 lamps\n# title:\n' > "$folder/board.toml"
 printf 'lamps .*....*.\n' > "$folder/answers"
 verdict "$(outcome ./mcs4 display "$folder/board.toml" < "$folder/answers")" "42
@@ -75,7 +75,7 @@ refuses 1 "display: $lock/board.toml has no display: a comment \`# display 0: 4 
 printf '# display 0: four digits\n' > "$folder/board.toml"
 refuses 1 "display: $folder/board.toml: line 1: no display: write \`# display 3: 8 digits\`, and then \`of 7 segments\`, \`with points\`, \`scanned by 7\`" \
     ./mcs4 display "$folder/board.toml" < "$folder/answers"
-# Comments that name parts that the board lacks are rejected, as by `test`.
+# Checks that comments that name parts that the board lacks are rejected, as `test` rejects them.
 board_of 8 '# display 0: 2 digits\n# printer rom0.1: ram0.0 0 1 feed\n' > "$folder/board.toml"
 echo "start: JUN start" > "$folder/idle.asm"
 printf 'test: dark\nexpect display 00\n' > "$folder/idle.test"

@@ -1,4 +1,5 @@
-# Variables of the environment with the names of a tool's variables have no effect, and let no file of the user be written or removed.
+# Environment variables that happen to have the name of one of a tool's own variables: they must have no effect, and no file of the user may be
+# written or removed because of them.
 # shellcheck shell=sh
 
 begins session < $calculator/quotient.txt
@@ -7,7 +8,7 @@ cp $lock/lock.asm $lock/board.toml "$folder"
 house=$folder/house
 mkdir "$house"
 echo "my rooms" > "$house/room"
-# The names of all variables in the tools, except those of the shell, and those that tools and checks accept from their callers.
+# Collects the names of all variables in the tools. Upper-case names are omitted, because the shell or a caller sets these variables.
 cat mcs4 tools/* tools/lib/*.sh js/node/*.mjs js/node/commands/*.mjs 2> /dev/null | grep -oE '\$\{?[a-z_]+|ENVIRON\["[a-z_]+|env\.[a-z_]+|(^|[ ;{(])[a-z_]+=' |
     sed 's/.*[^a-z_]\([a-z_]\{1,\}\)=$/\1/; s/=$//; s/^\$//; s/^{//; s/^ENVIRON\["//; s/^env\.//; s/^[ ;{(]//' |
     LC_ALL=C sort -u | grep -vxE 'mcs|_' > "$folder/all_names"
@@ -18,7 +19,7 @@ runs() {
     outcome env $assignments "$@"
 }
 
-# Commands that fail, and commands that succeed.
+# Runs commands of each tool, some of which fail and some of which succeed.
 commands_of_tools() {
     runs ./mcs4 back none.mcs
     runs ./mcs4 project split none.mcsp "$folder/none"

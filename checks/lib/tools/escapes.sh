@@ -1,4 +1,4 @@
-# Control characters in the texts and names of others never reach a terminal: they are printed as `\x1B`.
+# Control characters in texts and file names from other people: they must never reach a terminal. Tools print them as `\x1B`.
 # shellcheck shell=sh
 
 esc=$(printf '\033')
@@ -21,7 +21,7 @@ child.wait()
 sys.stdout.buffer.write(output.replace(b"\r\n", b"\n"))
 program
 
-# Each place where another person's text can have them: comments, a title, the name of a key, a test, labels, names of files.
+# Puts control characters everywhere in the texts: in comments, a title, the name of a key, a test, labels, and names of files.
 mkdir "$folder/$odd"
 { printf '# title: %s\n' "$odd" && sed "s/^# row 0: 1 /# row 0: 1$odd /; s/^# lamp 0: locked/&$odd/" $lock/board.toml; } > "$folder/board.toml"
 sed "s/^        JUN start/        JUN start ; $odd/" $lock/lock.asm > "$folder/lock.asm"
@@ -39,7 +39,7 @@ sed "s/^name .*/name $odd/" examples/a_fault_to_find.mcsp > "$folder/odd.mcsp"
     printf 'fethsaim project 1\ncksum %s\n' "$(cksum < "$folder/rest" | cut -d ' ' -f 1)"
     cat "$folder/rest"
 } > "$folder/named.mcsp"
-# The status, whether the terminal shows the escaped text, and the command.
+# Each line has the expected status, whether the terminal shows the escaped text, and the command.
 cat > "$folder/commands" <<commands
 1 y test $folder/board.toml $folder/lock.asm $folder/odd.test
 0 n test $folder/board.toml $folder/lock.asm $folder/good.test
@@ -81,7 +81,7 @@ while read -r wanted is_shown words; do
     ./mcs4 $words < "$answers" > "$folder/output" 2> "$folder/errors" || status=$?
     verdict "$status; $(LC_ALL=C grep -ac "$raw" "$folder/errors")" "$wanted; 0" "standard error of $words"
     case $tool in
-    # Output for other programs has the original bytes.
+    # Output that is not for a terminal must contain the original bytes.
     import | listing) if [ "$wanted" -eq 0 ]; then verdict "$(LC_ALL=C grep -acF "$odd" "$folder/output")" 1 "a file of $words"; fi ;;
     *) verdict "$(LC_ALL=C grep -ac "$raw" "$folder/output")" 0 "standard output of $words" ;;
     esac
@@ -93,7 +93,7 @@ while read -r wanted is_shown words; do
     if LC_ALL=C grep -qaF "$shown" "$folder/terminal"; then is=y; else is=n; fi
     verdict "$is, $(LC_ALL=C grep -ac "$raw" "$folder/terminal") raw" "$is_shown, 0 raw" "a terminal with $words"
 done < "$folder/commands"
-# `cat` prints the text unescaped, so this test would find raw characters.
+# Checks that this test would find unescaped characters: `cat` prints them as they are.
 if command -v python3 > /dev/null; then
     verdict "$(python3 "$folder/terminal.py" cat "$folder/bogus" | LC_ALL=C grep -ac "$raw")" 1 "a terminal with cat"
 fi

@@ -1,4 +1,5 @@
-# The scripts of the examples have the right answers, and the calculator shows the right numbers. (checks/calculator presses random chains.)
+# The examples: their scripts must have the right answers, and the calculator must show the right numbers. (checks/calculator tries random
+# calculations.)
 # shellcheck shell=sh
 
 # Presses keys, and checks what the calculator shows after them.
@@ -24,7 +25,7 @@ done
 
 board=$calculator/board.toml
 
-# Keys of the calculator and what it shows; a session that is closed and continued.
+# Presses keys of the calculator, also in a session that is closed and continued, and compares the numbers that it shows.
 calculates "12*30=" 360
 calculates "22/7=" 3.1428571
 calculates "1 2 + 3 0 =" 42
@@ -39,7 +40,7 @@ calculates "99999999 + 1 =" "0 overflow"
 calculates "99999999*99999999=5" "0 overflow"
 calculates "1/0=" "0 division by zero"
 calculates "1/0=C7" 7
-# The longest quotient, and a key after it.
+# Checks the division that takes longest, and a key press after it.
 calculates "99/9.9099100=+1=" 10.989999
 calculates "" 0
 begins session < $calculator/quotient.txt
@@ -48,7 +49,7 @@ verdict "$(./mcs4 keys "$board" '*7=' | "$mcs4" open "$folder/session.mcs" | ./m
 refuses 1 "script: $top/$board has no key x" examples/calculator/run "12x"
 refuses 2 "usage: run KEYS" examples/calculator/run
 
-# The calculator's `run` with an error in its program, on a copy: the error is reported, and nothing is run.
+# Checks the calculator's script `run` on a copy with an error in its program: the error is reported, and nothing is run.
 mkdir "$folder/copy" "$folder/copy/examples"
 ln -s "$top/mcs4" "$folder/copy/mcs4"
 cp -R examples/calculator "$folder/copy/examples"

@@ -1,7 +1,7 @@
 # mcs4 explain.
 # shellcheck shell=sh
 
-# The addresses in rejected lines, by the source.
+# Checks that the explanations of rejected lines name addresses by the labels and lines of the source.
 make_source
 cp "$folder/source.mcs" "$folder/ran.mcs"
 printf 'break 0x003\npoke pc 4097\nlist 1 257\npoke rom.5 256\nlist 0x300 0\npress 0 0\nbreak\n' > "$folder/wrong.txt"
@@ -27,7 +27,7 @@ refuses_sources "explain --source PROGRAM $folder/ran.mcs $folder/wrong.txt"
 refuses 2 "explain: SCRIPT is missing
 usage: mcs4 explain [--source PROGRAM SESSION] SCRIPT < ANSWERS" ./mcs4 explain --source "$folder/source.asm" "$folder/ran.mcs"
 
-# Rejected lines, lines of programs, and the wrong part of a board among other parts that depend on it, or that it depends on.
+# Tries rejected lines, wrong lines of programs, and boards in which the wrong part depends on other parts, or other parts depend on it.
 cat > "$folder/explain.txt" <<'script'
 wire
 [keys]
@@ -131,7 +131,7 @@ refuses 1 "explain: these are not the answers to this script: line 4 of the answ
 refuses 2 "explain: SCRIPT is missing
 usage: mcs4 explain [--source PROGRAM SESSION] SCRIPT < ANSWERS" ./mcs4 explain
 
-# Answers that do not fit, or that are not answers.
+# Tries answers that do not belong to the script, and texts that are not answers.
 explains() {
     printf "$1" > "$folder/script"
     printf "$2" > "$folder/answers"
@@ -171,7 +171,7 @@ printf ' NOP\n ORG 0x100\n NOP\n' > "$folder/faulty.asm"
 refuses 1 "script: $folder/faulty.asm: line 3: no 42: this line is at 100, and the board has no ROM 1: wire a [[rom]] with chip = 1
 script:      NOP" ./mcs4 script $three/board.toml "$folder/faulty.asm"
 
-# A listing ends after address FFF, however much is requested.
+# A listing ends after address FFF, even if more bytes are requested.
 printf 'wire\nrom = [{ chip = 15, port = "0000" }]\n.\npoke rom.0xFFE 0x40\nlist 0xFFE 4\nlist 0xFFF 1\npoke r1 1\npoke r99 1\n' > "$folder/script"
 begins other < "$folder/script"
 verdict "$(outcome ./mcs4 explain "$folder/script" < "$folder/answers")" "line 8: no 11: a word that must be a number is not one, or the number is out of its range

@@ -1,4 +1,4 @@
-# The board of the front panels in checks/faces, with which js/test/face.test.js tests them.
+# The board of the front panels in checks/faces, which js/test/face.test.js tests: the bench must print it as it is written there.
 # shellcheck shell=sh
 
 {

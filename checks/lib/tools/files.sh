@@ -1,9 +1,9 @@
-# How tools handle files: no space for temporary files, wrong files, sessions in use, and what remains after Ctrl-C.
+# Files that tools use: no space for temporary files, wrong files, sessions in use, and files that remain after Ctrl-C.
 # shellcheck shell=sh
 
 begins session < $calculator/quotient.txt
 
-# A full folder for temporary files is reported.
+# Checks that tools report a folder for temporary files that is full.
 small=$folder/small
 mkdir "$small"
 if mount -t tmpfs -o size=64k tmpfs "$small" 2> /dev/null; then
@@ -14,14 +14,14 @@ if mount -t tmpfs -o size=64k tmpfs "$small" 2> /dev/null; then
         verdict "$(TMPDIR=$small outcome ./mcs4 $words | tail -n 2)" "${words%% *}: $small has no room for temporary files; make some, or name another place: TMPDIR
 status 1" "no room for the temporary files of $words"
     done
-    # A process that was started can end a moment later.
+    # A process that the tool has started can end a moment later, so several attempts are made.
     for turn in 1 2 3 4 5 6 7 8 9 10; do if umount "$small" 2> /dev/null; then break; fi; sleep 0.5; done
 else
     echo "not run: a full folder for temporary files (a file system cannot be mounted here)"
 fi
 
-# Wrong files for a command: empty, a folder, missing, 100 MB, a link to itself, a name that no file can have. And a program that rejects the
-# session.
+# Runs a command with wrong files: empty, a folder, missing, of 100 MB, a link to itself, and a name that no file can have. Also with a program that
+# rejects the session.
 : > "$folder/empty"
 ln -s loop "$folder/loop"
 longest=$(printf '%256s' | tr ' ' x)
@@ -77,12 +77,12 @@ refuses 1 "cycles: cannot read -: it has more than 67108864 bytes" ./mcs4 cycles
 printf '#!/bin/sh\necho "no 53"\necho "mcs4: s.mcs: in use by another program" >&2\nexit 3\n' > "$folder/refusing"
 chmod +x "$folder/refusing"
 for words in "resume $folder/two.txt $folder/session.mcs" "trace $folder/session.mcs 1"; do
-    # The command opens a copy, and does not print the program's message about that.
+    # The command opens a copy of the session, and does not print the program's message about the copy.
     verdict "$(MCS4=$folder/refusing outcome ./mcs4 $words)" "${words%% *}: the session $folder/session.mcs was rejected: no 53: the device failed, or the host rejected the file: does it exist, is it writable, is it in use?
 status 1" "a session in use: $words"
 done
 
-# A session that another program has open: resume reports that itself, and answers nothing.
+# Checks a session that another program has open: `resume` reports that, and prints no answers.
 echo reset | begins held
 if command -v flock > /dev/null; then
     verdict "$(outcome flock "$folder/held.mcs" ./mcs4 resume "$folder/two.txt" "$folder/held.mcs")" \
@@ -94,27 +94,27 @@ verdict "$(outcome ./mcs4 resume "$folder/two.txt" "$folder/held.mcs")" "session
 seq 1
 status 0" "a session that is in use no more"
 
-# Ctrl-C ends a tool with the status that shells use, and nothing is left behind.
+# Checks that Ctrl-C ends a tool with the status that shells use for it, and that no files are left behind.
 awk 'BEGIN { print "test long"; for (i = 0; i < 400; i++) print " run 5 s" }' > "$folder/long.test"
 mkdir "$folder/interrupted"
 for each in INT:130 TERM:143 HUP:129; do
     TMPDIR=$folder/interrupted setsid env --default-signal=INT,TERM,HUP ./mcs4 test $lock/board.toml $lock/lock.asm "$folder/long.test" > "$folder/answers" 2>&1 &
     child=$!
     until ls "$folder/interrupted"/*/1.mcs > /dev/null 2>&1 || ! kill -0 "$child" 2> /dev/null; do sleep 0.05; done
-    # As a terminal does it: to the whole process group.
+    # Sends the signal to the whole process group, as a terminal does.
     kill -s "${each%:*}" -- "-$child"
     status=0
     wait "$child" || status=$?
     verdict "$status, $(ls "$folder/interrupted" | wc -l | tr -d ' ') left" "${each#*:}, 0 left" "a tool that gets SIG${each%:*}"
 done
 
-# A signal at any moment of the start has the same effect: the shell that starts the program gets it, too.
+# Checks that a signal has the same effect at any moment while a tool starts. The shell that starts the program gets it, too.
 for wait in 60 70 80 90 100 105 110 115 120 125 130 135 140 150 160 170 180 200 220 240; do
     for each in INT:130 TERM:143 HUP:129; do
         TMPDIR=$folder/interrupted setsid env --default-signal=INT,TERM,HUP timeout --foreground -s KILL 20 \
             ./mcs4 test $lock/board.toml $lock/lock.asm "$folder/long.test" > "$folder/answers" 2>&1 &
         child=$!
-        # Until then the shell's own job ignores SIGINT.
+        # Waits until `timeout` runs, because before that the shell's background job ignores SIGINT.
         until { read -r begun < "/proc/$child/comm" && [ "$begun" = timeout ]; } 2> /dev/null || ! kill -0 "$child" 2> /dev/null; do :; done
         sleep "0.$(printf '%03d' "$wait")"
         kill -s "${each%:*}" -- "-$child"
@@ -127,8 +127,8 @@ for wait in 60 70 80 90 100 105 110 115 120 125 130 135 140 150 160 170 180 200 
 done > "$folder/started"
 verdict "$(cat "$folder/started")" "" "signals to a tool that starts"
 
-# SIGTERM to a tool alone ends it at once, with all processes that it has started: a tool that runs tests, one that serves a script, one that
-# waits for input.
+# Checks that SIGTERM to a tool alone ends it at once, together with all processes that it has started. Tries a tool that runs tests, one that serves
+# a script, and one that waits for input.
 awk 'BEGIN { print "test longer\nrepeat 100000\nrun 100000\nend" }' > "$folder/longer.test"
 { cat $calculator/quotient.txt && awk 'BEGIN { for (i = 0; i < 300000; i++) print "run 100000" }'; } > "$folder/longer.txt"
 mkfifo "$folder/silent"
@@ -142,12 +142,12 @@ for words in "1.mcs test $lock/board.toml $lock/lock.asm $folder/longer.test" \
     begun=${words%% *}
     words=${words#* }
     TMPDIR=$folder/interrupted setsid env --default-signal=TERM timeout 60 ./mcs4 $words <> "$folder/silent" > "$folder/answers" 2>&1 &
-    # While it waits for input, it has created nothing yet, but opened its board.
+    # A tool that waits for input has opened its board, but has created no files yet.
     case $begun in
     -) sleep 2 ;;
     *) until ls "$folder/interrupted"/*/"$begun" > /dev/null 2>&1 || ! kill -0 "$!" 2> /dev/null; do sleep 0.05; done ;;
     esac
-    # The tool itself is the process that `timeout` has started.
+    # Finds the tool, which is the child process of `timeout`.
     tool=$(sed 's/ .*//' "/proc/$!/task/$!/children")
     kill -s TERM "$tool"
     status=0

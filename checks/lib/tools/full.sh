@@ -1,4 +1,4 @@
-# Standard output that is full or closed: each command reports it, with status 1.
+# Standard output that is full or closed: each command reports it, and exits with status 1.
 # shellcheck shell=sh
 
 begins session < $calculator/quotient.txt
@@ -47,6 +47,6 @@ while read -r line; do
     status=0
     run_tool "$line" >&- 2> "$folder/printed" || status=$?
     verdict "$(cat "$folder/printed"); $status" "${line%% *}: standard output is closed; 1" "$line >&-"
-    # A reader that reads only the first line causes no error.
+    # Checks that a pipe whose reader reads only the first line causes no error.
     verdict "$(run_tool "$line" 2>&1 | sed 1q | grep -c 'not all was written')" 0 "$line | sed 1q"
 done < "$folder/commands"

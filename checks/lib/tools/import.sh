@@ -71,8 +71,8 @@ status 0" "a program that is imported"
 verdict "$(./mcs4 import - < "$folder/intel.src")" "$(cat "$folder/imported")" "a program that is imported from standard input"
 verdict "$(outcome ./mcs4 import "$folder/imported" | sed 's/ *;.*//' | tr -d ' ' | sed '/^$/d')" "$(sed 's/ *;.*//' "$folder/imported" | tr -d ' ' | sed '/^$/d; s/,12,/,12,/')
 status0" "what was imported, imported once more"
-# Bytes that were assembled manually: a loop that clears a RAM register, one that adds two numbers of sixteen decimal digits, and the AND of two
-# registers, in the classic forms of the first manuals.
+# Compares with bytes that were assembled manually. The programs are in the form of Intel's first manuals: a loop that clears a RAM register, one that
+# adds two numbers of sixteen decimal digits, and the AND of two registers.
 cat > "$folder/clear.src" <<'source'
 / CLEAR RAM REGISTER 0 OF CHIP 0
        FIM 0P, 0       / SRC ADDRESS
@@ -115,7 +115,7 @@ bytes
 ./mcs4 import "$folder/clear.src" > "$folder/clear.asm"
 verdict "$(rom_of "$folder/clear.asm" | awk '{ print $2; if (substr($0, 8, 1) != " ") print $3 }' | head -n 39 | tr '\n' ' ')" "$(tr '\n' ' ' < "$folder/clear.bytes")" "programs as Intel writes them, by hand"
 verdict "$(sed -n 's/.*; //p' "$folder/clear.asm" | grep -v '^AND-2')" "$(sed -n 's/.*\/ //p' "$folder/clear.src")" "their comments are kept"
-# The examples in Intel's spelling have the same bytes as in the bench's spelling.
+# Checks that the examples have the same bytes in Intel's spelling as in the bench's spelling.
 for example in examples/*/*.asm; do
     sed 's/;/ \//; t spelled; :spelled
         s/^\([A-Za-z_][A-Za-z0-9_]*\) *= *0x\([0-9A-Fa-f]*\)/\1 EQU 0\2H/; s/^\([A-Za-z_][A-Za-z0-9_]*\) *= */\1 EQU /; s/^\([A-Za-z_][A-Za-z0-9_]*\):/\1,/
@@ -126,7 +126,7 @@ for example in examples/*/*.asm; do
     verdict "$(rom_of "$folder/example.asm" | cksum)" "$(rom_of "$example" | cksum)" "the bytes of $example in Intel's spelling"
     verdict "$(grep -c , "$folder/example.src" | awk '{ print ($1 > 3) }')" 1 "$example is spelled otherwise there"
 done
-# The other tools give a hint if a line has one of these spellings.
+# Checks that the other tools print a hint if a line has Intel's or AS's spelling.
 while IFS='|' read -r line words; do
     echo "$line" > "$folder/spelled.asm"
     refuses 1 "listing: $folder/spelled.asm: line 1: no 30: $words
@@ -140,7 +140,7 @@ LOOP, NOP|LOOP is not an instruction; mcs4 import takes programs in Intel's and 
  NOP / none|NOP takes no operand; mcs4 import takes programs in Intel's and AS's spelling
  JMP 4|JMP is not an instruction; JUN?
 lines
-# Unsupported lines are reported, and nothing is printed.
+# Checks that unsupported lines are reported, and that no program is printed then.
 cat > "$folder/bad.src" <<'source'
        JMP START
 X      EQU Y
@@ -185,7 +185,7 @@ printf ' NOP\n JCN AZ, FAR / too far\n ORG 300H\nFAR, NOP\n' > "$folder/far.src"
 refuses 1 "import: $folder/far.src: line 2: no 34: an address on another page; JCN and ISZ reach the page of the address after their two words
 import:      JCN AZ, FAR / too far" ./mcs4 import "$folder/far.src"
 refuses 1 "import: cannot read none.src: there is no such file" ./mcs4 import none.src
-# A line that no assembler would accept, and too deeply nested brackets, are rejected at once.
+# Checks that a line that is too long for any assembler, and brackets that are nested too deeply, are rejected at once.
 awk 'BEGIN { printf " LDM 1"; for (i = 0; i < 300000; i++) printf "+1"; print "" }' > "$folder/long.src"
 awk 'BEGIN { printf " LDM 1 ; "; for (i = 0; i < 300000; i++) printf "+1"; print "" }' > "$folder/remark.src"
 awk 'BEGIN { printf " LDM "; for (i = 0; i < 400; i++) printf "("; printf "1"; for (i = 0; i < 400; i++) printf ")"; print "" }' > "$folder/deep.src"
@@ -212,13 +212,14 @@ import: $folder/blank.src:1: the line has more than 1024 bytes before its commen
 status 1
  ; so far
 status 0" "long lines, and deep brackets"
-# The time grows only linearly with many names and lines: names whose first 16 letters are the same, 1 MiB of short lines.
+# Checks that the time grows only linearly with the numbers of names and lines: tries many names whose first 16 letters are the same, and 1 MiB of
+# short lines.
 awk 'BEGIN { for (i = 0; i < 400; i++) printf "SAME_FIRST_LETTERS_%d EQU %d\n", i, i % 16 }' > "$folder/names.src"
 awk 'BEGIN { for (i = 0; i < 40000; i++) print "LABEL" i " EQU (1+2)*3" }' > "$folder/lines.src"
 for many in names lines; do
     verdict "$(timeout 30 ./mcs4 import "$folder/$many.src" 2>&1 | sed "s/:.*//; 1q")" "$(case $many in names) echo 'SAME_FIRST_LETTE = 0' ;; *) echo import ;; esac)" "many $many"
 done
-# A non-ASCII character is never a byte of the program; comments keep their bytes.
+# Checks that a non-ASCII character never becomes a byte of the program, and that comments keep their bytes.
 printf " DB 'a\\344b' ; a\\344b\n" > "$folder/byte.src"
 refuses 1 "import: $folder/byte.src:1: 'a$(printf '\303\244')b' has a character that is not ASCII" ./mcs4 import "$folder/byte.src"
 printf " NOP ; a\\344b\n" > "$folder/byte.src"

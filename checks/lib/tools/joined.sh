@@ -1,13 +1,13 @@
-# Joined files of commands: they are used if they were made from the sources in the tree; otherwise the modules are used.
+# The joined files of the commands (shipped/commands): mcs4 uses them if they were made from the sources in the tree, and otherwise the modules.
 # shellcheck shell=sh
 
 if [ ! -e tools/join_commands.mjs ]; then
-    # An installation has the joined files, but not the script that makes them.
+    # An installation lacks the script that makes the joined files, so there is nothing to check.
     :
 elif ! command -v esbuild > /dev/null; then
     echo "not run: joined files, in checks/tools (Debian's package: esbuild)"
 else
-    # The script that makes them accepts no option in place of a folder, and no unknown command.
+    # Checks that the script that makes them rejects an option in place of a folder, and an unknown command.
     mkdir "$folder/empty"
     for words in "tools/join_commands.mjs" "tools/join_commands.mjs --help" "tools/join_commands.mjs pages none" "js/node/command_pages.mjs" \
         "js/node/command_pages.mjs --help" "js/node/command_pages.mjs pages more" "editors/make.mjs --help" "editors/make.mjs made more"; do
@@ -28,7 +28,7 @@ status 2" "node $words"
         # shellcheck disable=SC2086
         verdict "$(outcome "$tree/mcs4" $words)" "$(outcome ./mcs4 $words)" "joined: $words"
     done
-    # The result of the comparison is cached in a private folder of the user, once the files have not changed for a moment.
+    # Checks that the result of the comparison is cached in a private folder of the user, as soon as the files have not changed for a moment.
     export XDG_CACHE_HOME="$folder/cache"
     sleep 4
     verdict "$(joined listing); $(ls "$XDG_CACHE_HOME/fethsaim" | grep -c '\.listing\.joined$'); $(ls -ld "$XDG_CACHE_HOME/fethsaim" | cut -c 1-10)" "joined; 1; drwx------" \
@@ -39,8 +39,8 @@ status 2" "node $words"
     verdict "$(joined listing); $(cat "$XDG_CACHE_HOME/fethsaim"/*.joined | wc -c | tr -d ' ')" "joined; 0" "a folder that others can read"
     chmod 700 "$XDG_CACHE_HOME/fethsaim"
     verdict "$(joined listing); $(joined listing)" "joined; joined" "a joined file that is remembered again"
-    # The compiled code is also cached, private to the user: first the code of the help, then the code of the command's work. Code that is cut
-    # off, zeroed or of another version is compiled again.
+    # Checks that the compiled code is also cached in that folder: first the code for the help, then all code of the command. If the cached code is
+    # truncated, zeroed or of another version, it is compiled again.
     code=$XDG_CACHE_HOME/fethsaim/listing.code
     kind_of_code() {
         "$tree/mcs4" listing "$@" > "$folder/listed" 2> /dev/null || :
@@ -63,7 +63,7 @@ status 2" "node $words"
     verdict "$(joined listing)" modules "a joined file that is remembered, of other sources"
     cp -p js/core/text/control_escapes.js "$tree/js/core/text"
     verdict "$(joined listing)" joined "a joined file that is remembered, of the same sources again"
-    # The main module is not joined: its arguments show which one was started.
+    # Changes a text in the modules, so that the output shows whether the modules or the joined file were used.
     sed 's/Prints this help/Shows this help/' js/words/commands.js > "$tree/js/words/commands.js"
     verdict "$(joined listing); $("$tree/mcs4" listing -h | grep -c 'Shows this help')" "modules; 1" "a joined file of other sources"
     cp js/words/commands.js "$tree/js/words"

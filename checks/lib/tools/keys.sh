@@ -1,11 +1,11 @@
-# mcs4 keys: the names of keys in a board's comments, and keys up to a stop.
+# mcs4 keys: the names of keys in a board's comments, and key presses up to a stop.
 # shellcheck shell=sh
 
 refuses 1 "keys: cannot read none.toml: there is no such file" ./mcs4 keys none.toml "1"
 refuses 2 "keys: KEYS is missing
 usage: mcs4 keys [-C FOLDER] [--down CYCLES] [--up CYCLES] [--until-stop SESSION] [BOARD] KEYS" ./mcs4 keys $calculator/board.toml
 
-# A board with CRLF: also the last key of a row.
+# Checks that on a board whose lines end with CRLF, the last key of a row has the right name.
 printf '# row 0: a b\r\n# row 1: c\r\nrom = [{ chip = 0, port = "00ii" }]\r\nchain = [{ clock = "rom0.2", data = "rom0.3", chips = 1 }]\r\nkeys = { chain = 0, first = 0, rows = 2, columns = ["rom0.0", "rom0.1"] }\r\n' > "$folder/crlf.toml"
 verdict "$(./mcs4 keys "$folder/crlf.toml" "b c" | grep press)" "press 0 1
 press 1 0" "keys of a board with CRLF"
@@ -28,7 +28,7 @@ refuses 1 "keys: $folder/board.toml has no comments \`# row R: NAME ..\` that na
 misuses "CYCLES of --down: '0' is not a decimal number from 1 to 100000" ./mcs4 keys --down 0 $lock/board.toml 1
 refuses 2 "keys: KEYS is missing
 usage: mcs4 keys [-C FOLDER] [--down CYCLES] [--up CYCLES] [--until-stop SESSION] [BOARD] KEYS" ./mcs4 keys $lock/board.toml
-# A breakpoint where a digit is read: the key is still down then, and nothing is done after it.
+# Sets a breakpoint where the program reads a digit. The key must still be down there, and no later key may be pressed.
 {
     ./mcs4 script $lock/board.toml $lock/lock.asm | sed '$d'
     echo 'break @right' | ./mcs4 names $lock/lock.asm

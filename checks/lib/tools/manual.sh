@@ -1,4 +1,4 @@
-# The manual shows about lines and about the workbench what the program and the tools print.
+# The manual's chapters about lines and about the workbench show the output of the program and the tools.
 # shellcheck shell=sh
 
 . "$top/checks/lib/manual.sh"
@@ -6,7 +6,7 @@ as_shown "Lines" 3
 rm -rf "$folder/manual"
 as_shown "The workbench" 12
 
-# Texts that occur twice are equal: lines in the table and in the manual.
+# Checks that the descriptions of lines are the same in the tools' table and in the manual.
 verdict "$(awk -F ' [|] ' '
     /^### / { inside = /^### (Commands|Queries)$/ }
     inside && /^[|] `/ {

@@ -1,6 +1,6 @@
-# If no native program is for the system, commands without a session file run on the proved module, with the same output as by the native program,
-# byte for byte. The other commands report why they cannot run. A fake `uname` makes a copy of the tree, without any program, believe that it is
-# on another machine.
+# Systems without a native program: commands without a session file run on the proved module, and must have the same output as on the native program,
+# byte for byte. The other commands report why they cannot run. The check uses a copy of the tree without any program, and a fake `uname` that
+# reports another machine.
 # shellcheck shell=sh
 
 other=$folder/other
@@ -21,7 +21,7 @@ elsewhere() {
     env -u MCS4 -u MCS4_PROVE PATH="$other/bin:$PATH" XDG_CACHE_HOME="$other/cache" "$other/tree/mcs4" "$@"
 }
 
-# Compares output, errors and status of a command on both, which run at the same time; standard input is a file.
+# Compares the output, errors and status of a command on the module and on the native program. Both run at the same time, with a file as input.
 same_on_module() {
     input=$1
     shift
@@ -31,7 +31,7 @@ same_on_module() {
     verdict_of_files "$folder/by_module" "$folder/native" "on the module: mcs4 $*"
 }
 
-# The message appears once, by a command that needs a session.
+# Checks that the message about the module appears once, when a command needs a session.
 verdict "$(outcome elsewhere listing $lock/lock.asm | sed -n '/^mcs4: /p; $p')" \
     "mcs4: commands run on the proved module, more slowly, because the native program is not started: $why. This message appears once
 status 0" "what is said of the module"
@@ -62,7 +62,7 @@ for text in examples/*.txt; do
     same_on_module /dev/null trace "$folder/$name.mcs" 600
     same_on_module /dev/null wave "$folder/$name.mcs" 3000
     same_on_module "$folder/answers" explain "$text"
-    # A session's board and program, as the texts of tests.
+    # Extracts the board and the program of a script, for a test of them.
     awk -v folder="$folder" '/^wire$/ { to = folder "/board.toml"; printf "" > to; next } /^asm$/ { to = folder "/program.asm"; printf "" > to; next }
         /^\.$/ { to = "" } to != "" { print > to }' "$text"
     if [ -f "examples/$name.test" ]; then
@@ -92,7 +92,7 @@ same_on_module /dev/null test $lock/board.toml $lock/lock.asm "$folder/fails.tes
 head -c 9000 "$folder/session.mcs" > "$folder/cut.mcs"
 same_on_module /dev/null trace "$folder/cut.mcs" 10
 same_on_module /dev/null trace "$folder/none.mcs" 10
-# The session in a project is made by commands or by a snapshot: the bytes differ, but the session is the same.
+# The session in a project can be stored as commands or as a snapshot. So the bytes of the projects can differ, but the sessions must be the same.
 cp -R $three "$folder/texts"
 for host in ./mcs4 elsewhere; do
     verdict "$(outcome $host project join "$folder/texts" "$folder/${host##*/}.mcsp")" "status 0" "$host: a project"

@@ -1,7 +1,8 @@
-# Files that tools write: they keep mode and owner, links are followed, read-only files are rejected, and a signal leaves nothing behind.
+# Files that tools overwrite: they keep their mode and owner, links are followed, read-only files are rejected, and a signal leaves no other files
+# behind.
 # shellcheck shell=sh
 
-# Commands that write a file, with its name as the last argument, and the complete file: a project, a sound, a coverage record.
+# Functions that write a file, whose name is their argument: a project, a sound, a coverage record.
 make_board_with_buzzer() {
     printf '[[rom]]\nchip = 0\nport = "0000"\n' > "$folder/buzzer.toml"
     echo ' FIM P0, 0
@@ -36,7 +37,7 @@ for what in project sound record; do
         "writes_$what" "$file"
         verdict "$(stat -c '%u:%g %a' "$file"); $(cmp "$file" "$good" 2>&1)" "4321:1234 620; " "the owner of a file that is replaced: $what"
     fi
-    # A link, a link to a link, a link to a missing file, and a link that leads nowhere.
+    # Writes through a link, a link to a link, a link to a missing file, and a link to itself.
     head -c 100 "$good" > "$folder/$what/real/file"
     ln -s real/file "$folder/$what/link"
     ln -s link "$folder/$what/second"
@@ -62,7 +63,7 @@ mkdir "$folder/has_link"
 ln -s "$folder/victim" "$folder/has_link/board.toml"
 refuses 1 "project: $folder/has_link/board.toml already exists; name another folder, or move it away" ./mcs4 project split examples/a_fault_to_find.mcsp "$folder/has_link"
 
-# A file of another user, which a new file cannot belong to, stays unchanged.
+# Checks that a file of another user stays unchanged, because a new file could not belong to that user.
 if [ "$(id -u)" -eq 0 ] && command -v setpriv > /dev/null; then
     mkdir "$folder/shared"
     chmod 777 "$folder/shared"
@@ -82,7 +83,7 @@ status 1; 100; theirs" "a file of another user"
     fi
 fi
 
-# The temporary name cannot be guessed: only the output file is touched, whatever the process number is.
+# Checks that no other user can guess the name of the temporary file: only the output file may be touched, whatever the process number is.
 mkdir "$folder/guessed"
 sh -c 'echo precious > "$1/out.mcsp.$$"; exec ./mcs4 project join "$2" "$1/out.mcsp"' sh "$folder/guessed" "$folder/taken_apart"
 verdict "$(cmp "$folder/guessed/out.mcsp" "$folder/project/whole" 2>&1); $(cat "$folder/guessed"/out.mcsp.*)" "; precious" "a file at NAME.PID"
@@ -90,7 +91,8 @@ mkdir "$folder/split_guessed"
 sh -c 'echo precious > "$1/board.toml.$$"; exec ./mcs4 project split examples/a_fault_to_find.mcsp "$1"' sh "$folder/split_guessed"
 verdict "$(cat "$folder/split_guessed"/board.toml.*); $(cmp "$folder/split_guessed/board.toml" "$folder/taken_apart/board.toml" 2>&1)" "precious; " "a file at PART.PID"
 
-# A signal at any moment: the file is either the old or the new one, a folder is complete or does not exist, and nothing else is left.
+# Stops tools by a signal at any moment. Then the file must be either the old or the new one, a folder must be complete or missing, and no other
+# files may be left.
 mkdir "$folder/stopped" "$folder/temporary"
 outcome_of_stop() {
     TMPDIR=$folder/temporary setsid env --default-signal=INT,TERM,HUP timeout --foreground -s KILL 60 "$@" > "$folder/printed" 2>&1 &
@@ -100,7 +102,7 @@ outcome_of_stop() {
     status=0
     wait "$child" 2> /dev/null || status=$?
     if [ "$status" -eq 137 ]; then wrong="$wrong hangs:$signal:$whom:$wait"; fi
-    # A signal between timeout's fork and its record of the child ends only timeout; the tool then runs to its end.
+    # If the signal arrives before `timeout` has recorded its child process, it ends only `timeout`, and the tool continues to its end.
     tenths=600
     while [ "$tenths" -gt 0 ] && kill -s 0 -- "-$child" 2> /dev/null; do
         sleep 0.1

@@ -1,7 +1,7 @@
 # mcs4 resume.
 # shellcheck shell=sh
 
-# A script that ends early is continued. After each of its lines, the rest leads to the same state. Also a script that is killed.
+# Cuts a script off after each of its lines. `resume` must then lead to the same state. Also kills a script while it runs.
 cat > "$folder/resume.txt" <<'script'
 regs
 wire
@@ -52,7 +52,7 @@ refuses 2 "resume: SESSION is missing
 usage: mcs4 resume SCRIPT SESSION" ./mcs4 resume "$folder/resume.txt"
 rm "$folder/cut.mcs"
 awk 'BEGIN { for (i = 0; i < 400; i++) print "poke r" i % 16 " " int(i / 16) % 16 "\nrun 100000"; print "regs" }' > "$folder/long.txt"
-# Emptied here, because the program's own shell can empty it too late for this check.
+# Empties the file here, because the shell that starts the program can do it too late for this check.
 : > "$folder/answers"
 "$mcs4" new "$folder/cut.mcs" < "$folder/long.txt" > "$folder/answers" &
 child=$!
@@ -60,12 +60,12 @@ while [ ! -s "$folder/answers" ] && kill -0 "$child" 2> /dev/null; do sleep 0.01
 sleep 0.05
 kill -9 "$child" 2> /dev/null || true
 wait "$child" 2> /dev/null || true
-# The last 16 of 400: i from 384 on, which is 24 times 16, and 24 mod 16 = 8. 40,000,000 cycles of NOP, modulo 4,096, are 2,560.
+# The last 16 of the 400 pokes are those from i = 384, which is 24 times 16, and 24 mod 16 is 8. 40,000,000 cycles of NOP modulo 4,096 are 2,560.
 verdict "$(./mcs4 resume "$folder/long.txt" "$folder/cut.mcs" | tail -n 1)" \
     "acc 0 cy 0 pc A00 owed 0 dcl 0 test 1 r 8888888888888888 ret 000 000 000" "a script that was killed"
 verdict "$(echo seq | "$mcs4" open "$folder/cut.mcs" | tail -n 1)" "seq 800" "the commands of a script that was killed"
 
-# A session that did not begin with the script: the difference is reported, and nothing is sent.
+# Checks that for a session that did not begin with the script, the difference is reported, and no line is sent.
 differs() {
     printf "$1" > "$folder/script"
     printf "$2" | begins other
@@ -83,18 +83,18 @@ differs "${keyed}poke r0 1\nstep\npoke r0 0\nreset\n" "${keyed}poke r0 2\nstep\n
 > src 10" "SRC bytes"
 differs "${keyed}poke acc 8\nrun 2\npoke acc 0\nreset\n" "${keyed}poke acc 4\nrun 2\npoke acc 0\n" "< roms 0.4.0,1.0.0
 > roms 0.8.0,1.0.0" latches
-# Written 2 and 3, or 1 and 3: the clock rises once, with the data at 1 or at 0.
+# Two sessions that write 2 and 3, or 1 and 3, to the port. In both, the clock rises once, but the data line is 1 or 0 at that time.
 differs "${keyed}poke acc 2\nrun 4\npoke acc 3\npoke acc 3\npoke acc 3\nreset\n" "${keyed}poke acc 1\nrun 2\npoke acc 3\npoke pc 3\nstep\n" \
     "< chains 0000000000
 > chains 1000000000" chains
-# The bytes of the script are sent unchanged: the bench drops one of two carriage returns.
+# Checks that the bytes of the script are sent unchanged: of two carriage returns at the end of a line, the bench drops only one.
 printf 'poke r1 1\r\npoke r2 2\r\r\npoke r3 3\n' > "$folder/script"
 printf 'poke r1 1\n' | begins other
 verdict "$(outcome ./mcs4 resume "$folder/script" "$folder/other.mcs")" "session 1
 no 14
 ok 2
 status 0" "a script with a carriage return too many"
-# A listing ends after address FFF, however much is requested.
+# A listing ends after address FFF, even if more bytes are requested.
 printf 'wire\nrom = [{ chip = 15, port = "0000" }]\n.\npoke rom.0xFFE 0x40\nlist 0xFFE 4\nlist 0xFFF 1\npoke r1 1\npoke r99 1\n' > "$folder/script"
 begins other < "$folder/script"
 verdict "$(outcome ./mcs4 resume "$folder/script" "$folder/other.mcs")" "session 3

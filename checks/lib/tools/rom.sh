@@ -1,7 +1,7 @@
 # mcs4 rom: import and export of ROM images, as bytes, in Intel HEX, S-records and BNPF.
 # shellcheck shell=sh
 
-# Any 4,096 bytes are imported and exported unchanged, in both forms; the Intel HEX of a few bytes was written manually.
+# Checks that any 4,096 bytes are imported and exported unchanged, as bytes and in Intel HEX. The Intel HEX of a few bytes was written manually.
 head -c 4096 /dev/urandom > "$folder/image"
 { roms 16 && ./mcs4 rom load --binary "$folder/image" && ./mcs4 rom ask 0 4096; } | begins rom
 ./mcs4 rom save 0 4096 < "$folder/answers" > "$folder/saved"
@@ -46,7 +46,8 @@ refuses 1 "rom: line 1 of the answers is a refusal: no 11; mcs4 explain says why
 echo "000 D0    LDM 0" > "$folder/input"
 refuses 1 "rom: no answer shows the byte at 001; mcs4 rom ask makes the questions" ./mcs4 rom save 0 2 < "$folder/input"
 
-# S-records, written manually: a header, two data records, a count, and the end; also addresses of three and four bytes; each error with its line.
+# S-records, written manually: a header, two data records, a count, and the end. Also addresses of three and four bytes, and errors, each of which
+# must be reported with its line.
 srec_sum() {
     awk -v hex="$1" 'BEGIN { for (i = 1; i <= length(hex); i += 2) sum += 16 * (index("0123456789ABCDEF", substr(hex, i, 1)) - 1) + index("0123456789ABCDEF", substr(hex, i + 1, 1)) - 1; printf "%s%02X", hex, 255 - sum % 256 }'
 }
@@ -73,7 +74,8 @@ srec_fault "S1$(srec_sum 050010D0E2)" "S1$(srec_sum 050FFFD0E2)" "line 2: past t
 srec_fault "S1$(srec_sum 050010D0E2)" "" "it has no last record (S9), so a part of it is missing"
 srec_fault "S9$(srec_sum 030000)" "S1$(srec_sum 050010D0E2)" "line 2: a record after the last one (S9)"
 
-# BNPF, written manually: remarks, words over several lines; any ROM is exported and imported; each error with its line.
+# BNPF, written manually, with remarks, and with words over several lines. Any ROM must be exported and imported unchanged. Each error must be
+# reported with its line.
 printf 'BNPF of B, ROM 1\n  0 BNNNNNNNPFBPPPPNNNNF bytes\r\n 2 b nnpn\npnpn f ' > "$folder/few.bnpf"
 verdict "$(outcome ./mcs4 rom load "$folder/few.bnpf" 0xFD)" "asm
 ORG 0x0FD
@@ -98,7 +100,7 @@ bnpf_fault 'BNNNNNNNPF\nBNNNN' "line 2: a word without its end, \`F\`: BNNNN"
 bnpf_fault 'none\n' "it has no byte"
 refuses 1 "rom: $folder/few.bnpf: line 2: past the last address, FFF" ./mcs4 rom load "$folder/few.bnpf" 4095
 
-# A text is not a binary image, unless an option says so.
+# Checks that a text is not loaded as a binary image, unless an option requests that.
 for text in $calculator/calculator.asm "$folder/z.asm"; do
     printf ' NOP ; z\303\244hler\n' > "$folder/z.asm"
     refuses 1 "rom: $text is a text, but not Intel HEX, S-records or BNPF; if its characters are the bytes of an image: rom load --binary" ./mcs4 rom load "$text"
@@ -112,7 +114,7 @@ status 0" "letters as an image"
 printf '\320' > "$folder/letters.bin"
 verdict "$(outcome ./mcs4 rom load "$folder/letters.bin" | sed -n 3p)" "DB 208" "an image of one byte"
 
-# An image that is longer than a text is loaded completely or not at all.
+# Checks that an image that needs more than one source text is loaded completely or not at all.
 head -c 4096 /dev/zero | tr '\000' '\377' > "$folder/image"
 for chips in 12 16; do
     {

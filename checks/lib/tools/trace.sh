@@ -1,8 +1,8 @@
 # mcs4 trace.
 # shellcheck shell=sh
 
-# Worked out manually: a bank is selected; RAM, a status character and a port are written; a lamp, a subroutine, a code that is not an
-# instruction.
+# A trace that was worked out manually: a bank is selected; RAM, a status character and a port are written. Also with a lamp, a subroutine, and a code
+# that is not an instruction.
 cat > "$folder/trace.txt" <<'script'
 wire
 [[rom]]
@@ -62,7 +62,7 @@ echo 'run 2' | goes_on trace
 verdict "$(./mcs4 trace "$folder/trace.mcs" 2)" "       0  (the second cycle)         acc 1 cy 0
        1  004 21    SRC P0           acc 1 cy 0" "a trace from the middle of an instruction"
 
-# The same with source lines.
+# The same trace with source lines.
 make_source
 cp "$folder/source.mcs" "$folder/copy.mcs"
 verdict "$(outcome ./mcs4 trace --source "$folder/source.asm" "$folder/source.mcs" 7)" \
@@ -75,7 +75,7 @@ verdict "$(outcome ./mcs4 trace --source "$folder/source.asm" "$folder/source.mc
        5  005 F2       6  IAC                         acc 2 cy 0
        6  006 00    NOP                               acc 2 cy 0
 status 0" "a trace with the lines of the source"
-# A script of lines as PROGRAM: the line numbers are those of the script.
+# If PROGRAM is a script of lines, the line numbers are those in the script.
 verdict "$(outcome ./mcs4 trace --source "$folder/source.txt" "$folder/source.mcs" 1)" \
     "       0  000 D1       5          LDM 1               acc 1 cy 0
 status 0" "a trace with the lines of a script"
@@ -145,11 +145,11 @@ status 0" "a trace of ports, a chain, and the last address"
 refuses 1 "trace: the session has another program than $three/three_lamps.asm: 003 has D2, and line 6 makes D1" \
     ./mcs4 trace --names $three/three_lamps.asm "$folder/trace.mcs" 12
 
-# A chain that a RAM chip's port clocks.
+# Traces a chain whose clock is a line of a RAM chip's port.
 printf 'wire\nrom = [{ chip = 0, port = "0000" }]\nram = [{ bank = 0, chips = 1 }]\nchain = [{ clock = "ram0.0.0", data = "ram0.0.1", chips = 1 }]\n.\nasm\n FIM P0, 0\n SRC P0\n LDM 3\n WMP\n.\n' > "$folder/clocked.txt"
 begins clocked < "$folder/clocked.txt"
 verdict "$(./mcs4 trace "$folder/clocked.mcs" 5 | tail -n 1)" "       4  004 E1    WMP              acc 3 cy 0  out 0.0 3 chain0 1000000000" "a chain that a RAM chip's port clocks"
-# Instructions that jump to themselves, for each register that they count with.
+# Traces ISZ instructions that jump to themselves, with several registers.
 printf 'wire\nrom = [{ chip = 0, port = "0000" }]\n.\nasm\n FIM P7, 0xE0\none: ISZ R14, one\n FIM P6, 0xE0\ntwo: ISZ R12, two\nend: JUN end\n.\n' > "$folder/stand.txt"
 begins stand < "$folder/stand.txt"
 verdict "$(./mcs4 trace "$folder/stand.mcs" 15 | cut -c 1-13,36-)" "       0  000  acc 0 cy 0  r14 E
@@ -160,8 +160,8 @@ verdict "$(./mcs4 trace "$folder/stand.mcs" 15 | cut -c 1-13,36-)" "       0  00
       10  006  acc 0 cy 0  r12 0
       12  008  acc 0 cy 0
       14  008  acc 0 cy 0" "instructions that jump to themselves"
-# A trace of the calculator reports the same as `step` and `state`: the cycles before each instruction, its address, and after it accumulator,
-# carry, registers, return addresses, chains and lamps.
+# Compares a trace of the calculator with `step` and `state`: the cycles before each instruction, its address, and then accumulator, carry, registers,
+# return addresses, chains and lamps.
 begins steps < $calculator/quotient.txt
 ./mcs4 keys --until-stop "$folder/steps.mcs" $calculator/board.toml "3*" > "$folder/answers"
 printf 'press 4 3\nrun 899\n' | goes_on steps
