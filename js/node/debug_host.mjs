@@ -79,7 +79,7 @@ export const host = {
       return null;
     }
   },
-  whyUnread: (name) => {
+  readErrorMessage: (name) => {
     try {
       readUserText(name);
       return "";
@@ -87,7 +87,7 @@ export const host = {
       return fault.message;
     }
   },
-  isThere: existsSync,
+  fileExists: existsSync,
   isInside: (name, folder) => !existsSync(name) || isInside(name, folder),
   open: async (name) => new SessionFile(name, await openSessionFile(name)),
   make: async (name) => new SessionFile(name, await openProgram("new", name)),

@@ -5,7 +5,7 @@ import { dirname, join } from "node:path";
 import { Engine } from "../core/engine/engine.js";
 import { startCampaign } from "../core/explore/start_state.js";
 import { readCampaign } from "../core/explore/campaign.js";
-import { CampaignRun, minimisingCycles, initialProofTime } from "../core/explore/campaign_run.js";
+import { CampaignRun, minimisingCycleLimit, initialProofTime } from "../core/explore/campaign_run.js";
 import { joinReports, propertyLocation, formatSteps } from "../core/explore/report.js";
 import { createSubject } from "../core/explore/subject.js";
 import { prepareTests } from "../core/testing/test_preparation.js";
@@ -118,7 +118,7 @@ class Exploration {
     const { settings: { seconds, seed, allowsModel }, names } = this;
     const model = allowsModel ? (keySequences) => askModel(campaign.command, keySequences) : null;
     const confirm = (test, isGoal) => this.confirm(test, isGoal);
-    const run = new CampaignRun(subject, campaign, seed, confirm, minimisingCycles(seconds), model, yieldToMessages, initialProofTime(seconds));
+    const run = new CampaignRun(subject, campaign, seed, confirm, minimisingCycleLimit(seconds), model, yieldToMessages, initialProofTime(seconds));
     const startUsage = process.cpuUsage();
     const end = performance.now() + 1000 * seconds;
     while (performance.now() < end && !isStopped && !run.isDone) {

@@ -14,7 +14,7 @@ import { constants as system } from "node:os";
 import { join } from "node:path";
 import { isQuery } from "../core/bench/answer_table.js";
 import { BenchRefusal } from "../core/bench/bench_errors.js";
-import { findInputEnd, isSeq, opensText, stripReturn } from "../core/bench/inputs.js";
+import { findInputEnd, isSeqQuery, opensText, stripCarriageReturn } from "../core/bench/inputs.js";
 import { CommandError } from "./output.mjs";
 import { processes } from "./lazy_child_process.mjs";
 import { removeFolder, temporaryFolder, temporaryRoot } from "./temporary_folders.mjs";
@@ -60,10 +60,10 @@ function analyse(lines) {
   /** @type {{ isQuery: boolean } | null} */
   let text = null;
   for (const wholeLine of lines.replace(/\n$/, "").split("\n")) {
-    const line = stripReturn(wholeLine);
+    const line = stripCarriageReturn(wholeLine);
     const isAsking = text ? text.isQuery : isQuery(line.trim().split(/[ \t]/, 1)[0]);
     if (!isAsking && (text || line.trim() !== "")) commands += `${line}\n`;
-    if (!text && isSeq(line)) seqs += 1;
+    if (!text && isSeqQuery(line)) seqs += 1;
     if (text && line === ".") text = null;
     else if (!text && opensText(line)) text = { isQuery: isAsking };
   }

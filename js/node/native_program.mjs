@@ -204,11 +204,11 @@ export async function assembleProgram(engine, program) {
  * @returns {Promise<(address: number) => string>}
  */
 export async function makeAddressDescriber(texts, engine, programName, session) {
-  const [{ romCodes }, { placeInSource }] = await Promise.all([
+  const [{ romCodes }, { formatSourceLocation }] = await Promise.all([
     import("../core/engine/rom_codes.js"), import("../core/machine/source_locations.js"),
   ]);
   const program = texts.text(programName, "asm");
   const map = await readCheckedMap(engine, romCodes(engine, await openSession(engine, texts, session)), program);
   const source = { lines: program.text.split("\n"), before: program.before };
-  return (address) => placeInSource(map, source, address);
+  return (address) => formatSourceLocation(map, source, address);
 }

@@ -2,7 +2,7 @@
 import { spawn } from "node:child_process";
 import { constants } from "node:os";
 import { parseRefusal } from "../core/bench/answers.js";
-import { SEQ_ANSWER, isSeq } from "../core/bench/inputs.js";
+import { SEQ_ANSWER, isSeqQuery } from "../core/bench/inputs.js";
 import { programPath } from "./native_program.mjs";
 import { CommandError } from "./output.mjs";
 import { programEnded, sessionWasRefused } from "../words/commands.js";
@@ -94,7 +94,7 @@ export class SessionProcess {
    */
   async serve(input, onAnswer) {
     this.child.stdin.write(`${input}seq\n`);
-    let expectedSeqs = isSeq(input.trimEnd()) ? 1 : 0;
+    let expectedSeqs = isSeqQuery(input.trimEnd()) ? 1 : 0;
     for (;;) {
       const [line] = await this.readLines(1);
       if (SEQ_ANSWER.test(line)) {

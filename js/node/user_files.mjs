@@ -7,12 +7,12 @@ import {
 } from "node:fs";
 import { createRequire } from "node:module";
 import { dirname, join, resolve, sep } from "node:path";
-import { STORED_LIMIT } from "../core/text/sendable_text.js";
+import { MAX_STORED_LENGTH } from "../core/text/sendable_text.js";
 import * as say from "../words/commands.js";
 import { CommandError } from "./output.mjs";
 
 /** The maximum size of a user's text in bytes. A character has at most four bytes. */
-export const MAX_USER_TEXT = 4 * STORED_LIMIT;
+export const MAX_USER_TEXT = 4 * MAX_STORED_LENGTH;
 /** The maximum number of symbolic links to follow, the same as in Linux. */
 const MAX_LINKS = 40;
 const CHUNK_BYTES = 65536;

@@ -1,7 +1,7 @@
 // Creates the components that run the board, execute the session's commands and save the session. The callbacks connect each of them to the
 // page's other components.
 
-import { wordsOfAddress, wordsOfWhen } from "../words/stops.js";
+import { addressWithName, describeBreakpointCondition } from "../words/stops.js";
 import { LineServer } from "./lines/line_server.js";
 import { Recovery } from "./recovery.js";
 import { CurrentSession } from "./session/current_session.js";
@@ -72,8 +72,8 @@ export function makeRunController(page) {
       return registers !== null && registers.owed === "1";
     },
     cycles: () => page.cyclesView.cycles.total,
-    describeCounter: () => wordsOfAddress(page.snapshotView.counter, page.source.map),
-    describeCondition: (id) => wordsOfWhen(page.breakpoints.manager.list.get(id), page.breakpoints.manager.faults.get(id)),
+    describeCounter: () => addressWithName(page.snapshotView.counter, page.source.map),
+    describeCondition: (id) => describeBreakpointCondition(page.breakpoints.manager.list.get(id), page.breakpoints.manager.faults.get(id)),
     countUnreadable: () => page.breakpoints.manager.faults.size,
     describeRefusal: (number) => page.words.refusalMeaning(number),
     step: () => page.lineServer.serveLines("step\n"),
@@ -92,7 +92,7 @@ export function makeLineServer(page) {
     work: (words, work) => page.workView.show(words, (signal, progress) => work({ signal, progress })),
     counter: () => page.snapshotView.counter,
     show: (result) => {
-      if (result.touchesRom) page.snapshotView.forgetRom();
+      if (result.hasChangedRom) page.snapshotView.forgetRom();
       page.show(result);
     },
     checkSource: () => page.checkSource(),

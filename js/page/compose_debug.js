@@ -4,7 +4,7 @@
 import { CancelledError, WorkerDiedError } from "../core/bench/bench_errors.js";
 import { hex } from "../core/bench/numbers.js";
 import { NO_ADDRESS } from "../words/machine.js";
-import { wordsOfLastChange, wordsOfAddress } from "../words/stops.js";
+import { lastChangeText, addressWithName } from "../words/stops.js";
 import { BreakpointsController } from "./machine/breakpoints_controller.js";
 import { HeatView } from "./machine/heat_view.js";
 import { LastChangeView } from "./machine/last_change_view.js";
@@ -101,7 +101,7 @@ function makeLastChangeView({ bench, snapshotView, source, runController, recove
     editableCellAt: (cell) => snapshotView.editor.editableCells.get(cell),
     describeLastChange: async ({ place, name }, signal) => {
       try {
-        return wordsOfLastChange(name, await bench.call("lastChange", [place], { signal }), source.map);
+        return lastChangeText(name, await bench.call("lastChange", [place], { signal }), source.map);
       } catch (fault) {
         if (!(fault instanceof CancelledError) && !(fault instanceof WorkerDiedError)) recovery.reportFailure(fault);
         return "";
@@ -189,7 +189,7 @@ export function makeWatchView(page) {
 export function makeMistakesView(page, problems) {
   const { preferences } = page.layout;
   return new MistakesView({
-    describeAddress: (address) => wordsOfAddress(hex(address, 3), page.source.map),
+    describeAddress: (address) => addressWithName(hex(address, 3), page.source.map),
     goTo: (address) => page.snapshotView.goTo.show(address),
     stopAtMistakes: (kinds) => {
       page.bench.call("stopAtFaults", [kinds]).catch((fault) => page.recovery.reportFailure(fault));

@@ -113,7 +113,7 @@ export function makeTextsController(page) {
       page.checkSource();
     },
     source: () => page.bench.call("source", []),
-    isNoProgram: (text) => page.editors.isNoProgram(text),
+    isProbablyNotProgram: (text) => page.editors.isProbablyNotProgram(text),
     handleLoadedTexts: (shownName, lines) => {
       page.layout.tabs.choose(shownName);
       page.sessionsController.lines.offer(lines);

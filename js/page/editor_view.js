@@ -12,7 +12,7 @@ import { PrinterView } from "./board/printer_view.js";
 import { block, button, field } from "./ui/dom.js";
 
 /**
- * @typedef {import("../core/adapter/remote_front_panel.js").BoardNews} BoardNews
+ * @typedef {import("../core/adapter/remote_front_panel.js").FrontPanelUpdate} FrontPanelUpdate
  * @typedef {import("../core/board/key_place.js").Key} Key
  */
 
@@ -46,7 +46,7 @@ button("test").addEventListener("click", () => sendKey(pinKey(front.testLevel ==
 
 /**
  * Shows changes of the board.
- * @param {BoardNews | null} news null after the end of debugging
+ * @param {FrontPanelUpdate | null} news null after the end of debugging
  */
 function show(news) {
   block("front").hidden = news === null;

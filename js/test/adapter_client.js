@@ -61,8 +61,8 @@ export function served(files = FILES, sessions = {}) {
     nameOf: (name, folder) => (/^([A-Z]:)?\//.test(name) ? name : `${folder}/${name}`),
     beside: (name, other) => other.replace(/[^/]*$/, name),
     read: (name) => files[name] ?? null,
-    whyUnread: (name) => `cannot read ${name}: there is no such file`,
-    isThere: (name) => name in files || name in sessions,
+    readErrorMessage: (name) => `cannot read ${name}: there is no such file`,
+    fileExists: (name) => name in files || name in sessions,
     isInside: (name) => !/outside/.test(name),
     open: async (name) => sessions[name] || Promise.reject(new Error(`${name} is in use`)),
     make: async (name) => {

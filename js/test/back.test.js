@@ -3,7 +3,7 @@ import assert from "node:assert/strict";
 import { test } from "node:test";
 import { matrixKey } from "../core/board/key_place.js";
 import { CycleCount } from "../core/engine/accepted_commands.js";
-import { MAX_FORWARD, Timeline } from "../core/engine/timeline.js";
+import { MAX_FORWARD_MOVES, Timeline } from "../core/engine/timeline.js";
 import { FakeEngine } from "./fake_engine.js";
 import { begin, counterOf } from "./page_session.js";
 
@@ -126,5 +126,5 @@ test("of a long past the stops stay longest, and the way to them is known", asyn
   assert.deepEqual(timeline.before(5000001), { segment: timeline.segments.length - 3, entry: 0, cycles: 4999999 });
   assert.equal(timeline.before(400000000), null);
   for (let back = 0; back < 100; back++) timeline.goBack(timeline.before(1), present);
-  assert.equal(timeline.future.length, MAX_FORWARD);
+  assert.equal(timeline.future.length, MAX_FORWARD_MOVES);
 });

@@ -118,10 +118,10 @@ test("keys and values", () => {
   assert.equal(shown('[[rom]]\nchip = 16\nport = "0000"\n'), "16");
   assert.equal(shown('[[rom]]\nchip = 1\nport = "oooo"\n'), '"oooo"');
   assert.equal(wordsOf("[[ram]]\nbank = 0\nchip = 1\n"), "3: 21 chip is not a key of ram; chips?");
-  assert.deepEqual(errorOf("[[ram]]\nbank = 0\nchip = 1\n").cures, ["chips"]);
+  assert.deepEqual(errorOf("[[ram]]\nbank = 0\nchip = 1\n").quickFixTexts, ["chips"]);
   assert.equal(wordsOf("[[ram]]\nbank = 0\n"), "1: 22 this ram lacks chips");
   assert.equal(wordsOf("[[rmo]]\n"), "1: 21 rmo is not a part of a board; rom?");
-  assert.deepEqual(errorOf("[[rmo]]\n").cures, ["[[rom]]"]);
+  assert.deepEqual(errorOf("[[rmo]]\n").quickFixTexts, ["[[rom]]"]);
   assert.equal(wordsOf("speed = 3\n"), "1: 21 speed is not a part of a board, which has rom, ram, chain, keys, lamp");
   assert.equal(wordsOf("[[keys]]\n"), "1: 23 a board has one key matrix: [keys]");
   assert.equal(wordsOf("[rom]\nchip = 0\nport = \"0000\"\n"), "1: 23 there can be several: write [[rom]]");

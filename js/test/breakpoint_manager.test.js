@@ -13,7 +13,7 @@ const MAP = new SourceMap(["map lines 4 names 3", "line 1 000 0", "line 2 000 2"
 
 /** Returns a breakpoint manager and a stand-in for the bench, which accepts every call and then reports its breakpoints. */
 function begin(kept, breaks = []) {
-  const seen = { messages: [], touched: 0, set: [], failed: [] };
+  const seen = { messages: [], listEdited: 0, set: [], failed: [] };
   const bench = { breaks };
   const keeper = new BreakpointManager({
     set: async (placed) => {
@@ -24,8 +24,8 @@ function begin(kept, breaks = []) {
     },
     changed: () => {},
     counted: () => {},
-    touched: () => {
-      seen.touched += 1;
+    listEdited: () => {
+      seen.listEdited += 1;
     },
     showMessage: (words) => seen.messages.push(words),
     failed: (fault) => seen.failed.push(fault),
@@ -46,7 +46,7 @@ test("opening a session asks for nothing where it has no breakpoints, and touche
   const { keeper, seen } = begin(undefined);
   keeper.setSourceMap(MAP, "");
   await keeper.allSent;
-  assert.deepEqual([seen.set, seen.touched, seen.failed], [[], 0, []]);
+  assert.deepEqual([seen.set, seen.listEdited, seen.failed], [[], 0, []]);
 });
 
 test("breakpoints of a session that has none beside it are taken, and get lines once the source is known", async () => {
@@ -54,7 +54,7 @@ test("breakpoints of a session that has none beside it are taken, and get lines 
   assert.deepEqual(linesOf(keeper), [[0, 0], [0, 0x7FF]]);
   keeper.setSourceMap(MAP, "");
   await keeper.allSent;
-  assert.deepEqual([linesOf(keeper), seen.set.length, seen.touched], [[[2, 0], [0, 0x7FF]], 1, 0]);
+  assert.deepEqual([linesOf(keeper), seen.set.length, seen.listEdited], [[[2, 0], [0, 0x7FF]], 1, 0]);
 });
 
 test("one at a line without bytes goes to the next instruction, and says so; a second click takes it away", async () => {
@@ -68,7 +68,7 @@ test("one at a line without bytes goes to the next instruction, and says so; a s
   assert.equal(keeper.list.all.length, 1);
   keeper.toggleLine(4);
   await keeper.allSent;
-  assert.deepEqual([linesOf(keeper), bench.breaks, seen.touched], [[], [], 2]);
+  assert.deepEqual([linesOf(keeper), bench.breaks, seen.listEdited], [[], [], 2]);
 });
 
 test("one inside an instruction goes to the next one, and says so", async () => {
@@ -143,7 +143,7 @@ test("words are kept as they are typed, and the bench gets them once they are en
   const before = seen.set.length;
   keeper.type(id, { condition: "r4 = " });
   assert.deepEqual(keeper.savedBreakpoints.map(({ condition }) => condition), ["r4 = ", ""]);
-  assert.deepEqual([seen.set.length, seen.touched, keeper.list.all[0].condition], [before, 1, ""]);
+  assert.deepEqual([seen.set.length, seen.listEdited, keeper.list.all[0].condition], [before, 1, ""]);
   keeper.type(id, { condition: "r4 = 7" });
   keeper.change(id, { condition: "r4 = 7" });
   keeper.change(id, { condition: "r4 = 8" });
@@ -291,11 +291,11 @@ test("words that are no others change nothing, but end what was typed", async ()
   const [{ id }] = keeper.list.all;
   const same = { condition: "r5 = 1", from: 1, note: "" };
   keeper.change(id, same);
-  assert.equal(seen.touched, 0);
+  assert.equal(seen.listEdited, 0);
   keeper.type(id, { ...same, condition: "r5 =" });
-  assert.deepEqual([keeper.savedBreakpoints[0].condition, seen.touched], ["r5 =", 1]);
+  assert.deepEqual([keeper.savedBreakpoints[0].condition, seen.listEdited], ["r5 =", 1]);
   keeper.change(id, same);
-  assert.deepEqual([keeper.savedBreakpoints[0].condition, seen.touched], ["r5 = 1", 2]);
+  assert.deepEqual([keeper.savedBreakpoints[0].condition, seen.listEdited], ["r5 = 1", 2]);
 });
 
 test("what a breakpoint does is described in words; of one that always stops there is nothing to report", () => {

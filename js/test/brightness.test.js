@@ -5,7 +5,7 @@ import { readFileSync } from "node:fs";
 import { test } from "node:test";
 import { Brightness, perceivedBrightness } from "../core/board/brightness.js";
 import { matrixKey } from "../core/board/key_place.js";
-import { EYE_MS } from "../core/time/mcs4_time.js";
+import { EYE_PERSISTENCE_MS } from "../core/time/mcs4_time.js";
 import { displayedNumber } from "../core/board/digit_patterns.js";
 import { DisplayText } from "../core/board/display_text.js";
 import { Face } from "../core/board/face.js";
@@ -168,11 +168,11 @@ function oneLamp() {
 
 test("a lamp that flickers from now on is seen to 63 % after the persistence, and fades so", () => {
   const { seen, pass } = oneLamp();
-  for (let part = 0; part < 10; part++) pass(0.8, EYE_MS / 10, { first: 1, longest: 8, rest: 7 });
+  for (let part = 0; part < 10; part++) pass(0.8, EYE_PERSISTENCE_MS / 10, { first: 1, longest: 8, rest: 7 });
   assert.ok(Math.abs(seen.lamps[0] - 0.8 * (1 - Math.exp(-1))) < 1e-9);
   pass(1, Infinity);
   assert.equal(seen.lamps[0], 1);
-  pass(0, EYE_MS);
+  pass(0, EYE_PERSISTENCE_MS);
   assert.ok(Math.abs(seen.lamps[0] - Math.exp(-1)) < 1e-9);
   seen.begin("*");
   assert.equal(seen.lamps[0], 1);
@@ -199,7 +199,7 @@ test("a lamp that rested within a frame stands still once it rests for twice as 
   const { seen, pass } = oneLamp();
   // In 20 ms, the lamp stays unchanged for 2 ms, then 8 ms, then 10 ms.
   pass(0.5, 20, { first: 10, longest: 40, rest: 50 });
-  assert.ok(Math.abs(seen.lamps[0] - 0.5 * (1 - Math.exp(-20 / EYE_MS))) < 1e-9, String(seen.lamps[0]));
+  assert.ok(Math.abs(seen.lamps[0] - 0.5 * (1 - Math.exp(-20 / EYE_PERSISTENCE_MS))) < 1e-9, String(seen.lamps[0]));
   pass(1, 5);
   assert.ok(seen.lamps[0] < 0.5, String(seen.lamps[0]));
   pass(1, 5);

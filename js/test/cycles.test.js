@@ -6,7 +6,7 @@ import { readBoard } from "../core/bench/answers.js";
 import { readInputs } from "../core/bench/inputs.js";
 import { parsePlace } from "../core/conditions/places.js";
 import { SourceMap } from "../core/machine/source_map.js";
-import { wordsOfHalt, wordsOfMove, wordsOfAddress, wordsOfStop } from "../words/stops.js";
+import { describeUserPause, runningToGoal, addressWithName, pauseMessage } from "../words/stops.js";
 
 test("cycles in words: 10.8 microseconds each", () => {
   assert.deepEqual([1, 926, 92593, 1000000].map(formatCycles),
@@ -76,18 +76,18 @@ test("places by their names", () => {
 
 test("why time stopped, in words", () => {
   const reached = { cycles: 538, why: "goal", returns: false };
-  assert.equal(wordsOfStop({ kind: "over" }, { ...reached, returns: true }, "009"), "Returned to 009, after 538 cycles, 5.810 ms.");
-  assert.equal(wordsOfStop({ kind: "over" }, { ...reached, cycles: 1 }, "00D"), "At 00D, after 1 cycle, 0.011 ms.");
-  assert.equal(wordsOfStop({ kind: "here", address: 20 }, reached, "014"), "Paused at 014, as requested, after 538 cycles, 5.810 ms.");
-  assert.equal(wordsOfStop({ kind: "out" }, { cycles: 4, why: "break", returns: true }, "016"),
+  assert.equal(pauseMessage({ kind: "over" }, { ...reached, returns: true }, "009"), "Returned to 009, after 538 cycles, 5.810 ms.");
+  assert.equal(pauseMessage({ kind: "over" }, { ...reached, cycles: 1 }, "00D"), "At 00D, after 1 cycle, 0.011 ms.");
+  assert.equal(pauseMessage({ kind: "here", address: 20 }, reached, "014"), "Paused at 014, as requested, after 538 cycles, 5.810 ms.");
+  assert.equal(pauseMessage({ kind: "out" }, { cycles: 4, why: "break", returns: true }, "016"),
     "Paused at 016, at a breakpoint, after 4 cycles, 0.043 ms; the return from the subroutine was not reached.");
-  assert.equal(wordsOfStop(null, { cycles: 4, why: "break", returns: false }, "016"), "Paused at 016, at a breakpoint.");
-  assert.equal(wordsOfStop({ kind: "change", place: "rom3" }, { cycles: 0, why: "lacks", returns: false }, "000"),
+  assert.equal(pauseMessage(null, { cycles: 4, why: "break", returns: false }, "016"), "Paused at 016, at a breakpoint.");
+  assert.equal(pauseMessage({ kind: "change", place: "rom3" }, { cycles: 0, why: "lacks", returns: false }, "000"),
     "Nothing was done: this board has no rom3.");
-  assert.equal(wordsOfMove({ kind: "change", place: "r4" }), "Running to a change of r4.");
-  assert.equal(wordsOfHalt({ kind: "out" }, 4, "016"),
+  assert.equal(runningToGoal({ kind: "change", place: "r4" }), "Running to a change of r4.");
+  assert.equal(describeUserPause({ kind: "out" }, 4, "016"),
     "Paused at 016, after 4 cycles, 0.043 ms; the return from the subroutine was not reached.");
-  assert.equal(wordsOfHalt(null, 4, "016"), "Paused at 016.");
+  assert.equal(describeUserPause(null, 4, "016"), "Paused at 016.");
   const map = new SourceMap(["map lines 2 names 1", "line 1 000 2", "line 2 002 1", "name go 000"], "go: JUN go\nNOP\n");
-  assert.deepEqual(["000", "002", "003"].map((at) => wordsOfAddress(at, map)), ["000 (go, line 1)", "002 (go + 2, line 2)", "003"]);
+  assert.deepEqual(["000", "002", "003"].map((at) => addressWithName(at, map)), ["000 (go, line 1)", "002 (go + 2, line 2)", "003"]);
 });

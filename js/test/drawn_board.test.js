@@ -205,13 +205,13 @@ test("where chains were dragged to follows their numbers, and comes back with th
   const begun = [["chain 0", { x: 1, y: 2 }], ["chain 1", { x: 3, y: 4 }], ["rom 0", { x: 5, y: 6 }]];
   parts.begin(begun);
   await drawing.act({ kind: "add", part: "lamp" });
-  assert.equal(parts.takeNews(), false);
+  assert.equal(parts.takeChanges(), false);
   await drawing.act({ kind: "delete", part: "chain 0" });
-  assert.deepEqual([Object.fromEntries(parts.moved), parts.takeNews()], [{ "chain 0": { x: 3, y: 4 }, "rom 0": { x: 5, y: 6 } }, true]);
+  assert.deepEqual([Object.fromEntries(parts.moved), parts.takeChanges()], [{ "chain 0": { x: 3, y: 4 }, "rom 0": { x: 5, y: 6 } }, true]);
   await drawing.undoOrRedo("undo");
-  assert.deepEqual([Object.fromEntries(parts.moved), parts.takeNews(), parts.takeNews()], [Object.fromEntries(begun), true, false]);
+  assert.deepEqual([Object.fromEntries(parts.moved), parts.takeChanges(), parts.takeChanges()], [Object.fromEntries(begun), true, false]);
   await drawing.undoOrRedo("undo");
-  assert.deepEqual([Object.fromEntries(parts.moved), parts.takeNews()], [Object.fromEntries(begun), false]);
+  assert.deepEqual([Object.fromEntries(parts.moved), parts.takeChanges()], [Object.fromEntries(begun), false]);
 });
 
 test("of several chains that go, those between them keep their places", () => {

@@ -13,7 +13,7 @@ import { BenchRefusal } from "../core/bench/bench_errors.js";
 import { Engine } from "../core/engine/engine.js";
 import { readBoard } from "../core/bench/answers.js";
 import { copyWithoutStops } from "../core/engine/free_running_copy.js";
-import { neededLines, recordPieces } from "../core/engine/wave_stream.js";
+import { linesWithMembers, recordPieces } from "../core/engine/wave_stream.js";
 import { runTests } from "../core/testing/test_suite.js";
 import { coverageText, lcovText } from "../core/testing/coverage_text.js";
 import { profileText } from "../core/testing/profile_text.js";
@@ -106,7 +106,7 @@ onBoth("a VCD file is written piece by piece", async (engine) => {
   const state = copyWithoutStops(engine, stateAfter(engine, `${BOARD}${PROGRAM}`));
   const board = readBoard(engine.ask(state, "board\n").answers);
   const all = chooseLines(board, "", false, ["ram0.0", "acc", "pc", "ram0.0[3:0]"]);
-  const { lines, chosen } = neededLines(all.lines, all.chosen);
+  const { lines, chosen } = linesWithMembers(all.lines, all.chosen);
   let text = null;
   let file = "";
   for await (const waves of recordPieces(engine, state, { lines, program: null, cycles: 45000 }, async () => {})) {

@@ -7,7 +7,7 @@ import { CampaignRun } from "../core/explore/campaign_run.js";
 import { readCampaign } from "../core/explore/campaign.js";
 import { countWalk, isCountingSufficient } from "../core/explore/walk_counter.js";
 import { Coverage } from "../core/explore/search_coverage.js";
-import { markOf, wordsOfEnd, wordsOfFigures, wordsOfProperty } from "../words/explore_results.js";
+import { markOf, finalSummary, searchStatistics, describePropertyResult } from "../words/explore_results.js";
 import { Explorer } from "../core/explore/explorer.js";
 import { SlicedSearch, prepareSearch } from "../core/explore/sliced_search.js";
 import { DeltaFiles } from "../core/explore/delta_files.js";
@@ -16,7 +16,7 @@ import { PlaceQueries, PlaceValues } from "../core/explore/place_queries.js";
 import { hasExpectedResult, joinReports, formatTap, formatReportTests } from "../core/explore/report.js";
 import { Search } from "../core/explore/search.js";
 import { createSubject } from "../core/explore/subject.js";
-import { chooseStep, downInputsAfter, initialDownInputs, areAllowed, createRandom, nextAges, initialAges } from "../core/explore/walks.js";
+import { chooseStep, downInputsAfter, initialDownInputs, areStepsAllowed, createRandom, nextAges, initialAges } from "../core/explore/walks.js";
 import { Watcher } from "../core/explore/walk_watcher.js";
 import { Engine } from "../core/engine/engine.js";
 import { pageModule } from "./page_session.js";
@@ -249,10 +249,10 @@ test("walks keep to how many keys are down, for how long, and how far apart", ()
     [down, since] = [downInputsAfter(down, step), nextAges(since, step)];
     steps.push(step);
   }
-  assert.ok(areAllowed(campaign, steps));
+  assert.ok(areStepsAllowed(campaign, steps));
   assert.ok(steps.some((_, at) => steps.slice(0, at).reduce(downInputsAfter, []).length === 3 && at < 200));
-  assert.ok(!areAllowed(campaign, [{ wait: 10, kind: "down", input: 0 }, { wait: 91, kind: "up", input: 0 }]));
-  assert.ok(!areAllowed(campaign, [{ wait: 10, kind: "up", input: 0 }]));
+  assert.ok(!areStepsAllowed(campaign, [{ wait: 10, kind: "down", input: 0 }, { wait: 91, kind: "up", input: 0 }]));
+  assert.ok(!areStepsAllowed(campaign, [{ wait: 10, kind: "up", input: 0 }]));
 });
 
 test("keys that are down together at first go up in time, one after the other", () => {
@@ -266,7 +266,7 @@ test("keys that are down together at first go up in time, one after the other", 
     [down, since] = [downInputsAfter(down, step), nextAges(since, step)];
     steps.push(step);
   }
-  assert.ok(areAllowed(campaign, steps));
+  assert.ok(areStepsAllowed(campaign, steps));
   assert.ok(steps.every(({ wait }) => wait >= 1));
 });
 
@@ -459,17 +459,17 @@ test("what came of it is described in words", () => {
   const found = { test: "", steps: 2, cycles: 1200, seed: 1 };
   const report = (...properties) => ({ properties, steps: 2000, states: 3, seconds: 0.5, seeds: [7] });
   const goal = { ...property, isGoal: true };
-  assert.equal(wordsOfFigures(report()), "2,000 steps, 4,000 a second; 3 different states; seed 7.");
-  assert.equal(wordsOfEnd(report(property, goal), false), "Nothing was found that breaks a property. 1 goal was not reached.");
-  assert.equal(wordsOfEnd(report({ ...property, found }, { ...goal, found }), true), "Stopped. 1 property is broken.");
-  assert.equal(wordsOfProperty({ ...property, found }, report()), "broken by 2 steps, 1,200 cycles");
-  assert.equal(wordsOfProperty(property, report()), "");
-  assert.equal(wordsOfProperty({ ...property, applied: false }, report()), "never checked");
-  assert.equal(wordsOfProperty({ ...property, states: 12 }, report()), "proved for all inputs (12 states)");
-  assert.equal(wordsOfProperty({ ...property, states: 12, leftOut: '"once"' }, report()),
+  assert.equal(searchStatistics(report()), "2,000 steps, 4,000 a second; 3 different states; seed 7.");
+  assert.equal(finalSummary(report(property, goal), false), "Nothing was found that breaks a property. 1 goal was not reached.");
+  assert.equal(finalSummary(report({ ...property, found }, { ...goal, found }), true), "Stopped. 1 property is broken.");
+  assert.equal(describePropertyResult({ ...property, found }, report()), "broken by 2 steps, 1,200 cycles");
+  assert.equal(describePropertyResult(property, report()), "");
+  assert.equal(describePropertyResult({ ...property, applied: false }, report()), "never checked");
+  assert.equal(describePropertyResult({ ...property, states: 12 }, report()), "proved for all inputs (12 states)");
+  assert.equal(describePropertyResult({ ...property, states: 12, leftOut: '"once"' }, report()),
     'proved for all inputs (12 states), even without "once"');
   const skipped = { ...property, text: "model ./says", isSkipped: true };
-  assert.match(wordsOfProperty(skipped, report()), /^a page cannot run a command; mcs4 explore --allow-model can$/);
+  assert.match(describePropertyResult(skipped, report()), /^a page cannot run a command; mcs4 explore --allow-model can$/);
   const marks = [markOf(goal, true), markOf(goal, false), markOf(property, true), markOf(skipped, true)];
   assert.deepEqual(marks, ["open", "not ok", "ok", "not run"]);
   assert.equal(markOf({ ...property, applied: false }, true), "open");

@@ -2,7 +2,7 @@
 // word.
 import assert from "node:assert/strict";
 import { test } from "node:test";
-import { ANSWER_FORMS } from "../core/bench/answer_table.js";
+import { ANSWER_FORMATS } from "../core/bench/answer_table.js";
 import { parseRefusal } from "../core/bench/answers.js";
 import { findLineError } from "../core/bench/line_forms.js";
 import { Engine } from "../core/engine/engine.js";
@@ -11,7 +11,7 @@ import { pageModule } from "./page_session.js";
 
 const engine = new Engine(new globalThis.WebAssembly.Module(pageModule));
 const OF_LINES = [10, 11, 12, 14];
-const WORDS = [...ANSWER_FORMS.keys(), ...`acc cy pc dcl r0 r15 r16 rx
+const WORDS = [...ANSWER_FORMATS.keys(), ...`acc cy pc dcl r0 r15 r16 rx
   rom.0 rom.4096 rom.x ram.0.0 ram.7.255 ram.8.1 ram.0.256 ram.0 ram0.0 ram0.4
   ram7.3.3 ram8.0.0 st.0.0.0 st.7.15.3 st.0.16.0 st.0.0.4 rom0 rom16 rom15.3 rom0.4 chain0 chain4 chain3.79
   chain0.80 lamps ret src ret0 bogus 0 1 2 7 8 15 16 255 256 4095 4096 100000 100001 4294967295 4294967296 0x0F
@@ -36,7 +36,7 @@ const numberOf = (line) => (findLineError(line) || { number: 0 }).number;
 
 test("each line of words is rejected as the bench does", () => {
   const next = seeded(4004);
-  const firsts = [...ANSWER_FORMS.keys(), "poke", "poke", "trace", "trace", "list", "watch"];
+  const firsts = [...ANSWER_FORMATS.keys(), "poke", "poke", "trace", "trace", "list", "watch"];
   for (let at = 0; at < 6000; at++) {
     const first = next(8) === 0 ? WORDS[next(WORDS.length)] : firsts[next(firsts.length)];
     const more = next(10) === 0 ? next(20) : next(4);
@@ -89,5 +89,5 @@ test("the words name the word at fault", () => {
 
 test("the help has each line of the bench once", () => {
   const forms = LINES_BY_GROUPS.flatMap(({ lines }) => lines.map(([form]) => form.split(/[ ,]/)[0]));
-  assert.deepEqual([...forms].sort(), [...ANSWER_FORMS.keys()].sort());
+  assert.deepEqual([...forms].sort(), [...ANSWER_FORMATS.keys()].sort());
 });

@@ -133,7 +133,7 @@ test("places: texts, labels, typed addresses and lines, projects, examples", () 
   const went = [];
   const go = (what) => (value) => went.push(`${what} ${value}`);
   const names = new Map([["loop", { name: "loop", value: 0x12, isLabel: true }], ["ten", { name: "ten", value: 10, isLabel: false }]]);
-  const map = { names, lineOf: () => 7, valueInAnyCase: (name) => (names.get(name.toLowerCase()) || {}).value };
+  const map = { names, lineOf: () => 7, findValueIgnoringCase: (name) => (names.get(name.toLowerCase()) || {}).value };
   const calls = { map: () => map, examples: () => ["clock"], projects: () => [{ id: "4", name: "mine" }], show: go("show"),
     line: go("line"), address: go("address"), example: go("example"), project: go("project") };
   const first = (wanted) => {

@@ -63,7 +63,7 @@ async function begun({ board, program }, { lines = "", isPaused = false, hasSour
   const pass = async (milliseconds) => {
     for (const end = now + milliseconds; now < end;) {
       now += 100;
-      await panel.keepTime(now);
+      await panel.keepRealTime(now);
     }
     await panel.snapshot.take(middleRows(SIZE));
   };
@@ -121,7 +121,7 @@ test("time runs as fast as in the chip, and what a slow host misses is left out"
   const { panel, pass } = await begun(COUNTER);
   await pass(SECOND);
   assert.ok(Math.abs(panel.cycles - 92593) <= 1, String(panel.cycles));
-  await panel.keepTime(100 * SECOND);
+  await panel.keepRealTime(100 * SECOND);
   assert.equal(panel.cycles - 92593 <= 20000, true);
 });
 

@@ -8,9 +8,9 @@ import { programTexts, describeAssembled } from "../core/text/asm_texts.js";
 import { findDefinedNames, splitStatement, tokenizeLine, wordAt } from "../core/text/assembly.js";
 import { completeProgram } from "../core/text/completion.js";
 import { readInstructions } from "../core/help/manual.js";
-import { findProgramFaults, isNoProgram } from "../core/text/program_errors.js";
+import { findProgramFaults, isProbablyNotProgram } from "../core/text/program_errors.js";
 import { explainProgramLine } from "../core/text/program_words.js";
-import { LONGEST_TEXT, findLineFaults, sentText } from "../core/text/sendable_text.js";
+import { MAX_SENT_LENGTH, findLineFaults, sentText } from "../core/text/sendable_text.js";
 import { helpForProgram } from "../core/text/text_help.js";
 
 // The manual's tables, as page/build reads them.
@@ -170,10 +170,10 @@ test("a program comes into ROM alone, by one text where it has room", () => {
   assert.deepEqual(programTexts("NOP\n", [5, 6, 9]), ["NOP\nORG 0x005\nDB 0,0\nORG 0x009\nDB 0\n"]);
   const all = [...Array(4095).keys()].map((at) => at + 1);
   const [one] = programTexts("NOP\n", all);
-  assert.ok(one.length <= LONGEST_TEXT && one.split("\n").every((line) => line.length <= 255));
+  assert.ok(one.length <= MAX_SENT_LENGTH && one.split("\n").every((line) => line.length <= 255));
   assert.equal(one.split("DB").slice(1).join("").split(/[,\n]/).filter((word) => word.trim() === "0").length, 4095);
   const long = `${"; long\n".repeat(2300)}NOP\n`;
-  assert.deepEqual(programTexts(long, all).map((text) => text.length <= LONGEST_TEXT), [true, true]);
+  assert.deepEqual(programTexts(long, all).map((text) => text.length <= MAX_SENT_LENGTH), [true, true]);
   assert.equal(programTexts(long, all)[1], long);
 });
 
@@ -188,11 +188,11 @@ test("what assembling alone leaves, in words", () => {
 
 test("a text with an error in each line of code is hardly a program", () => {
   const at = (...lines) => lines.map((line) => ({ number: 30, line, from: 0, to: 1, words: "" }));
-  assert.equal(isNoProgram("hello there\n\n; a remark\nand more\n", { faults: at(1, 4), isWhole: true, rest: null }), true);
-  assert.equal(isNoProgram("hello there\n NOP\n", { faults: at(1), isWhole: true, rest: null }), false);
+  assert.equal(isProbablyNotProgram("hello there\n\n; a remark\nand more\n", { faults: at(1, 4), isWhole: true, rest: null }), true);
+  assert.equal(isProbablyNotProgram("hello there\n NOP\n", { faults: at(1), isWhole: true, rest: null }), false);
   // At most this number of errors is searched for.
   const long = "prose\n".repeat(500);
-  assert.equal(isNoProgram(long, { faults: at(...Array.from({ length: 20 }, (_, line) => line + 1)), isWhole: false, rest: null }), true);
-  assert.equal(isNoProgram(`NOP\n${long}`, { faults: at(2, 3), isWhole: false, rest: null }), false);
-  for (const empty of ["", "; a remark\n"]) assert.equal(isNoProgram(empty, { faults: [], isWhole: true, rest: null }), false);
+  assert.equal(isProbablyNotProgram(long, { faults: at(...Array.from({ length: 20 }, (_, line) => line + 1)), isWhole: false, rest: null }), true);
+  assert.equal(isProbablyNotProgram(`NOP\n${long}`, { faults: at(2, 3), isWhole: false, rest: null }), false);
+  for (const empty of ["", "; a remark\n"]) assert.equal(isProbablyNotProgram(empty, { faults: [], isWhole: true, rest: null }), false);
 });

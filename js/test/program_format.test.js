@@ -2,7 +2,7 @@
 import assert from "node:assert/strict";
 import { test } from "node:test";
 import { readFileSync, readdirSync } from "node:fs";
-import { findLineChanges, findLayoutError, formatProgramLines } from "../core/text/program_format.js";
+import { findLineChanges, findLengthError, formatProgramLines } from "../core/text/program_format.js";
 
 const EXAMPLES = new URL("../../examples/", import.meta.url);
 const isHead = (word) => ["ORG", "DB", "LD", "LDM", "FIM", "JUN", "JMS", "JCN", "NOP", "SRC", "WRM", "BBL"].includes(word);
@@ -62,9 +62,9 @@ test("the examples keep their words, and are the same after a second time", () =
 test("a change has the characters that differ, and a text that would be too long is reported", () => {
   assert.deepEqual(findLineChanges(["a: NOP", "same", "LD R3"], ["a:      NOP", "same", "LD  R3"]), [
     { line: 0, from: 3, to: 3, text: "     " }, { line: 2, from: 3, to: 3, text: " " }]);
-  assert.equal(findLayoutError(["NOP"]), "");
-  assert.match(findLayoutError(Array(2000).fill("        a: NOP NOP NOP")), /would have 30,000 characters; at most 16,384/);
-  assert.match(findLayoutError(Array(2000).fill(`NOP ;${"x".repeat(40)}`)), /; at most 65,536/);
+  assert.equal(findLengthError(["NOP"]), "");
+  assert.match(findLengthError(Array(2000).fill("        a: NOP NOP NOP")), /would have 30,000 characters; at most 16,384/);
+  assert.match(findLengthError(Array(2000).fill(`NOP ;${"x".repeat(40)}`)), /; at most 65,536/);
 });
 
 test("long lines of blanks are read in a time that grows with their length alone", () => {

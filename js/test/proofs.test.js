@@ -5,10 +5,10 @@ import { Bench } from "../core/bench/bench_client.js";
 import { BenchCalls } from "../core/engine/bench_calls.js";
 import { Engine } from "../core/engine/engine.js";
 import { Prover } from "../core/prove/prover.js";
-import { beginProving, createJudgedLine } from "../core/prove/bounded_proof.js";
+import { beginProving, createPropertyVerdict } from "../core/prove/bounded_proof.js";
 import { boundsUpTo } from "../core/prove/question.js";
 import { findPropertyLine, isStillValid } from "../core/prove/verdict_validity.js";
-import { markOf, markOfTab, wordsOfEnd, wordsOfVerdict, wordsSoFar } from "../words/prove_results.js";
+import { markOf, proofsTabMark, finalSummary, describeVerdict, progressSummary } from "../words/prove_results.js";
 import { pageModule } from "./page_session.js";
 
 // The lamp is on while TEST is 0. R1 counts how often the program has read 0.
@@ -81,7 +81,7 @@ async function judged(answer, { most = 50000, answerMistakes, answerSets, answer
     },
     yieldToMessages: async () => {},
   });
-  const lines = proving ? (await proving.judgeAll()).map(createJudgedLine) : [];
+  const lines = proving ? (await proving.judgeAll()).map(createPropertyVerdict) : [];
   return { faults, engine, seen, all: lines.filter(({ line }) => line > 0), made: lines.filter(({ line }) => line === 0) };
 }
 
@@ -272,13 +272,13 @@ test("verdicts in words", () => {
   const goals = all.map((each) => ({ ...each, isGoal: true }));
   assert.deepEqual(all.map(markOf), ["proved", "proved", "can fail", "not decided"]);
   assert.deepEqual(goals.map(markOf), ["never reached", "never reached", "reached", "not decided"]);
-  assert.deepEqual(all.map(wordsOfVerdict), [
+  assert.deepEqual(all.map(describeVerdict), [
     "for all inputs: 1 set of states", 'for all inputs: 96,937 states, even without "once"', "broken by 2 steps, 1,204 cycles", "why"]);
-  assert.equal(wordsOfEnd(all, false), "2 proved, 1 can fail, 1 not decided.");
-  assert.equal(wordsOfEnd(goals, true), "Cancelled: 1 reached, 2 never reached, 1 not decided.");
-  assert.equal(wordsSoFar({ judged: all.slice(1), count: 4, states: 0 }), "Property 4 of 4");
-  assert.equal(wordsSoFar({ judged: [], count: 4, states: 20000 }), "Property 1 of 4: more than 20,000 states so far");
-  assert.equal(markOfTab(all), "1 can fail");
-  assert.equal(markOfTab(all.slice(0, 2)), "2 proved");
-  assert.equal(markOfTab([]), "");
+  assert.equal(finalSummary(all, false), "2 proved, 1 can fail, 1 not decided.");
+  assert.equal(finalSummary(goals, true), "Cancelled: 1 reached, 2 never reached, 1 not decided.");
+  assert.equal(progressSummary({ judged: all.slice(1), count: 4, states: 0 }), "Property 4 of 4");
+  assert.equal(progressSummary({ judged: [], count: 4, states: 20000 }), "Property 1 of 4: more than 20,000 states so far");
+  assert.equal(proofsTabMark(all), "1 can fail");
+  assert.equal(proofsTabMark(all.slice(0, 2)), "2 proved");
+  assert.equal(proofsTabMark([]), "");
 });

@@ -124,7 +124,7 @@ test("words with their kinds as numbers", () => {
 });
 
 test("faults with what cures them, and that there may be more", () => {
-  const faults = [{ number: 30, line: 2, from: 8, to: 11, words: "JMP is not an instruction; JUN?", cures: ["JUN"] },
+  const faults = [{ number: 30, line: 2, from: 8, to: 11, words: "JMP is not an instruction; JUN?", quickFixTexts: ["JUN"] },
     { number: 32, line: 3, from: 0, to: 2, words: "b" }];
   assert.deepEqual(toDiagnostics(faults, true).map(({ severity, code }) => [severity, code]), [[1, 30], [1, 32]]);
   assert.deepEqual(toDiagnostics(faults, false).map(({ severity }) => severity), [1, 1, 3]);
@@ -152,7 +152,7 @@ test("the order of the protocol", async () => {
   assert.equal(status(), 0);
 });
 
-test("all faults of a program, on the board beside it, and cures", async () => {
+test("all faults of a program, on the board beside it, and quickFixTexts", async () => {
   const { ask, begin, open } = served({ "file:///a/board.toml": BOARD });
   await begin();
   const uri = "file:///a/x.asm";

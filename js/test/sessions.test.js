@@ -113,7 +113,7 @@ function controller(answers, programText, found) {
     handleEdit: () => {},
     session: () => shown.session, markChanged: () => {}, save: async () => "", updateNames: () => {}, source: async () => found,
     reportFailure: (fault) => { throw fault; },
-    isNoProgram: async (text) => text.includes("prose"), handleLoadedTexts: () => {},
+    isProbablyNotProgram: async (text) => text.includes("prose"), handleLoadedTexts: () => {},
   });
   return { made, seen, shown, session };
 }

@@ -3,7 +3,7 @@ import { readFileSync } from "node:fs";
 import { test } from "node:test";
 import { deflateRawSync } from "node:zlib";
 import { MAX_LINK_LENGTH, LinkError, MAX_SAFE_LINK_LENGTH, toLink, readLink } from "../page/session/share_link.js";
-import { STORED_LIMIT } from "../core/text/sendable_text.js";
+import { MAX_STORED_LENGTH } from "../core/text/sendable_text.js";
 
 const file = (name) => readFileSync(new URL(`../../examples/${name}`, import.meta.url), "utf8");
 const calculator = {
@@ -66,9 +66,9 @@ test("links that are made by hand", async () => {
 
 test("texts that the editors would not take are refused before anything reads them", async () => {
   const texts = (size) => ({ name: "x", boardText: "", programText: `${";".repeat(size - 1)}\n`, testText: "", propertiesText: "" });
-  assert.deepEqual(await readLink(await toLink(texts(STORED_LIMIT))), texts(STORED_LIMIT));
+  assert.deepEqual(await readLink(await toLink(texts(MAX_STORED_LENGTH))), texts(MAX_STORED_LENGTH));
   const words = /^the source has 65,537 characters; at most 65,536 are accepted$/;
-  await assert.rejects(readLink(await toLink(texts(STORED_LIMIT + 1))), (fault) => fault instanceof LinkError && words.test(fault.message));
+  await assert.rejects(readLink(await toLink(texts(MAX_STORED_LENGTH + 1))), (fault) => fault instanceof LinkError && words.test(fault.message));
   const { programText: boardText } = texts(900000);
   await assert.rejects(readLink(await toLink({ name: "x", boardText, programText: "" })), {
     message: "the board's text has 900,000 characters; at most 65,536 are accepted",

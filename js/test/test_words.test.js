@@ -1,6 +1,6 @@
 import assert from "node:assert/strict";
 import { test } from "node:test";
-import { markOfOutcomes, wordsOfCounts, wordsOfFaults, wordsOfOutcomes, wordsOfTime } from "../words/test_results.js";
+import { testsTabMark, coverageMessage, textErrorsMessage, testsSummary, testDuration } from "../words/test_results.js";
 import { formatCount, describeCount } from "../page/text/count_marks.js";
 import { completeProperty, createFirstProperties, helpForProperty, propertyForms } from "../core/text/property_words.js";
 import { completeTest, helpForTest, testForms } from "../core/text/test_words.js";
@@ -52,21 +52,21 @@ test("what a word means is said, as the manual says it", () => {
 
 test("results in words", () => {
   const outcome = (failure) => ({ name: "one", line: 1, cycles: 92593, failure });
-  assert.equal(wordsOfOutcomes([outcome(null)]), "The test passed.");
-  assert.equal(wordsOfOutcomes([outcome(null), outcome(null)]), "All 2 tests passed.");
-  assert.equal(wordsOfOutcomes([outcome(null), outcome({})]), "1 of 2 tests failed.");
-  assert.deepEqual([markOfOutcomes([outcome({})]), markOfOutcomes([outcome(null)])], ["1 failed", "passed"]);
-  assert.equal(wordsOfTime(outcome(null)), "92,593 cycles, 1.00 s");
-  assert.equal(wordsOfTime({ cycles: 1 }), "1 cycle, 0.0 ms");
+  assert.equal(testsSummary([outcome(null)]), "The test passed.");
+  assert.equal(testsSummary([outcome(null), outcome(null)]), "All 2 tests passed.");
+  assert.equal(testsSummary([outcome(null), outcome({})]), "1 of 2 tests failed.");
+  assert.deepEqual([testsTabMark([outcome({})]), testsTabMark([outcome(null)])], ["1 failed", "passed"]);
+  assert.equal(testDuration(outcome(null)), "92,593 cycles, 1.00 s");
+  assert.equal(testDuration({ cycles: 1 }), "1 cycle, 0.0 ms");
   const fault = { text: "tests", line: 3, number: 0, words: "a condition is missing" };
-  assert.equal(wordsOfFaults([fault, fault], () => ""), "Nothing was run: Tests, line 3: a condition is missing, and 1 more.");
+  assert.equal(textErrorsMessage([fault, fault], () => ""), "Nothing was run: Tests, line 3: a condition is missing, and 1 more.");
   const refused = { text: "board", line: 0, number: 25, words: "" };
-  assert.equal(wordsOfFaults([refused], (number) => `refusal ${number}`), "Nothing was run: Board: no 25: refusal 25.");
+  assert.equal(textErrorsMessage([refused], (number) => `refusal ${number}`), "Nothing was run: Board: no 25: refusal 25.");
   const jump = { line: 2, count: 3, isJump: true, taken: 3 };
-  const coverage = { lines: [jump], instructions: 2, run: 1, ways: 2, waysRun: 1, never: [] };
-  assert.equal(wordsOfCounts({ coverage }), "1 of 2 instructions were run (50.0 %), 1 of 2 branch directions (50.0 %). "
+  const coverage = { lines: [jump], instructions: 2, run: 1, ways: 2, directionsRun: 1, never: [] };
+  assert.equal(coverageMessage({ coverage }), "1 of 2 instructions were run (50.0 %), 1 of 2 branch directions (50.0 %). "
     + "1 jump always went one way. Counts are in the margin.");
-  assert.equal(wordsOfCounts({ coverage: null }), "");
+  assert.equal(coverageMessage({ coverage: null }), "");
 });
 
 test("counts of lines", () => {

@@ -120,7 +120,7 @@ test("bytes of ROM that a test sets are in the counts of its own run alone", asy
   const text = "test a\n set rom.0x016 0\n set rom.0x017 0\n run 20\n save s\ntest b\n from s\n run 20\ntest c\n run 20\n";
   const { outcomes, profile } = await runTests(engine, texts(text), always);
   assert.deepEqual(outcomes.map(({ failure }) => failure), [null, null, null]);
-  assert.equal(profile.total, profile.rows.reduce((sum, { own }) => sum + own, 0) + profile.begunBefore);
+  assert.equal(profile.total, profile.rows.reduce((sum, { own }) => sum + own, 0) + profile.earlierInstructionCycles);
 });
 
 test("a number halfway between two tenths has the even one, as by printf", () => {

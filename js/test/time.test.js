@@ -2,7 +2,7 @@ import assert from "node:assert/strict";
 import { test } from "node:test";
 import { Rate } from "../core/time/rate.js";
 import { CYCLES_PER_SECOND, CYCLE_US, EYE_CYCLES, FRAME_CYCLES, FRAME_MS, cyclesFromMilliseconds } from "../core/time/mcs4_time.js";
-import { MAX_AHEAD, MAX_DUE, RealTime } from "../core/time/real_time.js";
+import { MAX_EARLY_MS, MAX_CYCLES_PER_FRAME, RealTime } from "../core/time/real_time.js";
 import { formatDuration } from "../core/bench/error_messages.js";
 import { PLACES_ARE } from "../words/conditions.js";
 import { cannotSearchFor } from "../words/time.js";
@@ -27,7 +27,7 @@ test("a second of frames is 92,593 cycles, whatever their length", () => {
 
 test("a slow frame owes little, and clocks that go back owe nothing", () => {
   const time = new RealTime(0, 0);
-  assert.equal(time.takeDueCycles(900), MAX_DUE);
+  assert.equal(time.takeDueCycles(900), MAX_CYCLES_PER_FRAME);
   assert.equal(time.takeDueCycles(900), 0);
   assert.equal(time.takeDueCycles(890), 0);
   assert.equal(time.takeDueCycles(910), 925);
@@ -55,7 +55,7 @@ test("a page that was held up or asleep stood still, though the clock of the fra
  */
 function cyclesOf(frame, keys) {
   const time = new RealTime(0, 0);
-  const events = keys.map((now) => ({ now, ahead: MAX_AHEAD }));
+  const events = keys.map((now) => ({ now, ahead: MAX_EARLY_MS }));
   for (let now = 0; now <= 1000; now += frame) events.push({ now, ahead: 0 });
   events.push({ now: 1000.5, ahead: 0 });
   let sum = 0;
@@ -63,7 +63,7 @@ function cyclesOf(frame, keys) {
     const due = time.takeDueCycles(now, ahead);
     assert.ok(due >= 0, `${due} at ${now}`);
     sum += due;
-    assert.ok(sum <= ((now + MAX_AHEAD) / 1000) * CYCLES_PER_SECOND, `ahead of its time at ${now}`);
+    assert.ok(sum <= ((now + MAX_EARLY_MS) / 1000) * CYCLES_PER_SECOND, `ahead of its time at ${now}`);
     assert.ok(Math.abs(time.reached - (sum + Math.max(0, time.owed)) * (1000 / CYCLES_PER_SECOND)) < 0.001, `reached at ${now}`);
   }
   return sum;
@@ -81,7 +81,7 @@ test("a second has as many cycles with keys as without, and no moment is more th
 test("a key is served at once, and frames then wait until it is paid back", () => {
   const time = new RealTime(0, 0);
   assert.equal(time.takeDueCycles(10), 925);
-  assert.equal(time.takeDueCycles(15, MAX_AHEAD), 464 + 1543);
+  assert.equal(time.takeDueCycles(15, MAX_EARLY_MS), 464 + 1543);
   assert.equal(time.takeDueCycles(20), 0);
   assert.equal(time.takeDueCycles(25), 0);
   assert.equal(time.takeDueCycles(31.6), 0);
@@ -90,12 +90,12 @@ test("a key is served at once, and frames then wait until it is paid back", () =
 
 test("what was lent is forgotten where time stands still", () => {
   const time = new RealTime(0, 0);
-  assert.equal(time.takeDueCycles(0, MAX_AHEAD), 1543);
+  assert.equal(time.takeDueCycles(0, MAX_EARLY_MS), 1543);
   time.hide();
   time.skipGap(1000, 1000);
   assert.equal(time.reached, 1000);
   assert.equal(time.takeDueCycles(1010), 925);
-  assert.equal(time.takeDueCycles(1010, MAX_AHEAD), 1544);
+  assert.equal(time.takeDueCycles(1010, MAX_EARLY_MS), 1544);
   time.restart(1011, 1011);
   assert.equal(time.takeDueCycles(1021), 925);
 });

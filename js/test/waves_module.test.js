@@ -2,7 +2,7 @@
 import assert from "node:assert/strict";
 import { test } from "node:test";
 import { BenchCalls } from "../core/engine/bench_calls.js";
-import { neededLines, recordPieces } from "../core/engine/wave_stream.js";
+import { linesWithMembers, recordPieces } from "../core/engine/wave_stream.js";
 import { VcdText, vcdParts } from "../core/waves/vcd.js";
 import { Waves } from "../core/waves/wave_recording.js";
 import { examplesOfPage, pageModule } from "./page_session.js";
@@ -140,7 +140,7 @@ test("a recording that is written piece by piece is the same file, also of a few
     const whole = new Waves(await calls.record(50001, false, { ...texts, values }));
     const numbers = whole.lines.map((_, line) => line);
     for (const some of [numbers, numbers.filter((line) => line % 7 === 3), numbers.filter((line) => whole.lines[line].kind === "port")]) {
-      const wanted = neededLines(whole.lines, some);
+      const wanted = linesWithMembers(whole.lines, some);
       let [text, parts] = [null, []];
       const state = calls.bench.session.file.slice();
       const { program } = whole;

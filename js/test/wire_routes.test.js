@@ -3,7 +3,7 @@ import assert from "node:assert/strict";
 import { test } from "node:test";
 import { readBoard } from "../core/bench/answers.js";
 import { isCurveCovered, pathText, routeWire } from "../core/board/wire_routes.js";
-import { drawBoard } from "../core/board/wiring.js";
+import { layOutBoard } from "../core/board/wiring.js";
 
 /** Returns a board with the maximum number of chips, chains, keys and lamps. */
 function largest() {
@@ -24,7 +24,7 @@ const SMALL = readBoard(["board", "[[rom]]", "chip = 1", 'port = "iiii"', "[[cha
 
 for (const [name, board] of Object.entries({ "a small board": SMALL, "the largest board": largest() })) {
   test(`${name}: no wire runs below a part, and each comes to its pin`, () => {
-    const { parts, wires } = drawBoard(board);
+    const { parts, wires } = layOutBoard(board);
     assert.ok(wires.length > 0);
     wires.forEach((wire, at) => {
       const route = routeWire(wire, parts, at);
@@ -48,7 +48,7 @@ test("where parts were dragged to and fro, with room between them, hardly a wire
   let [below, wouldBe] = [0, 0];
   for (let seed = 1; seed <= 40; seed++) {
     const chance = chances(seed);
-    const order = drawBoard(SMALL).parts.map(({ id, height }) => ({ id, height, rank: chance(1000) }))
+    const order = layOutBoard(SMALL).parts.map(({ id, height }) => ({ id, height, rank: chance(1000) }))
       .sort((one, other) => one.rank - other.rank);
     const moved = new Map();
     let y = 20;
@@ -56,7 +56,7 @@ test("where parts were dragged to and fro, with room between them, hardly a wire
       moved.set(id, { x: 20 + 220 * chance(4) + chance(30), y });
       y += height + 24;
     });
-    const { parts, wires } = drawBoard(SMALL, undefined, moved);
+    const { parts, wires } = layOutBoard(SMALL, undefined, moved);
     const isHidden = (route) => route.some((curve) => parts.some((part) => isCurveCovered(curve, part)));
     wires.forEach((wire, at) => {
       below += Number(isHidden(routeWire(wire, parts, at)));

@@ -3,7 +3,7 @@ import { readFileSync } from "node:fs";
 import { test } from "node:test";
 import { readBoard } from "../core/bench/answers.js";
 import { partAtLine, partLines } from "../core/bench/part_lines.js";
-import { drawBoard, isHigh, isHighAtRom } from "../core/board/wiring.js";
+import { layOutBoard, isHigh, isHighAtRom } from "../core/board/wiring.js";
 import { drawnPartLines } from "../core/drawing/drawn_part_lines.js";
 
 const BOARD = ["board", "[[rom]]", "chip = 0", 'port = "0000"', "[[rom]]", "chip = 1", 'port = "iiii"', "[[ram]]", "bank = 0", "chips = 1",
@@ -11,7 +11,7 @@ const BOARD = ["board", "[[rom]]", "chip = 0", 'port = "0000"', "[[rom]]", "chip
   'columns = ["rom1.0", "rom1.1"]', "[[lamp]]", 'line = "ram0.0.0"', "[[lamp]]", 'line = "chain0.9"'];
 
 test("each part of a board is drawn once, and no two lie over one another", () => {
-  const { parts, width, height } = drawBoard(readBoard(BOARD));
+  const { parts, width, height } = layOutBoard(readBoard(BOARD));
   assert.deepEqual(parts.map(({ id }) => id), ["processor", "rom 0", "rom 1", "ram 0.0", "chain 0", "keys", "lamps"]);
   for (const one of parts) {
     assert.ok(one.x >= 0 && one.x + one.width <= width && one.y + one.height <= height);
@@ -24,13 +24,13 @@ test("each part of a board is drawn once, and no two lie over one another", () =
 });
 
 test("a wire goes from what drives a line, or is read at it, to what uses it", () => {
-  const { wires } = drawBoard(readBoard(BOARD));
+  const { wires } = layOutBoard(readBoard(BOARD));
   assert.deepEqual(wires.map(({ line, to }) => `${line} ${to.label}`), ["rom0.0 clock", "rom0.1 data", "chain0.0 row 0", "chain0.1 row 1",
     "rom1.0 column 0", "rom1.1 column 1", "ram0.0.0 lamp 0", "chain0.9 lamp 1"]);
 });
 
 test("the words of a part say what its lines do", () => {
-  const { parts } = drawBoard(readBoard(BOARD), { names: ["red"], colours: ["green"], test: null, buzzer: null });
+  const { parts } = layOutBoard(readBoard(BOARD), { names: ["red"], colours: ["green"], test: null, buzzer: null });
   const descriptions = (id) => parts.find((part) => part.id === id).descriptions;
   const outputs = ["line rom0.0, an output, clocks chain 0", "line rom0.1, an output, is the data of chain 0"];
   assert.deepEqual(descriptions("rom 0").slice(0, 2), outputs);
@@ -41,7 +41,7 @@ test("the words of a part say what its lines do", () => {
 
 test("what is at TEST is a part with a wire to the processor, and has its words", () => {
   const at = { names: [], colours: [], test: { kind: "button", name: "CROSS_THE_ROAD", level: 0, line: 1 } };
-  const { parts, wires } = drawBoard(readBoard(["board"]), at);
+  const { parts, wires } = layOutBoard(readBoard(["board"]), at);
   assert.deepEqual(parts.map(({ id, title }) => `${id} ${title}`), ["processor 4004", "test CROSS THE …"]);
   assert.deepEqual(wires.map(({ from, to }) => `${from.label} ${to.label}`), ["button TEST"]);
   assert.equal(parts[0].descriptions[1], "its input TEST is at the button CROSS THE ROAD");
@@ -50,7 +50,7 @@ test("what is at TEST is a part with a wire to the processor, and has its words"
 
 test("a buzzer is a part with a wire from its line", () => {
   const board = readBoard(["board", "[[rom]]", "chip = 0", 'port = "0000"']);
-  const { parts, wires } = drawBoard(board, { names: [], colours: [], test: null, buzzer: { place: "rom0.3", name: "the horn" } });
+  const { parts, wires } = layOutBoard(board, { names: [], colours: [], test: null, buzzer: { place: "rom0.3", name: "the horn" } });
   assert.deepEqual(parts.map(({ title }) => title), ["4004", "ROM 0 · 4001", "Buzzer"]);
   assert.deepEqual(wires.map(({ from, to }) => `${from.label} ${to.label}`), ["out 3 the horn"]);
   assert.equal(parts[1].descriptions[3], "line rom0.3, an output, sounds the buzzer");
@@ -58,7 +58,7 @@ test("a buzzer is a part with a wire from its line", () => {
 });
 
 test("an empty board has a processor", () => {
-  assert.deepEqual(drawBoard(readBoard(["board"])).parts.map(({ id }) => id), ["processor"]);
+  assert.deepEqual(layOutBoard(readBoard(["board"])).parts.map(({ id }) => id), ["processor"]);
 });
 
 test("levels: an input line has what is read at it, an output line what its latch holds", () => {

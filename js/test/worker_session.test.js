@@ -71,8 +71,8 @@ test("of long work nothing is done where a piece fails, or it is cancelled", asy
 test("what lines may have changed is reported", async () => {
   const { session } = begin();
   const of = async (lines) => {
-    const { touchesRom, wires } = await session.serve(lines, shouldContinue);
-    return [touchesRom, wires];
+    const { hasChangedRom, wires } = await session.serve(lines, shouldContinue);
+    return [hasChangedRom, wires];
   };
   assert.deepEqual(await of("step\nseq\n"), [false, false]);
   assert.deepEqual(await of("poke r5 9\n"), [true, false]);

@@ -19,14 +19,14 @@ export const NO_FRAME = "there is no such frame; frameId is one of stackTrace";
 export const NO_LINE = "text has no such line";
 export const ADDRESSES_ARE = "addresses are 0x000 to 0xFFF";
 /** @type {(most: number) => string} */
-export const rowsAre = (most) => `instructionCount is 0 to ${most}`;
+export const instructionCountRange = (most) => `instructionCount is 0 to ${most}`;
 /** @type {(what: string) => string} */
 export const boardHasNo = (what) => `the board has no ${what}`;
 export const COUNT_RANGE = "count is 0 or more";
 export const OUTSIDE_OF_MEMORY = "it is outside the memory";
 /** @type {(line: string, answer: string) => string} */
 export const benchAnswered = (line, answer) => `${line}: the bench answered ${answer}`;
-export const BASE_64 = "data must be in base 64";
+export const BASE_64_REQUIRED = "data must be in base 64";
 
 // --- adapter/client_breakpoints.js ---
 export const HIT_COUNT_SYNTAX = "a hit count is a number, as in 5: it stops from that hit on";
@@ -89,13 +89,13 @@ export const sessionInUse = (name, holder) => `${name} is in use by ${holder || 
 // --- adapter/session_writer.js ---
 /** @type {(answer: string) => string} */
 export const fileNotWritten = (answer) => `the session's file was not written: the program answered ${answer}`;
-export const OTHER_STATE = "the session's file reached another state than the session in memory";
+export const STATES_DIFFER = "the session's file reached another state than the session in memory";
 
 // --- adapter/session_launch.js ---
 export const LAUNCH_NEEDS =
   "launch needs \"project\", a folder with mcs4.toml, or \"program\", a program's text, or \"session\", a session file";
 /** @type {(words: string) => string} */
-export const andBoard = (words) => `${words}; without "board" it is the project's, or board.toml next to the program`;
+export const boardHint = (words) => `${words}; without "board" it is the project's, or board.toml next to the program`;
 export const ONE_FILE = "program and session name the same file";
 /** @type {(file: string) => string} */
 export const noProjectFile = (file) => `there is no ${file}, which names the board and the program of a project`;
@@ -121,7 +121,7 @@ export const RUNNING = "Running";
 export const SEARCHING_BACK = "Searching the past";
 export const MACHINE_RUNS_ALREADY = "the machine is running already: pause it first";
 /** @type {(count: number) => string} */
-export const notesBefore = (count) => `(${count} notes before these)`;
+export const earlierNotesOmitted = (count) => `(${count} notes before these)`;
 
 // --- adapter/test_launch.js ---
 export const TEST_NEEDS_TESTS = "a test needs `tests`, the name of its text";
@@ -139,7 +139,7 @@ export const NO_TARGET = "there is no such target";
 export const NOT_CALLED = "this frame is the program itself, which nothing called; restart starts it again";
 
 // --- adapter/number_format.js ---
-export const FORMAT_IS = "format is an object, as { \"hex\": true }";
+export const FORMAT_OBJECT_SYNTAX = "format is an object, as { \"hex\": true }";
 
 // --- adapter/dap_protocol.js ---
 /** @type {(name: string) => string} */
@@ -176,7 +176,7 @@ export const nothingSets = (name) => `${name} cannot be set: only the machine ch
 /** @type {(text: string) => string} */
 export const noNumber = (text) => `${text} is neither a number (10, 0x0A, 0b1010) nor a name`;
 export const NOTHING = "nothing";
-export const KEY_IS = "a key is down or up";
+export const KEY_VALUE_SYNTAX = "a key is down or up";
 /** @type {(place: string, most: number) => string} */
 export const holds = (place, most) => `${place} holds 0 to ${most}`;
 /** @type {(place: string, answer: string) => string} */

@@ -1,6 +1,6 @@
 // Texts about the front panel (lamps, keys, sound) and the board's wiring.
 
-import { EYE_CYCLES, EYE_MS } from "../core/time/mcs4_time.js";
+import { EYE_CYCLES, EYE_PERSISTENCE_MS } from "../core/time/mcs4_time.js";
 
 // --- board/board_keys.js ---
 /** @type {(legend: string, row: number, column: number) => string} */
@@ -52,7 +52,7 @@ export const soundOf = (name) => `Sound of ${name}`;
 /** @type {(chain: number) => string} */
 export const clocksChain = (chain) => `clocks chain ${chain}`;
 /** @type {(chain: number) => string} */
-export const isData = (chain) => `is the data of chain ${chain}`;
+export const isDataOfChain = (chain) => `is the data of chain ${chain}`;
 /** @type {(lamp: number) => string} */
 export const lightsLamp = (lamp) => `lights lamp ${lamp}`;
 export const SOUNDS_BUZZER = "sounds the buzzer";
@@ -125,7 +125,7 @@ export const isRefusal = (line, answer) => `line ${line} of the answers is a ref
 /** @type {(line: number, board: string) => string} */
 export const isInstant = (line, board) => (
   `line ${line} of the answers has the lamps at an instant, and the digits of ${board} are multiplexed; `
-  + `\`trace ${EYE_CYCLES} lamps\` reports what is perceived in ${EYE_MS} ms`);
+  + `\`trace ${EYE_CYCLES} lamps\` reports what is perceived in ${EYE_PERSISTENCE_MS} ms`);
 /** @type {(line: number, count: number, board: string, needed: number) => string} */
 export const tooFewLamps = (line, count, board, needed) => (
   `line ${line} of the answers has ${count} lamps, and the display of ${board} needs ${needed}`);

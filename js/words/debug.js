@@ -5,13 +5,13 @@
 export const tooManyEnabled = (most) => (
   `${most} breakpoints are on, the most that the bench has. This one is off: disable another one first.`);
 /** @type {(why: string) => string} */
-export const untilThen = (why) => `${why} Until then this breakpoint stops nothing.`;
+export const inactiveUntilThen = (why) => `${why} Until then this breakpoint stops nothing.`;
 /** @type {(most: number) => string} */
 export const tooManyBreakpoints = (most) => `There can be at most ${most} breakpoints: remove one first.`;
 
 // --- debug/breakpoints.js ---
 /** @type {(line: number, next: number) => string} */
-export const movedToNext = (line, next) => `Line ${line} puts no bytes into ROM: its breakpoint is at the next instruction, line ${next}.`;
+export const breakpointMovedToLine = (line, next) => `Line ${line} puts no bytes into ROM: its breakpoint is at the next instruction, line ${next}.`;
 /** @type {(line: number) => string} */
 export const nothingFollows = (line) => `No instruction follows line ${line}: its breakpoint stops nothing.`;
 /** @type {(address: string, line: number) => string} */
@@ -43,7 +43,7 @@ export const noOutputs = (what, where) => `${what}, whose port has no output lin
 /** @type {(what: string, where: string) => string} */
 export const noInputs = (what, where) => `${what}, whose port has no input line${where}`;
 /** @type {(what: string, before: number, last: string) => string} */
-export const usedBefore = (what, before, last) => `this ${what}, and before it used ROM ${before}: the last SRC${last}`;
+export const selectedByEarlierSrc = (what, before, last) => `this ${what}, and before it used ROM ${before}: the last SRC${last}`;
 /** @type {(address: string) => string} */
 export const atAddress = (address) => `, at ${address},`;
 /** @type {(words: string, user: string) => string} */
@@ -95,8 +95,8 @@ export const SELECTS = "; selects ";
 /** @type {(chip: number, out: string, read: string) => string} */
 export const portOfRom = (chip, out, read) => `ROM ${chip}: puts out ${out}, RDR reads ${read}`;
 /** @type {(bank: number, chip: number, out: string) => string} */
-export const portOfRam = (bank, chip, out) => `bank ${bank}, chip ${chip}: ${out === "" ? LACKED : `its port puts out ${out}`}`;
-export const LACKED = "the board lacks it";
+export const portOfRam = (bank, chip, out) => `bank ${bank}, chip ${chip}: ${out === "" ? BOARD_LACKS_IT : `its port puts out ${out}`}`;
+export const BOARD_LACKS_IT = "the board lacks it";
 export const NEVER_CHANGES = "it uses no place of the machine, so it never becomes true";
 /** @type {(bank: number, chip: number, register: number, character: string) => string} */
 export const statusAt = (bank, chip, register, character) => (

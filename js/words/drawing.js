@@ -15,7 +15,7 @@ export const cannotDrive = (name) => (
 export const needsChipLine = (name, kind, target) => (
   `${name} is a ${kind} of a chain: ${target} needs an output line of a ROM or a RAM chip.`);
 /** @type {(line: string, takers: string) => string} */
-export const takenLine = (line, takers) => `${line} is wired to ${takers}: wire that to another line first.`;
+export const lineInUse = (line, takers) => `${line} is wired to ${takers}: wire that to another line first.`;
 export const AND = " and ";
 export const ONLY_ONCE = "A board has only one of these.";
 export const COPY_IN_TEXT = "Lamps that belong together can only be copied in the board's text.";

@@ -30,7 +30,7 @@ export const PACE_SYNTAX = "write `pace TIME TIME`: how long a key is down for a
 export const NOTE_SYNTAX = "write `note PLACE ..`: what makes a state new, as in: note lamps r10 ram.0.0x12";
 /** @type {(most: number) => string} */
 export const mostNoted = (most) => `at most ${most} places are noted`;
-export const NOT_PC = "pc changes at each instruction, so it cannot make a state new";
+export const PC_NOT_ALLOWED = "pc changes at each instruction, so it cannot make a state new";
 /** @type {(word: string) => string} */
 export const noTrace = (word) => `no trace shows ${word}`;
 export const NEVER_SYNTAX = "write `never CONDITION` or `never CONDITION for TIME`";
@@ -47,7 +47,7 @@ export const EVERY_SYNTAX = "write `every TIME @LABEL`, as in: every 20 ms @scan
 export const noInstructionIn = (line) => `line ${line} of the program has no instruction`;
 export const MODEL_TWICE = "an earlier line already has a model";
 export const MODEL_SYNTAX = "write `model COMMAND`: the command gets keys, and prints what the display must show";
-export const LIT_BY_TURNS = "the display's digits are multiplexed, but a model needs a display that shows its number at once";
+export const DISPLAY_IS_MULTIPLEXED = "the display's digits are multiplexed, but a model needs a display that shows its number at once";
 export const ONLY_AFTER_SYNTAX = "write `CONDITION only after press KEY, press KEY ..`";
 /** @type {(word: string, forms: string) => string} */
 export const unknownFirstWord = (word, firstWords) => `no line begins with \`${word}\`; they begin with ${firstWords}`;
@@ -82,7 +82,7 @@ export const NAMES = { board: "Board", program: "Source", properties: "Propertie
 export const FOURTH_CALL = "the fourth call leads there, and the oldest return address is lost";
 export const RETURN_WITHOUT_CALL = "a BBL leads there, and no call is open";
 export const MISTAKE_CONFIRMED = "the instruction there makes the mistake";
-export const MORE_OFTEN = "the counter was there more often than keys were pressed";
+export const REACHED_MORE_OFTEN_THAN_PRESSES = "the counter was there more often than keys were pressed";
 
 // --- explore/properties.js ---
 export const NO_OTHER_CODE = "only codes that are instructions";
@@ -114,7 +114,7 @@ export const neverRun = (lines) => `never run: ${lines}`;
 /** @type {(lines: string) => string} */
 export const alwaysOneWay = (lines) => `always went one way: ${lines}`;
 /** @type {(steps: string) => string} */
-export const aSecond = (steps) => `, ${steps} a second`;
+export const stepsPerSecond = (steps) => `, ${steps} a second`;
 /** @type {(board: string, program: string) => string} */
 export const foundByTool = (board, program) => `# Found by mcs4 explore: mcs4 test ${board} ${program} and this file.\n`;
 

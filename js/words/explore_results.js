@@ -26,7 +26,7 @@ function countsOf({ properties }) {
  * Returns the line with a search's steps, rate, states and seeds. It is the same during the search and after it.
  * @param {Report} report
  */
-export function wordsOfFigures({ seeds, steps, seconds, states }) {
+export function searchStatistics({ seeds, steps, seconds, states }) {
   const rate = seconds > 0 ? `, ${formatNumber(steps / seconds)} a second` : "";
   return `${formatSteps(steps)}${rate}; ${formatQuantity(states, "different state")}; seed ${seeds.join(" ")}.`;
 }
@@ -35,7 +35,7 @@ export function wordsOfFigures({ seeds, steps, seconds, states }) {
  * Returns the summary while the search is running.
  * @param {Report} report
  */
-export function wordsSoFar(report) {
+export function progressSummary(report) {
   const { broken } = countsOf(report);
   if (broken === 0) return "Searching for keys that break a property.";
   return `${formatQuantity(broken, "property is", "properties are")} broken so far.`;
@@ -46,7 +46,7 @@ export function wordsSoFar(report) {
  * @param {Report} report
  * @param {boolean} isStopped true if the search was stopped before its time was up
  */
-export function wordsOfEnd(report, isStopped) {
+export function finalSummary(report, isStopped) {
   const { broken, left } = countsOf(report);
   const summary = broken === 0 ? "Nothing was found that breaks a property."
     : `${formatQuantity(broken, "property is", "properties are")} broken.`;
@@ -58,7 +58,7 @@ export function wordsOfEnd(report, isStopped) {
  * Returns the tab's mark, or "" if no property is broken.
  * @param {Report} report
  */
-export function markOfReport(report) {
+export function reportTabMark(report) {
   const { broken } = countsOf(report);
   return broken > 0 ? `${formatNumber(broken)} broken` : "";
 }
@@ -80,7 +80,7 @@ export function markOf(property, goesOn) {
  * @param {PropertyResult} property
  * @param {Report} report
  */
-export function wordsOfProperty(property, report) {
+export function describePropertyResult(property, report) {
   const { isGoal, isSkipped, found, applied, states } = property;
   if (isSkipped) return NEEDS_COMMAND;
   if (!found) return applied && states === 0 ? "" : formatRemark(property, report);

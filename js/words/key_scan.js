@@ -7,9 +7,9 @@ export const scansKeys = (rows, first, chain, ports) => (
   `Scans the keys: ${from("bit", rows - 1, first, first + rows - 1)} of chain ${chain} drive${rows === 1 ? "s" : ""} `
   + `${from("row", rows - 1, 0, rows - 1)}; columns are read at ${ports.join(" and ")}.`);
 /** @type {(name: string) => string} */
-export const callIt = (name) => `JMS ${name}: the accumulator is 1 if a key is down, with its row in R4 and its column`;
+export const callUsage = (name) => `JMS ${name}: the accumulator is 1 if a key is down, with its row in R4 and its column`;
 /** @type {(registers: string) => string} */
-export const usesThese = (registers) => `in R5; else it is 0. It uses R0, R1 and R4 to ${registers}, and calls one level deeper.`;
+export const registersUsed = (registers) => `in R5; else it is 0. It uses R0, R1 and R4 to ${registers}, and calls one level deeper.`;
 /** @type {(ports: string[]) => string} */
 export const writesPorts = (ports) => `It writes 0 to the other lines of ${ports.join(" and ")}.`;
 /** @type {(bank: number) => string} */

@@ -159,9 +159,9 @@ export const NO_NAMES = "show Source first";
 export const FILE = "File";
 export const THEME = "Theme";
 /** @type {Record<string, string>} shorter button labels, by command id */
-export const SHORT = { "project.share": "Share" };
+export const SHORT_LABELS = { "project.share": "Share" };
 /** @type {Record<string, string>} the tooltips of command buttons, by command id */
-export const TIPS = {
+export const TOOLTIPS = {
   "time.over": "Step over: one instruction; a subroutine that it calls runs whole",
   "time.into": "Step into: one instruction, into a subroutine that it calls",
   "time.out": "Step out: up to the return from this subroutine",

@@ -1,7 +1,7 @@
 // Texts of the `mcs4 debug` prompt.
 
 // --- prompt/breakpoint_commands.js ---
-export const WHICH_ONE = "which one? info breakpoints shows their numbers";
+export const BREAKPOINT_NUMBER_MISSING = "which one? info breakpoints shows their numbers";
 /** @type {(id: number, where: string) => string} */
 export const breakpointAt = (id, where) => `Breakpoint ${id} at ${where}.`;
 /** @type {(word: string) => string} */
@@ -9,7 +9,7 @@ export const noBreakpoint = (word) => `there is no breakpoint ${word}; info brea
 /** @type {(place: string) => string} */
 export const isWatched = (place) => `${place} is watched.`;
 /** @type {(watched: string) => string} */
-export const oneIsWatched = (watched) => (
+export const onlyOneWatchAllowed = (watched) => (
   `${watched} is watched, and only one place other than RAM characters can be watched: delete ${watched} first`);
 /** @type {(place: string) => string} */
 export const watchedByContinue = (place) => `${place} is watched by continue.`;
@@ -36,7 +36,7 @@ export const stopsAlways = (id) => `Breakpoint ${id} has no condition now.`;
 /** @type {(most: string, text: string) => string} */
 export const ignoredIs = (most, text) => `a hit count is 0 to ${most}, not ${text}`;
 /** @type {(id: number, count: number) => string} */
-export const willPass = (id, count) => {
+export const breakpointWillIgnore = (id, count) => {
   if (count === 0) return `Breakpoint ${id} stops at its next hit.`;
   return `Breakpoint ${id} lets the next ${count === 1 ? "hit" : `${count.toLocaleString("en")} hits`} pass.`;
 };
@@ -66,13 +66,13 @@ export const SOURCE_IN_ROM = "The source is in ROM.";
 /** @type {(word: string) => string} */
 export const noCommand = (word) => `there is no command ${word}; help shows them all`;
 /** @type {(word: string, names: string) => string} */
-export const notClear = (word, names) => `${word} is ambiguous: ${names}`;
+export const ambiguousCommand = (word, names) => `${word} is ambiguous: ${names}`;
 /** @type {(names: string) => string} */
 export const otherNames = (names) => ` Or: ${names}.`;
 
 // --- prompt/prompt_keys.js ---
 export const NO_KEYS = "the board has no keys";
-export const NONE_DOWN = "none is down";
+export const NO_KEY_IS_DOWN = "none is down";
 /** @type {(keys: string) => string} */
 export const down = (keys) => `down: ${keys}`;
 /** @type {(command: string) => string} */

@@ -1,25 +1,25 @@
 // Texts that users read about proofs: that properties hold for all inputs, and why something is not decided.
 
 // --- prove/condition_comparisons.js ---
-export const LOOKS_AT_TOO_MUCH = "its condition uses too many places at once";
+export const READS_TOO_MUCH = "its condition uses too many places at once";
 /** @type {(place: string) => string} */
-export const looksAtInput = (place) => `its condition uses ${place}, an input`;
+export const dependsOnInput = (place) => `its condition uses ${place}, an input`;
 
 // --- prove/question.js ---
 /** @type {(form: string) => string} */
 export const unprovableForm = (form) => `a property of the form "${form}" cannot be proved yet`;
 /** @type {(name: string) => string} */
-export const isNoMatrixKey = (name) => `${name} is at the TEST pin; only presses of keys of the matrix are counted`;
+export const notInKeyMatrix = (name) => `${name} is at the TEST pin; only presses of keys of the matrix are counted`;
 /** @type {(most: number) => string} */
-export const hasManyPresses = (most) => `it names more than ${most} presses`;
+export const tooManyPresses = (most) => `it names more than ${most} presses`;
 export const LABEL_REPEATS = "the BBL or JIN at its label can lead to the same label in one cycle";
 /** The first words of guards, by their kinds. */
 const GUARDS = { press: "after press", once: "once", while: "while" };
 /** @type {(kinds: Iterable<keyof typeof GUARDS>) => string} */
 export const guardsNamed = (kinds) => [...kinds].map((kind) => `"${GUARDS[kind]}"`).join(" and ");
 /** @type {(most: string) => string} */
-export const timeIsLong = (most) => `its time is longer than ${most} cycles`;
-export const BEGINS_LATER = "a proof begins at power-on, but the text begins elsewhere (from)";
+export const timeTooLong = (most) => `its time is longer than ${most} cycles`;
+export const STARTS_AFTER_POWER_ON = "a proof begins at power-on, but the text begins elsewhere (from)";
 
 // --- prove/mistakes.js ---
 /** Each property of every program, by the word of its mistake in a question. */
@@ -38,14 +38,14 @@ export const MISTAKES = {
 export const excluded = (steps) => `so far, only inputs that the text excludes break it (${steps})`;
 export const NOT_CONFIRMED = "the bench does not confirm the counterexample that was found";
 /** @type {(guards: string, isGoal: boolean) => string} */
-export const failsWithout = (guards, isGoal) => `it can ${isGoal ? "be reached" : "fail"} without ${guards}, which a proof leaves out`;
-export const READ_LESS = "it can become true before the program has read each key up and then down";
+export const failsWithoutGuards = (guards, isGoal) => `it can ${isGoal ? "be reached" : "fail"} without ${guards}, which a proof leaves out`;
+export const TRUE_BEFORE_KEYS_ARE_READ = "it can become true before the program has read each key up and then down";
 
 // --- prove/bounded_proof.js ---
 /** @type {(states: string) => string} */
 export const moreThan = (states) => `more than ${states} states; enter a larger number beside Prove to allow more`;
 /** @type {(states: string) => string} */
-export const fullAfter = (states) => `memory has room for only ${states} states; mcs4 prove in a terminal can use more`;
+export const memoryFullAfter = (states) => `memory has room for only ${states} states; mcs4 prove in a terminal can use more`;
 
 // --- prove/verdicts.js ---
 export const STATE = "state";

@@ -6,20 +6,20 @@ import * as say from "./prove.js";
 
 /**
  * @typedef {import("../core/prove/prover.js").Progress} Progress
- * @typedef {import("../core/prove/bounded_proof.js").JudgedLine} JudgedLine
+ * @typedef {import("../core/prove/bounded_proof.js").PropertyVerdict} PropertyVerdict
  */
 
 /**
  * Returns true if a property is proved, or if a goal is reached.
- * @param {JudgedLine} judged
+ * @param {PropertyVerdict} judged
  */
-export function isRight({ isGoal, verdict }) {
+export function isDesiredVerdict({ isGoal, verdict }) {
   return verdict.kind !== "open" && isGoal === (verdict.kind === "found");
 }
 
 /**
  * Returns a property's mark: its verdict in one or two words.
- * @param {JudgedLine} judged
+ * @param {PropertyVerdict} judged
  */
 export function markOf({ isGoal, verdict }) {
   if (verdict.kind === "open") return say.MARKS.open;
@@ -29,9 +29,9 @@ export function markOf({ isGoal, verdict }) {
 
 /**
  * Returns the text next to the mark.
- * @param {JudgedLine} judged
+ * @param {PropertyVerdict} judged
  */
-export function wordsOfVerdict({ isGoal, verdict }) {
+export function describeVerdict({ isGoal, verdict }) {
   if (verdict.kind === "open") return verdict.words;
   if (verdict.kind === "proved") return say.forAllInputs(formatStateCount(verdict), verdict.leftOut);
   const { steps, cycles } = verdict.found;
@@ -40,10 +40,10 @@ export function wordsOfVerdict({ isGoal, verdict }) {
 
 /**
  * Counts the properties by their verdicts.
- * @param {JudgedLine[]} judged
+ * @param {PropertyVerdict[]} judged
  */
 function countsOf(judged) {
-  /** @type {(kind: JudgedLine["verdict"]["kind"], isGoal: boolean) => number} */
+  /** @type {(kind: PropertyVerdict["verdict"]["kind"], isGoal: boolean) => number} */
   const count = (kind, wanted) => judged.filter(({ isGoal, verdict }) => verdict.kind === kind && isGoal === wanted).length;
   return {
     proved: count("proved", false), broken: count("found", false), reached: count("found", true), never: count("proved", true),
@@ -53,10 +53,10 @@ function countsOf(judged) {
 
 /**
  * Returns the summary of all verdicts, such as `2 proved, 1 can fail.`
- * @param {JudgedLine[]} judged
+ * @param {PropertyVerdict[]} judged
  * @param {boolean} isStopped true if the proof was cancelled
  */
-export function wordsOfEnd(judged, isStopped) {
+export function finalSummary(judged, isStopped) {
   const { proved, broken, reached, never, open } = countsOf(judged);
   /** @type {[number, (count: string) => string][]} */
   const counts = [[proved, say.countProved], [broken, say.countBroken], [reached, say.countReached], [never, say.countNever],
@@ -69,16 +69,16 @@ export function wordsOfEnd(judged, isStopped) {
  * Returns the text about the progress of the proof.
  * @param {Progress} progress
  */
-export function wordsSoFar({ judged, count, states }) {
+export function progressSummary({ judged, count, states }) {
   const which = say.judging(Math.min(judged.length + 1, count), count);
   return states > 0 ? say.moreSoFar(which, formatNumber(states)) : which;
 }
 
 /**
  * Returns the tab's mark, or "" if no verdict is known.
- * @param {JudgedLine[]} judged
+ * @param {PropertyVerdict[]} judged
  */
-export function markOfTab(judged) {
+export function proofsTabMark(judged) {
   const { proved, broken } = countsOf(judged);
   if (broken > 0) return say.countBroken(formatNumber(broken));
   return proved > 0 ? say.countProved(formatNumber(proved)) : "";

@@ -2,9 +2,9 @@
 
 // --- server/dependent_language.js ---
 /** @type {(file: string) => string} */
-export const neighbourMissing = (file) => `there is no ${file} here, so this text is not checked; mcs4.toml can name a board and a program`;
+export const dependencyMissing = (file) => `there is no ${file} here, so this text is not checked; mcs4.toml can name a board and a program`;
 /** @type {(file: string, line: number) => string} */
-export const neighbourHasError = (file, line) => `${file} has an error${line > 0 ? ` in line ${line}` : ""}, so this text is not checked`;
+export const dependencyHasError = (file, line) => `${file} has an error${line > 0 ? ` in line ${line}` : ""}, so this text is not checked`;
 
 // --- server/board_language.js ---
 export const NO_BOARD_NAMES = "A board's text has no names that can be changed here.";
@@ -64,7 +64,7 @@ export const noFile = (key, path) => `${key}: there is no file ${path}`;
 // --- server/language_server.js ---
 /** @type {(uri: string) => string} */
 export const notOpen = (uri) => `${uri} is not open`;
-export const CHANGES_ARE = "contentChanges is a list";
+export const CONTENT_CHANGES_SYNTAX = "contentChanges is a list";
 export const TEXT_OF_CHANGE = "the text of a change";
 /** @type {(uri: string, why: string) => string} */
 export const faultsOf = (uri, why) => `the errors of ${uri}: ${why}`;
@@ -105,7 +105,7 @@ export const RUN_TEST = "Run test";
 
 // --- server/test_runs.js ---
 /** @type {(file: string) => string} */
-export const noFileBeside = (file) => `There is no ${file}, so nothing was run; mcs4.toml can name a board and a program.`;
+export const missingDependency = (file) => `There is no ${file}, so nothing was run; mcs4.toml can name a board and a program.`;
 /** @type {(name: string) => string} */
 export const noTest = (name) => `There is no test ${name}.`;
 /** @type {(name: string) => string} */

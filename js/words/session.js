@@ -154,14 +154,14 @@ export const noProjectSaved = (why) => (
   `No project was saved: ${why}. Shorten it first; "Save session for mcs4" saves the session without its texts.`);
 
 // --- session/sessions_controller.js ---
-export const KEPT_HERE = "They are saved in this browser only. Download a copy to be safe. "
+export const SAVED_IN_BROWSER_ONLY = "They are saved in this browser only. Download a copy to be safe. "
   + "Examples are saved once you change something.";
-export const PROMISED = " The browser has promised to keep them even when space is short.";
+export const STORAGE_IS_PERSISTENT = " The browser has promised to keep them even when space is short.";
 export const NOT_SAVED_ANYWHERE = "This browser stores nothing for this page: save a session to a file before you leave.";
 /** @type {(name: string, isKept: boolean) => string} */
 export const sessionLeft = (name, isKept) => (
   `"${name}" ${isKept ? "is saved" : "stays until this page is closed"}.`);
-export const BACK_TO_IT = "Reopen";
+export const REOPEN = "Reopen";
 /** @type {(name: string) => string} */
 export const noSuchExample = (name) => `The address names an example, "${name}", that this page does not have.`;
 /** @type {(hash: string) => string} */
@@ -184,13 +184,13 @@ export const WITH_STORY = "with its story";
 
 // --- session/share_link.js ---
 export const DAMAGED = "it is cut off or was changed";
-export const HOLDS_MORE = "it holds more than a board and a program";
+export const CONTAINS_OTHER_TEXTS = "it holds more than a board and a program";
 export const CANNOT_DECOMPRESS = "this browser cannot read compressed texts (it has no DecompressionStream); it needs Chrome "
   + "103, Firefox 113 or Safari 16.4 or later, or a project file instead of the link";
 export const NEWER_PAGE = "it was made by a newer page than this one";
 
 // --- session/link_sharing.js ---
-export const ALWAYS_HELD = ["the name", "the board", "the source"];
+export const ALWAYS_SHARED_PARTS = ["the name", "the board", "the source"];
 export const THE_TESTS = "the tests";
 export const THE_PROPERTIES = "the properties";
 /** @type {(parts: string, last: string) => string} */
@@ -262,7 +262,7 @@ export const REPLACE_SOURCE = "Replace the source?";
 /** @type {(old: string, found: string) => string} */
 export const sizesOfSources = (old, found) => `The source has ${old}. The disassembly of ROM has ${found}, without comments and names.`;
 /** @type {(name: string) => string} */
-export const replaceByOdd = (name) => `Replace the source by ${name}?`;
+export const replaceByProbableNonProgram = (name) => `Replace the source by ${name}?`;
 /** @type {(name: string) => string} */
 export const eachLineWrong = (name) => `Each line of ${name} has an error, so it is probably not a program.`;
 export const REPLACE_IT = "Replace it";

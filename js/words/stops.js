@@ -24,17 +24,17 @@ export const REASONS = {
 export const NO_CALL_WAITS = "no call is open here";
 
 /** @type {(line: number) => string} a reference to a line of a text */
-export const wordsOfLine = (line) => `line ${line}`;
+export const lineReference = (line) => `line ${line}`;
 
 /**
  * Returns an address with its name and its source line, for example `00D (show + 3, line 12)`.
  * @param {string} address the address in hexadecimal
  * @param {SourceMap | null} map the program in ROM
  */
-export function wordsOfAddress(address, map) {
+export function addressWithName(address, map) {
   const number = parseInt(address, 16);
   const line = map ? map.lineOf(number) : 0;
-  const description = map && line > 0 ? [map.nameOf(number), wordsOfLine(line)].filter(Boolean).join(", ") : "";
+  const description = map && line > 0 ? [map.nameOf(number), lineReference(line)].filter(Boolean).join(", ") : "";
   return description ? `${address} (${description})` : address;
 }
 
@@ -45,7 +45,7 @@ export function wordsOfAddress(address, map) {
  * @param {string} where the address at which time is paused
  * @param {{ condition: string }} [breakpoint] the breakpoint at that address
  */
-export function wordsOfGone(goal, gone, where, breakpoint) {
+export function describeTimeTravel(goal, gone, where, breakpoint) {
   const { isDone, why, from, to, line, end, cycles } = gone;
   if (!isDone) return `Nothing was done: ${whyNot(goal, why)}.`;
   const over = cycles === 0 ? "" : `, ${formatCycles(cycles)}`;
@@ -55,7 +55,7 @@ export function wordsOfGone(goal, gone, where, breakpoint) {
   if (goal.kind === "instruction") return `Back at ${where}${before}: this instruction has not run yet.`;
   if (goal.kind === "call") return `Back at ${where}${before}: the subroutine begins here.`;
   if (end === "break") {
-    const when = wordsOfWhen(breakpoint && { ...breakpoint, from: 1, hits: 0 });
+    const when = describeBreakpointCondition(breakpoint && { ...breakpoint, from: 1, hits: 0 });
     return `Back at ${where}${before}, at a breakpoint${when}.`;
   }
   if (end === "beginning") {
@@ -88,10 +88,10 @@ function whyNot(goal, why) {
  * @param {import("../core/debug/debugger.js").LastChange} change
  * @param {SourceMap | null} map the program in ROM
  */
-export function wordsOfLastChange(name, { isFound, why, from, to, line, cycles, address }, map) {
+export function lastChangeText(name, { isFound, why, from, to, line, cycles, address }, map) {
   if (why === "lacks") return "";
   if (!isFound) return `${name}: no change in the past that the page remembers.`;
-  const who = line ? `the line ${line}` : wordsOfAddress(hex(address, 3), map);
+  const who = line ? `the line ${line}` : addressWithName(hex(address, 3), map);
   return `${name}: from ${from} to ${to} by ${who}${cycles === 0 ? "" : `, ${formatCycles(cycles)} ago`}.`;
 }
 
@@ -111,7 +111,7 @@ export function describeGoal(goal) {
  * Returns the message while time runs towards a distant goal.
  * @param {Goal} goal
  */
-export function wordsOfMove(goal) {
+export function runningToGoal(goal) {
   return `Running to ${describeGoal(goal)}.`;
 }
 
@@ -136,7 +136,7 @@ function reached(goal, returns, where) {
  * @param {string} where the address at which time is paused
  * @param {string} [when] the condition and hit count of the breakpoint that paused time, in words
  */
-export function wordsOfStop(goal, { why, cycles, returns, change }, where, when = "") {
+export function pauseMessage(goal, { why, cycles, returns, change }, where, when = "") {
   if (why === "lacks") return `Nothing was done: this board has no ${goal && goal.kind === "change" ? goal.place : "such place"}.`;
   if (why === "outside") return `Nothing was done: ${NO_CALL_WAITS}.`;
   const after = `after ${formatCycles(cycles)}`;
@@ -150,7 +150,7 @@ export function wordsOfStop(goal, { why, cycles, returns, change }, where, when 
  * @param {{ condition: string, from: number, hits: number } | undefined} breakpoint
  * @param {string} [fault] the error in the breakpoint, which makes it stop at every hit
  */
-export function wordsOfWhen(breakpoint, fault = "") {
+export function describeBreakpointCondition(breakpoint, fault = "") {
   if (!breakpoint) return "";
   if (fault !== "") return ` that has an error, ${fault}`;
   const { condition, from, hits } = breakpoint;
@@ -166,7 +166,7 @@ export const stoppedAt = (where) => `Paused at ${where}.`;
  * @param {number} cycles the number of cycles since the start of the run
  * @param {string} where
  */
-export function wordsOfHalt(goal, cycles, where) {
+export function describeUserPause(goal, cycles, where) {
   return goal ? `Paused at ${where}, after ${formatCycles(cycles)}; ${describeGoal(goal)} was not reached.` : stoppedAt(where);
 }
 
@@ -176,7 +176,7 @@ export function wordsOfHalt(goal, cycles, where) {
  * @param {boolean} ran true if time was running towards the goal, false if the past was being searched for the goal
  * @param {string} where
  */
-export function wordsOfInterrupted(goal, ran, where) {
+export function describeInterruption(goal, ran, where) {
   const what = `${describeGoal(goal)} was ${ran ? "not reached" : "searched for, and nothing was done"}`;
   return `Paused at ${where}: ${what}, because the page was reloaded or another session was shown.`;
 }

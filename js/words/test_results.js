@@ -17,7 +17,7 @@ const WHERE = { board: "Board", program: "Source", tests: "Tests", properties: "
  * Returns the summary of all tests.
  * @param {Outcome[]} outcomes
  */
-export function wordsOfOutcomes(outcomes) {
+export function testsSummary(outcomes) {
   const failed = outcomes.filter(({ failure }) => failure).length;
   if (failed === 0) return outcomes.length === 1 ? "The test passed." : `All ${formatQuantity(outcomes.length, "test")} passed.`;
   return `${failed} of ${formatQuantity(outcomes.length, "test")} failed.`;
@@ -27,7 +27,7 @@ export function wordsOfOutcomes(outcomes) {
  * Returns the tab's mark.
  * @param {Outcome[]} outcomes
  */
-export function markOfOutcomes(outcomes) {
+export function testsTabMark(outcomes) {
   const failed = outcomes.filter(({ failure }) => failure).length;
   return failed > 0 ? `${failed} failed` : "passed";
 }
@@ -37,7 +37,7 @@ export function markOfOutcomes(outcomes) {
  * @param {TextFault[]} faults
  * @param {(number: number) => string} describeRefusal
  */
-export function wordsOfFaults(faults, describeRefusal) {
+export function textErrorsMessage(faults, describeRefusal) {
   const [{ text, line, number, words }] = faults;
   const what = words || `no ${number}: ${describeRefusal(number)}`;
   const more = faults.length > 1 ? `, and ${faults.length - 1} more` : "";
@@ -48,7 +48,7 @@ export function wordsOfFaults(faults, describeRefusal) {
  * Returns the duration of a test, in cycles and in milliseconds or seconds.
  * @param {Outcome} outcome
  */
-export function wordsOfTime({ cycles }) {
+export function testDuration({ cycles }) {
   const time = cycles * CYCLE_MS;
   return `${formatQuantity(cycles, "cycle")}, ${time < 1000 ? `${time.toFixed(1)} ms` : `${(time / 1000).toFixed(2)} s`}`;
 }
@@ -57,7 +57,7 @@ export function wordsOfTime({ cycles }) {
  * Returns the text about the program's coverage by the tests, or "" if nothing was counted.
  * @param {Report} report
  */
-export function wordsOfCounts({ coverage }) {
+export function coverageMessage({ coverage }) {
   if (!coverage || coverage.instructions === 0) return "";
   const ways = coverage.lines.filter(({ isJump, count, taken }) => isJump && count > 0 && (taken === 0 || taken === count)).length;
   const oneWay = ways === 0 ? "" : ` ${formatQuantity(ways, "jump")} always went one way.`;

@@ -2,8 +2,8 @@
 
 // --- testing/coverage.js ---
 /** @type {(counts: number[], percent: string, percentOfWays: string) => string} */
-export const coverageSummary = ([run, all, waysRun, ways], percent, percentOfWays) => (
-  `${run} of ${all} instructions were run${percent}, ${waysRun} of ${ways} branch directions${percentOfWays}`);
+export const coverageSummary = ([run, all, directionsRun, ways], percent, percentOfWays) => (
+  `${run} of ${all} instructions were run${percent}, ${directionsRun} of ${ways} branch directions${percentOfWays}`);
 
 // --- testing/coverage_text.js ---
 export const NEVER = "never";

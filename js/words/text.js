@@ -99,7 +99,7 @@ export const lacksKeys = (kind, keys) => `this ${kind} lacks ${keys}`;
 
 // --- text/count_marks.js ---
 /** @type {(number: number) => string} */
-export const timesOf = (number) => ["never", "once"][number] || `${number.toLocaleString("en")} times`;
+export const countText = (number) => ["never", "once"][number] || `${number.toLocaleString("en")} times`;
 export const NO_TEST_RUNS = "no test runs it";
 /** @type {(times: string) => string} */
 export const ran = (times) => `run ${times}`;
@@ -109,7 +109,7 @@ export const jumped = (taken, left) => `; it jumped ${taken} and continued ${lef
 // --- text/text_editor_view.js ---
 export const FAULTS = "Errors";
 /** @type {(size: string, most: string) => string} */
-export const notPutIn = (size, most) => `It was not inserted: the text would have ${size} characters; at most ${most} are accepted.`;
+export const notInserted = (size, most) => `It was not inserted: the text would have ${size} characters; at most ${most} are accepted.`;
 /** @type {(size: string, most: string, unit: string) => string} */
 export const sizeOf = (size, most, unit) => `${size} of ${most} ${unit}`;
 
@@ -131,7 +131,7 @@ export const GO = "Go";
 export const CLOSE = "Close";
 
 // --- text/fold_view.js ---
-export const UNFOLDS = "click to unfold them";
+export const UNFOLD_HINT = "click to unfold them";
 
 // --- text/line_values.js ---
 export const CHANGES_BY_LINE = "what this line has changed";

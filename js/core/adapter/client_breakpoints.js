@@ -5,7 +5,7 @@
 import { watchedPlaces } from "../bench/answers.js";
 import { LAST_ADDRESS } from "../bench/numbers.js";
 import { compileCondition } from "../conditions/condition_language.js";
-import { BreakpointList, MAX_BREAKPOINTS, MAX_ENABLED, instructionAtAddress, instructionForLine } from "../debug/breakpoints.js";
+import { BreakpointList, MAX_BREAKPOINTS, MAX_ENABLED_BREAKPOINTS, instructionAtAddress, instructionForLine } from "../debug/breakpoints.js";
 import { parsePlace } from "../conditions/places.js";
 import { watchablePlace } from "../debug/data_watches.js";
 import { MAX_PIECE_CYCLES } from "../debug/debug_session.js";
@@ -206,12 +206,12 @@ export class ClientBreakpoints {
     /** @type {Map<RequestedBreakpoint, string>} */
     const faults = new Map();
     const breakpoints = [...this.mergeBreakpoints().values()];
-    const isOverLimit = (/** @type {number} */ at) => at >= MAX_ENABLED;
-    breakpoints.forEach((each, at) => isOverLimit(at) && faults.set(each, say.tooManyEnabled(MAX_ENABLED)));
+    const isOverLimit = (/** @type {number} */ at) => at >= MAX_ENABLED_BREAKPOINTS;
+    breakpoints.forEach((each, at) => isOverLimit(at) && faults.set(each, say.tooManyEnabled(MAX_ENABLED_BREAKPOINTS)));
     const hits = new Map([...this.byId].map(([id, { address }]) => [address, (session.breakpoints.get(id) || { hits: 0 }).hits]));
     session.breakpoints = new BreakpointList();
     this.byId.clear();
-    for (const each of breakpoints.slice(0, Math.min(MAX_ENABLED, MAX_BREAKPOINTS))) {
+    for (const each of breakpoints.slice(0, Math.min(MAX_ENABLED_BREAKPOINTS, MAX_BREAKPOINTS))) {
       const { address, condition, from, note } = each;
       const addedBreakpoint = session.breakpoints.add({ address, condition, from, note });
       addedBreakpoint.hits = hits.get(address) || 0;

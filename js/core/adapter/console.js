@@ -1,7 +1,7 @@
 // Serves the lines that a user types in the debug console: bench lines (in which labels can replace addresses), key presses, moves that
 // have no button, and expressions.
 
-import { ANSWER_FORMS, isQuery } from "../bench/answer_table.js";
+import { ANSWER_FORMATS, isQuery } from "../bench/answer_table.js";
 import { readRun, parseRefusal } from "../bench/answers.js";
 import { readInputs } from "../bench/inputs.js";
 import { replaceNames } from "../bench/name_substitution.js";
@@ -30,7 +30,7 @@ import { noKey } from "../../words/testing.js";
 
 /** The words that can start a console line. */
 export const CONSOLE_FIRST_WORDS = [
-  "press", "release", "keys", "until", "change", "back", "forward", "set", "help", "display", ...ANSWER_FORMS.keys(),
+  "press", "release", "keys", "until", "change", "back", "forward", "set", "help", "display", ...ANSWER_FORMATS.keys(),
 ];
 /** The maximum length of a console input in characters, and the maximum number of bench lines in it. */
 const MAX_LENGTH = 65536;
@@ -79,7 +79,7 @@ export class Console {
     if (word === "set" && !line.includes("\n")) return this.runBenchLines(compileSetLine(line.slice("set".length), this.session));
     if (word === "set") return this.serveBenchLines(line, mayContinue);
     // Bench lines never contain comparisons, so a line with a comparison is an expression.
-    return ANSWER_FORMS.has(word) && !COMPARISON_LINE.test(line) ? this.serveBenchLines(line, mayContinue) : this.evaluateLine(line, base);
+    return ANSWER_FORMATS.has(word) && !COMPARISON_LINE.test(line) ? this.serveBenchLines(line, mayContinue) : this.evaluateLine(line, base);
   }
 
   /**
@@ -195,8 +195,8 @@ export class Console {
    * @returns {Promise<LineResult>}
    */
   async runBenchLines(lines, mayContinue) {
-    const { entries, touchesRom, tally, words: stopWords } = await this.session.serve(lines, mayContinue);
-    if (touchesRom) this.calls.romChanged();
+    const { entries, hasChangedRom, tally, words: stopWords } = await this.session.serve(lines, mayContinue);
+    if (hasChangedRom) this.calls.romChanged();
     const answers = entries.flatMap((entry) => entry.answers);
     const texts = answers.map((answer) => {
       const refusal = parseRefusal(answer);

@@ -256,7 +256,7 @@ export class Machine {
    */
   reportTally({ notes, usual }, count) {
     this.reportedNotes += count;
-    if (count > notes.length) this.calls.output(`${say.notesBefore(count - notes.length)}\n`, "console");
+    if (count > notes.length) this.calls.output(`${say.earlierNotesOmitted(count - notes.length)}\n`, "console");
     for (const { words } of notes.slice(notes.length - Math.min(count, notes.length))) this.calls.output(`${words}\n`, "console");
     for (const { words } of usual) this.calls.output(`${words}\n`, "console");
   }

@@ -6,7 +6,7 @@
 
 import { readRam, parseRefusal } from "../bench/answers.js";
 import { LAST_ADDRESS, hex, parseNumber } from "../bench/numbers.js";
-import { STATUS_COUNT, parsePlace } from "../conditions/places.js";
+import { STATUS_CHARACTERS_PER_REGISTER, parsePlace } from "../conditions/places.js";
 import { readRomBytes } from "./disassembly.js";
 import { fail, optionalFlag, needNumber, needText } from "./dap_protocol.js";
 import * as say from "../../words/adapter.js";
@@ -46,7 +46,7 @@ export function referenceNumberForPlace(name) {
   const [, bank, byte] = /^ram\.(\d)\.(0x..)$/.exec(place ? place.name : "") || [];
   if (bank) return CHARACTERS_BASE + BANK_SIZE * Number(bank) + Number(byte);
   const [, statusBank, register, at] = /^st\.(\d)\.(\d+)\.(\d)$/.exec(place ? place.name : "") || [];
-  return statusBank ? STATUS_BASE + BANK_SIZE * Number(statusBank) + STATUS_COUNT * Number(register) + Number(at) : -1;
+  return statusBank ? STATUS_BASE + BANK_SIZE * Number(statusBank) + STATUS_CHARACTERS_PER_REGISTER * Number(register) + Number(at) : -1;
 }
 
 /**
@@ -79,7 +79,7 @@ function findRange(session, number) {
   const bytes = Uint8Array.from(digits, (digit) => parseInt(digit, 16));
   const begin = (isStatus ? STATUS_BASE : CHARACTERS_BASE) + BANK_SIZE * bank;
   const place = (/** @type {number} */ at) => (
-    isStatus ? `st.${bank}.${Math.floor(at / STATUS_COUNT)}.${at % STATUS_COUNT}` : `ram.${bank}.${at}`);
+    isStatus ? `st.${bank}.${Math.floor(at / STATUS_CHARACTERS_PER_REGISTER)}.${at % STATUS_CHARACTERS_PER_REGISTER}` : `ram.${bank}.${at}`);
   return { begin, bytes, place };
 }
 
@@ -141,6 +141,6 @@ export async function writeMemory(args, session, addressOf) {
 
 /** @param {string} text */
 function decodeBase64(text) {
-  if (!/^[A-Za-z0-9+/]*={0,2}$/.test(text) || text.length % 4 !== 0) fail(say.BASE_64);
+  if (!/^[A-Za-z0-9+/]*={0,2}$/.test(text) || text.length % 4 !== 0) fail(say.BASE_64_REQUIRED);
   return Uint8Array.from(atob(text), (letter) => letter.charCodeAt(0));
 }

@@ -16,7 +16,7 @@ import * as say from "../../words/adapter.js";
 export function readFormatFlag(args, name) {
   const format = getField(args, "format");
   if (format === undefined || format === null) return null;
-  if (typeof format !== "object" || Array.isArray(format)) return fail(say.FORMAT_IS);
+  if (typeof format !== "object" || Array.isArray(format)) return fail(say.FORMAT_OBJECT_SYNTAX);
   return getField(format, name) === undefined ? null : optionalFlag(format, name, false);
 }
 

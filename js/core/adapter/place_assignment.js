@@ -40,7 +40,7 @@ function assignmentLines(place, text, session, begin = 0) {
   const key = place.startsWith("key ") ? parseKey(place.slice("key ".length)) : null;
   if (key) {
     const word = text.trim().toLowerCase();
-    if (word !== say.DOWN && word !== say.UP) throw new AdapterError(say.KEY_IS);
+    if (word !== say.DOWN && word !== say.UP) throw new AdapterError(say.KEY_VALUE_SYNTAX);
     return `${keyLine(word === say.DOWN ? "press" : "release", key)}\n`;
   }
   const value = evaluateNumber(text, session, begin);

@@ -15,7 +15,7 @@ import { fail, needNumber, needText } from "./dap_protocol.js";
 import { findSettablePlace, setPlace } from "./place_assignment.js";
 import { expressionHover, evaluateExpression } from "./expression_values.js";
 import * as say from "../../words/adapter.js";
-import { wordsOfLine } from "../../words/stops.js";
+import { lineReference } from "../../words/stops.js";
 
 /**
  * @typedef {import("./session_launch.js").LaunchResult} LaunchResult
@@ -85,7 +85,7 @@ export class QueryHandlers {
     const levels = needNumber(args, "levels", 0);
     const [isHex, withLine] = [readFormatFlag(args, "hex"), readFormatFlag(args, "line") === true];
     const frames = stack.map(({ address, line, name, call }, at) => ({
-      id: at + 1, name: formatFrameName(name, isHex) + (withLine && line > 0 ? `, ${wordsOfLine(line)}` : ""),
+      id: at + 1, name: formatFrameName(name, isHex) + (withLine && line > 0 ? `, ${lineReference(line)}` : ""),
       instructionPointerReference: formatReference(address), canRestart: call >= 0,
       ...(line > 0 ? { line: line - 1 + this.firstLine, column: this.firstColumn, source: this.source }
         : { line: 0, column: 0, presentationHint: "subtle" }),
@@ -122,7 +122,7 @@ export class QueryHandlers {
     return {
       targets: findCalls(this.session, frame.address).map(({ address, target }) => {
         const [line, name] = [map.lineOf(address), map.nameOf(target) || formatReference(target)];
-        const description = line > 0 ? `${name}, ${wordsOfLine(line)}` : name;
+        const description = line > 0 ? `${name}, ${lineReference(line)}` : name;
         return { id: address, label: description, ...(line > 0 ? { line: line - 1 + this.firstLine, column: this.firstColumn } : {}) };
       }),
     };
@@ -227,7 +227,7 @@ export class QueryHandlers {
     const begin = addressOf(needText(args, "memoryReference")) + needNumber(args, "offset", 0);
     const count = needNumber(args, "instructionCount");
     if (!(begin >= 0 && begin <= LAST_ADDRESS)) fail(say.ADDRESSES_ARE);
-    if (!(count >= 0 && count <= MAX_ROWS)) fail(say.rowsAre(MAX_ROWS));
+    if (!(count >= 0 && count <= MAX_ROWS)) fail(say.instructionCountRange(MAX_ROWS));
     // Clients cannot read negative addresses, so rows before ROM are left out.
     const rows = listInstructionRows(this.session, begin, needNumber(args, "instructionOffset", 0), count)
       .filter(({ address }) => address >= 0);

@@ -24,7 +24,7 @@ import * as say from "../../words/adapter.js";
  * - `litShares`: the share of the next 30 ms in which each lamp is on, while the machine runs;
  * - `printed`: the new output of the printer.
  * @typedef {{ board?: string[], boardText?: string, lamps?: string, keys?: string[], test?: string, isRunning?: boolean,
- *   litShares?: import("../engine/brightness_meter.js").LitShares, printed?: import("../engine/printer_codes.js").PrintoutData }} BoardNews
+ *   litShares?: import("../engine/brightness_meter.js").LitShares, printed?: import("../engine/printer_codes.js").PrintoutData }} FrontPanelUpdate
  */
 
 export class RemoteFrontPanel {
@@ -43,12 +43,12 @@ export class RemoteFrontPanel {
 
   /**
    * Returns the changes since the last report. The first report contains all values.
-   * @returns {BoardNews}
+   * @returns {FrontPanelUpdate}
    */
   take() {
     const { session, isMoving } = this.machine;
     const { session: bench } = session.debugger;
-    /** @type {BoardNews} */
+    /** @type {FrontPanelUpdate} */
     const news = {};
     const board = bench.statusQueries.board.join("\n");
     if (board !== this.board) {
@@ -63,7 +63,7 @@ export class RemoteFrontPanel {
       Object.assign(news, { board: bench.statusQueries.board, boardText: session.boardText });
     }
     Object.assign(news, this.reader.take(bench.ask("state\n")));
-    const newOutput = bench.printing && bench.printing.takeNews(bench.count.total);
+    const newOutput = bench.printing && bench.printing.takeChanges(bench.count.total);
     if (newOutput) news.printed = newOutput;
     if (isMoving !== this.isRunning) news.isRunning = isMoving;
     this.isRunning = isMoving;

@@ -26,13 +26,13 @@ import { leadsOut } from "../../words/server.js";
  * The functions of the host:
  * - `nameOf` returns the absolute name of a file that is named relative to `folder`; `beside` does so relative to the folder of the file
  *   `other`;
- * - `read` returns the text of a file, null if the file cannot be read; `whyUnread` returns the error message for such a file;
- * - `isThere` returns whether a file exists; `isInside` returns whether a file is in a folder after symbolic links are resolved;
+ * - `read` returns the text of a file, null if the file cannot be read; `readErrorMessage` returns the error message for such a file;
+ * - `fileExists` returns whether a file exists; `isInside` returns whether a file is in a folder after symbolic links are resolved;
  * - `open` and `make` start a program that opens or creates a session file, and resolve to the open file;
  * - `readSession` resolves to the bytes of a session file that no other program has open;
  * - `pause` yields to other tasks.
  * @typedef {{ nameOf: (name: string, folder: string) => string, beside: (name: string, other: string) => string,
- *   read: (name: string) => string | null, whyUnread: (name: string) => string, isThere: (name: string) => boolean,
+ *   read: (name: string) => string | null, readErrorMessage: (name: string) => string, fileExists: (name: string) => boolean,
  *   isInside: (name: string, folder: string) => boolean,
  *   open: (name: string) => Promise<OpenFile>, make: (name: string) => Promise<OpenFile>,
  *   readSession: (name: string) => Promise<Uint8Array>, pause: () => Promise<void> }} Host
@@ -74,11 +74,11 @@ export function readRequestedFiles(args, host) {
   const program = ownProgram || projectNames.program;
   if (program === "" && session === "") {
     const message = say.LAUNCH_NEEDS;
-    throw new AdapterError(say.andBoard(message), true);
+    throw new AdapterError(say.boardHint(message), true);
   }
   if (program !== "" && session === program) throw new AdapterError(say.ONE_FILE, true);
   const boardFile = program === "" ? "" : findBoardFile(program, host);
-  const board = ownBoard || projectNames.board || (host.isThere(boardFile) ? boardFile : "");
+  const board = ownBoard || projectNames.board || (host.fileExists(boardFile) ? boardFile : "");
   return { board, program, session, load: optionalFlag(args, "load", false), test: null };
 }
 
@@ -121,7 +121,7 @@ function findBoardFile(program, host) {
  */
 function readBenchText(name, mark, host) {
   const text = host.read(name);
-  if (text === null) throw new AdapterError(host.whyUnread(name), true);
+  if (text === null) throw new AdapterError(host.readErrorMessage(name), true);
   const normalizedText = text.replace(/^\uFEFF/, "").replace(/\r\n?/g, "\n");
   const [fault] = findLineFaults(normalizedText, mark);
   if (fault) throw new AdapterError(`${baseName(name)}, line ${fault.line}: ${fault.words}`, true);
@@ -182,7 +182,7 @@ async function sessionFromTest(engine, test, host) {
 async function sessionFromFile(engine, requestedFiles, host, words) {
   const board = requestedFiles.board === "" ? "" : readBenchText(requestedFiles.board, "#", host);
   const program = requestedFiles.program === "" ? "" : readBenchText(requestedFiles.program, ";", host);
-  const isNew = !host.isThere(requestedFiles.session);
+  const isNew = !host.fileExists(requestedFiles.session);
   if (isNew && (board === "" || program === "")) {
     throw new AdapterError(say.sessionMissing(requestedFiles.session), true);
   }
@@ -294,7 +294,7 @@ export async function attach(engine, args, host, words) {
   if (optionalText(args, "session") === "") throw new AdapterError(say.ATTACH_NEEDS, true);
   const isWritten = optionalFlag(args, "write", false);
   const requestedFiles = readRequestedFiles(args, host);
-  if (!host.isThere(requestedFiles.session)) throw new AdapterError(say.noSession(requestedFiles.session), true);
+  if (!host.fileExists(requestedFiles.session)) throw new AdapterError(say.noSession(requestedFiles.session), true);
   const loadSession = isWritten ? sessionFromFile : sessionFromCopy;
   const openedSession = await loadSession(engine, requestedFiles, host, words);
   return { ...createLaunchResult(openedSession, requestedFiles, args, host), isAttached: true };

@@ -58,7 +58,7 @@ export class SessionWriter {
       const rejectedAnswer = answers.find((answer) => parseRefusal(answer));
       if (rejectedAnswer) throw new AdapterError(say.fileNotWritten(rejectedAnswer));
       const isSame = answers[answers.length - 1] === state;
-      if (!isSame) throw new AdapterError(say.OTHER_STATE);
+      if (!isSame) throw new AdapterError(say.STATES_DIFFER);
     };
     if (missingLines) check(await this.file.ask(`${joinLines(missingLines)}state\n`, missingLines.length + 1));
     else await this.file.replace(last.file, `${joinLines(allLines)}state\n`, allLines.length + 1, check);

@@ -29,19 +29,19 @@ export function parseAnswerTable(text) {
 }
 
 /** The answer formats, by the first word of the input line. */
-export const ANSWER_FORMS = parseAnswerTable(table);
+export const ANSWER_FORMATS = parseAnswerTable(table);
 
 /**
  * Returns whether a word starts a query. A query does not change the session.
  * @param {string} word
  */
 export function isQuery(word) {
-  const form = ANSWER_FORMS.get(word);
+  const form = ANSWER_FORMATS.get(word);
   return form !== undefined && form.isQuery;
 }
 
 /** The pattern of a listing line. */
-const LISTING_LINE = /** @type {RegExp} */ (/** @type {AnswerFormat} */ (ANSWER_FORMS.get("list")).further);
+const LISTING_LINE = /** @type {RegExp} */ (/** @type {AnswerFormat} */ (ANSWER_FORMATS.get("list")).further);
 
 /**
  * Returns whether an answer is a listing line.

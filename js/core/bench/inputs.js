@@ -1,7 +1,7 @@
 // Splits lines into inputs, finds the offsets at which inputs end, and assigns answers to inputs. An input is a command or query, with the
 // text that follows it.
 
-import { ANSWER_FORMS } from "./answer_table.js";
+import { ANSWER_FORMATS } from "./answer_table.js";
 import { LAST_ADDRESS, parseNumber } from "./numbers.js";
 
 /** The maximum line length in characters; the bench rejects longer lines. */
@@ -25,7 +25,7 @@ const ONE_WORD = /^[ \t]*([a-z]+)[ \t]*$/;
  * Removes a carriage return at the end of a line.
  * @param {string} rawLine
  */
-export function stripReturn(rawLine) {
+export function stripCarriageReturn(rawLine) {
   return rawLine.endsWith("\r") ? rawLine.slice(0, -1) : rawLine;
 }
 
@@ -35,7 +35,7 @@ export function stripReturn(rawLine) {
  */
 export function opensText(line) {
   const match = line.length <= MAX_LINE_LENGTH ? ONE_WORD.exec(line) : null;
-  const form = match && ANSWER_FORMS.get(match[1]);
+  const form = match && ANSWER_FORMATS.get(match[1]);
   return Boolean(form && form.opensText);
 }
 
@@ -43,7 +43,7 @@ export function opensText(line) {
  * Returns whether a line is the query `seq`. Callers append this query to mark the end of the previous answers.
  * @param {string} line
  */
-export function isSeq(line) {
+export function isSeqQuery(line) {
   return /^[ \t]*seq[ \t]*$/.test(line);
 }
 
@@ -60,7 +60,7 @@ export function readNumberedInputs(lines) {
   /** @type {Input | null} */
   let openInput = null;
   lines.replace(/\n$/, "").split("\n").forEach((rawLine, index) => {
-    const line = stripReturn(rawLine);
+    const line = stripCarriageReturn(rawLine);
     if (openInput) {
       if (line === ".") openInput = null;
       else openInput.text.push(line);
@@ -97,7 +97,7 @@ export function findInputEnd(lines, from, minLength) {
   while (at < lines.length && (isOpen || at - from < minLength)) {
     const lineFeed = lines.indexOf("\n", at);
     const end = lineFeed < 0 ? lines.length : lineFeed;
-    const line = stripReturn(lines.slice(at, end));
+    const line = stripCarriageReturn(lines.slice(at, end));
     isOpen = isOpen ? line !== "." : opensText(line);
     at = Math.min(end + 1, lines.length);
   }
@@ -141,7 +141,7 @@ export function maxAnswerLines(input, first, count) {
  * @param {number} from the index of the answer's first line
  */
 export function answerLength(input, answers, from) {
-  const form = ANSWER_FORMS.get(input.kind);
+  const form = ANSWER_FORMATS.get(input.kind);
   if (!form || !form.further || !form.first.test(answers[from])) return 1;
   const max = maxAnswerLines(input, answers[from], form.count);
   let at = from + 1;

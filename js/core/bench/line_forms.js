@@ -1,6 +1,6 @@
 // Defines the grammar of bench lines: their words and number ranges. If the bench rejects a line, `findLineError` names the wrong word.
 
-import { ANSWER_FORMS } from "./answer_table.js";
+import { ANSWER_FORMATS } from "./answer_table.js";
 import { INVALID_CHARACTER, LINE_TOO_LONG, MAX_LINE_LENGTH, MAX_PLACES, NOT_ASCII } from "./inputs.js";
 import { indices } from "./numbers.js";
 import { findSimilarWords } from "../text/similar_words.js";
@@ -141,7 +141,7 @@ function findTraceError(count, places) {
  */
 function findWordError([first, ...words]) {
   if (first === undefined) return null;
-  if (!ANSWER_FORMS.has(first)) return { number: NOT_A_COMMAND, words: say.noLine(first, findSimilarWords(first, ANSWER_FORMS.keys())) };
+  if (!ANSWER_FORMATS.has(first)) return { number: NOT_A_COMMAND, words: say.noLine(first, findSimilarWords(first, ANSWER_FORMATS.keys())) };
   const syntaxError = { number: NOT_A_COMMAND, words: say.lineSyntax(first) };
   if (first === "trace") return words.length === 0 ? syntaxError : findTraceError(words[0], words.slice(1));
   if (first === "poke") return words.length === 2 ? findPokeError(words[0], words[1]) : syntaxError;

@@ -2,7 +2,7 @@
 // place. Texts that follow a line, such as a program after `asm`, do not change.
 
 import { readSetting } from "../conditions/set_command.js";
-import { opensText, stripReturn } from "./inputs.js";
+import { opensText, stripCarriageReturn } from "./inputs.js";
 import { hex } from "./numbers.js";
 import * as say from "../../words/bench.js";
 import { inColumn } from "../../words/conditions.js";
@@ -47,7 +47,7 @@ export function replaceNames(lines, map) {
     return found;
   });
   const changed = lines.split("\n").map((rawLine, index) => {
-    const text = stripReturn(rawLine);
+    const text = stripCarriageReturn(rawLine);
     const isInText = isOpen;
     isOpen = isOpen ? text !== "." : opensText(text);
     return isInText ? rawLine : replaceIn(text, index + 1);

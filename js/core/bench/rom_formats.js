@@ -2,7 +2,7 @@
 // image from its file name and its first bytes.
 
 import { hex } from "./numbers.js";
-import { ImageBytes, NotARecord, NotAnImage, readLines } from "./rom_image.js";
+import { ImageBytes, RecordError, ImageError, readLines } from "./rom_image.js";
 import * as say from "../../words/bench.js";
 
 /** @typedef {"hex" | "srec" | "bnpf" | "binary"} ImageFormat */
@@ -20,21 +20,21 @@ const END_TYPES = ["7", "8", "9"];
  * @param {ImageBytes} image
  */
 function storeSRecord(record, image) {
-  if (!/^S\d([0-9A-F]{2}){4,}$/i.test(record)) throw new NotARecord(say.S_RECORD_SYNTAX);
+  if (!/^S\d([0-9A-F]{2}){4,}$/i.test(record)) throw new RecordError(say.S_RECORD_SYNTAX);
   const [count, ...bytes] = (record.slice(2).match(/../g) || []).map((digits) => parseInt(digits, 16));
-  if (bytes.length !== count) throw new NotARecord(say.wrongByteCount(count, bytes.length));
+  if (bytes.length !== count) throw new RecordError(say.wrongByteCount(count, bytes.length));
   const expected = 0xff - (bytes.slice(0, -1).reduce((sum, byte) => sum + byte, count) & 0xff);
   const checksum = bytes[bytes.length - 1];
-  if (checksum !== expected) throw new NotAnImage(say.wrongChecksum(hex(checksum, 2), hex(expected, 2)));
+  if (checksum !== expected) throw new ImageError(say.wrongChecksum(hex(checksum, 2), hex(expected, 2)));
   const size = ADDRESS_SIZES.get(record[1]);
   if (size === undefined) return END_TYPES.includes(record[1]);
-  if (bytes.length < size + 1) throw new NotAnImage(say.SHORT_RECORD);
+  if (bytes.length < size + 1) throw new ImageError(say.SHORT_RECORD);
   image.put(bytes.slice(0, size).reduce((address, byte) => address * 256 + byte, 0), bytes.slice(size, -1));
   return false;
 }
 
 /**
- * Parses S-records; returns the image bytes. Throws `NotAnImage` for an error.
+ * Parses S-records; returns the image bytes. Throws `ImageError` for an error.
  * @param {string} text
  * @param {number} [offset] added to each address
  */
@@ -44,11 +44,11 @@ export function readSRecords(text, offset = 0) {
   readLines(text, (line) => {
     const record = line.trim();
     if (record === "") return;
-    if (isEnded) throw new NotAnImage(say.AFTER_S9);
+    if (isEnded) throw new ImageError(say.AFTER_S9);
     isEnded = storeSRecord(record, image);
   });
-  if (!isEnded) throw new NotAnImage(say.NO_S9);
-  if (image.isEmpty) throw new NotAnImage(say.NO_BYTE);
+  if (!isEnded) throw new ImageError(say.NO_S9);
+  if (image.isEmpty) throw new ImageError(say.NO_BYTE);
   return image.bytes;
 }
 
@@ -87,15 +87,15 @@ export function readBnpf(text, from = 0) {
       image.put(count, [parseInt(word.slice(1).replace(/P/g, "1").replace(/N/g, "0"), 2)]);
       count += 1;
       word = "";
-    } else if (!/[ \t]/.test(letter)) throw new NotAnImage(say.bnpfSyntax(word + letter));
+    } else if (!/[ \t]/.test(letter)) throw new ImageError(say.bnpfSyntax(word + letter));
   };
   readLines(text, (rawLine) => {
     const line = rawLine.trim();
     for (let at = 0; at < line.length; at++) takeLetter(line[at].toUpperCase(), /b/i.test(line[at]) && beginsWord(line, at));
   });
   const lines = text.replace(/\n$/, "").split("\n").length;
-  if (word !== "") throw new NotAnImage(say.imageLine(lines, say.bnpfWithoutEnd(word)));
-  if (count === 0) throw new NotAnImage(say.NO_BYTE);
+  if (word !== "") throw new ImageError(say.imageLine(lines, say.bnpfWithoutEnd(word)));
+  if (count === 0) throw new ImageError(say.NO_BYTE);
   return image.bytes;
 }
 

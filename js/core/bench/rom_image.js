@@ -5,10 +5,10 @@ import { hex } from "./numbers.js";
 import * as say from "../../words/bench.js";
 
 /** The error for a file that is not a valid ROM image. */
-export class NotAnImage extends Error {}
+export class ImageError extends Error {}
 
 /** The error for a line that is not a record, perhaps because the file has another format. */
-export class NotARecord extends NotAnImage {}
+export class RecordError extends ImageError {}
 
 /** The maximum number of data bytes per written record. */
 const BYTES_PER_RECORD = 16;
@@ -33,30 +33,30 @@ export class ImageBytes {
   }
 
   /**
-   * Stores bytes at consecutive addresses. Throws `NotAnImage` if an address is outside ROM or already has a byte.
+   * Stores bytes at consecutive addresses. Throws `ImageError` if an address is outside ROM or already has a byte.
    * @param {number} address
    * @param {ArrayLike<number>} data
    */
   put(address, data) {
     const from = address + this.offset;
-    if (from + data.length > ADDRESS_COUNT) throw new NotAnImage(say.PAST_LAST);
+    if (from + data.length > ADDRESS_COUNT) throw new ImageError(say.PAST_LAST);
     for (let at = 0; at < data.length; at++) {
-      if (this.bytes[from + at] !== NO_BYTE) throw new NotAnImage(say.duplicateAddress(hex(from + at, 3)));
+      if (this.bytes[from + at] !== NO_BYTE) throw new ImageError(say.duplicateAddress(hex(from + at, 3)));
       this.bytes[from + at] = data[at];
     }
   }
 }
 
 /**
- * Returns the bytes of a raw image, by address. Throws `NotAnImage` if the file is empty or too long.
+ * Returns the bytes of a raw image, by address. Throws `ImageError` if the file is empty or too long.
  * @param {Uint8Array} file
  * @param {number} [from] the address of the first byte
  */
 export function readBytes(file, from = 0) {
-  if (file.length === 0) throw new NotAnImage(say.NO_BYTE);
+  if (file.length === 0) throw new ImageError(say.NO_BYTE);
   if (from + file.length > ADDRESS_COUNT) {
     const [size, room] = [file.length, ADDRESS_COUNT - from].map((count) => count.toLocaleString("en"));
-    throw new NotAnImage(from === 0 ? say.tooManyBytes(size, room) : say.tooManyFrom(size, room, hex(from, 3)));
+    throw new ImageError(from === 0 ? say.tooManyBytes(size, room) : say.tooManyFrom(size, room, hex(from, 3)));
   }
   const image = new ImageBytes(from);
   image.put(0, file);
@@ -64,7 +64,7 @@ export function readBytes(file, from = 0) {
 }
 
 /**
- * Calls `read` for each line of a text. Adds the line number to the message of a `NotAnImage` error.
+ * Calls `read` for each line of a text. Adds the line number to the message of a `ImageError` error.
  * @param {string} text
  * @param {(line: string) => void} read
  */
@@ -73,26 +73,26 @@ export function readLines(text, read) {
     try {
       read(line);
     } catch (fault) {
-      if (fault instanceof NotAnImage) fault.message = say.imageLine(at + 1, fault.message);
+      if (fault instanceof ImageError) fault.message = say.imageLine(at + 1, fault.message);
       throw fault;
     }
   });
 }
 
 /**
- * Parses an Intel HEX record. Throws `NotARecord`, or `NotAnImage` for a wrong checksum.
+ * Parses an Intel HEX record. Throws `RecordError`, or `ImageError` for a wrong checksum.
  * @param {string} text
  * @returns {{ address: number, type: number, data: number[] }}
  */
 function readRecord(text) {
-  if (!text.startsWith(":")) throw new NotARecord(say.BEGINS_WITH_COLON);
-  if (!/^:([0-9A-F]{2}){5,}$/i.test(text)) throw new NotARecord(say.RECORD_SYNTAX);
+  if (!text.startsWith(":")) throw new RecordError(say.BEGINS_WITH_COLON);
+  if (!/^:([0-9A-F]{2}){5,}$/i.test(text)) throw new RecordError(say.RECORD_SYNTAX);
   const bytes = (text.slice(1).match(/../g) || []).map((digits) => parseInt(digits, 16));
   const [count, high, low, type] = bytes;
-  if (bytes.length !== count + 5) throw new NotARecord(say.wrongByteCount(count, bytes.length - 5));
+  if (bytes.length !== count + 5) throw new RecordError(say.wrongByteCount(count, bytes.length - 5));
   const expected = -bytes.slice(0, -1).reduce((sum, byte) => sum + byte, 0) & 0xff;
   if (bytes[count + 4] !== expected) {
-    throw new NotAnImage(say.wrongChecksum(hex(bytes[count + 4], 2), hex(expected, 2)));
+    throw new ImageError(say.wrongChecksum(hex(bytes[count + 4], 2), hex(expected, 2)));
   }
   return { address: high * 256 + low, type, data: bytes.slice(4, -1) };
 }
@@ -102,20 +102,20 @@ const DATA_SIZES = new Map([[END_TYPE, 0], ...BASE_TYPES.map((type) => /** @type
   ...START_TYPES.map((type) => /** @type {[number, number]} */ ([type, 4]))]);
 
 /**
- * Stores a data record, and checks records of the other known types. Throws `NotAnImage` for an error.
+ * Stores a data record, and checks records of the other known types. Throws `ImageError` for an error.
  * @param {{ address: number, type: number, data: number[] }} record
  * @param {ImageBytes} image
  */
 function storeRecord({ address, type, data }, image) {
   const size = DATA_SIZES.get(type);
   if (type === DATA_TYPE) image.put(address, data);
-  else if (size === undefined) throw new NotAnImage(say.noType(hex(type, 2)));
-  else if (data.length !== size) throw new NotAnImage(say.wrongRecordSize(hex(type, 2), size));
-  else if (BASE_TYPES.includes(type) && data.some((byte) => byte !== 0)) throw new NotAnImage(say.addressPastLast(type));
+  else if (size === undefined) throw new ImageError(say.noType(hex(type, 2)));
+  else if (data.length !== size) throw new ImageError(say.wrongRecordSize(hex(type, 2), size));
+  else if (BASE_TYPES.includes(type) && data.some((byte) => byte !== 0)) throw new ImageError(say.addressPastLast(type));
 }
 
 /**
- * Parses Intel HEX; returns the image bytes. Throws `NotAnImage` for an error.
+ * Parses Intel HEX; returns the image bytes. Throws `ImageError` for an error.
  * @param {string} text
  * @param {number} [offset] added to each address
  */
@@ -125,13 +125,13 @@ export function readHex(text, offset = 0) {
   readLines(text, (line) => {
     const record = line.trim();
     if (record === "") return;
-    if (isEnded) throw new NotAnImage(say.AFTER_LAST);
+    if (isEnded) throw new ImageError(say.AFTER_LAST);
     const read = readRecord(record);
     storeRecord(read, image);
     isEnded = read.type === END_TYPE;
   });
-  if (!isEnded) throw new NotAnImage(say.NO_LAST_RECORD);
-  if (image.isEmpty) throw new NotAnImage(say.NO_BYTE);
+  if (!isEnded) throw new ImageError(say.NO_LAST_RECORD);
+  if (image.isEmpty) throw new ImageError(say.NO_BYTE);
   return image.bytes;
 }
 

@@ -1,6 +1,6 @@
 // Assigns the answers of a session to the inputs of a script. Reports an error if an answer cannot belong to its input.
 
-import { ANSWER_FORMS } from "./answer_table.js";
+import { ANSWER_FORMATS } from "./answer_table.js";
 import { parseRefusal } from "./answers.js";
 import { answerLength, maxAnswerLines, opensText, readNumberedInputs } from "./inputs.js";
 import * as say from "../../words/bench.js";
@@ -25,7 +25,7 @@ const SESSION_ANSWER = /^session (\d+)$/;
 function canBeginAnswer({ kind, line }, answer) {
   const refusal = parseRefusal(answer);
   if (refusal) return refusal.line === 0 || opensText(line);
-  const form = ANSWER_FORMS.get(kind);
+  const form = ANSWER_FORMATS.get(kind);
   return form !== undefined && form.first.test(answer);
 }
 
@@ -37,7 +37,7 @@ function canBeginAnswer({ kind, line }, answer) {
  * @param {number} from
  */
 function completeLength(input, answers, from) {
-  const form = ANSWER_FORMS.get(input.kind);
+  const form = ANSWER_FORMATS.get(input.kind);
   if (!form || !form.further || parseRefusal(answers[from])) return 1;
   return form.count === "all" || form.count === "list" ? answerLength(input, answers, from)
     : maxAnswerLines(input, answers[from], form.count);
@@ -51,7 +51,7 @@ function completeLength(input, answers, from) {
  * @param {number} end
  */
 function findInvalidLine(input, answers, from, end) {
-  const form = ANSWER_FORMS.get(input.kind);
+  const form = ANSWER_FORMATS.get(input.kind);
   const further = form && form.further;
   for (let at = from + 1; at < Math.min(end, answers.length); at++) if (!further || !further.test(answers[at])) return at;
   return -1;

@@ -1,8 +1,8 @@
-// Announces a changing text to screen readers. A text is announced after it has been unchanged for ANNOUNCEMENT_DELAY. A text that changes
+// Announces a changing text to screen readers. A text is announced after it has been unchanged for ANNOUNCEMENT_DELAY_MS. A text that changes
 // earlier is not announced.
 
 /** The time without a change before an announcement, and the minimum time between announcements, in milliseconds. */
-export const ANNOUNCEMENT_DELAY = 1000;
+export const ANNOUNCEMENT_DELAY_MS = 1000;
 
 /** Announces one changing text, such as a display text. */
 export class Announcer {
@@ -24,7 +24,7 @@ export class Announcer {
   }
 
   /**
-   * Sets the text. The text is announced after it has been unchanged for ANNOUNCEMENT_DELAY.
+   * Sets the text. The text is announced after it has been unchanged for ANNOUNCEMENT_DELAY_MS.
    * @param {string} text
    */
   announce(text) {
@@ -40,7 +40,7 @@ export class Announcer {
 
   startTimer() {
     this.isStill = true;
-    this.timer = Number(setTimeout(() => this.onTimer(), ANNOUNCEMENT_DELAY));
+    this.timer = Number(setTimeout(() => this.onTimer(), ANNOUNCEMENT_DELAY_MS));
   }
 
   /** Announces the text if it did not change while the timer ran; otherwise restarts the timer. */

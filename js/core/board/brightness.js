@@ -1,9 +1,9 @@
 // Computes the brightness of the lamps as an eye perceives it. A steady lamp is perceived as on or off at once. The brightness of a
-// flickering lamp follows its duty cycle. Earlier light fades with the persistence of vision (`EYE_MS`).
+// flickering lamp follows its duty cycle. Earlier light fades with the persistence of vision (`EYE_PERSISTENCE_MS`).
 
 import { fittingGroups, isScanned } from "./face_board.js";
 import { UNLIT_PATTERN, isLit } from "./digit_patterns.js";
-import { EYE_MS } from "../time/mcs4_time.js";
+import { EYE_PERSISTENCE_MS } from "../time/mcs4_time.js";
 
 /**
  * @typedef {import("./face.js").Face} Face
@@ -44,7 +44,7 @@ export function brightnessLevel(duty) {
 
 /**
  * Decides whether a lamp or display is steady. A "rest" is an interval without a change. A lamp is steady if the current rest is at least
- * EYE_MS, or more than twice the longest rest in the current series of changes. A single change is therefore perceived at once, and bits
+ * EYE_PERSISTENCE_MS, or more than twice the longest rest in the current series of changes. A single change is therefore perceived at once, and bits
  * that shift through a chain are perceived at the end of the shift. A flickering lamp is never steady.
  */
 class SteadinessDetector {
@@ -66,7 +66,7 @@ class SteadinessDetector {
       this.longestRest = Infinity;
     } else if (changes) {
       const restBefore = this.currentRest + (changes.first * time) / cycles;
-      const longestBefore = restBefore < EYE_MS ? Math.max(this.longestRest, restBefore) : 0;
+      const longestBefore = restBefore < EYE_PERSISTENCE_MS ? Math.max(this.longestRest, restBefore) : 0;
       this.longestRest = Math.max(longestBefore, (changes.longest * time) / cycles);
       this.currentRest = (changes.rest * time) / cycles;
     } else {
@@ -75,7 +75,7 @@ class SteadinessDetector {
   }
 
   get isStill() {
-    return this.currentRest >= EYE_MS || (this.currentRest >= MIN_REST_MS && this.currentRest > 2 * this.longestRest);
+    return this.currentRest >= EYE_PERSISTENCE_MS || (this.currentRest >= MIN_REST_MS && this.currentRest > 2 * this.longestRest);
   }
 }
 
@@ -194,7 +194,7 @@ export class Brightness {
   add(litShares, time) {
     const { cycles } = litShares;
     if (cycles === 0) return;
-    const remainingShare = Math.exp(-time / EYE_MS);
+    const remainingShare = Math.exp(-time / EYE_PERSISTENCE_MS);
     this.fade(this.lamps, litShares.lamps, cycles, remainingShare);
     this.stillness.forEach((stillness, at) => {
       stillness.add(litShares.moved[at], cycles, time);

@@ -6,9 +6,9 @@ import { matrixKey, formatKey } from "./key_place.js";
 import * as say from "../../words/board.js";
 
 /**
- * An error in a line. `isRefused` is true if names or displays depend on the line; a tool that needs names or displays then rejects the
+ * An error in a line. `isFatal` is true if names or displays depend on the line; a tool that needs names or displays then rejects the
  * text.
- * @typedef {{ line: number, words: string, isRefused: boolean }} Fault
+ * @typedef {{ line: number, words: string, isFatal: boolean }} Fault
  * @typedef {import("./face_words.js").Kind} Kind
  * @typedef {import("./key_place.js").MatrixKey} MatrixKey
  * @typedef {{ text: string, line: number }} FaceText a name or a colour, and the number of its line
@@ -69,7 +69,7 @@ export class Face {
     /** @type {{ row: number, column: number, word: string, line: number }[]} the words of grid lines, before lamp names are resolved */
     this.gridWords = [];
     /** True if names or displays depend on the current line. */
-    this.isRefused = false;
+    this.isFatal = false;
     /** The number of words read from lists. Reading stops when the number exceeds MAX_WORDS. */
     this.wordCount = 0;
     text.split("\n").forEach((line, at) => this.read(line.replace(/\r$/, ""), at + 1));
@@ -82,7 +82,7 @@ export class Face {
    * @param {string} message
    */
   reportError(line, message) {
-    this.faults.push({ line, words: message, isRefused: this.isRefused });
+    this.faults.push({ line, words: message, isFatal: this.isFatal });
   }
 
   /**
@@ -110,7 +110,7 @@ export class Face {
     if (!found) return;
     const { name, kind, first, last, words } = found;
     this.comments += `${text}\n`;
-    this.isRefused = kind.isRefused;
+    this.isFatal = kind.isFatal;
     if (kind.counts) this.wordCount += splitWords(words).filter((word) => word !== "_").length;
     if (this.wordCount > MAX_WORDS) this.reportError(line, formatMessage("too many words"));
     else if (!fitsHead(kind, first, last)) this.reportError(line, kind.form);

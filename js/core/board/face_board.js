@@ -98,7 +98,7 @@ export function minusLamp({ lampNumbers }) {
  * @param {Face} face
  * @param {number} count the number of lamps on the board
  */
-export function looseLamps(face, count) {
+export function lampsOutsideGroups(face, count) {
   const groups = fittingGroups(face, count);
   const placed = new Set([...groups.flatMap(groupLamps), ...face.grid.map(({ lamp }) => lamp)]);
   if (groups.some(({ kind }) => kind === "display")) placed.add(minusLamp(face));
@@ -125,7 +125,7 @@ export function missingParts(face, board) {
   const count = board.lamps.length;
   /** @type {(kind: string, line: number, words: string, ...about: (string | number)[]) => void} */
   const add = (kind, line, words, ...about) => {
-    faults.push({ line, words: formatMessage(words, ...about), isRefused: isRefused(kind) });
+    faults.push({ line, words: formatMessage(words, ...about), isFatal: isFatal(kind) });
   };
   for (const { text, line, key: { row, column } } of face.keys.values()) {
     if (text === "" || (row < board.rows && column < board.columns)) continue;
@@ -150,9 +150,9 @@ export function missingParts(face, board) {
  * Returns whether names or displays depend on lines of this kind.
  * @param {string} kind the first word of the line
  */
-function isRefused(kind) {
+function isFatal(kind) {
   const found = LINE_KINDS.get(kind);
-  return found !== undefined && found.isRefused;
+  return found !== undefined && found.isFatal;
 }
 
 /**

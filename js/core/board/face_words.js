@@ -5,10 +5,10 @@ import table from "#face-table";
 
 /**
  * A kind of front-panel line. `head`: the form of the text between the first word and the colon (`N`, `N to N`, `place`, `line`, or `-` for
- * none). `counts`: true if the words count towards the limit. `isRefused`: true if names or displays depend on the line. `size`: the
+ * none). `counts`: true if the words count towards the limit. `isFatal`: true if names or displays depend on the line. `size`: the
  * meaning of the numbers after the colon (`lamps`, `digits` or `rows`), `-` if they are no size. `words`: the pattern of the text after the
  * colon, null for any text. `form` and `other`: the messages for a wrong head and for wrong words.
- * @typedef {{ head: string, counts: boolean, isRefused: boolean, size: string, words: RegExp | null, form: string, other: string }} Kind
+ * @typedef {{ head: string, counts: boolean, isFatal: boolean, size: string, words: RegExp | null, form: string, other: string }} Kind
  */
 
 /** The rows of the table, split into columns. */
@@ -27,7 +27,7 @@ const tableRows = (word) => rows.filter((row) => row[0] === word).map((row) => r
  */
 function parseKind([word, head, counts, weight, size, words, form, other]) {
   return [word, {
-    head, counts: counts === "list", isRefused: weight === "refused", size, words: words === "-" ? null : new RegExp(words), form,
+    head, counts: counts === "list", isFatal: weight === "refused", size, words: words === "-" ? null : new RegExp(words), form,
     other: other === "-" ? form : other,
   }];
 }

@@ -105,7 +105,7 @@ class LineUses {
     this.ranks = new Map();
     board.chains.forEach(({ clock, data }, at) => {
       this.add(clock, say.clocksChain(at));
-      this.add(data, say.isData(at));
+      this.add(data, say.isDataOfChain(at));
     });
     if (board.matrix) this.addMatrix(board.matrix);
     board.lamps.forEach((line, at) => this.add(line, say.lightsLamp(at)));
@@ -339,7 +339,7 @@ function moveParts(parts, positions) {
  * @param {Positions} [positions]
  * @returns {WiringDiagram}
  */
-export function drawBoard(board, appearance = { names: [], colours: [], test: null, buzzer: null }, positions = new Map()) {
+export function layOutBoard(board, appearance = { names: [], colours: [], test: null, buzzer: null }, positions = new Map()) {
   const uses = new LineUses(board, appearance.buzzer);
   const hasChips = board.roms.length + board.banks.length > 0;
   const hasFrontPanel = board.matrix !== null || board.lamps.length > 0 || Boolean(appearance.buzzer);

@@ -19,7 +19,7 @@ const ACCUMULATOR = "a";
 /** The number of nibbles in a RAM register, without the status characters. */
 export const CHARACTERS = 16;
 /** The number of status characters in a RAM register. */
-export const STATUS_COUNT = 4;
+export const STATUS_CHARACTERS_PER_REGISTER = 4;
 /** The maximum values of places. All other places have 4 bits, except register pairs and ROM bytes. The value of `ret` is not a number. */
 const MAX_VALUES = new Map([["cy", 1], ["test", 1], ["owed", 1], ["pc", LAST_ADDRESS], ["dcl", 7], ["src", 255], ["ret", -1]]);
 const MAX_BYTE = 255;
@@ -97,7 +97,7 @@ function memoryPlace(text) {
   const [word, ...parts] = text.split(/[\s.]+/);
   const [bank, at, third = 0] = parts.map(parseNumber);
   const isCharacter = word === "ram" && parts.length === 2 && at <= MAX_BYTE;
-  const isStatus = word === "st" && parts.length === 3 && at <= MAX_DIGIT && third < STATUS_COUNT;
+  const isStatus = word === "st" && parts.length === 3 && at <= MAX_DIGIT && third < STATUS_CHARACTERS_PER_REGISTER;
   if (!(bank <= 7) || (!isCharacter && !isStatus)) return null;
   const chip = (isStatus ? at : at >> 4) >> 2;
   return singlePlace(isStatus ? `st.${bank}.${at}.${third}` : `ram.${bank}.0x${hex(at, 2)}`, (board) => hasRam(board, bank, chip));

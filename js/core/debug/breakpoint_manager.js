@@ -2,7 +2,7 @@
 // list, the manager sends the breakpoints to the bench. If the bench gets a breakpoint in another way, for example from a typed `break`,
 // the manager adds it to the list.
 
-import { BreakpointList, MAX_BREAKPOINTS, MAX_ENABLED, instructionAtAddress, instructionForLine } from "./breakpoints.js";
+import { BreakpointList, MAX_BREAKPOINTS, MAX_ENABLED_BREAKPOINTS, instructionAtAddress, instructionForLine } from "./breakpoints.js";
 import { isSoft } from "./soft_breakpoints.js";
 import * as say from "../../words/debug.js";
 
@@ -22,12 +22,12 @@ import * as say from "../../words/debug.js";
  *   and error messages of breakpoints that cannot be compiled.
  * @property {() => void} changed Handles a change of the list or of its error messages.
  * @property {() => void} counted Handles a change of hit counts only.
- * @property {() => void} touched Handles a change that the user made, after which the list must be saved.
+ * @property {() => void} listEdited Handles a change that the user made, after which the list must be saved.
  * @property {(words: string) => void} showMessage Shows a message near the user's last action.
  * @property {(fault: unknown) => void} failed Reports an error that `set` threw.
  */
 
-const TOO_MANY_ENABLED = say.tooManyEnabled(MAX_ENABLED);
+const TOO_MANY_ENABLED = say.tooManyEnabled(MAX_ENABLED_BREAKPOINTS);
 /** The maximum number of sessions with a stored list. */
 const MAX_LISTS = 30;
 
@@ -230,7 +230,7 @@ export class BreakpointManager {
 
   /** Returns a message about why a new breakpoint has no effect yet; "" if no reason is known. */
   pendingMessage() {
-    return this.mapError ? say.untilThen(this.mapError) : "";
+    return this.mapError ? say.inactiveUntilThen(this.mapError) : "";
   }
 
   /**
@@ -257,7 +257,7 @@ export class BreakpointManager {
       this.calls.showMessage(say.tooManyBreakpoints(MAX_BREAKPOINTS));
       return;
     }
-    const isFull = this.list.enabledCount >= MAX_ENABLED;
+    const isFull = this.list.enabledCount >= MAX_ENABLED_BREAKPOINTS;
     if (isFull) this.calls.showMessage(TOO_MANY_ENABLED);
     this.list.add({ ...fields, isOn: !isFull });
     this.saveAndApply();
@@ -277,7 +277,7 @@ export class BreakpointManager {
   type(id, changes) {
     this.typedEdit = { id, changes };
     this.calls.changed();
-    this.calls.touched();
+    this.calls.listEdited();
   }
 
   /**
@@ -300,7 +300,7 @@ export class BreakpointManager {
     if (!found) return;
     if (this.typedEdit && this.typedEdit.id === id) this.typedEdit = null;
     else if (JSON.stringify({ ...found, ...changes }) === JSON.stringify(found)) return;
-    if (changes.isOn && !found.isOn && this.list.enabledCount >= MAX_ENABLED) {
+    if (changes.isOn && !found.isOn && this.list.enabledCount >= MAX_ENABLED_BREAKPOINTS) {
       this.calls.showMessage(TOO_MANY_ENABLED);
       this.calls.changed();
       return;
@@ -314,7 +314,7 @@ export class BreakpointManager {
    * @param {boolean} isOn
    */
   switchAll(isOn) {
-    let freeCount = MAX_ENABLED;
+    let freeCount = MAX_ENABLED_BREAKPOINTS;
     for (const { id } of [...this.list.all]) {
       this.list.change(id, { isOn: isOn && freeCount > 0 });
       freeCount -= 1;
@@ -343,7 +343,7 @@ export class BreakpointManager {
 
   /** Saves and applies a change by the user. */
   saveAndApply() {
-    this.calls.touched();
+    this.calls.listEdited();
     this.apply();
   }
 

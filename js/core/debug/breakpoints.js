@@ -20,7 +20,7 @@ import * as say from "../../words/debug.js";
  */
 
 /** The maximum number of enabled breakpoints, a limit of the bench. */
-export const MAX_ENABLED = 32;
+export const MAX_ENABLED_BREAKPOINTS = 32;
 /** The maximum number of breakpoints in a list. */
 export const MAX_BREAKPOINTS = 256;
 /** The maximum number of deleted breakpoints that the list stores for undo, which restores them with their lines. */
@@ -163,7 +163,7 @@ export class BreakpointList {
     let count = 0;
     this.all = this.all.slice(0, MAX_BREAKPOINTS).map((each) => {
       count += each.isOn ? 1 : 0;
-      return each.isOn && count > MAX_ENABLED ? { ...each, isOn: false } : each;
+      return each.isOn && count > MAX_ENABLED_BREAKPOINTS ? { ...each, isOn: false } : each;
     });
   }
 
@@ -325,7 +325,7 @@ export function instructionForLine(line, map) {
   for (let next = line + 1; next <= map.count; next++) {
     const address = map.addressOf(next);
     if (address !== undefined) {
-      const message = say.movedToNext(line, next);
+      const message = say.breakpointMovedToLine(line, next);
       return { line: next, address, words: message };
     }
   }

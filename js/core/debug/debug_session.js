@@ -22,7 +22,7 @@ import { readProgram } from "../engine/program_check.js";
 import { WorkerSession } from "../engine/worker_session.js";
 import { BreakpointList } from "./breakpoints.js";
 import { Debugger, NO_TALLY, joinTallies, nearDistance } from "./debugger.js";
-import { wordsOfGone, wordsOfHalt, wordsOfAddress, wordsOfStop, wordsOfWhen } from "../../words/stops.js";
+import { describeTimeTravel, describeUserPause, addressWithName, pauseMessage, describeBreakpointCondition } from "../../words/stops.js";
 import * as say from "../../words/debug.js";
 
 /**
@@ -185,7 +185,7 @@ export class DebugSession {
       const isOver = done >= maxCycles;
       if (!isOver && await shouldContinue(done, frame.tally)) continue;
       debug.endMove();
-      const message = wordsOfHalt(goal, done, this.counterText);
+      const message = describeUserPause(goal, done, this.counterText);
       return { why: isOver ? "passed" : "pause", id: 0, cycles: done, returns: false, words: message, tally };
     }
   }
@@ -199,7 +199,7 @@ export class DebugSession {
    */
   describeStop(goal, stop, tally) {
     const conditionText = stop.why === "break" ? this.describeBreakpoint(stop.id) : "";
-    return { ...stop, words: wordsOfStop(goal, stop, this.counterText, conditionText), tally };
+    return { ...stop, words: pauseMessage(goal, stop, this.counterText, conditionText), tally };
   }
 
   /**
@@ -207,7 +207,7 @@ export class DebugSession {
    * @param {number} id
    */
   describeBreakpoint(id) {
-    return wordsOfWhen(this.breakpoints.get(id), this.faults.get(id));
+    return describeBreakpointCondition(this.breakpoints.get(id), this.faults.get(id));
   }
 
   /**
@@ -230,13 +230,13 @@ export class DebugSession {
   async back(goal, shouldContinue = continueAlways) {
     this.debugger.names = this.names;
     const result = await this.debugger.goBack(goal, (done = 0) => shouldContinue(done));
-    return { ...result, words: wordsOfGone(goal, result, this.counterText, this.breakpoints.get(result.id)) };
+    return { ...result, words: describeTimeTravel(goal, result, this.counterText, this.breakpoints.get(result.id)) };
   }
 
   /** Moves forward again, to the moment before the last move back. */
   forward() {
     const result = this.debugger.goForward();
-    return { ...result, words: wordsOfGone({ kind: "forward" }, result, this.counterText) };
+    return { ...result, words: describeTimeTravel({ kind: "forward" }, result, this.counterText) };
   }
 
   /**
@@ -272,7 +272,7 @@ export class DebugSession {
 
   /** The address of the next instruction as text. */
   get counterText() {
-    return wordsOfAddress(this.registers.counter, this.map);
+    return addressWithName(this.registers.counter, this.map);
   }
 
   /** The return addresses, newest first. */

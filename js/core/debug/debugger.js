@@ -17,7 +17,7 @@ import { readBoard, readRun } from "../bench/answers.js";
 import { hex } from "../bench/numbers.js";
 import { parsePlace } from "../conditions/places.js";
 import { Probes } from "../conditions/probes.js";
-import { EMPTY_REPORT, findBackTarget } from "../engine/past_search.js";
+import { EMPTY_SEARCH_RESULT, findBackTarget } from "../engine/past_search.js";
 import { runLines } from "../engine/key_queue.js";
 import { SEARCH_PIECE_CYCLES } from "../engine/piece_size.js";
 import { ForecastAnswers } from "../engine/forecast_answers.js";
@@ -483,7 +483,7 @@ export class Debugger {
   goForward() {
     this.begin();
     const present = this.session.timeline.goForward();
-    return present ? { ...EMPTY_REPORT, ...this.enterMoment(present) } : { ...EMPTY_REPORT, isDone: false, wires: false, cycles: 0 };
+    return present ? { ...EMPTY_SEARCH_RESULT, ...this.enterMoment(present) } : { ...EMPTY_SEARCH_RESULT, isDone: false, wires: false, cycles: 0 };
   }
 
   /**

@@ -109,7 +109,7 @@ export class SrcSelection {
     const lastChip = this.lastChips.get(address);
     const otherUser = [...this.userKinds].find((each) => each !== name);
     if (otherUser === undefined || lastChip === undefined || lastChip === chip) return null;
-    const message = say.usedBefore(action, lastChip, this.srcAddress < 0 ? "" : say.atAddress(hex(this.srcAddress, 3)));
+    const message = say.selectedByEarlierSrc(action, lastChip, this.srcAddress < 0 ? "" : say.atAddress(hex(this.srcAddress, 3)));
     return { kind: "source", words: say.sourceWasFor(message, otherUser) };
   }
 

@@ -40,7 +40,7 @@ const MAX_DECIMAL_ONLY_VALUE = 9;
 function editableReader(place, value) {
   return (machineState) => {
     const text = value(machineState);
-    return text === "" ? [say.LACKED] : [{ place, name: place, value: text }];
+    return text === "" ? [say.BOARD_LACKS_IT] : [{ place, name: place, value: text }];
   };
 }
 
@@ -87,14 +87,14 @@ function portReader(place) {
   if (rom) {
     return (machineState) => {
       const port = machineState.romPort(Number(rom[1]));
-      return [port ? say.outAndIn(port.out, port.in) : say.LACKED];
+      return [port ? say.outAndIn(port.out, port.in) : say.BOARD_LACKS_IT];
     };
   }
   const ram = /^ram(\d)\.(\d)$/.exec(place);
   if (!ram) return null;
   return (machineState) => {
     const out = machineState.ramPort(Number(ram[1]), Number(ram[2]));
-    return [out === "" ? say.LACKED : `out ${out}`];
+    return [out === "" ? say.BOARD_LACKS_IT : `out ${out}`];
   };
 }
 
@@ -106,7 +106,7 @@ function portReader(place) {
 function placeReader(place) {
   return (machineState, { board }) => {
     const probes = place.probesOn(board);
-    return [probes.length === 0 ? say.LACKED : place.value(probes.map((probe) => readPlaceValue(probe, machineState, board)))];
+    return [probes.length === 0 ? say.BOARD_LACKS_IT : place.value(probes.map((probe) => readPlaceValue(probe, machineState, board)))];
   };
 }
 

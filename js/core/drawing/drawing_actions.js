@@ -132,7 +132,7 @@ function setPort(editedBoard, line, mode) {
   const users = [...inputLines(board)].filter(([target, name]) => name === line && target !== BUZZER).map(([target]) => target);
   const changesDirection = (port[3 - at] === "i") !== (mode === "i");
   if (changesDirection && users.length > 0) {
-    throw new ImpossibleAction(say.takenLine(line, users.map(targetName).join(say.AND)));
+    throw new ImpossibleAction(say.lineInUse(line, users.map(targetName).join(say.AND)));
   }
   requireOutputs(editedBoard, (each) => changesDirection && each === line);
   editedBoard.edit([setValue(draft, entry, "port", port.slice(0, 3 - at) + mode + port.slice(4 - at))]);

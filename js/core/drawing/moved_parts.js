@@ -18,7 +18,7 @@ export class MovedParts {
     this.moved = new Map();
     /** @type {Deletion[]} */
     this.deletions = [];
-    /** True if positions have changed since the last call of `takeNews`. */
+    /** True if positions have changed since the last call of `takeChanges`. */
     this.hasChanged = false;
   }
 
@@ -57,7 +57,7 @@ export class MovedParts {
   }
 
   /** Returns whether positions have changed since the previous call. */
-  takeNews() {
+  takeChanges() {
     const { hasChanged } = this;
     this.hasChanged = false;
     return hasChanged;

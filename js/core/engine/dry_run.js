@@ -1,7 +1,7 @@
 // Loads a board text and a program text into a new session, and reports the texts that the bench rejects.
 
 import { findLineFaults, sentText } from "../text/sendable_text.js";
-import { wordsOfLine } from "../../words/stops.js";
+import { lineReference } from "../../words/stops.js";
 
 /**
  * @typedef {import("./engine_host.js").EngineHost} Engine
@@ -30,7 +30,7 @@ export function dryRun(engine, { boardText, programText }) {
     // A line that consists of a dot would end the text. The bench would execute the lines after the dot as commands.
     const [fault] = findLineFaults(text, mark);
     const lines = `${word}\n${sentText(text, mark)}.\n`;
-    const answer = fault ? `${wordsOfLine(fault.line)}: ${fault.words}` : engine.serve(file, lines, file).answers[0];
+    const answer = fault ? `${lineReference(fault.line)}: ${fault.words}` : engine.serve(file, lines, file).answers[0];
     if (!/^ok /.test(answer)) refused.push({ word, answer });
   };
   tryText("wire", boardText, "#");

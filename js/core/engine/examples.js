@@ -22,6 +22,6 @@ export function exampleLines({ board, program }) {
  * Returns whether time starts at once in a new session with an example.
  * @param {Example} example
  */
-export function runsAtOnce({ program, lines }) {
+export function startsRunning({ program, lines }) {
   return program !== "" && lines === "";
 }

@@ -4,7 +4,7 @@
 
 import { CancelledError } from "../bench/bench_errors.js";
 import { hex, indices } from "../bench/numbers.js";
-import { CHARACTERS, STATUS_COUNT } from "../conditions/places.js";
+import { CHARACTERS, STATUS_CHARACTERS_PER_REGISTER } from "../conditions/places.js";
 import { reportChanges } from "./past_changes.js";
 import { FIRST_PIECE_CYCLES, SEARCH_PIECE_CYCLES, SEARCH_PIECE_UNITS } from "./piece_size.js";
 import { rowValues } from "./forecast_answers.js";
@@ -44,7 +44,7 @@ export function nibbleGroups({ banks }) {
     ...indices(REGISTERS_PER_CHIP).map((register) => (
       indices(CHARACTERS).map((at) => `ram.${bank}.0x${hex((chip * REGISTERS_PER_CHIP + register) * CHARACTERS + at, 2)}`))),
     indices(REGISTERS_PER_CHIP).flatMap((register) => (
-      indices(STATUS_COUNT).map((at) => `st.${bank}.${chip * REGISTERS_PER_CHIP + register}.${at}`))),
+      indices(STATUS_CHARACTERS_PER_REGISTER).map((at) => `st.${bank}.${chip * REGISTERS_PER_CHIP + register}.${at}`))),
   ]));
 }
 

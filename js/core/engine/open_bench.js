@@ -74,8 +74,8 @@ export class OpenBench {
     new Uint8Array(buffer).set(file);
     const board = showsBoard ? statusQueries.board : null;
     const waves = this.recordedPart();
-    const past = timeline.takeNews();
-    const printed = printing && printing.takeNews(count.total);
+    const past = timeline.takeChanges();
+    const printed = printing && printing.takeChanges(count.total);
     const { total, reset } = count;
     return { snapshot, file: buffer, board, total, reset, future: timeline.future.length, past, waves, printed, waiting: queue.changes };
   }
@@ -118,7 +118,7 @@ export class OpenBench {
    */
   replyWithoutServing() {
     const report = this.snapshotReport(this.session.takeSnapshot(), false);
-    return { entries: [], first: "", status: 0, touchesRom: false, wires: false, ...report };
+    return { entries: [], first: "", status: 0, hasChangedRom: false, wires: false, ...report };
   }
 
   /**

@@ -47,7 +47,7 @@ const BLOCK_GROWTH = 8;
 const MAX_BLOCK_CYCLES = 4000000;
 
 /** @type {Omit<BackSearchResult, "moment" | "present">} the default fields of a result */
-export const EMPTY_REPORT = { why: "", place: "", from: "", to: "", line: "", end: "", id: 0 };
+export const EMPTY_SEARCH_RESULT = { why: "", place: "", from: "", to: "", line: "", end: "", id: 0 };
 
 /**
  * Returns a search result with the given fields; the other fields are null or empty.
@@ -55,7 +55,7 @@ export const EMPTY_REPORT = { why: "", place: "", from: "", to: "", line: "", en
  * @returns {BackSearchResult}
  */
 export function searchResult(fields) {
-  return { moment: null, present: null, ...EMPTY_REPORT, ...fields };
+  return { moment: null, present: null, ...EMPTY_SEARCH_RESULT, ...fields };
 }
 
 /**

@@ -45,7 +45,7 @@ export class PrinterCodes {
    * @param {number} total the current cycle count
    * @returns {PrintoutData | null}
    */
-  takeNews(total) {
+  takeChanges(total) {
     const count = this.countAt(total);
     const news = `${count} ${count > 0 ? this.codes[count - 1][0] : ""}`;
     if (news === this.lastReportKey) return null;

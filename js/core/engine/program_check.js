@@ -4,7 +4,7 @@ import { readBoard, readMap, parseRefusal } from "../bench/answers.js";
 import { matchAnswers, readInputs } from "../bench/inputs.js";
 import { indices } from "../bench/numbers.js";
 import { ADDRESS_COUNT, NO_BYTE, PAGE_NUMBERS, PAGE_BYTES, parseRomBytes, listQueries } from "../bench/rom_bytes.js";
-import { LONGEST_TEXT, TEXT_TOO_LONG } from "../text/sendable_text.js";
+import { MAX_SENT_LENGTH, TEXT_TOO_LONG } from "../text/sendable_text.js";
 
 /**
  * @typedef {import("../bench/answers.js").Refusal} Refusal
@@ -27,8 +27,8 @@ export const ALL_ROMS = `wire\n${PAGE_NUMBERS.map((chip) => `[[rom]]\nchip = ${c
  * @param {string} text
  * @returns {Refusal | null}
  */
-export function textRefusal(text) {
-  if (text.length > LONGEST_TEXT) return { number: TEXT_TOO_LONG, line: 0 };
+export function findSendingError(text) {
+  if (text.length > MAX_SENT_LENGTH) return { number: TEXT_TOO_LONG, line: 0 };
   const dot = text.split("\n").findIndex((line) => line === "." || line === ".\r");
   return dot < 0 ? null : { number: 0, line: dot + 1 };
 }
@@ -40,7 +40,7 @@ export function textRefusal(text) {
  * @returns {Program}
  */
 export function readProgram(engine, text) {
-  const fault = textRefusal(text);
+  const fault = findSendingError(text);
   if (fault) return { text, map: [], refusal: fault, bytes: parseRomBytes([]) };
   const textWithLineEnd = text === "" || text.endsWith("\n") ? text : `${text}\n`;
   const lines = `${ALL_ROMS}asm\n${textWithLineEnd}.\nmap\n${textWithLineEnd}.\n${listQueries(PAGE_NUMBERS)}`;

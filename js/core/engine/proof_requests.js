@@ -1,6 +1,6 @@
 // Requests that prove properties with the prover in the WebAssembly module.
 
-import { beginProving, createJudgedLine } from "../prove/bounded_proof.js";
+import { beginProving, createPropertyVerdict } from "../prove/bounded_proof.js";
 
 /**
  * @typedef {import("./open_bench.js").OpenBench} OpenBench
@@ -37,6 +37,6 @@ export class ProofRequests {
   async proveNext() {
     if (!this.proving) throw new Error("nothing is proved");
     const judged = await this.proving.next();
-    return judged && createJudgedLine(judged);
+    return judged && createPropertyVerdict(judged);
   }
 }

@@ -50,7 +50,7 @@ const MAX_SEGMENTS = 48;
  */
 const MARK_INTERVAL = 250000;
 /** The maximum number of moves back that moves forward can undo. */
-export const MAX_FORWARD = 64;
+export const MAX_FORWARD_MOVES = 64;
 /** The maximum length of a replayed command, in characters. After a longer command, a new segment starts. */
 const MAX_LINE_LENGTH = 20000;
 /**
@@ -76,7 +76,7 @@ export class Timeline {
   }
 
   /** Returns the entries since the previous call. */
-  takeNews() {
+  takeChanges() {
     const { news } = this;
     this.news = { isNewPast: false, entries: [] };
     return news;
@@ -255,7 +255,7 @@ export class Timeline {
   goBack(moment, present) {
     const { segments } = this;
     this.future.push({ segments, ...present });
-    if (this.future.length > MAX_FORWARD) this.future.shift();
+    if (this.future.length > MAX_FORWARD_MOVES) this.future.shift();
     const oldSegment = segments[moment.segment];
     const entries = [...oldSegment.entries.slice(0, moment.entry), ...firstCycles(oldSegment.entries[moment.entry], moment.cycles)];
     const cycles = entries.reduce((sum, entry) => sum + entry.cycles, 0);

@@ -99,5 +99,5 @@ function travelResult(bench, word, outcome) {
   const { session } = bench;
   const { isDone, wires } = outcome;
   const entries = isDone ? [{ line: `(${word})`, textLines: 0, answers: [bench.engine.ask(session.file, "").opened] }] : [];
-  return { entries, first: "", status: 0, touchesRom: isDone, ...outcome, ...bench.snapshotReport(session.takeSnapshot(), wires) };
+  return { entries, first: "", status: 0, hasChangedRom: isDone, ...outcome, ...bench.snapshotReport(session.takeSnapshot(), wires) };
 }

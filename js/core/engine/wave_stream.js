@@ -27,7 +27,7 @@ const dependsOnCounter = ({ kind }) => kind === "pc" || kind === "label";
  * @param {number[]} chosenLines the indices of the chosen lines
  * @returns {{ lines: WaveLine[], chosen: number[] }} `chosen` are the new indices of the chosen lines
  */
-export function neededLines(lines, chosenLines) {
+export function linesWithMembers(lines, chosenLines) {
   const neededIndices = [...new Set(chosenLines.flatMap((line) => [line, ...lines[line].members]))];
   const positions = new Map(neededIndices.map((line, at) => [line, at]));
   const newIndex = (/** @type {number} */ line) => positions.get(line) ?? -1;

@@ -35,8 +35,8 @@ import { MAX_SEGMENT_ENTRIES, Timeline } from "./timeline.js";
  * @typedef {{ line: string, textLines: number, answers: string[] }} ServedInput
  *
  * The result of serving lines: the last inputs, the first answer, the shell's exit status, and whether the lines can have changed ROM
- * (`touchesRom`) or the board (`wires`).
- * @typedef {{ entries: ServedInput[], first: string, status: number, touchesRom: boolean, wires: boolean }} LinesResult
+ * (`hasChangedRom`) or the board (`wires`).
+ * @typedef {{ entries: ServedInput[], first: string, status: number, hasChangedRom: boolean, wires: boolean }} LinesResult
  * @typedef {LinesResult & { snapshot: string[] }} ResultAndSnapshot
  *
  * The result of running cycles. `ran` are the executed lines. `end` is the answer that ended the run early, or "". `litShares`, `heard` and
@@ -321,7 +321,7 @@ export class WorkerSession {
     // Nothing below can fail. The session changes now.
     if (from !== this.file) [this.file, this.next] = [from, this.file];
     this.statusQueries = statusQueries;
-    if (report.touchesRom) this.cachedRomBytes = null;
+    if (report.hasChangedRom) this.cachedRomBytes = null;
     this.timeline.stop();
     this.count = report.count;
     this.printing = printing;
@@ -373,7 +373,7 @@ class LinesReport {
     this.entries = [];
     this.first = "";
     this.status = 0;
-    this.touchesRom = false;
+    this.hasChangedRom = false;
     this.wires = false;
   }
 
@@ -390,7 +390,7 @@ class LinesReport {
     if (this.acceptedCommands.length <= MAX_SEGMENT_ENTRIES) this.acceptedCommands = this.acceptedCommands.concat(acceptedCommands);
     if (this.first === "" && answers.length > 0) this.first = answers[0];
     this.status = status;
-    this.touchesRom = this.touchesRom || inputs.some((input) => ROM_COMMANDS[input.kind]);
+    this.hasChangedRom = this.hasChangedRom || inputs.some((input) => ROM_COMMANDS[input.kind]);
     // If the bench rejects a board, the current board stays.
     this.wires = this.wires || inputs.some((input, at) => input.kind === "wire" && !answerLists[at].some(isStop));
     const from = Math.max(0, inputs.length - MAX_ENTRIES);
@@ -401,7 +401,7 @@ class LinesReport {
 
   /** @returns {LinesResult} */
   result() {
-    const { entries, first, status, touchesRom, wires } = this;
-    return { entries, first, status, touchesRom, wires };
+    const { entries, first, status, hasChangedRom, wires } = this;
+    return { entries, first, status, hasChangedRom, wires };
   }
 }

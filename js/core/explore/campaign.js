@@ -247,7 +247,7 @@ export const isSetting = (line) => Object.prototype.hasOwnProperty.call(SETTING_
  * @returns {string[]}
  */
 function findNotePlaces({ names }, word) {
-  if (word.toLowerCase() === "pc") fail(say.NOT_PC);
+  if (word.toLowerCase() === "pc") fail(say.PC_NOT_ALLOWED);
   const place = parsePlace(word);
   const places = place ? place.probesOn(names.board) : [];
   if (places.length > 0) return places;
@@ -306,7 +306,7 @@ const PROPERTY_PARSERS = {
       fail(NO_DISPLAY);
     }
     if (hasScannedDisplay(reader.names.face)) {
-      fail(say.LIT_BY_TURNS);
+      fail(say.DISPLAY_IS_MULTIPLEXED);
     }
     reader.command = rest;
     return modelProperty(text);

@@ -38,7 +38,7 @@ const MINIMISING_CYCLES = { second: 2e6, least: 10e6, most: 60e6 };
  * Returns the maximum number of cycles to run while a counterexample is minimised.
  * @param {number} seconds the search time
  */
-export function minimisingCycles(seconds) {
+export function minimisingCycleLimit(seconds) {
   return Math.max(MINIMISING_CYCLES.least, Math.min(MINIMISING_CYCLES.most, seconds * MINIMISING_CYCLES.second));
 }
 

@@ -151,7 +151,7 @@ const FORM_NOTES = {
   calls: say.FOURTH_CALL,
   returns: say.RETURN_WITHOUT_CALL,
   mistake: say.MISTAKE_CONFIRMED,
-  once: say.MORE_OFTEN,
+  once: say.REACHED_MORE_OFTEN_THAN_PRESSES,
 };
 
 /**

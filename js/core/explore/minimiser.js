@@ -2,7 +2,7 @@
 
 import { MAX_RUN_CYCLES } from "../engine/key_queue.js";
 import { Watcher } from "./walk_watcher.js";
-import { downInputsAfter, initialDownInputs, areAllowed, longestWaitAfter } from "./walks.js";
+import { downInputsAfter, initialDownInputs, areStepsAllowed, longestWaitAfter } from "./walks.js";
 
 /**
  * @typedef {import("./campaign.js").Campaign} Campaign
@@ -58,7 +58,7 @@ export class Minimiser {
    * @param {WalkStep[]} steps
    */
   async tryWalk(steps) {
-    if (this.cyclesLeft <= 0 || !areAllowed(this.campaign, steps)) return false;
+    if (this.cyclesLeft <= 0 || !areStepsAllowed(this.campaign, steps)) return false;
     await this.yieldToMessages();
     const wait = Math.min(this.campaign.maxWait, longestWaitAfter(this.campaign, steps));
     const finalWait = wait > 0 ? [{ wait, kind: /** @type {const} */ ("none"), input: -1 }] : [];

@@ -154,7 +154,7 @@ export function formatTap(report) {
   for (const property of properties) {
     if (property.isSkipped) lines.push(`# ${say.notRun(propertyLocation(property, report), property.text)}`);
   }
-  const rate = seconds > 0 ? say.aSecond(formatNumber(steps / seconds)) : "";
+  const rate = seconds > 0 ? say.stepsPerSecond(formatNumber(steps / seconds)) : "";
   lines.push(...coverageLines(report).map((line) => `# ${line}`));
   lines.push(say.figures(seeds, formatNumber(steps), seconds.toFixed(1), rate, formatNumber(states), isStopped));
   return `${lines.join("\n")}\n`;

@@ -12,7 +12,7 @@ import { listAddresses } from "./properties.js";
 import { chooseStep, downInputsAfter, initialDownInputs, changeLine, walkLines, createRandom } from "./walks.js";
 import { nextAges, initialAges, randomBelow } from "./walks.js";
 import { Watcher } from "./walk_watcher.js";
-import { MAX_ENABLED } from "../debug/breakpoints.js";
+import { MAX_ENABLED_BREAKPOINTS } from "../debug/breakpoints.js";
 import { MAX_RUN_CYCLES, runLines } from "../engine/key_queue.js";
 
 /**
@@ -243,7 +243,7 @@ export class Search {
   get stopAddresses() {
     const { properties } = this.campaign;
     const stopping = this.labelProperties.map((at) => properties[at]).filter(stopsAtLabel);
-    return [...new Set(stopping.map(({ address }) => address))].slice(0, MAX_ENABLED);
+    return [...new Set(stopping.map(({ address }) => address))].slice(0, MAX_ENABLED_BREAKPOINTS);
   }
 
   /**

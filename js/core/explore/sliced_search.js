@@ -8,7 +8,7 @@
 import { isConfirmed } from "../testing/confirmation.js";
 import { prepareTests } from "../testing/test_preparation.js";
 import { startCampaign, findLeadingTests } from "./start_state.js";
-import { CampaignRun, minimisingCycles, initialProofTime } from "./campaign_run.js";
+import { CampaignRun, minimisingCycleLimit, initialProofTime } from "./campaign_run.js";
 import { readCampaign } from "./campaign.js";
 import { createSubject } from "./subject.js";
 import * as say from "../../words/explore.js";
@@ -88,7 +88,7 @@ export class SlicedSearch {
     // A counterexample counts only after its test has failed; for a goal, after its test has passed.
     const confirm = (/** @type {string} */ test, /** @type {boolean} */ isGoal) => (
       isConfirmed(engine, texts, test, isGoal, yieldToMessages));
-    const [cycleLimit, proofTime] = [minimisingCycles(seconds), initialProofTime(seconds)];
+    const [cycleLimit, proofTime] = [minimisingCycleLimit(seconds), initialProofTime(seconds)];
     this.run = new CampaignRun(subject, campaign, seed, confirm, cycleLimit, null, yieldToMessages, proofTime);
   }
 

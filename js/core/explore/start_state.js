@@ -3,7 +3,7 @@
 
 import { parseState, parsePorts } from "../bench/state_line.js";
 import { PressedKeys } from "../board/key_place.js";
-import { ExecutionRecorder, MOST_LEVELS } from "../testing/recorders.js";
+import { ExecutionRecorder, MAX_CALL_DEPTH } from "../testing/recorders.js";
 import { TestRun } from "../testing/test_run.js";
 import { expandSteps, readTests } from "../testing/test_text.js";
 import * as say from "../../words/explore.js";
@@ -89,7 +89,7 @@ function formatLines(tests) {
 function countOpenCalls(tests, recorder) {
   const isReset = tests.some(({ steps }) => expandSteps(steps).some(({ action }) => action.kind === "reset"));
   const { length } = recorder.openCalls;
-  return isReset ? { least: 0, most: MOST_LEVELS } : { least: length, most: length };
+  return isReset ? { least: 0, most: MAX_CALL_DEPTH } : { least: length, most: length };
 }
 
 /**

@@ -134,7 +134,7 @@ export function downInputsAfter(down, { kind, input }) {
  * @param {Campaign} campaign
  * @param {WalkStep[]} steps
  */
-export function areAllowed(campaign, steps) {
+export function areStepsAllowed(campaign, steps) {
   let down = initialDownInputs(campaign);
   let ages = initialAges(campaign);
   for (const step of steps) {

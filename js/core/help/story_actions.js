@@ -12,7 +12,7 @@ import * as say from "../../words/help.js";
 
 /**
  * The functions of the page that the actions call.
- * @typedef {object} ActCalls
+ * @typedef {object} ActionCalls
  * @property {(label: string) => number | undefined} addressOf Returns the address of a label of the program in ROM; undefined if there is
  *   no such label.
  * @property {() => BoardKey[]} keys Returns the keys of the displayed board.
@@ -33,7 +33,7 @@ import * as say from "../../words/help.js";
 /**
  * Calls a function with the address of a label. Resolves to an error message, "" for none.
  * @param {string} label
- * @param {ActCalls} calls
+ * @param {ActionCalls} calls
  * @param {(address: number) => unknown} act
  */
 async function callWithAddress(label, calls, act) {
@@ -46,7 +46,7 @@ async function callWithAddress(label, calls, act) {
 /**
  * Calls a function with the key that has a certain legend. Returns an error message, "" for none.
  * @param {string} legend
- * @param {ActCalls} calls
+ * @param {ActionCalls} calls
  * @param {(key: BoardKey) => unknown} act
  */
 function callWithKey(legend, calls, act) {
@@ -58,7 +58,7 @@ function callWithKey(legend, calls, act) {
 
 /**
  * The functions that run the actions, by the name of the action. Each function resolves to an error message, "" for none.
- * @type {Record<import("./story.js").ActionName, (argument: string, calls: ActCalls) => Promise<string>>}
+ * @type {Record<import("./story.js").ActionName, (argument: string, calls: ActionCalls) => Promise<string>>}
  */
 const ACTIONS = {
   run: (_, calls) => perform(() => calls.run()),
@@ -85,7 +85,7 @@ async function perform(act) {
 /**
  * Runs an action of a link. Resolves to an error message, "" for none.
  * @param {StoryAction} act
- * @param {ActCalls} calls
+ * @param {ActionCalls} calls
  */
 export function runAction({ name, argument }, calls) {
   return ACTIONS[name](argument, calls);

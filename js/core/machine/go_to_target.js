@@ -34,7 +34,7 @@ function targetError(message) {
 export function parseGoal(text, map) {
   const word = text.trim();
   const [, name = word, offset = "0"] = NAME_PLUS_OFFSET.exec(word) || [];
-  const value = map ? map.valueInAnyCase(name) : undefined;
+  const value = map ? map.findValueIgnoringCase(name) : undefined;
   if (value !== undefined && value + parseNumber(offset) <= LAST_ADDRESS) return { address: value + parseNumber(offset), words: "" };
   const address = LISTING_ADDRESS.test(word) ? parseInt(word, 16) : parseNumber(word);
   if (address <= LAST_ADDRESS) return { address, words: "" };

@@ -1,7 +1,7 @@
 // Computes the levels of the heat map, and describes the map. The heat of a RAM nibble depends on how often or how recently it has changed.
 
 import { hex } from "../bench/numbers.js";
-import { wordsOfAddress } from "../../words/stops.js";
+import { addressWithName } from "../../words/stops.js";
 import { formatCycles } from "../time/cycles.js";
 import * as say from "../../words/machine.js";
 
@@ -98,7 +98,7 @@ function addChanges(changes, newChanges) {
  * @param {SourceMap | null} map
  */
 function describeCause({ address, line }, map) {
-  return line ? say.theLine(line) : wordsOfAddress(hex(address, 3), map);
+  return line ? say.theLine(line) : addressWithName(hex(address, 3), map);
 }
 
 /**
@@ -133,7 +133,7 @@ export function describeChanges(cell, map) {
  * @param {HeatCell} cell
  * @param {SourceMap | null} map
  */
-export function describeSeenChanges(cell, map) {
+export function describeChangesWhileRunning(cell, map) {
   return say.seenBy(formatTimes(cell.count), describeCause(cell, map));
 }
 

@@ -1,7 +1,7 @@
 // Adds program names to the lines of a listing.
 
 import { hex } from "../bench/numbers.js";
-import { wordsOfLine } from "../../words/stops.js";
+import { lineReference } from "../../words/stops.js";
 
 /**
  * @typedef {import("../bench/answers.js").ListingLine} ListingLine
@@ -37,7 +37,7 @@ export function addLineNames({ address, line }, map) {
   if (number === 0) return fields;
   const source = map.sources[number - 1];
   fields.instruction = replaceTarget(fields.instruction, source, map);
-  fields.source = `${wordsOfLine(number)}: ${source.trim().replace(/\s+/g, " ")}`;
+  fields.source = `${lineReference(number)}: ${source.trim().replace(/\s+/g, " ")}`;
   return fields;
 }
 

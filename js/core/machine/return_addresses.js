@@ -3,7 +3,7 @@
 
 import { LAST_ADDRESS } from "../bench/numbers.js";
 import * as say from "../../words/machine.js";
-import { wordsOfLine } from "../../words/stops.js";
+import { lineReference } from "../../words/stops.js";
 
 /**
  * @typedef {import("./source_map.js").SourceMap} SourceMap
@@ -48,7 +48,7 @@ export function findLiveReturns(addresses, bytes, map) {
 export function describeCounter(address, map) {
   const line = map ? map.lineOf(address) : 0;
   if (!map || line === 0) return { isLive: true, words: "", title: "" };
-  return { isLive: true, words: joinWords([map.nameOf(address), wordsOfLine(line)]), title: map.sources[line - 1].trim() };
+  return { isLive: true, words: joinWords([map.nameOf(address), lineReference(line)]), title: map.sources[line - 1].trim() };
 }
 
 /**

@@ -11,7 +11,7 @@ import { inSource, notInSource } from "../../words/machine.js";
  * @param {{ lines: string[], before: number }} source the source lines, and the number of lines before them in the file
  * @param {number} address
  */
-export function placeInSource(map, { lines, before }, address) {
+export function formatSourceLocation(map, { lines, before }, address) {
   const line = map.lineOf(address);
   const digits = hex(address, 3);
   if (line === 0) return notInSource(digits);

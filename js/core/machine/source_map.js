@@ -167,7 +167,7 @@ export class SourceMap {
    * @param {string} word
    * @returns {number | undefined}
    */
-  valueInAnyCase(word) {
+  findValueIgnoringCase(word) {
     const exact = this.findValue(word);
     if (exact !== undefined) return exact;
     const matches = [...this.names.keys()].filter((name) => name.toLowerCase() === word.toLowerCase());

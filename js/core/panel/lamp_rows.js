@@ -1,6 +1,6 @@
 // Lays out the lamps of a board as rows of characters: first the lamps of groups and of the grid, then the other named lamps.
 
-import { fittingGroups, isScanned, lampNames, looseLamps } from "../board/face_board.js";
+import { fittingGroups, isScanned, lampNames, lampsOutsideGroups } from "../board/face_board.js";
 import { lampAt, scannedLampAt } from "../board/lamp_state.js";
 import { indices } from "../bench/numbers.js";
 
@@ -41,7 +41,7 @@ class LampRows {
       this.addGroup(group, isScanned(group) ? scanned++ : -1);
     }
     this.addGrid(face.grid.filter(({ lamp }) => lamp < count));
-    for (const lamp of looseLamps(face, count)) if (this.names[lamp] !== "") this.rows.push([this.namedCell(lamp, this.cellWidth(lamp))]);
+    for (const lamp of lampsOutsideGroups(face, count)) if (this.names[lamp] !== "") this.rows.push([this.namedCell(lamp, this.cellWidth(lamp))]);
   }
 
   /**

@@ -120,7 +120,7 @@ export class Panel {
    * Runs the cycles that a real 4004 would have run since the previous call, unless time is paused.
    * @param {number} now
    */
-  async keepTime(now) {
+  async keepRealTime(now) {
     if (!this.isPaused) await this.advance(this.time.takeDueCycles(now));
   }
 

@@ -1,6 +1,6 @@
 // Reads a project from its folder. All files that the project file names must exist.
 
-import { LONGEST_PROJECT_FILE, PROJECT_FILE, listNamedFiles, readProjectToml } from "./project_toml.js";
+import { MAX_PROJECT_TOML_BYTES, PROJECT_FILE, listNamedFiles, readProjectToml } from "./project_toml.js";
 import * as say from "../../words/server.js";
 
 /**
@@ -35,7 +35,7 @@ export class ProjectError extends Error {
 function bytesError(bytes) {
   if (bytes.length === 0) return say.EMPTY;
   const { length } = bytes;
-  if (length > LONGEST_PROJECT_FILE) return say.tooLong(length, LONGEST_PROJECT_FILE);
+  if (length > MAX_PROJECT_TOML_BYTES) return say.tooLong(length, MAX_PROJECT_TOML_BYTES);
   return bytes.includes(0) ? say.CONTAINS_NUL : "";
 }
 

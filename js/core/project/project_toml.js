@@ -18,7 +18,7 @@ import * as say from "../../words/server.js";
 
 export const PROJECT_FILE = "mcs4.toml";
 /** The maximum length of a project file, in bytes. */
-export const LONGEST_PROJECT_FILE = 16384;
+export const MAX_PROJECT_TOML_BYTES = 16384;
 
 const SPEED_NAMES = SPEEDS.map(({ id }) => `"${id}"`);
 /** The descriptions of the TOML keys in a project file, for error messages. */

@@ -32,7 +32,7 @@ export function rejectCommand(words) {
 export function parseAddress(text, { map }) {
   const [, word, more = "0"] = /^[@*]?\s*([A-Za-z0-9_]+)\s*(?:\+\s*(\w+))?$/.exec(text) || [];
   if (word === undefined) return undefined;
-  const begin = /^0x/i.test(word) ? parseNumber(word) : map.valueInAnyCase(word);
+  const begin = /^0x/i.test(word) ? parseNumber(word) : map.findValueIgnoringCase(word);
   const address = begin === undefined ? NaN : begin + parseNumber(more);
   return Number.isNaN(address) ? undefined : address;
 }

@@ -6,7 +6,7 @@
 
 import { readBoard, parseRefusal } from "../bench/answers.js";
 import { findLineError } from "../bench/line_forms.js";
-import { opensText, stripReturn } from "../bench/inputs.js";
+import { opensText, stripCarriageReturn } from "../bench/inputs.js";
 import { matchLines, readLineForms, cellText, sectionRows } from "../help/manual.js";
 import { findLineFaults, sentText } from "../text/sendable_text.js";
 import { FILE_WORDS, completeLine } from "./line_completion.js";
@@ -95,7 +95,7 @@ export class SessionPrompt {
    * @param {string} input the line, with or without a carriage return
    */
   async take(input) {
-    const line = stripReturn(input);
+    const line = stripCarriageReturn(input);
     try {
       return await (this.openText ? this.addTextLine(line, this.openText) : this.handleLine(line));
     } catch (thrown) {

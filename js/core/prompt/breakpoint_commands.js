@@ -36,7 +36,7 @@ export class BreakpointCommands {
   get handlers() {
     /** @type {(isOn: boolean) => CommandHandler} */
     const createSwitch = (isOn) => async (argumentText) => {
-      if (argumentText === "") rejectCommand(say.WHICH_ONE);
+      if (argumentText === "") rejectCommand(say.BREAKPOINT_NUMBER_MISSING);
       for (const id of this.parseNumbers(argumentText)) this.list.change(id, { isOn });
       await this.applyBreakpoints();
     };
@@ -139,7 +139,7 @@ export class BreakpointCommands {
       return;
     }
     if (watchedPlace !== "" && watchedPlace !== place) {
-      rejectCommand(say.oneIsWatched(watchedPlace));
+      rejectCommand(say.onlyOneWatchAllowed(watchedPlace));
     }
     this.watchedPlace = place;
     prompt.calls.print(say.watchedByContinue(place));

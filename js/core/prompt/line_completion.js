@@ -1,6 +1,6 @@
 // Completes lines at the prompt of `mcs4 new` and `mcs4 open`.
 
-import { ANSWER_FORMS } from "../bench/answer_table.js";
+import { ANSWER_FORMATS } from "../bench/answer_table.js";
 import { readBoard, readItems } from "../bench/answers.js";
 import { POKE_NAMES, TRACE_NAMES } from "../bench/line_forms.js";
 import { indices } from "../bench/numbers.js";
@@ -47,7 +47,7 @@ const completeKeys = async (at, ask) => {
  * @type {Record<string, WordsAt>}
  */
 const WORDS_AFTER = {
-  help: wordsForFirstArgument([...ANSWER_FORMS.keys(), ...PROMPT_WORDS, ...HELP_WORDS]),
+  help: wordsForFirstArgument([...ANSWER_FORMATS.keys(), ...PROMPT_WORDS, ...HELP_WORDS]),
   poke: wordsForFirstArgument(POKE_NAMES),
   trace: async (at) => (at > 0 ? TRACE_NAMES : []),
   test: wordsForFirstArgument(["0", "1"]),
@@ -66,12 +66,12 @@ const WORDS_AFTER = {
  */
 export async function completeLine(line, calls) {
   const [, first] = /^[ \t]*(\S*)$/.exec(line) || [];
-  if (first !== undefined) return [filterByPrefix([...ANSWER_FORMS.keys(), ...PROMPT_WORDS], first).map((word) => `${word} `), first];
+  if (first !== undefined) return [filterByPrefix([...ANSWER_FORMATS.keys(), ...PROMPT_WORDS], first).map((word) => `${word} `), first];
   const [, word, rest] = /** @type {RegExpExecArray} */ (/^[ \t]*(\S+)[ \t]+(.*)$/.exec(line));
   if (FILE_WORDS.includes(word)) return [calls.files(rest), rest];
   const words = line.trimStart().split(/[ \t]+/);
   const begin = /** @type {string} */ (words.pop());
   const findWordsAfter = WORDS_AFTER[word];
-  const found = ANSWER_FORMS.has(word) || word === "help" ? await (findWordsAfter ? findWordsAfter(words.length - 1, calls.ask) : []) : [];
+  const found = ANSWER_FORMATS.has(word) || word === "help" ? await (findWordsAfter ? findWordsAfter(words.length - 1, calls.ask) : []) : [];
   return [filterByPrefix(found, begin), begin];
 }

@@ -25,7 +25,7 @@ export function findCommand(word) {
   const matching = COMMANDS.filter(({ name }) => name.startsWith(word));
   if (matching.length === 1) return { command: matching[0], words: "" };
   if (matching.length === 0) return { command: null, words: say.noCommand(word) };
-  return { command: null, words: say.notClear(word, matching.map(({ name }) => name).join(", ")) };
+  return { command: null, words: say.ambiguousCommand(word, matching.map(({ name }) => name).join(", ")) };
 }
 
 /**

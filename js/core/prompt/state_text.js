@@ -4,7 +4,7 @@ import { formatQuantity, hex, parseNumber, indices } from "../bench/numbers.js";
 import { formatBreakpoints } from "../debug/breakpoint_lines.js";
 import { MachineState } from "../debug/machine_state.js";
 import { expandTabs } from "../text/tab_expansion.js";
-import { wordsOfAddress } from "../../words/stops.js";
+import { addressWithName } from "../../words/stops.js";
 import { readStackFrames } from "../adapter/frames.js";
 import { listInstructionRows } from "../adapter/disassembly.js";
 import { rejectCommand } from "./argument_parsers.js";
@@ -142,7 +142,7 @@ export function openCallCount(session) {
  * @param {number} address
  */
 export function addressText(session, address) {
-  return wordsOfAddress(hex(address, 3), session.map);
+  return addressWithName(hex(address, 3), session.map);
 }
 
 /**

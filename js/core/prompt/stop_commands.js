@@ -99,7 +99,7 @@ export class StopCommands {
     const count = /^\d{1,9}$/.test(more) ? Number(more) : -1;
     if (count < 0) rejectCommand(say.ignoredIs(MAX_IGNORED_HITS.toLocaleString("en"), more || say.NOTHING));
     await this.prompt.breakpoints.change(id, { from: count === 0 ? 1 : hits + count + 1 });
-    this.prompt.calls.print(say.willPass(id, count));
+    this.prompt.calls.print(say.breakpointWillIgnore(id, count));
   }
 
   // --- commands at a stop ---

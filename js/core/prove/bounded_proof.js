@@ -22,7 +22,7 @@ import * as say from "../../words/prove.js";
  * @typedef {import("./verdicts.js").Verdict} Verdict
  *
  * A property and its verdict, in a message to the page. `line` is the line number in the properties text, 0 for a common mistake.
- * @typedef {{ text: string, line: number, isGoal: boolean, verdict: Verdict }} JudgedLine
+ * @typedef {{ text: string, line: number, isGoal: boolean, verdict: Verdict }} PropertyVerdict
  *
  * @typedef {object} ProvingCalls
  * @property {(states: number) => Promise<void>} seen reports the number of states that were searched so far without a result
@@ -93,7 +93,7 @@ class ProverQueries {
   explainNoAnswer(answer) {
     if (answer.kind === "lost") return say.GAVE_UP;
     if (answer.kind === "more") return say.moreThan(formatNumber(this.searchedStates));
-    return say.fullAfter(formatNumber(Math.max(answer.states, this.searchedStates)));
+    return say.memoryFullAfter(formatNumber(Math.max(answer.states, this.searchedStates)));
   }
 }
 
@@ -122,8 +122,8 @@ export function beginProving(engine, texts, maxStates, calls) {
 /**
  * Returns a property and its verdict in the form in which they are sent to the page.
  * @param {JudgedProperty} judged
- * @returns {JudgedLine}
+ * @returns {PropertyVerdict}
  */
-export function createJudgedLine({ property: { text, line, isGoal }, verdict }) {
+export function createPropertyVerdict({ property: { text, line, isGoal }, verdict }) {
   return { text, line, isGoal, verdict };
 }

@@ -74,9 +74,9 @@ class Evaluation {
    * @param {string} name
    */
   readField(field, name) {
-    if (!field) throw new UnsupportedQuestion(say.looksAtInput(name));
+    if (!field) throw new UnsupportedQuestion(say.dependsOnInput(name));
     this.readCount += 1;
-    if (this.readCount > MAX_READS) throw new UnsupportedQuestion(say.LOOKS_AT_TOO_MUCH);
+    if (this.readCount > MAX_READS) throw new UnsupportedQuestion(say.READS_TOO_MUCH);
     const text = this.fieldTexts.get(field.name);
     if (text === undefined) throw new UndecidedField(field);
     return text;
@@ -154,7 +154,7 @@ class Evaluation {
         this.fieldTexts.set(field.name, text);
         return this.evaluate();
       });
-      if (others.some((other) => !areSameResults(result, other))) throw new UnsupportedQuestion(say.looksAtInput(field.name));
+      if (others.some((other) => !areSameResults(result, other))) throw new UnsupportedQuestion(say.dependsOnInput(field.name));
       const last = ranges[ranges.length - 1];
       if (result === undefined) continue;
       if (last && last.high === number - 1 && areSameResults(last.result, result)) last.high = number;
@@ -179,7 +179,7 @@ function toComparisonLists(result, wantedResult) {
     if (nextLists.length === 0) return [];
     return field.between(low, high).flatMap((fieldComparisons) => nextLists.map((others) => [...fieldComparisons, ...others]));
   });
-  if (lists.length > MAX_COMPARISON_LISTS) throw new UnsupportedQuestion(say.LOOKS_AT_TOO_MUCH);
+  if (lists.length > MAX_COMPARISON_LISTS) throw new UnsupportedQuestion(say.READS_TOO_MUCH);
   return lists;
 }
 

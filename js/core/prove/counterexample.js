@@ -7,7 +7,7 @@ import { formatViolationLines, formatTest } from "../explore/counterexample_test
 import { listAddresses } from "../explore/properties.js";
 import { Minimiser } from "../explore/minimiser.js";
 import { Watcher } from "../explore/walk_watcher.js";
-import { initialDownInputs, areAllowed, walkLines } from "../explore/walks.js";
+import { initialDownInputs, areStepsAllowed, walkLines } from "../explore/walks.js";
 import { cyclesToMistake } from "./mistakes.js";
 import { listInputs, replayValues } from "./input_replay.js";
 
@@ -193,7 +193,7 @@ class Replay {
     const remainingCycles = allowedSteps.reduce((left, { wait }) => left - wait, time);
     const isChecked = time > allowedCampaign.begin || allowedCampaign.begin === 0;
     return isChecked && allowedSteps.every(({ kind, input }) => kind === "none" || input >= 0)
-      && areAllowed(allowedCampaign, [...allowedSteps, { wait: remainingCycles, kind: "none", input: -1 }]);
+      && areStepsAllowed(allowedCampaign, [...allowedSteps, { wait: remainingCycles, kind: "none", input: -1 }]);
   }
 
   /**

@@ -6,7 +6,7 @@ import { indices } from "../bench/numbers.js";
 import { ADDRESS_COUNT } from "../bench/rom_bytes.js";
 import { parsePorts, parseState } from "../bench/state_line.js";
 import { isSameKey, keyLine, matrixKey, pinKey } from "../board/key_place.js";
-import { MAX_ENABLED } from "../debug/breakpoints.js";
+import { MAX_ENABLED_BREAKPOINTS } from "../debug/breakpoints.js";
 import { MAX_RUN_CYCLES } from "../engine/key_queue.js";
 import { RDR } from "../engine/rom_codes.js";
 import { createInput, createTestInput, listKeyInputs } from "../explore/search_inputs.js";
@@ -135,7 +135,7 @@ class ValueReplay {
   /** Runs to the next instruction that reads an input, for at most DEFAULT_PAUSE cycles. Returns false if the program cannot continue. */
   runToRead() {
     for (let left = DEFAULT_PAUSE; left > 0 && this.nextReadCode() < 0;) {
-      const { cycles, end } = this.run(Math.min(left, this.readAddresses.length <= MAX_ENABLED ? MAX_RUN_CYCLES : 1));
+      const { cycles, end } = this.run(Math.min(left, this.readAddresses.length <= MAX_ENABLED_BREAKPOINTS ? MAX_RUN_CYCLES : 1));
       left -= cycles;
       if (end === "code" || end === "") return false;
     }
@@ -163,7 +163,7 @@ class ValueReplay {
  */
 export function replayValues(subject, inputs, values) {
   const replay = new ValueReplay(subject, inputs);
-  if (replay.readAddresses.length <= MAX_ENABLED) replay.serve(replay.readAddresses.map((address) => `break ${address}\n`).join(""));
+  if (replay.readAddresses.length <= MAX_ENABLED_BREAKPOINTS) replay.serve(replay.readAddresses.map((address) => `break ${address}\n`).join(""));
   let file = replay.file.slice();
   values.every((value) => {
     const { length } = replay.steps;
@@ -173,7 +173,7 @@ export function replayValues(subject, inputs, values) {
     return replay.runToRead();
   });
   const unbreakLines = replay.readAddresses.map((address) => `unbreak ${address}\n`).join("");
-  if (replay.readAddresses.length <= MAX_ENABLED) subject.engine.serve(file, unbreakLines, file);
+  if (replay.readAddresses.length <= MAX_ENABLED_BREAKPOINTS) subject.engine.serve(file, unbreakLines, file);
   const time = replay.steps.reduce((sum, { wait }) => sum + wait, 0);
   return { steps: replay.steps, time, file, remainingCycles: replay.cyclesSinceChange };
 }

@@ -48,8 +48,8 @@ const createProvedVerdict = (property, states, bySets) => ({ kind: "proved", sta
  * @param {Property} property
  */
 function explainUnconfirmed(property) {
-  if (property.guards.length > 0) return say.failsWithout(omittedGuards(property), property.isGoal);
-  return property.form === "only after" ? say.READ_LESS : say.NOT_CONFIRMED;
+  if (property.guards.length > 0) return say.failsWithoutGuards(omittedGuards(property), property.isGoal);
+  return property.form === "only after" ? say.TRUE_BEFORE_KEYS_ARE_READ : say.NOT_CONFIRMED;
 }
 
 export class PropertyJudge {

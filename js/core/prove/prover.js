@@ -6,11 +6,11 @@ import { TaskWorker } from "../bench/task_worker.js";
  * @typedef {import("../bench/bench_client.js").Bench} Bench
  * @typedef {import("../bench/task_worker.js").TaskResult} TaskResult
  * @typedef {import("../explore/sliced_search.js").ExploredTexts} ExploredTexts
- * @typedef {import("./bounded_proof.js").JudgedLine} JudgedLine
+ * @typedef {import("./bounded_proof.js").PropertyVerdict} PropertyVerdict
  *
  * The progress of a proof. `judged`: the verdicts so far; `count`: the number of properties and common mistakes to check; `states`: the
  * number of states that the prover has searched for the current question without a result.
- * @typedef {{ judged: JudgedLine[], count: number, states: number }} Progress
+ * @typedef {{ judged: PropertyVerdict[], count: number, states: number }} Progress
  */
 
 export class Prover extends TaskWorker {
@@ -43,7 +43,7 @@ export class Prover extends TaskWorker {
  * @param {(progress: Progress) => void} report
  */
 async function reportVerdicts(bench, count, report) {
-  /** @type {JudgedLine[]} */
+  /** @type {PropertyVerdict[]} */
   const judged = [];
   report({ judged, count, states: 0 });
   for (;;) {

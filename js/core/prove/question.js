@@ -63,7 +63,7 @@ export const MAX_SETS = 100000;
 /** The maximum number of states in the first try of a question. Later tries have higher limits. */
 const FIRST_BOUND = 10000;
 /** The highest time limit that a stopwatch can have, in cycles. */
-export const MAX_TIME = 16777214;
+export const MAX_STOPWATCH_CYCLES = 16777214;
 /** The maximum number of presses in a property. */
 export const MAX_PRESSES = 100;
 /** The program counter at power-on. */
@@ -135,7 +135,7 @@ const orImpossibleCondition = (lists) => (lists.length > 0 ? lists : [IMPOSSIBLE
  * @returns {Question}
  */
 function timeQuestion(begins, ends, limit) {
-  if (limit > MAX_TIME) throw new UnsupportedQuestion(say.timeIsLong(formatNumber(MAX_TIME)));
+  if (limit > MAX_STOPWATCH_CYCLES) throw new UnsupportedQuestion(say.timeTooLong(formatNumber(MAX_STOPWATCH_CYCLES)));
   return { ...EMPTY_QUESTION, stopwatch: { begins: orImpossibleCondition(begins), ends: orImpossibleCondition(ends), within: limit } };
 }
 
@@ -146,7 +146,7 @@ function timeQuestion(begins, ends, limit) {
  */
 function findMatrixKey(face, name) {
   const named = listKeyInputs(face).find((input) => input.name === name);
-  if (!named || named.key.kind !== "matrix") throw new UnsupportedQuestion(say.isNoMatrixKey(name));
+  if (!named || named.key.kind !== "matrix") throw new UnsupportedQuestion(say.notInKeyMatrix(name));
   return named.key;
 }
 
@@ -158,7 +158,7 @@ function findMatrixKey(face, name) {
  * @returns {Question}
  */
 function pressQuestion({ condition, address, keys }, { names: { board, face }, codes }) {
-  if (keys.length > MAX_PRESSES) throw new UnsupportedQuestion(say.hasManyPresses(MAX_PRESSES));
+  if (keys.length > MAX_PRESSES) throw new UnsupportedQuestion(say.tooManyPresses(MAX_PRESSES));
   // JIN and BBL can jump from the label to itself in one cycle. The prover would not detect that the label is reached again.
   if (!condition && (isJin(codes[address]) || isReturn(codes[address]))) throw new UnsupportedQuestion(say.LABEL_REPEATS);
   const opens = condition ? listComparisons(condition, true, board, true) : [addressComparisons(address)];
@@ -205,7 +205,7 @@ const QUESTIONS_BY_FORM = {
 export function createQuestion(property, { from }, subject) {
   const form = QUESTIONS_BY_FORM[property.form];
   if (!form) return { question: null, words: say.unprovableForm(property.form) };
-  if (from) return { question: null, words: say.BEGINS_LATER };
+  if (from) return { question: null, words: say.STARTS_AFTER_POWER_ON };
   try {
     return { question: form(/** @type {Property & { condition: Condition }} */ (property), subject.names.board, subject), words: "" };
   } catch (thrown) {

@@ -3,7 +3,7 @@
 import { isSetting } from "../explore/campaign.js";
 
 /**
- * @typedef {import("./bounded_proof.js").JudgedLine} JudgedLine
+ * @typedef {import("./bounded_proof.js").PropertyVerdict} PropertyVerdict
  * @typedef {{ boardText: string, programText: string, propertiesText: string }} ProvedTexts
  */
 
@@ -27,7 +27,7 @@ function relevantSettings(lines, isProof) {
 
 /**
  * Returns whether a verdict on a property is still valid after the texts have changed.
- * @param {JudgedLine} judged
+ * @param {PropertyVerdict} judged
  * @param {ProvedTexts} oldTexts the texts to which the verdict applies
  * @param {ProvedTexts} newTexts
  */

@@ -91,11 +91,11 @@ export class DependentLanguage {
   dependencyError({ board, program }) {
     const missingFile = [board, program].find(({ text }) => text === null);
     const errorAtStart = (/** @type {string} */ words) => ({ number: 0, line: 1, from: 0, to: 0, words });
-    if (missingFile) return errorAtStart(say.neighbourMissing(decodeFileName(missingFile.uri)));
+    if (missingFile) return errorAtStart(say.dependencyMissing(decodeFileName(missingFile.uri)));
     const { faults } = this.prepareTexts({ boardText: board.text || "", programText: program.text || "" });
     if (faults.length === 0) return null;
     const [{ text, line }] = faults;
-    return errorAtStart(say.neighbourHasError(decodeFileName(text === "board" ? board.uri : program.uri), line));
+    return errorAtStart(say.dependencyHasError(decodeFileName(text === "board" ? board.uri : program.uri), line));
   }
 
   /**

@@ -1,7 +1,7 @@
 // Converts the errors in a text to diagnostics and quick fixes in the protocol's format.
 
 import { MAX_ERRORS } from "../bench/text_check_answers.js";
-import { STORED_LIMIT, TEXT_TOO_LONG } from "../text/sendable_text.js";
+import { MAX_STORED_LENGTH, TEXT_TOO_LONG } from "../text/sendable_text.js";
 import { rangeInLine } from "./lsp_protocol.js";
 import * as say from "../../words/server.js";
 
@@ -51,11 +51,11 @@ export function toDiagnostics(faults, isWhole) {
  * @returns {Fault | null}
  */
 export function lengthError({ lines, length }) {
-  if (length <= STORED_LIMIT) return null;
+  if (length <= MAX_STORED_LENGTH) return null;
   let [line, before] = [0, 0];
-  for (; before + lines[line].length < STORED_LIMIT; line++) before += lines[line].length + 1;
-  const message = say.textTooLong(STORED_LIMIT.toLocaleString("en"), length.toLocaleString("en"));
-  return { number: TEXT_TOO_LONG, line: line + 1, from: Math.max(0, STORED_LIMIT - before - 1), to: lines[line].length, words: message };
+  for (; before + lines[line].length < MAX_STORED_LENGTH; line++) before += lines[line].length + 1;
+  const message = say.textTooLong(MAX_STORED_LENGTH.toLocaleString("en"), length.toLocaleString("en"));
+  return { number: TEXT_TOO_LONG, line: line + 1, from: Math.max(0, MAX_STORED_LENGTH - before - 1), to: lines[line].length, words: message };
 }
 
 /**
@@ -78,7 +78,7 @@ function touchesRange({ line, from, to }, { start, end }) {
  */
 export function quickFixes(uri, faults, range) {
   return faults.filter((fault) => touchesRange(fault, range)).flatMap((fault) => {
-    const texts = fault.cures || [];
+    const texts = fault.quickFixTexts || [];
     return texts.map((newText) => ({
       title: say.write(newText),
       kind: "quickfix",

@@ -160,7 +160,7 @@ export class LanguageServer {
   didChange(params) {
     const text = this.requestedText(params);
     const changes = getField(params, "contentChanges");
-    if (!Array.isArray(changes)) throw new ProtocolError(INVALID_PARAMS, say.CHANGES_ARE);
+    if (!Array.isArray(changes)) throw new ProtocolError(INVALID_PARAMS, say.CONTENT_CHANGES_SYNTAX);
     // All changes are checked before the first change is applied.
     const edits = changes.map((change) => {
       const range = getField(change, "range");

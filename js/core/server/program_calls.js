@@ -6,14 +6,14 @@ import * as say from "../../words/server.js";
 
 /**
  * @typedef {import("../machine/source_map.js").SourceMap} SourceMap
- * @typedef {import("../text/routines.js").CallPlace} CallPlace
+ * @typedef {import("../text/routines.js").CallPosition} CallPosition
  * @typedef {import("./language.js").Call} Call
  * @typedef {import("./language.js").Lens} Lens
  * @typedef {import("./language.js").Routine} Routine
  * @typedef {import("./lsp_protocol.js").Range} Range
  */
 
-/** @type {(place: CallPlace) => Range} returns the range of a call in the text */
+/** @type {(place: CallPosition) => Range} returns the range of a call in the text */
 const callRange = ({ line, from, to }) => rangeInLine(line + 1, from, to);
 
 export class ProgramCalls {
@@ -40,7 +40,7 @@ export class ProgramCalls {
 
   /**
    * Returns calls in the protocol's format.
-   * @param {{ routine: import("../text/routines.js").Routine, places: CallPlace[] }[]} calls
+   * @param {{ routine: import("../text/routines.js").Routine, places: CallPosition[] }[]} calls
    * @returns {Call[]}
    */
   toCalls(calls) {

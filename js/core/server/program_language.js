@@ -6,7 +6,7 @@ import { SourceMap } from "../machine/source_map.js";
 import { TextErrorFinder } from "../text/text_error_finder.js";
 import { DIRECTIVES, findDefinedNames, splitStatement, tokenizeLine, wordAt } from "../text/assembly.js";
 import { PARTS } from "../text/folding.js";
-import { findLineChanges, findLayoutError, formatProgramLines } from "../text/program_format.js";
+import { findLineChanges, findLengthError, formatProgramLines } from "../text/program_format.js";
 import { findDefinition, findRenamingError, nameAt, findReferences } from "../text/references.js";
 import { sentText } from "../text/sendable_text.js";
 import { createHints } from "./inlay_hints.js";
@@ -245,7 +245,7 @@ export class ProgramLanguage {
    */
   format({ lines }, { start, end }, layout) {
     const newLines = formatProgramLines(lines, this.isHeadWord, layout);
-    const fault = findLayoutError(newLines);
+    const fault = findLengthError(newLines);
     if (fault !== "") throw new ProtocolError(REQUEST_FAILED, fault);
     return findLineChanges(lines, newLines).filter(({ line }) => start.line <= line && line <= end.line)
       .map(({ line, from, to, text }) => ({ range: rangeInLine(line + 1, from, to), newText: text }));

@@ -53,7 +53,7 @@ export class TestRuns {
     const { runNumber } = this;
     const { board, program, tests } = this.findDependencies(uri);
     const missingFile = [board, program].find((each) => each.text === null);
-    if (missingFile) return notRunResult(say.noFileBeside(decodeFileName(missingFile.uri)));
+    if (missingFile) return notRunResult(say.missingDependency(decodeFileName(missingFile.uri)));
     const sources = tests.map((each) => ({ name: each.uri, text: each.uri === uri ? text : each.text || "" }));
     const mayContinue = async () => {
       await this.pause();

@@ -3,7 +3,7 @@
 import { readBoard, parseRefusal } from "../bench/answers.js";
 import { readErrors, readWiring } from "../bench/text_check_answers.js";
 import { sentText } from "../text/sendable_text.js";
-import { ALL_ROMS, textRefusal, readProgram } from "../engine/program_check.js";
+import { ALL_ROMS, findSendingError, readProgram } from "../engine/program_check.js";
 
 /**
  * @typedef {import("../bench/answers.js").Refusal} Refusal
@@ -97,7 +97,7 @@ export class TextBench {
    * @param {string} sent the result of `sentText`
    */
   map(sent) {
-    if (textRefusal(sent)) return null;
+    if (findSendingError(sent)) return null;
     const { answers } = this.engine.ask(this.emptySession, `map\n${sent}.\n`);
     return parseRefusal(answers[0]) ? null : answers;
   }

@@ -1,8 +1,8 @@
 // Determines the kind of a text (program, board, tests, properties or project file), and finds its project, board and program.
 
-import { LONGEST_PROJECT_FILE, PROJECT_FILE, listNamedFiles, readProjectToml } from "../project/project_toml.js";
+import { MAX_PROJECT_TOML_BYTES, PROJECT_FILE, listNamedFiles, readProjectToml } from "../project/project_toml.js";
 import { readBoardText } from "../text/board_reader.js";
-import { STORED_LIMIT } from "../text/sendable_text.js";
+import { MAX_STORED_LENGTH } from "../text/sendable_text.js";
 import * as say from "../../words/server.js";
 
 /**
@@ -68,8 +68,8 @@ export function isProjectFile(uri) {
  */
 export function readProject(text) {
   const { length } = text;
-  if (length <= LONGEST_PROJECT_FILE) return readProjectToml(text);
-  return { names: null, faults: [{ number: 0, line: 1, from: 0, to: 0, words: say.tooLong(length, LONGEST_PROJECT_FILE) }] };
+  if (length <= MAX_PROJECT_TOML_BYTES) return readProjectToml(text);
+  return { names: null, faults: [{ number: 0, line: 1, from: 0, to: 0, words: say.tooLong(length, MAX_PROJECT_TOML_BYTES) }] };
 }
 
 /**
@@ -158,7 +158,7 @@ export function findDependencies(uri, readText) {
 export function isBoard({ uri, language, text }) {
   if ((!TOML_FILES.test(uri) && language !== "toml") || isProjectFile(uri)) return false;
   if (uri.endsWith("/board.toml")) return true;
-  if (text.length > STORED_LIMIT) return false;
+  if (text.length > MAX_STORED_LENGTH) return false;
   return readBoardText(text).entries.some(({ table }) => BOARD_TABLES.includes(table));
 }
 

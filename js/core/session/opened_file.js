@@ -5,7 +5,7 @@ import { readInputs } from "../bench/inputs.js";
 import { PROJECT_FILE } from "../project/project_toml.js";
 import { readSRecords } from "../bench/rom_formats.js";
 import { readBytes, readHex } from "../bench/rom_image.js";
-import { STORED_LIMIT } from "../text/sendable_text.js";
+import { MAX_STORED_LENGTH } from "../text/sendable_text.js";
 import { isProject } from "./project_file.js";
 import * as say from "../../words/session.js";
 
@@ -108,8 +108,8 @@ function readTextFile(name, text) {
   if (/^\s*S[0-9][0-9A-F]{8}/.test(text)) return { kind: "image", bytes: readSRecords(text) };
   const texts = readTexts(name, text);
   for (const each of [texts.board, texts.program, texts.tests, texts.properties]) {
-    if (each === null || each.length <= STORED_LIMIT) continue;
-    const [size, most] = [each.length, STORED_LIMIT].map((count) => count.toLocaleString("en"));
+    if (each === null || each.length <= MAX_STORED_LENGTH) continue;
+    const [size, most] = [each.length, MAX_STORED_LENGTH].map((count) => count.toLocaleString("en"));
     throw new UnusableFile(say.tooLong(size, most));
   }
   return { kind: "texts", texts };

@@ -5,7 +5,7 @@ import { checksum } from "./checksum.js";
 import { shortName } from "./names.js";
 import { hex } from "../bench/numbers.js";
 import { parseBreakpoint, limitBreakpoints, formatBreakpoints } from "../debug/breakpoint_lines.js";
-import { STORED_LIMIT } from "../text/sendable_text.js";
+import { MAX_STORED_LENGTH } from "../text/sendable_text.js";
 import * as say from "../../words/session.js";
 
 /**
@@ -46,9 +46,9 @@ export class TextTooLong extends InvalidProject {}
 export function tooLongMessage({ boardText, programText, testText = "", propertiesText = "" }) {
   const namedTexts = [[say.BOARD_TEXT, boardText], [say.SOURCE_TEXT, programText], [say.TESTS_TEXT, testText],
     [say.PROPERTIES_TEXT, propertiesText]];
-  const [what, text] = namedTexts.find(([, each]) => each.length > STORED_LIMIT) || namedTexts[0];
-  const [size, most] = [text.length, STORED_LIMIT].map((count) => count.toLocaleString("en"));
-  return text.length > STORED_LIMIT ? say.textTooLong(what, size, most) : "";
+  const [what, text] = namedTexts.find(([, each]) => each.length > MAX_STORED_LENGTH) || namedTexts[0];
+  const [size, most] = [text.length, MAX_STORED_LENGTH].map((count) => count.toLocaleString("en"));
+  return text.length > MAX_STORED_LENGTH ? say.textTooLong(what, size, most) : "";
 }
 
 // --- writing ---

@@ -18,9 +18,9 @@ import * as say from "../../words/testing.js";
  * A label that a JMS calls. `line` is its line, and `count` is how often the instruction at the label ran.
  * @typedef {{ label: string, line: number, count: number }} Subroutine
  *
- * The coverage of a program. `instructions` and `ways` are the total numbers of instructions and branch directions. `run` and `waysRun` are
+ * The coverage of a program. `instructions` and `ways` are the total numbers of instructions and branch directions. `run` and `directionsRun` are
  * how many of them were executed. `never` lists the lines that never ran.
- * @typedef {{ lines: LineCoverage[], instructions: number, run: number, ways: number, waysRun: number, never: LineRange[],
+ * @typedef {{ lines: LineCoverage[], instructions: number, run: number, ways: number, directionsRun: number, never: LineRange[],
  *   subroutines: Subroutine[] }} Coverage
  */
 
@@ -80,7 +80,7 @@ export function computeCoverage(recorder, map) {
     instructions: lines.length,
     run: lines.filter(({ count }) => count > 0).length,
     ways: 2 * jumps.length,
-    waysRun: jumps.reduce((sum, { taken, count }) => sum + Number(taken > 0) + Number(count > taken), 0),
+    directionsRun: jumps.reduce((sum, { taken, count }) => sum + Number(taken > 0) + Number(count > taken), 0),
   };
 }
 
@@ -88,8 +88,8 @@ export function computeCoverage(recorder, map) {
  * Returns a coverage summary such as `20 of 21 instructions were run (95.2 %)`.
  * @param {Coverage} coverage
  */
-export function formatCoverageSummary({ instructions, run, ways, waysRun }) {
+export function formatCoverageSummary({ instructions, run, ways, directionsRun }) {
   /** @type {(part: number, all: number) => string} */
   const percent = (part, all) => (all > 0 ? ` (${formatTenths((100 * part) / all)} %)` : "");
-  return say.coverageSummary([run, instructions, waysRun, ways], percent(run, instructions), percent(waysRun, ways));
+  return say.coverageSummary([run, instructions, directionsRun, ways], percent(run, instructions), percent(directionsRun, ways));
 }

@@ -66,7 +66,7 @@ const formatRecord = (name, values) => `${name}:${values.join(",")}`;
  * @param {Coverage} coverage
  * @param {{ name: string, before: number }} program the file name, and the number of lines before the program in the file
  */
-export function lcovText({ lines, subroutines, instructions, run, ways, waysRun }, { name, before }) {
+export function lcovText({ lines, subroutines, instructions, run, ways, directionsRun }, { name, before }) {
   const branches = lines.filter(({ isJump }) => isJump).flatMap(({ line, count, taken }) => (
     [taken, count - taken].map((times, way) => formatRecord("BRDA", [line + before, 0, way, count > 0 ? times : "-"]))));
   return `${[
@@ -74,7 +74,7 @@ export function lcovText({ lines, subroutines, instructions, run, ways, waysRun 
     ...subroutines.map(({ line, label }) => formatRecord("FN", [line + before, label])),
     ...subroutines.map(({ count, label }) => formatRecord("FNDA", [count, label])),
     formatRecord("FNF", [subroutines.length]), formatRecord("FNH", [subroutines.filter(({ count }) => count > 0).length]),
-    ...branches, formatRecord("BRF", [ways]), formatRecord("BRH", [waysRun]),
+    ...branches, formatRecord("BRF", [ways]), formatRecord("BRH", [directionsRun]),
     ...lines.map(({ line, count }) => formatRecord("DA", [line + before, count])),
     formatRecord("LF", [instructions]), formatRecord("LH", [run]), "end_of_record",
   ].join("\n")}\n`;

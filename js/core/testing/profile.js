@@ -10,9 +10,9 @@
  * label. The code before the first label has a row with the label "" and the address -1.
  * @typedef {{ label: string, address: number, own: number, calls: CallCounts | null }} ProfileRow
  *
- * A profile. `total` is the number of all cycles. `rows` has a row for each label, and `keys` has one for each pressed key. `begunBefore`
+ * A profile. `total` is the number of all cycles. `rows` has a row for each label, and `keys` has one for each pressed key. `earlierInstructionCycles`
  * is the number of cycles of instructions that had started before a test.
- * @typedef {{ total: number, rows: ProfileRow[], begunBefore: number, keys: (KeyTimes & { key: string })[] }} Profile
+ * @typedef {{ total: number, rows: ProfileRow[], earlierInstructionCycles: number, keys: (KeyTimes & { key: string })[] }} Profile
  */
 
 /**
@@ -38,5 +38,5 @@ export function computeProfile({ cycleCounts, calls, keys, total, incompleteCycl
     rows[at].own += cycles;
   });
   const shown = rows.filter((row) => row.own > 0).sort((one, other) => other.own - one.own);
-  return { total, rows: shown, begunBefore: incompleteCycles, keys: [...keys].map(([key, times]) => ({ key, ...times })) };
+  return { total, rows: shown, earlierInstructionCycles: incompleteCycles, keys: [...keys].map(([key, times]) => ({ key, ...times })) };
 }

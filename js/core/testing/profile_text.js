@@ -46,7 +46,7 @@ function formatKeyRow({ key, presses, answered, first, last }) {
  * Returns the profile as a table.
  * @param {Profile} profile
  */
-export function profileText({ total, rows, begunBefore, keys }) {
+export function profileText({ total, rows, earlierInstructionCycles, keys }) {
   const [label, at, own, percent, calls, withCalls, longest] = say.PROFILE_HEAD;
   const head = [label.padEnd(LABEL_WIDTH), at.padEnd(4), cell(own, 10), cell(percent, 6), cell(calls, 9), cell(withCalls, 10),
     cell(longest, 10)].join(" ");
@@ -54,7 +54,7 @@ export function profileText({ total, rows, begunBefore, keys }) {
   const keysHead = `${key.padEnd(LABEL_WIDTH)} ${cell(presses, 9)} ${cell(answered, 9)} ${cell(first, 24)} ${cell(last, 24)}`;
   return `${[
     say.cyclesInTime(total, formatMilliseconds(total)), "", head, ...rows.map((row) => formatLabelRow(row, total)),
-    ...(begunBefore > 0 ? [`${say.BEGUN_BEFORE.padEnd(PLACE_WIDTH)} ${formatShare(begunBefore, total)}`] : []),
+    ...(earlierInstructionCycles > 0 ? [`${say.BEGUN_BEFORE.padEnd(PLACE_WIDTH)} ${formatShare(earlierInstructionCycles, total)}`] : []),
     ...(keys.length > 0 ? ["", keysHead, ...keys.map(formatKeyRow)] : []),
   ].join("\n")}\n`;
 }

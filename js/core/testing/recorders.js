@@ -24,7 +24,7 @@ import { instructionCycles, isCall, isReturn, jumpTarget } from "../engine/rom_c
  */
 
 /** The maximum number of open calls: a 4004 stores three return addresses. */
-export const MOST_LEVELS = 3;
+export const MAX_CALL_DEPTH = 3;
 
 export class ExecutionRecorder {
   /** @param {Uint8Array} codes the contents of ROM */
@@ -119,7 +119,7 @@ export class ExecutionRecorder {
       const { cycles, address } = parseTraceLine(line);
       const code = this.codes[address];
       if (isCall(code)) {
-        if (this.openCalls.length === MOST_LEVELS) this.openCalls.shift();
+        if (this.openCalls.length === MAX_CALL_DEPTH) this.openCalls.shift();
         this.openCalls.push({ at: jumpTarget(this.codes, address), startTime: elapsed + cycles + 2 });
       } else if (isReturn(code) && this.openCalls.length > 0) this.endInnermostCall(elapsed + cycles + 1);
     }

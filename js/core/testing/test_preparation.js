@@ -28,7 +28,7 @@ import { romCodes } from "../engine/rom_codes.js";
  * @returns {TextFault[]}
  */
 export function findNameErrors(face, board) {
-  const nameErrors = [...face.faults, ...missingParts(face, board)].filter(({ isRefused }) => isRefused);
+  const nameErrors = [...face.faults, ...missingParts(face, board)].filter(({ isFatal }) => isFatal);
   return nameErrors.map(({ line, words }) => ({ text: "board", line, number: 0, words }));
 }
 

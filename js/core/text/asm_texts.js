@@ -3,7 +3,7 @@
 
 import { formatQuantity, hex, indices } from "../bench/numbers.js";
 import { PAGE_NUMBERS, PAGE_BYTES } from "../bench/rom_bytes.js";
-import { LONGEST_TEXT } from "./sendable_text.js";
+import { MAX_SENT_LENGTH } from "./sendable_text.js";
 import * as say from "../../words/text.js";
 
 /**
@@ -89,11 +89,11 @@ export function createByteTexts(bytes) {
     return { text, pages: [at, end - 1].map(romNumber) };
   });
   const wholeText = lines.map(({ text }) => text).join("");
-  if (wholeText.length <= LONGEST_TEXT) return [wholeText];
+  if (wholeText.length <= MAX_SENT_LENGTH) return [wholeText];
   /** @type {{ text: string, pages: Set<number> }[]} */
   const texts = [{ text: "", pages: new Set() }];
   for (const { text, pages } of lines) {
-    if (texts[texts.length - 1].text.length + text.length > LONGEST_TEXT - RESERVED_LENGTH) texts.push({ text: "", pages: new Set() });
+    if (texts[texts.length - 1].text.length + text.length > MAX_SENT_LENGTH - RESERVED_LENGTH) texts.push({ text: "", pages: new Set() });
     const last = texts[texts.length - 1];
     last.text += text;
     for (const page of pages) last.pages.add(page);
@@ -112,7 +112,7 @@ export function programTexts(program, addresses) {
   const texts = [program];
   for (const piece of clearingTexts(addresses)) {
     // The program comes first in its text, so that its line numbers do not change.
-    if (texts[0].length + piece.length <= LONGEST_TEXT) texts[0] += piece;
+    if (texts[0].length + piece.length <= MAX_SENT_LENGTH) texts[0] += piece;
     else texts.unshift(piece);
   }
   return texts;

@@ -204,8 +204,8 @@ class BoardErrorText {
     const message = section === "" ? say.noPart(name, instead) : say.noKeyOf(name, section, instead);
     const place = key || entry;
     const fault = place ? faultAt(UNKNOWN_KEY, place, message) : this.createLineFault(message);
-    const cures = key ? suggestions : suggestions.map(formatHeader);
-    return cures.length > 0 && place ? { ...fault, cures } : fault;
+    const quickFixTexts = key ? suggestions : suggestions.map(formatHeader);
+    return quickFixTexts.length > 0 && place ? { ...fault, quickFixTexts } : fault;
   }
 
   /**

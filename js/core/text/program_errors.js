@@ -36,8 +36,8 @@ function createFault(source, lineNumber, error, number, messageFor) {
   const code = source.slice(0, splitStatement(source).comment);
   const from = code.length - code.trimStart().length;
   const range = error && error.word ? { from: error.word.from, to: error.word.to } : { from, to: Math.max(from, code.trimEnd().length) };
-  const cures = error && error.word && error.cures ? { cures: error.cures } : {};
-  return { number, line: lineNumber, ...range, words: error ? error.words : messageFor(number), ...cures };
+  const quickFixTexts = error && error.word && error.quickFixTexts ? { quickFixTexts: error.quickFixTexts } : {};
+  return { number, line: lineNumber, ...range, words: error ? error.words : messageFor(number), ...quickFixTexts };
 }
 
 /**
@@ -103,7 +103,7 @@ export function findMissingRoms(lines, map, roms) {
  * @param {string} program
  * @param {AllFaults} found
  */
-export function isNoProgram(program, { faults, isWhole }) {
+export function isProbablyNotProgram(program, { faults, isWhole }) {
   const wrongLines = new Set(faults.map(({ line }) => line));
   const last = isWhole ? Infinity : Math.max(0, ...wrongLines);
   /** @type {(text: string) => boolean} */

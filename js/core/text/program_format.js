@@ -2,7 +2,7 @@
 // tabs, and only in lines with a valid form, so the assembled bytes stay the same.
 
 import { MAX_LINE_LENGTH } from "../bench/inputs.js";
-import { STORED_LIMIT, LONGEST_TEXT, sentText, trimBlanks } from "./sendable_text.js";
+import { MAX_STORED_LENGTH, MAX_SENT_LENGTH, sentText, trimBlanks } from "./sendable_text.js";
 import * as say from "../../words/text.js";
 
 /**
@@ -145,11 +145,11 @@ export function formatProgramLines(lines, canStartStatement, layout) {
  * Returns an error message if the formatted text is too long; otherwise "".
  * @param {string[]} lines
  */
-export function findLayoutError(lines) {
+export function findLengthError(lines) {
   const text = lines.join("\n");
   const sent = sentText(text, ";").length;
-  if (sent > LONGEST_TEXT) return say.layoutTooLong(LONGEST_TEXT.toLocaleString("en"), sent.toLocaleString("en"));
-  return text.length > STORED_LIMIT ? say.layoutTooLong(STORED_LIMIT.toLocaleString("en"), text.length.toLocaleString("en")) : "";
+  if (sent > MAX_SENT_LENGTH) return say.layoutTooLong(MAX_SENT_LENGTH.toLocaleString("en"), sent.toLocaleString("en"));
+  return text.length > MAX_STORED_LENGTH ? say.layoutTooLong(MAX_STORED_LENGTH.toLocaleString("en"), text.length.toLocaleString("en")) : "";
 }
 
 /**

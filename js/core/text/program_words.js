@@ -13,8 +13,8 @@ import * as say from "../../words/text.js";
  * The known words: the instructions by mnemonic, and the names that the program defines, with their line numbers.
  * @typedef {{ instructions: Map<string, Instruction>, names: Map<string, number> }} KnownWords
  *
- * An error: the wrong word, the message, and replacements for the word that fix the error (`cures`).
- * @typedef {{ word: Word | null, words: string, cures?: string[] }} WordError
+ * An error: the wrong word, the message, and replacements for the word that fix the error (`quickFixTexts`).
+ * @typedef {{ word: Word | null, words: string, quickFixTexts?: string[] }} WordError
  */
 
 /**
@@ -85,11 +85,11 @@ function numberFixes(text) {
  * Creates an error, with replacements if there are any.
  * @param {Word | null} word
  * @param {string} words
- * @param {string[]} cures
+ * @param {string[]} quickFixTexts
  * @returns {WordError}
  */
-function createError(word, words, cures) {
-  return cures.length > 0 ? { word, words, cures } : { word, words };
+function createError(word, words, quickFixTexts) {
+  return quickFixTexts.length > 0 ? { word, words, quickFixTexts } : { word, words };
 }
 
 /**
@@ -151,7 +151,7 @@ function findHeadError({ label, operands }, head, { instructions }) {
   const upperCaseWord = head.text.toUpperCase();
   if (upperCaseWord === "WPM") return { word: head, words: say.NO_WPM };
   const definition = operands.length === 1 && NAME.test(head.text) && /^(?:EQU|SET)\s+(.*)$/i.exec(operands[0].text);
-  if (definition) return { word: operands[0], words: say.nameGetsNumber(head.text, definition[1]), cures: [`= ${definition[1]}`] };
+  if (definition) return { word: operands[0], words: say.nameGetsNumber(head.text, definition[1]), quickFixTexts: [`= ${definition[1]}`] };
   const replacement = say.OTHER_ASSEMBLER_WORDS.get(upperCaseWord);
   const isName = !label && NAME.test(head.text);
   if (isName && operands.length > 0 && canStartStatement(operands[0].text.split(/\s/)[0], instructions)) {
@@ -274,8 +274,8 @@ function findUnknownName({ operands }, { names }) {
   if (!word) return null;
   const similar = findSimilarWords(word.text, names.keys());
   const isHex = /^[0-9A-Fa-f]+$/.test(word.text) && similar.length === 0;
-  const cures = isHex ? [`0x${word.text.toUpperCase()}`] : similar;
-  return createError(word, say.notDefined(word.text, cures.length > 0 ? formatSuggestion(cures) : ""), cures);
+  const quickFixTexts = isHex ? [`0x${word.text.toUpperCase()}`] : similar;
+  return createError(word, say.notDefined(word.text, quickFixTexts.length > 0 ? formatSuggestion(quickFixTexts) : ""), quickFixTexts);
 }
 
 /**

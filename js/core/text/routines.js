@@ -13,7 +13,7 @@ import { findDefinedNames, splitStatement } from "./assembly.js";
  * @typedef {{ head: string, target: number }} Statement
  *
  * The position of a call: its line, and the columns of the target in this line.
- * @typedef {{ line: number, from: number, to: number }} CallPlace
+ * @typedef {{ line: number, from: number, to: number }} CallPosition
  */
 
 const PATH_ENDS = new Set(["BBL", "JIN", "JUN", "DB", "ORG"]);
@@ -148,7 +148,7 @@ export class Routines {
   /**
    * Returns the routines that a routine calls, with the positions of the calls.
    * @param {Routine} routine
-   * @returns {{ routine: Routine, places: CallPlace[] }[]}
+   * @returns {{ routine: Routine, places: CallPosition[] }[]}
    */
   called(routine) {
     const calls = this.callsIn(this.reachedLines(routine.line));
@@ -173,10 +173,10 @@ export class Routines {
   /**
    * Returns the routines that call a routine, with the positions of the calls.
    * @param {Routine} routine
-   * @returns {{ routine: Routine, places: CallPlace[] }[]}
+   * @returns {{ routine: Routine, places: CallPosition[] }[]}
    */
   callers({ line: callee }) {
-    /** @type {Map<number, { routine: Routine, places: CallPlace[] }>} */
+    /** @type {Map<number, { routine: Routine, places: CallPosition[] }>} */
     const callersByLine = new Map();
     for (const call of this.callsIn(this.statements.keys())) {
       if (call.target !== callee) continue;

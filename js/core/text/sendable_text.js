@@ -10,17 +10,17 @@ import * as say from "../../words/text.js";
  * @typedef {{ from: number, to: number }} Lines
  *
  * An error in a text. `number` is the refusal number (0 for none), `line` the line number from 1, and `words` the message. `from` and `to`
- * are the columns of the error. Each text in `cures` fixes the error if it replaces these columns.
- * @typedef {{ number: number, line: number, from: number, to: number, words: string, cures?: string[] }} Fault
+ * are the columns of the error. Each text in `quickFixTexts` fixes the error if it replaces these columns.
+ * @typedef {{ number: number, line: number, from: number, to: number, words: string, quickFixTexts?: string[] }} Fault
  *
  * The character that starts a comment in a program (`;`) and in a board text (`#`).
  * @typedef {";" | "#"} CommentMark
  */
 
 /** The maximum length of a sent text in characters, including one line feed per line. */
-export const LONGEST_TEXT = 16384;
+export const MAX_SENT_LENGTH = 16384;
 /** The maximum length of a text with comments and indentation, in characters. */
-export const STORED_LIMIT = 65536;
+export const MAX_STORED_LENGTH = 65536;
 /** The refusal number for a text that is too long. */
 export const TEXT_TOO_LONG = 13;
 
@@ -179,12 +179,12 @@ function canSendLines(text, sentLines) {
 export function findLineFaults(text, mark) {
   const sent = sentText(text, mark);
   const sentLines = sent.split("\n");
-  if (sent.length <= LONGEST_TEXT && canSendLines(text, sentLines)) return [];
+  if (sent.length <= MAX_SENT_LENGTH && canSendLines(text, sentLines)) return [];
   const lines = alignedText(text, mark).split("\n");
   const faults = lines.map((line, at) => findLineFault(line, sentLines[at], at + 1)).filter((fault) => fault !== null);
-  if (sent.length > LONGEST_TEXT) {
-    const last = sent.slice(0, LONGEST_TEXT).split("\n").length;
-    const message = say.textTooLong(LONGEST_TEXT.toLocaleString("en"), sent.length.toLocaleString("en"));
+  if (sent.length > MAX_SENT_LENGTH) {
+    const last = sent.slice(0, MAX_SENT_LENGTH).split("\n").length;
+    const message = say.textTooLong(MAX_SENT_LENGTH.toLocaleString("en"), sent.length.toLocaleString("en"));
     faults.push({ number: TEXT_TOO_LONG, line: last, from: 0, to: lines[last - 1].length, words: message });
   }
   return /** @type {Fault[]} */ (faults);

@@ -32,7 +32,7 @@ const LAST_TEXT_REFUSAL = 42;
  * Returns the given refusal if it concerns a text; otherwise null.
  * @param {Refusal | null} refusal
  */
-export function keepTextRefusal(refusal) {
+export function textRefusalOrNull(refusal) {
   return refusal && refusal.number <= LAST_TEXT_REFUSAL ? refusal : null;
 }
 

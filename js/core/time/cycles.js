@@ -12,7 +12,7 @@ import * as say from "../../words/time.js";
  */
 
 /** @type {StoredCycles} */
-export const NO_CYCLES = { total: 0, reset: 0, from: 0, marks: [] };
+export const ZERO_COUNTS = { total: 0, reset: 0, from: 0, marks: [] };
 
 /**
  * Returns the time that a number of cycles takes, such as `5.810 ms`.
@@ -33,7 +33,7 @@ export function formatCycles(cycles) {
 
 export class Cycles {
   /** @param {StoredCycles} [storedCounts] */
-  constructor(storedCounts = NO_CYCLES) {
+  constructor(storedCounts = ZERO_COUNTS) {
     const { total, reset, from, marks } = storedCounts;
     this.total = total;
     this.reset = reset;

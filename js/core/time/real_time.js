@@ -4,11 +4,11 @@
 import { CYCLES_PER_SECOND, FRAME_MS } from "./mcs4_time.js";
 
 /** The maximum number of cycles per frame. A browser that is too slow skips the cycles above this number. */
-export const MAX_DUE = 20000;
+export const MAX_CYCLES_PER_FRAME = 20000;
 /** The maximum time by which a key press is simulated early, in milliseconds: one frame, because lamps change only once per frame. */
-export const MAX_AHEAD = FRAME_MS;
+export const MAX_EARLY_MS = FRAME_MS;
 /** The minimum time between two frames that counts as a gap, in milliseconds. */
-export const LONG_GAP = 1000;
+export const MIN_GAP_MS = 1000;
 
 export class RealTime {
   /**
@@ -59,7 +59,7 @@ export class RealTime {
     const { wasHidden } = this;
     const gap = wall - this.lastWall;
     this.lastWall = wall;
-    if (!wasHidden && gap < LONG_GAP) return null;
+    if (!wasHidden && gap < MIN_GAP_MS) return null;
     this.restart(now, wall);
     return { gap, wasHidden };
   }
@@ -72,7 +72,7 @@ export class RealTime {
   takeDueCycles(now, earlyTime = 0) {
     this.owed += (Math.max(0, now - this.lastFrame) / 1000) * this.perSecond;
     this.lastFrame = Math.max(now, this.lastFrame);
-    if (this.owed > MAX_DUE) this.owed = MAX_DUE;
+    if (this.owed > MAX_CYCLES_PER_FRAME) this.owed = MAX_CYCLES_PER_FRAME;
     const due = Math.max(0, Math.floor(this.owed + (earlyTime / 1000) * this.perSecond));
     this.owed -= due;
     return due;

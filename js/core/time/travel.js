@@ -1,6 +1,6 @@
 // Moves a session backwards or forwards in time to a goal, and shows a message about each move.
 
-import { wordsOfGone } from "../../words/stops.js";
+import { describeTimeTravel } from "../../words/stops.js";
 import * as say from "../../words/time.js";
 
 /**
@@ -69,13 +69,13 @@ export class Travel {
     await this.calls.pause();
     if (goal.kind === "when") await this.bench.call("takeNames", [this.calls.texts()]);
     const result = await this.calls.change(say.REPEATING_PAST, (ways) => this.bench.call("goBack", [goal], ways));
-    if (result) this.calls.showMessage(wordsOfGone(goal, result, this.calls.where(), this.calls.breakpoint(result.id)));
+    if (result) this.calls.showMessage(describeTimeTravel(goal, result, this.calls.where(), this.calls.breakpoint(result.id)));
   }
 
   /** Moves forward again after a move back in time. */
   async goForward() {
     await this.calls.pause();
     const result = await this.calls.change(say.GOING_FORWARD, () => this.bench.call("goForward", []));
-    if (result) this.calls.showMessage(wordsOfGone({ kind: "forward" }, result, this.calls.where()));
+    if (result) this.calls.showMessage(describeTimeTravel({ kind: "forward" }, result, this.calls.where()));
   }
 }

@@ -11,13 +11,13 @@ import * as say from "../../words/waves.js";
  *
  * The settings of a recording. `most` is its maximum length in cycles. `behind` is the number of cycles to record after the trigger.
  * `trigger` is the text of the trigger; "" for none. `stopsTime` is true if the session pauses when the recording ends.
- * @typedef {{ most: number, behind: number, trigger: string, stopsTime: boolean }} LiveChoice
+ * @typedef {{ most: number, behind: number, trigger: string, stopsTime: boolean }} RecordingSettings
  */
 
 export class LiveWaves {
   /**
    * @param {Recording} recorded the first part of the recording
-   * @param {LiveChoice} choice
+   * @param {RecordingSettings} choice
    */
   constructor(recorded, choice) {
     this.waves = new Waves(recorded);

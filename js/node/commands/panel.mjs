@@ -120,7 +120,7 @@ async function runPanel(terminal, panel) {
   terminal.begin(() => panel.snapshot.forgetListing());
   await panel.begin();
   for (let nextFrameTime = performance.now(); !panel.isEnded && !terminal.isGone;) {
-    await panel.keepTime(performance.now());
+    await panel.keepRealTime(performance.now());
     await drawFrame(terminal, panel, screen);
     nextFrameTime = Math.max(nextFrameTime + FRAME_INTERVAL, performance.now());
     await handleKeys(terminal, panel, nextFrameTime);

@@ -3,7 +3,7 @@ import { parseRefusal } from "../../core/bench/answers.js";
 import { hex, parseNumber } from "../../core/bench/numbers.js";
 import { ADDRESS_COUNT, MAX_LISTING_LINES, NO_BYTE, parseRomBytes } from "../../core/bench/rom_bytes.js";
 import { detectFormat, readBnpf, readSRecords, writeBnpf } from "../../core/bench/rom_formats.js";
-import { NotARecord, NotAnImage, readBytes, readHex, writeHex } from "../../core/bench/rom_image.js";
+import { RecordError, ImageError, readBytes, readHex, writeHex } from "../../core/bench/rom_image.js";
 import { createByteTexts } from "../../core/text/asm_texts.js";
 import * as say from "../../words/commands.js";
 import { checkArguments } from "../arguments.mjs";
@@ -57,8 +57,8 @@ function printLoadLines(givenFormat, words) {
   try {
     print(createByteTexts(parseImage(form, file, address)).map((text) => `asm\n${text}.\n`).join(""));
   } catch (error) {
-    if (!(error instanceof NotAnImage)) throw error;
-    const hint = givenFormat === null && error instanceof NotARecord && error.message.startsWith("line 1:") ? say.IS_IT_BINARY : "";
+    if (!(error instanceof ImageError)) throw error;
+    const hint = givenFormat === null && error instanceof RecordError && error.message.startsWith("line 1:") ? say.IS_IT_BINARY : "";
     throw new CommandError(`${name}: ${error.message}${hint}`);
   }
 }

@@ -2,7 +2,7 @@
 import { MAX_LINE_LENGTH, joinLines } from "../../core/bench/inputs.js";
 import { DEFAULT_PACE } from "../../core/testing/press_lines.js";
 import { prepareTests } from "../../core/testing/test_preparation.js";
-import { LONGEST_TEXT, alignedText, sentText } from "../../core/text/sendable_text.js";
+import { MAX_SENT_LENGTH, alignedText, sentText } from "../../core/text/sendable_text.js";
 import { CYCLES_BEFORE_KEYS } from "../../core/time/mcs4_time.js";
 import { checkArguments, findProject } from "../arguments.mjs";
 import { makeKeyLines } from "../board_file.mjs";
@@ -17,7 +17,7 @@ import { printFile } from "../output.mjs";
  */
 function textForBench(text, mark) {
   const fullText = alignedText(text, mark);
-  const isTooLong = fullText.length > LONGEST_TEXT || fullText.split("\n").some((line) => line.length > MAX_LINE_LENGTH);
+  const isTooLong = fullText.length > MAX_SENT_LENGTH || fullText.split("\n").some((line) => line.length > MAX_LINE_LENGTH);
   return isTooLong ? sentText(text, mark) : fullText;
 }
 

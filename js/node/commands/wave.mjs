@@ -4,7 +4,7 @@ import { hasOutput } from "../../core/board/face_board.js";
 import { Face } from "../../core/board/face.js";
 import { romCodes } from "../../core/engine/rom_codes.js";
 import { copyWithoutStops } from "../../core/engine/free_running_copy.js";
-import { neededLines, recordPieces } from "../../core/engine/wave_stream.js";
+import { linesWithMembers, recordPieces } from "../../core/engine/wave_stream.js";
 import { findNameErrors, wireBoard } from "../../core/testing/test_preparation.js";
 import { UnknownLineError, chooseLines, listRequestableNames } from "../../core/waves/line_choice.js";
 import { VcdText } from "../../core/waves/vcd.js";
@@ -104,7 +104,7 @@ function reportStop({ isStuck, cycles }, wantedCycles) {
 async function printVcd(openedSession, cycles, words) {
   const { engine, state, board, program } = openedSession;
   const choice = convertLineErrors(() => chooseLines(board, readBoardText(openedSession), program !== null, words));
-  const { lines, chosen } = neededLines(choice.lines, choice.chosen);
+  const { lines, chosen } = linesWithMembers(choice.lines, choice.chosen);
   /** @type {VcdText | null} */
   let text = null;
   for await (const waves of recordPieces(engine, state, { lines, program, cycles }, yieldToMessages)) {
@@ -147,7 +147,7 @@ async function writeWav(openedSession, cycles, word, name) {
   const { engine, state, board } = openedSession;
   const line = buzzerLine(openedSession, word);
   const choice = convertLineErrors(() => chooseLines(board, "", false, [line]));
-  const { lines, chosen } = neededLines(choice.lines, choice.chosen);
+  const { lines, chosen } = linesWithMembers(choice.lines, choice.chosen);
   const edges = [];
   let [level, recordedCycles] = [-1, 0];
   for await (const waves of recordPieces(engine, state, { lines, program: null, cycles }, yieldToMessages)) {

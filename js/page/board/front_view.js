@@ -2,7 +2,7 @@
 
 import { keyHint, boardKeys } from "../../core/board/board_keys.js";
 import { Brightness } from "../../core/board/brightness.js";
-import { EYE_MS } from "../../core/time/mcs4_time.js";
+import { EYE_PERSISTENCE_MS } from "../../core/time/mcs4_time.js";
 import { DisplayView } from "./display_view.js";
 import { Cell, block, button, element, makeFirstTabStop, makeOneTabStop, pressedSwitch } from "../ui/dom.js";
 import { Face, moreErrors, sortByLine } from "../../core/board/face.js";
@@ -29,7 +29,7 @@ function isEmptyBoard({ roms, banks, chains, lamps }) {
   return [roms, banks, chains, lamps].every((components) => components.length === 0);
 }
 
-const AVERAGED_BRIGHTNESS_TEXT = say.averagedBrightness(EYE_MS);
+const AVERAGED_BRIGHTNESS_TEXT = say.averagedBrightness(EYE_PERSISTENCE_MS);
 
 /** The maximum length of a key legend in large letters. */
 const MAX_LARGE_LEGEND_LENGTH = 4;

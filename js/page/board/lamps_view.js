@@ -3,7 +3,7 @@
 
 import { block, element } from "../ui/dom.js";
 import { perceivedBrightness } from "../../core/board/brightness.js";
-import { fittingGroups, isScanned, looseLamps } from "../../core/board/face_board.js";
+import { fittingGroups, isScanned, lampsOutsideGroups } from "../../core/board/face_board.js";
 import { lampAt, scannedLampAt } from "../../core/board/lamp_state.js";
 import { indices } from "../../core/bench/numbers.js";
 import * as say from "../../words/board.js";
@@ -102,7 +102,7 @@ export class LampsView {
       isScanned(group) ? this.drawScanned(group, scannedCount++) : this.drawGroup(group)));
     if (grid.length > 0) groupNodes.push(this.drawGrid(grid));
     block("groups").replaceChildren(...groupNodes);
-    block("lamps").replaceChildren(...this.drawRows(looseLamps(face, lines.length)));
+    block("lamps").replaceChildren(...this.drawRows(lampsOutsideGroups(face, lines.length)));
   }
 
   /** @param {number} index */

@@ -6,7 +6,7 @@ import { Switch, block, element } from "../ui/dom.js";
 import { indices } from "../../core/bench/numbers.js";
 import { svgElement } from "../ui/svg.js";
 import { pathText, routeWire } from "../../core/board/wire_routes.js";
-import { TITLE_HEIGHT, drawBoard, isHigh, isHighAtRom } from "../../core/board/wiring.js";
+import { TITLE_HEIGHT, layOutBoard, isHigh, isHighAtRom } from "../../core/board/wiring.js";
 import * as say from "../../words/board.js";
 
 /**
@@ -95,7 +95,7 @@ export class WiringView {
    *   `isWired`: true if the bench uses this board, so that its lines have levels
    */
   draw(board, appearance, { moved, isWired }) {
-    const { parts, wires, ...size } = drawBoard(board, appearance, moved);
+    const { parts, wires, ...size } = layOutBoard(board, appearance, moved);
     const [width, height] = [Math.max(MIN_WIDTH, size.width), Math.max(MIN_HEIGHT, size.height)];
     const focusedName = document.activeElement instanceof Element ? this.nameAt(document.activeElement) : "";
     this.items.clear();

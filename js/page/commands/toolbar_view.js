@@ -43,7 +43,7 @@ export class ToolbarView {
     this.executeCommand = () => {};
     this.runWord = element("span", { className: "word" });
     this.runButtons = Object.entries(RUN_BUTTON_IDS).map(([command, id]) => (
-      this.button(commandById(command), { id, tip: say.TIPS[command] })));
+      this.button(commandById(command), { id, tip: say.TOOLTIPS[command] })));
     this.run = this.runButtons[1];
     this.run.classList.add("primary");
     this.showRunning(false);
@@ -67,7 +67,7 @@ export class ToolbarView {
   button(command, { id, tip, isWide = false }) {
     const { icon: name, words, keys } = command;
     const node = element("button", { id, type: "button", className: "tool" }, ...(name ? [icon(name)] : []));
-    if (isWide) node.append(element("span", { className: "word" }, say.SHORT[command.id] || words));
+    if (isWide) node.append(element("span", { className: "word" }, say.SHORT_LABELS[command.id] || words));
     node.setAttribute("aria-label", words);
     if (keys.length > 0) node.setAttribute("aria-keyshortcuts", keys.map((key) => key.replace("Ctrl+", "Control+")).join(" "));
     onClick(node, () => this.executeCommand(command));

@@ -106,7 +106,7 @@ export class DrawingController {
   /** @param {DrawingState} state */
   show(state) {
     this.view.show(state);
-    if (this.drawing.movedParts.takeNews()) this.storePlaces();
+    if (this.drawing.movedParts.takeChanges()) this.storePlaces();
     this.input.setWire(state.wireStart, state.ends);
   }
 

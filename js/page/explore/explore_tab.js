@@ -4,10 +4,10 @@ import { formatErrorCount } from "../../core/bench/error_messages.js";
 import { Cell, button, field, onClick } from "../ui/dom.js";
 import { TextTab } from "../text/text_tab.js";
 import { completeProperty, createFirstProperties, helpForProperty, propertyForms } from "../../core/text/property_words.js";
-import { wordsOfFaults } from "../../words/test_results.js";
+import { textErrorsMessage } from "../../words/test_results.js";
 import { ExploreView } from "./explore_view.js";
 import { Proofs } from "../prove/proofs.js";
-import { markOfReport, wordsOfEnd, wordsSoFar } from "../../words/explore_results.js";
+import { reportTabMark, finalSummary, progressSummary } from "../../words/explore_results.js";
 import * as say from "../../words/explore.js";
 
 /**
@@ -129,7 +129,7 @@ export class ExploreTab {
   showMark(count) {
     const { currentResults } = this;
     this.faultCount = count;
-    const reportMark = currentResults && currentResults.report ? markOfReport(currentResults.report) : "";
+    const reportMark = currentResults && currentResults.report ? reportTabMark(currentResults.report) : "";
     if (count > 0) this.calls.showMark(formatErrorCount(count));
     else this.calls.showMark(reportMark || this.proofs.mark, reportMark === "" && this.proofs.isGood);
   }
@@ -195,7 +195,7 @@ export class ExploreTab {
    */
   describeSearch(currentResults, isRunning) {
     const report = currentResults && currentResults.report;
-    if (report) return isRunning ? wordsSoFar(report) : wordsOfEnd(report, currentResults.isStopped);
+    if (report) return isRunning ? progressSummary(report) : finalSummary(report, currentResults.isStopped);
     return isRunning ? say.BEGINS : "";
   }
 
@@ -251,7 +251,7 @@ export class ExploreTab {
   /** @param {TextFault[]} faults the errors that prevented the search */
   showFaults(faults) {
     this.textTab.showFaults(faults);
-    this.editor.showMessage(wordsOfFaults(faults, this.calls.describeRefusal));
+    this.editor.showMessage(textErrorsMessage(faults, this.calls.describeRefusal));
   }
 
   /**

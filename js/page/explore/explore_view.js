@@ -2,9 +2,9 @@
 
 import { Cell, Switch, block, makeButton, descendant, element } from "../ui/dom.js";
 import { andMore } from "../../words/debug.js";
-import { coverageOf, markOf, wordsOfFigures, wordsOfProperty } from "../../words/explore_results.js";
+import { coverageOf, markOf, searchStatistics, describePropertyResult } from "../../words/explore_results.js";
 import * as say from "../../words/explore.js";
-import { wordsOfLine } from "../../words/stops.js";
+import { lineReference } from "../../words/stops.js";
 
 /**
  * @typedef {import("../../core/explore/report.js").Report} Report
@@ -35,7 +35,7 @@ class PropertyRow {
     this.calls = calls;
     const mark = element("b", {});
     const statusText = element("span", { className: "time" });
-    const name = line > 0 ? makeButton(text, () => calls.goTo(line), { className: "name", title: wordsOfLine(line) })
+    const name = line > 0 ? makeButton(text, () => calls.goTo(line), { className: "name", title: lineReference(line) })
       : element("span", {}, text);
     this.node = element("li", {}, element("p", {}, mark, " ", name, " ", statusText));
     this.mark = new Cell(mark);
@@ -55,7 +55,7 @@ class PropertyRow {
     this.mark.set(mark);
     this.okSwitch.set(mark === "ok");
     this.notOkSwitch.set(mark === "not ok");
-    this.words.set(wordsOfProperty(property, report));
+    this.words.set(describePropertyResult(property, report));
     if (!property.found || this.hasCounterexample) return;
     this.hasCounterexample = true;
     this.node.append(
@@ -104,7 +104,7 @@ export class ExploreView {
     this.rows.forEach((row, index) => row.show(report.properties[index], report, isRunning));
     // If proofs have already decided all properties, the search executes no steps.
     const isSearched = isRunning || report.steps > 0;
-    this.figures.set(isSearched ? wordsOfFigures(report) : say.NO_STEPS);
+    this.figures.set(isSearched ? searchStatistics(report) : say.NO_STEPS);
     this.showCoverage(report, isRunning, isSearched);
     this.block.hidden = false;
   }

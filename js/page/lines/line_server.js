@@ -117,7 +117,7 @@ export class LineServer {
     const counter = calls.counter();
     calls.show(result);
     this.showCounter(counter, result.entries);
-    if (result.touchesRom) calls.checkSource();
+    if (result.hasChangedRom) calls.checkSource();
     const fault = await calls.save();
     if (result.status !== 0) this.notice.show(say.LINES_TOO_LONG);
     calls.log(result.entries, fault);

@@ -71,7 +71,7 @@ export class BreakpointsController {
       set: (placedBreakpoints) => this.set(placedBreakpoints),
       changed: () => this.show(),
       counted: () => this.view.showHits(this.manager),
-      touched: calls.saveSession,
+      listEdited: calls.saveSession,
       showMessage: calls.showMessage,
       failed: calls.reportFailure,
     });

@@ -1,7 +1,7 @@
 // The list of breakpoints and the log below it. An entry has an enable switch, a location, an action and a hit count.
 
 import { formatCycles } from "../../core/time/cycles.js";
-import { wordsOfAddress, wordsOfLine } from "../../words/stops.js";
+import { addressWithName, lineReference } from "../../words/stops.js";
 import { Cell, block, button, makeButton, element, onClick } from "../ui/dom.js";
 import { formatQuantity, hex } from "../../core/bench/numbers.js";
 import { MAX_NOTES } from "../../core/debug/arrivals.js";
@@ -38,8 +38,8 @@ import * as say from "../../words/machine.js";
  * @param {SourceMap | null} map
  */
 export function formatLocation({ line, address }, map) {
-  if (map && address >= 0) return wordsOfAddress(hex(address, 3), map);
-  return line > 0 ? wordsOfLine(line) : hex(address, 3);
+  if (map && address >= 0) return addressWithName(hex(address, 3), map);
+  return line > 0 ? lineReference(line) : hex(address, 3);
 }
 
 export class BreakpointsView {

@@ -5,7 +5,7 @@
 import { block, byId, field } from "../ui/dom.js";
 import { parseCount } from "../../core/bench/numbers.js";
 import {
-  RecentHeat, heatLevels, describeHeat, describeChanges, describeHeatStatus, describeSeenChanges,
+  RecentHeat, heatLevels, describeHeat, describeChanges, describeHeatStatus, describeChangesWhileRunning,
 } from "../../core/machine/heat_levels.js";
 import * as say from "../../words/machine.js";
 
@@ -114,7 +114,7 @@ export class HeatView {
     if (performance.now() - this.lastDrawTime < DRAW_INTERVAL) return;
     this.lastDrawTime = performance.now();
     this.heat = null;
-    this.showCells(this.recentHeat.heat, describeSeenChanges);
+    this.showCells(this.recentHeat.heat, describeChangesWhileRunning);
     this.showStatus(describeHeatStatus(warmed, warmed.cycles >= cycles));
   }
 

@@ -2,7 +2,7 @@
 
 import { Cell, block, byId, element, makeFirstTabStop, makeOneTabStop, pressedSwitch } from "../ui/dom.js";
 import { hex, indices } from "../../core/bench/numbers.js";
-import { CHARACTERS, STATUS_COUNT } from "../../core/conditions/places.js";
+import { CHARACTERS, STATUS_CHARACTERS_PER_REGISTER } from "../../core/conditions/places.js";
 import * as say from "../../words/machine.js";
 
 /**
@@ -33,7 +33,7 @@ function nibbleLabels(register, names) {
   const labelNames = (place, label) => (names.get(place) || []).map((name) => `${label} ${name}`);
   return [
     ...indices(CHARACTERS).flatMap((nibble) => labelNames(`ram.${bank}.0x${hex(registerIndex * CHARACTERS + nibble, 2)}`, hex(nibble, 1))),
-    ...indices(STATUS_COUNT).flatMap((index) => labelNames(`st.${bank}.${registerIndex}.${index}`, `status ${index}`)),
+    ...indices(STATUS_CHARACTERS_PER_REGISTER).flatMap((index) => labelNames(`st.${bank}.${registerIndex}.${index}`, `status ${index}`)),
   ];
 }
 
@@ -72,7 +72,7 @@ export class RamView {
     this.tables = [];
     this.bankSelect = byId("bank", HTMLSelectElement);
     this.bankSelect.addEventListener("change", () => this.showBank());
-    makeOneTabStop(this.block, () => CHARACTERS + STATUS_COUNT);
+    makeOneTabStop(this.block, () => CHARACTERS + STATUS_CHARACTERS_PER_REGISTER);
   }
 
   /**
@@ -119,7 +119,7 @@ export class RamView {
   drawRegister(location) {
     const { bank, chip, register } = location;
     const characters = indices(CHARACTERS).map((character) => this.drawCharacter(location, character));
-    const status = indices(STATUS_COUNT).map((character) => this.drawStatus(location, character));
+    const status = indices(STATUS_CHARACTERS_PER_REGISTER).map((character) => this.drawStatus(location, character));
     const names = element("small", { className: "cell-names", hidden: true });
     this.registers.set(`${bank}.${chip}.${register}`, { characters, status, names, shownText: "" });
     const halves = [characters.slice(0, NIBBLES_PER_GROUP), characters.slice(NIBBLES_PER_GROUP), status].map(nibbleGroup);

@@ -3,7 +3,7 @@
 
 import { Cell, button, field, onClick } from "../ui/dom.js";
 import { findPropertyLine, isStillValid } from "../../core/prove/verdict_validity.js";
-import { isRight, markOfTab, wordsOfEnd } from "../../words/prove_results.js";
+import { isDesiredVerdict, proofsTabMark, finalSummary } from "../../words/prove_results.js";
 import * as say from "../../words/prove.js";
 import { ProofsView } from "./proofs_view.js";
 
@@ -11,7 +11,7 @@ import { ProofsView } from "./proofs_view.js";
  * @typedef {import("../../core/explore/sliced_search.js").ExploredTexts} ExploredTexts
  * @typedef {import("../../core/bench/task_worker.js").TaskResult} TaskResult
  * @typedef {import("../../core/prove/prover.js").Progress} Progress
- * @typedef {import("../../core/prove/bounded_proof.js").JudgedLine} JudgedLine
+ * @typedef {import("../../core/prove/bounded_proof.js").PropertyVerdict} PropertyVerdict
  * @typedef {import("../../core/testing/test_preparation.js").TextFault} TextFault
  *
  * The proof of a session's properties: the texts, the maximum number of states that the prover may visit for each property, and the
@@ -100,18 +100,18 @@ export class Proofs {
 
   /** The short text that the tab shows about the current verdicts. */
   get mark() {
-    return this.currentResults ? markOfTab(this.currentVerdicts) : "";
+    return this.currentResults ? proofsTabMark(this.currentVerdicts) : "";
   }
 
   /** True if no current verdict is a counterexample. */
   get isGood() {
-    return this.currentVerdicts.every((judged) => judged.verdict.kind === "open" || isRight(judged));
+    return this.currentVerdicts.every((judged) => judged.verdict.kind === "open" || isDesiredVerdict(judged));
   }
 
   /**
    * Returns a function that returns true if a verdict is about the current texts.
    * @param {ProofResults} currentResults
-   * @returns {(judged: JudgedLine) => boolean}
+   * @returns {(judged: PropertyVerdict) => boolean}
    */
   isCurrent(currentResults) {
     const currentTexts = this.calls.texts();
@@ -180,7 +180,7 @@ export class Proofs {
     if (judged.length === 0) this.view.clear();
     this.show();
     if (faults.length > 0) this.calls.showFaults(faults);
-    else if (judged.length > 0) this.calls.showMessage(wordsOfEnd(judged, isStopped));
+    else if (judged.length > 0) this.calls.showMessage(finalSummary(judged, isStopped));
     else this.calls.showMessage(isStopped ? say.CANCELLED_EARLY : "");
   }
 }

@@ -1,26 +1,26 @@
 // The results of proofs: a row with the verdict of each property, and the progress.
 
 import { Cell, Switch, block, makeButton, descendant, element } from "../ui/dom.js";
-import { isRight, markOf, wordsOfVerdict, wordsSoFar } from "../../words/prove_results.js";
+import { isDesiredVerdict, markOf, describeVerdict, progressSummary } from "../../words/prove_results.js";
 import * as say from "../../words/prove.js";
-import { wordsOfLine } from "../../words/stops.js";
+import { lineReference } from "../../words/stops.js";
 
 /**
  * @typedef {import("../../core/prove/counterexample.js").Counterexample} Counterexample
  * @typedef {import("../../core/prove/prover.js").Progress} Progress
- * @typedef {import("../../core/prove/bounded_proof.js").JudgedLine} JudgedLine
+ * @typedef {import("../../core/prove/bounded_proof.js").PropertyVerdict} PropertyVerdict
  *
  * The callbacks of the proof results.
  * @typedef {object} ProofCalls
- * @property {(judgedLine: JudgedLine) => void} goTo Shows the line of a property in the properties text.
- * @property {(judgedLine: JudgedLine, counterexample: Counterexample) => void} openCounterexample Opens a counterexample in the debugger.
+ * @property {(judgedLine: PropertyVerdict) => void} goTo Shows the line of a property in the properties text.
+ * @property {(judgedLine: PropertyVerdict, counterexample: Counterexample) => void} openCounterexample Opens a counterexample in the debugger.
  * @property {(counterexample: Counterexample) => void} addTest Adds a counterexample's test to the program's tests.
  */
 
 /** A property's row. The verdict is inserted only once, so that buttons that the user is about to click are not replaced. */
 class VerdictRow {
   /**
-   * @param {JudgedLine} judgedLine
+   * @param {PropertyVerdict} judgedLine
    * @param {ProofCalls} calls
    */
   constructor(judgedLine, calls) {
@@ -30,7 +30,7 @@ class VerdictRow {
     const statusText = element("span", { className: "time" });
     // A common mistake has no line in the text, because all programs are checked for it.
     const name = line === 0 ? element("span", { className: "name" }, text)
-      : makeButton(text, () => calls.goTo(judgedLine), { className: "name", title: wordsOfLine(line) });
+      : makeButton(text, () => calls.goTo(judgedLine), { className: "name", title: lineReference(line) });
     this.node = element("li", {}, element("p", {}, mark, " ", name, " ", statusText));
     this.mark = new Cell(mark);
     this.words = new Cell(statusText);
@@ -60,9 +60,9 @@ class VerdictRow {
   show(isCurrent) {
     const { judgedLine } = this;
     this.mark.set(isCurrent ? markOf(judgedLine) : "");
-    this.words.set(isCurrent ? wordsOfVerdict(judgedLine) : say.CHANGED);
-    this.litSwitch.set(isCurrent && judgedLine.verdict.kind === "proved" && isRight(judgedLine));
-    this.notOkSwitch.set(isCurrent && judgedLine.verdict.kind !== "open" && !isRight(judgedLine));
+    this.words.set(isCurrent ? describeVerdict(judgedLine) : say.CHANGED);
+    this.litSwitch.set(isCurrent && judgedLine.verdict.kind === "proved" && isDesiredVerdict(judgedLine));
+    this.notOkSwitch.set(isCurrent && judgedLine.verdict.kind !== "open" && !isDesiredVerdict(judgedLine));
   }
 }
 
@@ -89,7 +89,7 @@ export class ProofsView {
    * @param {Progress} progress
    * @param {number} maxStates the maximum number of states that the prover may visit for each property
    * @param {boolean} isRunning true if a proof is running
-   * @param {(judgedLine: JudgedLine) => boolean} isCurrent returns true if a verdict is about the current texts
+   * @param {(judgedLine: PropertyVerdict) => boolean} isCurrent returns true if a verdict is about the current texts
    */
   show(progress, maxStates, isRunning, isCurrent) {
     const newRows = progress.judged.slice(this.rows.length).map((judgedLine) => new VerdictRow(judgedLine, this.calls));
@@ -99,7 +99,7 @@ export class ProofsView {
     this.progress.hidden = !isRunning;
     this.bar.max = maxStates;
     this.bar.value = progress.states;
-    this.progressText.set(isRunning ? wordsSoFar(progress) : "");
+    this.progressText.set(isRunning ? progressSummary(progress) : "");
     this.block.hidden = this.rows.length === 0 && !isRunning;
   }
 }

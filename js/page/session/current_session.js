@@ -1,8 +1,8 @@
 // The current session: replaces it, saves it, and displays its name.
 
 import { field, block } from "../ui/dom.js";
-import { wordsOfInterrupted } from "../../words/stops.js";
-import { NO_CYCLES } from "../../core/time/cycles.js";
+import { describeInterruption } from "../../words/stops.js";
+import { ZERO_COUNTS } from "../../core/time/cycles.js";
 import { formatAddress } from "./address.js";
 import { OpenSession } from "./open_session.js";
 import { shortName } from "../../core/session/names.js";
@@ -85,7 +85,7 @@ export class CurrentSession {
     await this.showElements();
     await this.save();
     if (this.willRun) calls.run();
-    else calls.showPaused(goal ? wordsOfInterrupted(goal, runs, calls.describeCounter()) : say.PAUSED);
+    else calls.showPaused(goal ? describeInterruption(goal, runs, calls.describeCounter()) : say.PAUSED);
     this.willRun = false;
     await this.restoreHistory();
     calls.checkTrialTexts();
@@ -134,7 +134,7 @@ export class CurrentSession {
    * @param {SessionRecord} record
    * @returns {Promise<PageState>}
    */
-  requestOpening({ file, cycles = NO_CYCLES, printed }) {
+  requestOpening({ file, cycles = ZERO_COUNTS, printed }) {
     return this.bench.call("open", [file, cycles.total, cycles.reset, printed || null]);
   }
 

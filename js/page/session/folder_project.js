@@ -1,7 +1,7 @@
 // Reads the texts of a project folder for a new session.
 
 import { ProjectError, readProject } from "../../core/project/project_folder.js";
-import { LONGEST_PROJECT_FILE, PROJECT_FILE } from "../../core/project/project_toml.js";
+import { MAX_PROJECT_TOML_BYTES, PROJECT_FILE } from "../../core/project/project_toml.js";
 import { UnusableFile, readOpenedFile } from "../../core/session/opened_file.js";
 import { MAX_PROJECT_BYTES } from "../../core/session/project_file.js";
 import * as say from "../../words/session.js";
@@ -59,7 +59,7 @@ export async function readFolderTexts({ name, files }) {
   if (!projectFile) throw new ProjectError(PROJECT_FILE, say.NO_PROJECT_FILE);
   /** @type {(path: string) => string} */
   const checkPath = (path) => (files.has(path) ? "" : say.noFile(path));
-  const { board, program, tests, properties, speed } = readProject(await readBytes(projectFile, LONGEST_PROJECT_FILE), checkPath);
+  const { board, program, tests, properties, speed } = readProject(await readBytes(projectFile, MAX_PROJECT_TOML_BYTES), checkPath);
   const texts = {
     name: name || program.replace(/^.*\//, "").replace(/\.[^.]*$/, ""),
     title: "",

@@ -1,7 +1,7 @@
 // A session that is open in this tab: its record, with the last state that the bench reported, and the writes of the record to the store.
 
 import { shortName } from "../../core/session/names.js";
-import { UnsavedTexts } from "./left_texts.js";
+import { UnsavedTexts } from "./unsaved_texts.js";
 import { withTimeout, describeStoreError } from "./store.js";
 
 /**

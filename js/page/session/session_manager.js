@@ -1,9 +1,9 @@
 // Opens, creates, copies and saves sessions and files. If a session cannot be opened, the current session stays unchanged.
 
 import { download } from "./download.js";
-import { runsAtOnce } from "../../core/engine/examples.js";
+import { startsRunning } from "../../core/engine/examples.js";
 import { newRecord } from "./open_session.js";
-import { UnsavedTexts } from "./left_texts.js";
+import { UnsavedTexts } from "./unsaved_texts.js";
 import { readFolderTexts } from "./folder_project.js";
 import { readOpenedFile } from "../../core/session/opened_file.js";
 import { MAX_PROJECT_BYTES, projectText, readProject, tooLongMessage } from "../../core/session/project_file.js";
@@ -131,7 +131,7 @@ export class SessionManager {
   async exampleRecord(example) {
     const { board, program, tests, properties } = example;
     const texts = { boardText: board, programText: program, testText: tests, propertiesText: properties };
-    const record = newRecord(example.name, await this.bench.call("make", [example]), texts, runsAtOnce(example));
+    const record = newRecord(example.name, await this.bench.call("make", [example]), texts, startsRunning(example));
     return { ...record, isTitled: example.board === "" && example.program === "" };
   }
 

@@ -93,7 +93,7 @@ export class SessionsController {
       openFolder: (read) => manager.openFolder(read),
       rename: (name) => calls.rename(name),
       describeStorage: () => (
-        this.store.isPersistent ? say.KEPT_HERE + (this.persistence.isPromised ? say.PROMISED : "") : say.NOT_SAVED_ANYWHERE),
+        this.store.isPersistent ? say.SAVED_IN_BROWSER_ONLY + (this.persistence.isPromised ? say.STORAGE_IS_PERSISTENT : "") : say.NOT_SAVED_ANYWHERE),
     });
   }
 
@@ -109,7 +109,7 @@ export class SessionsController {
    * @param {SessionRecord} record
    */
   offerReturn({ id, name }) {
-    this.notice.show(say.sessionLeft(name, this.store.isPersistent), "left", { word: say.BACK_TO_IT, act: () => this.open(id) });
+    this.notice.show(say.sessionLeft(name, this.store.isPersistent), "left", { word: say.REOPEN, act: () => this.open(id) });
   }
 
   /**

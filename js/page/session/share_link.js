@@ -56,7 +56,7 @@ async function decompress(bytes) {
     throw new LinkError(say.CANNOT_DECOMPRESS);
   }
   try {
-    return await readOutput(bytes, stream, MAX_BYTES, new LinkError(say.HOLDS_MORE));
+    return await readOutput(bytes, stream, MAX_BYTES, new LinkError(say.CONTAINS_OTHER_TEXTS));
   } catch (fault) {
     throw fault instanceof LinkError ? fault : new LinkError(say.DAMAGED);
   }

@@ -1,6 +1,6 @@
 // The deleted sessions, which can be restored until the page is closed.
 
-import { UnsavedTexts } from "./left_texts.js";
+import { UnsavedTexts } from "./unsaved_texts.js";
 import { describeStoreError } from "./store.js";
 import * as say from "../../words/session.js";
 

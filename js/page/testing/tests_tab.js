@@ -5,7 +5,7 @@ import { formatErrorCount } from "../../core/bench/error_messages.js";
 import { button, onClick } from "../ui/dom.js";
 import { TextTab } from "../text/text_tab.js";
 import { completeTest, helpForTest, testForms } from "../../core/text/test_words.js";
-import { markOfOutcomes, wordsOfFaults, wordsOfOutcomes } from "../../words/test_results.js";
+import { testsTabMark, textErrorsMessage, testsSummary } from "../../words/test_results.js";
 import { TestsView } from "./tests_view.js";
 import * as say from "../../words/testing.js";
 
@@ -130,13 +130,13 @@ export class TestsTab {
     if (report.faults.length > 0) {
       this.clear();
       this.textTab.showFaults(report.faults);
-      this.editor.showMessage(wordsOfFaults(report.faults, this.calls.describeRefusal));
+      this.editor.showMessage(textErrorsMessage(report.faults, this.calls.describeRefusal));
       return;
     }
     this.testedTexts = texts;
     this.view.show(report);
-    this.editor.showMessage(wordsOfOutcomes(report.outcomes));
-    this.calls.showMark(markOfOutcomes(report.outcomes), report.outcomes.every(({ failure }) => !failure));
+    this.editor.showMessage(testsSummary(report.outcomes));
+    this.calls.showMark(testsTabMark(report.outcomes), report.outcomes.every(({ failure }) => !failure));
     this.calls.showCounts(report, texts.programText);
     button("clear-tests").hidden = false;
   }

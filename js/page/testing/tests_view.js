@@ -3,8 +3,8 @@
 import { Cell, block, makeButton, descendant, element } from "../ui/dom.js";
 import { hex } from "../../core/bench/numbers.js";
 import { CYCLE_MS } from "../../core/time/mcs4_time.js";
-import { wordsOfCounts, wordsOfTime } from "../../words/test_results.js";
-import { wordsOfLine } from "../../words/stops.js";
+import { coverageMessage, testDuration } from "../../words/test_results.js";
+import { lineReference } from "../../words/stops.js";
 import * as say from "../../words/testing.js";
 
 /**
@@ -47,7 +47,7 @@ export class TestsView {
   /** @param {Report} report */
   show(report) {
     this.list.replaceChildren(...report.outcomes.map((outcome) => this.makeRow(outcome)));
-    this.coverage.set(wordsOfCounts(report));
+    this.coverage.set(coverageMessage(report));
     if (report.profile) this.showProfile(report.profile);
     this.block.hidden = false;
   }
@@ -56,8 +56,8 @@ export class TestsView {
   makeRow(outcome) {
     const { name, line, failure } = outcome;
     const mark = element("b", { className: failure ? "not-ok" : "ok" }, failure ? say.NOT_OK : "ok");
-    const head = element("p", {}, mark, " ", makeButton(name, () => this.calls.goTo(line), { className: "name", title: wordsOfLine(line) }),
-      element("span", { className: "time" }, ` ${wordsOfTime(outcome)}`));
+    const head = element("p", {}, mark, " ", makeButton(name, () => this.calls.goTo(line), { className: "name", title: lineReference(line) }),
+      element("span", { className: "time" }, ` ${testDuration(outcome)}`));
     return element("li", {}, head, ...(failure ? this.failureNodes(outcome, failure) : []));
   }
 
@@ -66,7 +66,7 @@ export class TestsView {
    * @param {Failure} failure
    */
   failureNodes(outcome, { line, text, words, lamps, registers, trace, file }) {
-    const lineButton = makeButton(wordsOfLine(line), () => this.calls.goTo(line));
+    const lineButton = makeButton(lineReference(line), () => this.calls.goTo(line));
     const paragraph = element("p", { className: "wrong" }, lineButton, ` ${text}: ${words}`);
     if (!file) return [paragraph];
     const state = `${lamps && `lamps ${lamps}\n`}${registers}\n`;
@@ -77,7 +77,7 @@ export class TestsView {
   }
 
   /** @param {Profile} profile */
-  showProfile({ rows, total, begunBefore, keys }) {
+  showProfile({ rows, total, earlierInstructionCycles, keys }) {
     const cells = (/** @type {(string | Node)[]} */ ...texts) => element("tr", {}, ...texts.map((text) => element("td", {}, text)));
     const percent = (/** @type {number} */ part) => ((100 * part) / total).toFixed(1);
     const tableRows = rows.map(({ label, address, own, calls }) => {
@@ -85,7 +85,7 @@ export class TestsView {
       const callCells = calls ? [calls.times, calls.withCalls, calls.longest].map((count) => count.toLocaleString("en")) : ["", "", ""];
       return cells(name, address < 0 ? "" : hex(address, 3), own.toLocaleString("en"), percent(own), ...callCells);
     });
-    if (begunBefore > 0) tableRows.push(cells(say.BEGUN_BEFORE, "", begunBefore.toLocaleString("en"), percent(begunBefore), "", "", ""));
+    if (earlierInstructionCycles > 0) tableRows.push(cells(say.BEGUN_BEFORE, "", earlierInstructionCycles.toLocaleString("en"), percent(earlierInstructionCycles), "", "", ""));
     this.labels.replaceChildren(...tableRows);
     this.keys.hidden = keys.length === 0;
     descendant(this.keys, "tbody", HTMLElement).replaceChildren(...keys.map(({ key, presses, answered, first, last }) => (

@@ -19,7 +19,7 @@ export function formatCount({ count, isJump, taken }) {
 
 /** @param {number} number */
 function formatTimes(number) {
-  return say.timesOf(number);
+  return say.countText(number);
 }
 
 /**

@@ -2,7 +2,7 @@
 
 import { readBoard, parseRefusal } from "../../core/bench/answers.js";
 import { formatQuantity } from "../../core/bench/numbers.js";
-import { TextErrorFinder, findFrontPanelErrors, keepTextRefusal } from "../../core/text/text_error_finder.js";
+import { TextErrorFinder, findFrontPanelErrors, textRefusalOrNull } from "../../core/text/text_error_finder.js";
 import { programTexts, describeAssembled } from "../../core/text/asm_texts.js";
 import { assemblyColours } from "./assembly_colours.js";
 import { boardColours } from "./board_colours.js";
@@ -14,7 +14,7 @@ import { moreErrors } from "../../core/board/face.js";
 import { PARTS } from "../../core/text/folding.js";
 import { LiveErrors } from "./live_errors.js";
 import { readInstructions } from "../../core/help/manual.js";
-import { isNoProgram } from "../../core/text/program_errors.js";
+import { isProbablyNotProgram } from "../../core/text/program_errors.js";
 import { boardTables, helpForBoard, helpForProgram } from "../../core/text/text_help.js";
 import { TOUR_BOARD } from "../../words/help.js";
 import * as say from "../../words/text.js";
@@ -170,7 +170,7 @@ export class Editors {
    */
   async findRefusal(word, text) {
     const [answer] = await this.bench.call("ask", [`${word}\n${text}.\n`]);
-    return keepTextRefusal(parseRefusal(answer));
+    return textRefusalOrNull(parseRefusal(answer));
   }
 
   /**
@@ -251,9 +251,9 @@ export class Editors {
    * Resolves to true if each code line of a text has an error.
    * @param {string} text
    */
-  async isNoProgram(text) {
+  async isProbablyNotProgram(text) {
     const result = await this.faultSearch.findInProgram(text, () => true);
-    return result !== undefined && isNoProgram(text, result);
+    return result !== undefined && isProbablyNotProgram(text, result);
   }
 
   /**

@@ -2,7 +2,7 @@
 
 import { element, onClick } from "../ui/dom.js";
 import { underlineMark } from "./line_layers.js";
-import { wordsOfLine } from "../../words/stops.js";
+import { lineReference } from "../../words/stops.js";
 
 /**
  * @typedef {import("./line_editor.js").LineEditor} LineEditor
@@ -58,7 +58,7 @@ export class ErrorView {
 
   /** @param {Fault} fault */
   entry(fault) {
-    const button = element("button", { type: "button" }, element("b", {}, `${wordsOfLine(fault.line)}: `), fault.words);
+    const button = element("button", { type: "button" }, element("b", {}, `${lineReference(fault.line)}: `), fault.words);
     onClick(button, () => this.goTo(fault));
     return element("li", {}, button);
   }

@@ -26,7 +26,7 @@ function lineReader(doc) {
  * @param {(event: Event) => void} unfoldRange
  */
 function makePlaceholder(count, unfoldRange) {
-  const node = element("span", { className: "folded-lines", title: say.UNFOLDS }, `… ${formatQuantity(count, "line")}`);
+  const node = element("span", { className: "folded-lines", title: say.UNFOLD_HINT }, `… ${formatQuantity(count, "line")}`);
   node.addEventListener("click", unfoldRange);
   return node;
 }

@@ -5,7 +5,7 @@ import { EditorView } from "@codemirror/view";
 import { indices } from "../../core/bench/numbers.js";
 import { folding, unfold } from "./fold_view.js";
 import { LineEditor } from "./line_editor.js";
-import { STORED_LIMIT, toggleComments } from "../../core/text/sendable_text.js";
+import { MAX_STORED_LENGTH, toggleComments } from "../../core/text/sendable_text.js";
 import * as say from "../../words/text.js";
 
 /**
@@ -89,8 +89,8 @@ export class TextEditor {
       handleGutterClick: (line) => calls.handleGutterClick(line + 1),
       handleGutterMenu: (line, event) => calls.handleGutterMenu(line + 1, event),
       acceptsSize: (size) => {
-        if (size > STORED_LIMIT) calls.reportTooLong(size);
-        return size <= STORED_LIMIT;
+        if (size > MAX_STORED_LENGTH) calls.reportTooLong(size);
+        return size <= MAX_STORED_LENGTH;
       },
       complete: calls.complete,
     };

@@ -11,7 +11,7 @@ import { MeaningView } from "./meaning_view.js";
 import { NameView } from "./name_view.js";
 import { SearchBar } from "./search_bar.js";
 import { TextEditor } from "./text_editor.js";
-import { STORED_LIMIT, LONGEST_TEXT, alignedText, sentText } from "../../core/text/sendable_text.js";
+import { MAX_STORED_LENGTH, MAX_SENT_LENGTH, alignedText, sentText } from "../../core/text/sendable_text.js";
 import * as say from "../../words/text.js";
 
 /**
@@ -161,7 +161,7 @@ export class EditorView {
       handleGutterClick: (line) => this.calls.toggleBreakpoint(line),
       handleGutterMenu: (line, event) => this.openMarginMenu(line, event),
       handleNameClick: () => this.language.isInstruction && this.names.goToDefinition(),
-      reportTooLong: (size) => this.status.set(say.notPutIn(size.toLocaleString("en"), STORED_LIMIT.toLocaleString("en"))),
+      reportTooLong: (size) => this.status.set(say.notInserted(size.toLocaleString("en"), MAX_STORED_LENGTH.toLocaleString("en"))),
       complete: ({ line, ch }) => this.language.complete(this.lines, line, ch),
     };
   }
@@ -349,7 +349,7 @@ export class EditorView {
     clearTimeout(this.sizeTimer);
     this.sizeTimer = window.setTimeout(() => {
       const { isUnsent } = this.language;
-      const [{ length }, limit, unit] = isUnsent ? [this.text, STORED_LIMIT, "characters"] : [this.benchText, LONGEST_TEXT, "bytes"];
+      const [{ length }, limit, unit] = isUnsent ? [this.text, MAX_STORED_LENGTH, "characters"] : [this.benchText, MAX_SENT_LENGTH, "bytes"];
       this.counter.set(say.sizeOf(length.toLocaleString("en"), limit.toLocaleString("en"), unit));
       this.counter.node.classList.toggle("too-many", length > limit);
     }, REST_DELAY_MS);

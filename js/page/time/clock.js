@@ -3,7 +3,7 @@
 // speed, a key press does not wait for the next frame. The cycles until that frame are simulated early.
 
 import { CYCLES_PER_SECOND } from "../../core/time/mcs4_time.js";
-import { LONG_GAP, MAX_AHEAD, RealTime } from "../../core/time/real_time.js";
+import { MIN_GAP_MS, MAX_EARLY_MS, RealTime } from "../../core/time/real_time.js";
 import { REAL_TIME_SPEED, canFollowLine, togglesKeys } from "../../core/time/speeds.js";
 
 /**
@@ -122,7 +122,7 @@ export class Clock {
 
   /** The number of milliseconds by which a key press can be simulated early. */
   get maxEarlyTime() {
-    return this.speed === REAL_TIME_SPEED ? MAX_AHEAD : 0;
+    return this.speed === REAL_TIME_SPEED ? MAX_EARLY_MS : 0;
   }
 
   /**
@@ -135,7 +135,7 @@ export class Clock {
     // Some browsers still send animation frames to a hidden page. Cycles that become due during a call run in the next frame.
     if (document.hidden || this.isBusy) return false;
     const skippedGap = this.time.skipGap(now, Date.now());
-    if (skippedGap && skippedGap.gap >= LONG_GAP) this.calls.reportStandstill(skippedGap.gap, skippedGap.wasHidden);
+    if (skippedGap && skippedGap.gap >= MIN_GAP_MS) this.calls.reportStandstill(skippedGap.gap, skippedGap.wasHidden);
     const dueCycles = this.time.takeDueCycles(now, earlyTime);
     if (dueCycles > 0) this.runDueCycles(dueCycles, key);
     return dueCycles > 0;

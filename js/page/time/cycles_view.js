@@ -28,7 +28,7 @@ export class CyclesView {
     const root = block("cycles");
     root.replaceChildren(
       element("span", { title: say.OR_SINCE_BEGUN }, say.SINCE_RESET, this.resetCell.node),
-      element("span", { title: say.LAST_STRETCH }, say.SINCE_STOP, this.stopCell.node),
+      element("span", { title: say.IN_LAST_RUN }, say.SINCE_STOP, this.stopCell.node),
       element("span", {}, mark, " ", this.markWord.node, this.cyclesSinceMark.node),
     );
     root.hidden = false;

@@ -1,7 +1,7 @@
 // Runs and pauses time, with the clock or at full speed. Handles the frames that the worker reports.
 
 import { isStop, readRun, parseRefusal } from "../../core/bench/answers.js";
-import { wordsOfHalt, wordsOfMove, wordsOfStop } from "../../words/stops.js";
+import { describeUserPause, runningToGoal, pauseMessage } from "../../words/stops.js";
 import { Cell, block } from "../ui/dom.js";
 import { formatDuration } from "../../core/bench/error_messages.js";
 import { PendingKeys } from "../../core/board/pending_keys.js";
@@ -125,7 +125,7 @@ export class RunController {
     calls.handleRunStart();
     if (!goal) bench.call("drop", []).catch(calls.reportFailure);
     this.showRunning(true);
-    this.showMessage(goal ? wordsOfMove(goal) : say.isRunning(currentSession.name, calls.countUnreadable()));
+    this.showMessage(goal ? runningToGoal(goal) : say.isRunning(currentSession.name, calls.countUnreadable()));
     this.clock.start();
     this.startRateMeasurement();
     bench.isRunning = this.clock.isFull;
@@ -244,7 +244,7 @@ export class RunController {
     // A breakpoint may already have stopped the run.
     if (currentSession.session && currentSession.session.record.runs) {
       calls.drawSlowViews();
-      this.endRun(wordsOfHalt(this.goal, calls.cycles() - this.startCycles, this.counterText));
+      this.endRun(describeUserPause(this.goal, calls.cycles() - this.startCycles, this.counterText));
     }
     await currentSession.save();
   }
@@ -287,7 +287,7 @@ export class RunController {
   describeStop(stop, goal = this.goal) {
     const refusal = parseRefusal(stop.why);
     if (refusal) return say.stoppedBy(stop.why, this.calls.describeRefusal(refusal.number));
-    return wordsOfStop(goal, stop, this.counterText, this.calls.describeCondition(stop.id || 0));
+    return pauseMessage(goal, stop, this.counterText, this.calls.describeCondition(stop.id || 0));
   }
 
   async stepOnce() {
@@ -297,7 +297,7 @@ export class RunController {
     const run = readRun(answer);
     const cycles = run ? run.cycles : 0;
     if (isStop(answer)) this.showMessage(this.describeStop({ why: run ? run.end : answer, cycles, returns: false }));
-    else this.showMessage(wordsOfStop({ kind: "over" }, { why: "goal", cycles, returns: false }, this.counterText));
+    else this.showMessage(pauseMessage({ kind: "over" }, { why: "goal", cycles, returns: false }, this.counterText));
   }
 
   /**

@@ -17,7 +17,7 @@ import * as say from "../../words/waves.js";
  * @typedef {import("../../core/engine/live_recorder.js").LivePart} LivePart
  * @typedef {import("../../core/engine/live_recorder.js").LiveSetup} LiveSetup
  * @typedef {import("../../core/engine/wave_recorder.js").Recording} Recording
- * @typedef {import("../../core/waves/live_waves.js").LiveChoice} LiveChoice
+ * @typedef {import("../../core/waves/live_waves.js").RecordingSettings} RecordingSettings
  * @typedef {import("../../core/waves/wave_lines.js").WaveLine} WaveLine
  * @typedef {import("../../core/waves/wave_words.js").NumberBase} NumberBase
  */
@@ -179,7 +179,7 @@ export class Scope {
 
   /**
    * Returns the settings of the recording. If a field has no valid number, shows a message and returns null.
-   * @returns {LiveChoice | null}
+   * @returns {RecordingSettings | null}
    */
   readLiveChoice() {
     const trigger = field("trigger").value.trim();

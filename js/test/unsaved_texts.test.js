@@ -3,7 +3,7 @@
 import assert from "node:assert/strict";
 import { test } from "node:test";
 import { newRecord } from "../page/session/open_session.js";
-import { UnsavedTexts } from "../page/session/left_texts.js";
+import { UnsavedTexts } from "../page/session/unsaved_texts.js";
 
 /** Returns a stand-in for the browser's local storage that uses a map. */
 const storage = (items = new Map()) => ({
