@@ -134,7 +134,7 @@ status.firstChild.data = "";
 const begun = performance.now();
 const cycles = arguments[1];
 new MutationObserver((_, own) => {
-  if (!/up to a change|Returned to/.test(status.textContent)) return;
+  if (!/Running to a change|Returned to/.test(status.textContent)) return;
   own.disconnect();
   window.searched = (cycles / (performance.now() - begun)) * 1000;
 }).observe(status, { childList: true, characterData: true, subtree: true });

@@ -16,7 +16,9 @@ import { PlaceQueries, PlaceValues } from "../core/explore/place_queries.js";
 import { hasExpectedResult, joinReports, formatTap, formatReportTests } from "../core/explore/report.js";
 import { Search } from "../core/explore/search.js";
 import { createSubject } from "../core/explore/subject.js";
-import { chooseStep, downInputsAfter, initialDownInputs, areStepsAllowed, createRandom, nextAges, initialAges } from "../core/explore/walks.js";
+import {
+  chooseStep, downInputsAfter, initialDownInputs, areStepsAllowed, createRandom, nextAges, initialAges,
+} from "../core/explore/walks.js";
 import { Watcher } from "../core/explore/walk_watcher.js";
 import { Engine } from "../core/engine/engine.js";
 import { pageModule } from "./page_session.js";

@@ -146,7 +146,8 @@ test("five steps of warmth, and words", () => {
   assert.equal(describeChanges(HEAT.cells[1], null), "100 times, last by 009, 1 cycle, 0.011 ms ago");
   assert.equal(describeChanges({ ...HEAT.cells[2], count: 1, ago: 0 }, null), "once by the line poke c 1");
   assert.equal(describeChangesWhileRunning(HEAT.cells[1], null), "100 times as seen while running, last seen by 009");
-  assert.equal(describeChangesWhileRunning({ ...HEAT.cells[2], count: 1 }, null), "once as seen while running, last seen by the line poke c 1");
+  assert.equal(describeChangesWhileRunning({ ...HEAT.cells[2], count: 1 }, null),
+    "once as seen while running, last seen by the line poke c 1");
   assert.equal(describeHeat(HEAT, 2000, (place) => place.toUpperCase(), null), "In the last 1,000 cycles, 10.800 ms (no more is "
     + "remembered), 3 characters have changed: most often B, 100 times; last B, by 009, 1 cycle, 0.011 ms ago.");
   assert.equal(describeHeat({ cycles: 9, cells: [] }, 9, String, null), "In the last 9 cycles, 0.097 ms, no character of RAM has changed.");

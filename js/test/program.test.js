@@ -192,7 +192,8 @@ test("a text with an error in each line of code is hardly a program", () => {
   assert.equal(isProbablyNotProgram("hello there\n NOP\n", { faults: at(1), isWhole: true, rest: null }), false);
   // At most this number of errors is searched for.
   const long = "prose\n".repeat(500);
-  assert.equal(isProbablyNotProgram(long, { faults: at(...Array.from({ length: 20 }, (_, line) => line + 1)), isWhole: false, rest: null }), true);
+  const faults = at(...Array.from({ length: 20 }, (_, line) => line + 1));
+  assert.equal(isProbablyNotProgram(long, { faults, isWhole: false, rest: null }), true);
   assert.equal(isProbablyNotProgram(`NOP\n${long}`, { faults: at(2, 3), isWhole: false, rest: null }), false);
   for (const empty of ["", "; a remark\n"]) assert.equal(isProbablyNotProgram(empty, { faults: [], isWhole: true, rest: null }), false);
 });

@@ -11,7 +11,9 @@ import { createRandom } from "../core/explore/walks.js";
 import { replayCounterexample } from "../core/prove/counterexample.js";
 import { listComparisons } from "../core/prove/condition_comparisons.js";
 import { allMistakes, cyclesToMistake } from "../core/prove/mistakes.js";
-import { MAX_STOPWATCH_CYCLES, MAX_PRESSES, createQuestion, mistakeQuestion, neverQuestion, questionText, readAnswer } from "../core/prove/question.js";
+import {
+  MAX_STOPWATCH_CYCLES, MAX_PRESSES, createQuestion, mistakeQuestion, neverQuestion, questionText, readAnswer,
+} from "../core/prove/question.js";
 import { exitStatus, tapHead, formatJudgedTap } from "../core/prove/verdicts.js";
 import { runTests } from "../core/testing/test_suite.js";
 import { NullRecorder } from "../core/testing/recorders.js";
@@ -218,7 +220,8 @@ test("presses that the prover cannot count are refused with the reason", () => {
 
 test("a time that the stopwatch cannot count is refused with the reason", () => {
   assert.equal(questionOf(`every ${MAX_STOPWATCH_CYCLES} @look`).question.stopwatch.within, MAX_STOPWATCH_CYCLES);
-  assert.deepEqual(questionOf(`every ${MAX_STOPWATCH_CYCLES + 1} @look`), { question: null, words: "its time is longer than 16,777,214 cycles" });
+  assert.deepEqual(questionOf(`every ${MAX_STOPWATCH_CYCLES + 1} @look`),
+    { question: null, words: "its time is longer than 16,777,214 cycles" });
 });
 
 test("a stopwatch has its lines after the texts", () => {

@@ -68,7 +68,8 @@ test("texts that the editors would not take are refused before anything reads th
   const texts = (size) => ({ name: "x", boardText: "", programText: `${";".repeat(size - 1)}\n`, testText: "", propertiesText: "" });
   assert.deepEqual(await readLink(await toLink(texts(MAX_STORED_LENGTH))), texts(MAX_STORED_LENGTH));
   const words = /^the source has 65,537 characters; at most 65,536 are accepted$/;
-  await assert.rejects(readLink(await toLink(texts(MAX_STORED_LENGTH + 1))), (fault) => fault instanceof LinkError && words.test(fault.message));
+  await assert.rejects(readLink(await toLink(texts(MAX_STORED_LENGTH + 1))),
+    (fault) => fault instanceof LinkError && words.test(fault.message));
   const { programText: boardText } = texts(900000);
   await assert.rejects(readLink(await toLink({ name: "x", boardText, programText: "" })), {
     message: "the board's text has 900,000 characters; at most 65,536 are accepted",

@@ -145,7 +145,8 @@ export const COMMAND_WORDS = {
       \`# display 3: 8 digits with points\` makes a display that starts at lamp 3: five lamps for each digit (8, 4, 2, 1 and the point),
       the leftmost digit first. \`# display 0: 2 digits of 7 segments\` has seven lamps for each digit, segments a to g. \`# display 0: 4
       digits of 7 segments scanned by 7\` has one set of segments and, from lamp 7, one lamp for each digit: no instant shows the number,
-      but \`trace ${EYE_CYCLES} lamps\` does, which is ${EYE_PERSISTENCE_MS} ms. \`# lamp 0: minus overflow\` names lamps: a \`minus\` that is on is
+      but \`trace ${EYE_CYCLES} lamps\` does, which is ${
+  EYE_PERSISTENCE_MS} ms. \`# lamp 0: minus overflow\` names lamps: a \`minus\` that is on is
       printed before the number, other names after it.
 
       Leading zeros are dark, and so is a point after the last digit. Lamps that are not a digit are shown as \`?\`. Nothing is printed if

@@ -11,7 +11,8 @@ export const tooManyBreakpoints = (most) => `There can be at most ${most} breakp
 
 // --- debug/breakpoints.js ---
 /** @type {(line: number, next: number) => string} */
-export const breakpointMovedToLine = (line, next) => `Line ${line} puts no bytes into ROM: its breakpoint is at the next instruction, line ${next}.`;
+export const breakpointMovedToLine = (line, next) =>
+  `Line ${line} puts no bytes into ROM: its breakpoint is at the next instruction, line ${next}.`;
 /** @type {(line: number) => string} */
 export const nothingFollows = (line) => `No instruction follows line ${line}: its breakpoint stops nothing.`;
 /** @type {(address: string, line: number) => string} */

@@ -38,7 +38,8 @@ export const MISTAKES = {
 export const excluded = (steps) => `so far, only inputs that the text excludes break it (${steps})`;
 export const NOT_CONFIRMED = "the bench does not confirm the counterexample that was found";
 /** @type {(guards: string, isGoal: boolean) => string} */
-export const failsWithoutGuards = (guards, isGoal) => `it can ${isGoal ? "be reached" : "fail"} without ${guards}, which a proof leaves out`;
+export const failsWithoutGuards = (guards, isGoal) =>
+  `it can ${isGoal ? "be reached" : "fail"} without ${guards}, which a proof leaves out`;
 export const TRUE_BEFORE_KEYS_ARE_READ = "it can become true before the program has read each key up and then down";
 
 // --- prove/bounded_proof.js ---

@@ -2,7 +2,8 @@
 
 // --- server/dependent_language.js ---
 /** @type {(file: string) => string} */
-export const dependencyMissing = (file) => `there is no ${file} here, so this text is not checked; mcs4.toml can name a board and a program`;
+export const dependencyMissing = (file) =>
+  `there is no ${file} here, so this text is not checked; mcs4.toml can name a board and a program`;
 /** @type {(file: string, line: number) => string} */
 export const dependencyHasError = (file, line) => `${file} has an error${line > 0 ? ` in line ${line}` : ""}, so this text is not checked`;
 

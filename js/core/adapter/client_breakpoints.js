@@ -5,7 +5,9 @@
 import { watchedPlaces } from "../bench/answers.js";
 import { LAST_ADDRESS } from "../bench/numbers.js";
 import { compileCondition } from "../conditions/condition_language.js";
-import { BreakpointList, MAX_BREAKPOINTS, MAX_ENABLED_BREAKPOINTS, instructionAtAddress, instructionForLine } from "../debug/breakpoints.js";
+import {
+  BreakpointList, MAX_BREAKPOINTS, MAX_ENABLED_BREAKPOINTS, instructionAtAddress, instructionForLine,
+} from "../debug/breakpoints.js";
 import { parsePlace } from "../conditions/places.js";
 import { watchablePlace } from "../debug/data_watches.js";
 import { MAX_PIECE_CYCLES } from "../debug/debug_session.js";

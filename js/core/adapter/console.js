@@ -79,7 +79,8 @@ export class Console {
     if (word === "set" && !line.includes("\n")) return this.runBenchLines(compileSetLine(line.slice("set".length), this.session));
     if (word === "set") return this.serveBenchLines(line, mayContinue);
     // Bench lines never contain comparisons, so a line with a comparison is an expression.
-    return ANSWER_FORMATS.has(word) && !COMPARISON_LINE.test(line) ? this.serveBenchLines(line, mayContinue) : this.evaluateLine(line, base);
+    const isBenchLine = ANSWER_FORMATS.has(word) && !COMPARISON_LINE.test(line);
+    return isBenchLine ? this.serveBenchLines(line, mayContinue) : this.evaluateLine(line, base);
   }
 
   /**

@@ -79,7 +79,9 @@ function findRange(session, number) {
   const bytes = Uint8Array.from(digits, (digit) => parseInt(digit, 16));
   const begin = (isStatus ? STATUS_BASE : CHARACTERS_BASE) + BANK_SIZE * bank;
   const place = (/** @type {number} */ at) => (
-    isStatus ? `st.${bank}.${Math.floor(at / STATUS_CHARACTERS_PER_REGISTER)}.${at % STATUS_CHARACTERS_PER_REGISTER}` : `ram.${bank}.${at}`);
+    isStatus
+      ? `st.${bank}.${Math.floor(at / STATUS_CHARACTERS_PER_REGISTER)}.${at % STATUS_CHARACTERS_PER_REGISTER}`
+      : `ram.${bank}.${at}`);
   return { begin, bytes, place };
 }
 

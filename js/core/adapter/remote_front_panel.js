@@ -24,7 +24,8 @@ import * as say from "../../words/adapter.js";
  * - `litShares`: the share of the next 30 ms in which each lamp is on, while the machine runs;
  * - `printed`: the new output of the printer.
  * @typedef {{ board?: string[], boardText?: string, lamps?: string, keys?: string[], test?: string, isRunning?: boolean,
- *   litShares?: import("../engine/brightness_meter.js").LitShares, printed?: import("../engine/printer_codes.js").PrintoutData }} FrontPanelUpdate
+ *   litShares?: import("../engine/brightness_meter.js").LitShares,
+ *   printed?: import("../engine/printer_codes.js").PrintoutData }} FrontPanelUpdate
  */
 
 export class RemoteFrontPanel {

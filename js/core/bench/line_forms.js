@@ -141,7 +141,9 @@ function findTraceError(count, places) {
  */
 function findWordError([first, ...words]) {
   if (first === undefined) return null;
-  if (!ANSWER_FORMATS.has(first)) return { number: NOT_A_COMMAND, words: say.noLine(first, findSimilarWords(first, ANSWER_FORMATS.keys())) };
+  if (!ANSWER_FORMATS.has(first)) {
+    return { number: NOT_A_COMMAND, words: say.noLine(first, findSimilarWords(first, ANSWER_FORMATS.keys())) };
+  }
   const syntaxError = { number: NOT_A_COMMAND, words: say.lineSyntax(first) };
   if (first === "trace") return words.length === 0 ? syntaxError : findTraceError(words[0], words.slice(1));
   if (first === "poke") return words.length === 2 ? findPokeError(words[0], words[1]) : syntaxError;

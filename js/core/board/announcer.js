@@ -1,5 +1,5 @@
-// Announces a changing text to screen readers. A text is announced after it has been unchanged for ANNOUNCEMENT_DELAY_MS. A text that changes
-// earlier is not announced.
+// Announces a changing text to screen readers. A text is announced after it has been unchanged for ANNOUNCEMENT_DELAY_MS. A text that
+// changes earlier is not announced.
 
 /** The time without a change before an announcement, and the minimum time between announcements, in milliseconds. */
 export const ANNOUNCEMENT_DELAY_MS = 1000;

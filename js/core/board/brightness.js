@@ -44,8 +44,8 @@ export function brightnessLevel(duty) {
 
 /**
  * Decides whether a lamp or display is steady. A "rest" is an interval without a change. A lamp is steady if the current rest is at least
- * EYE_PERSISTENCE_MS, or more than twice the longest rest in the current series of changes. A single change is therefore perceived at once, and bits
- * that shift through a chain are perceived at the end of the shift. A flickering lamp is never steady.
+ * EYE_PERSISTENCE_MS, or more than twice the longest rest in the current series of changes. A single change is therefore perceived at once,
+ * and bits that shift through a chain are perceived at the end of the shift. A flickering lamp is never steady.
  */
 class SteadinessDetector {
   constructor() {

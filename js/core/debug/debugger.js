@@ -483,7 +483,9 @@ export class Debugger {
   goForward() {
     this.begin();
     const present = this.session.timeline.goForward();
-    return present ? { ...EMPTY_SEARCH_RESULT, ...this.enterMoment(present) } : { ...EMPTY_SEARCH_RESULT, isDone: false, wires: false, cycles: 0 };
+    return present
+      ? { ...EMPTY_SEARCH_RESULT, ...this.enterMoment(present) }
+      : { ...EMPTY_SEARCH_RESULT, isDone: false, wires: false, cycles: 0 };
   }
 
   /**

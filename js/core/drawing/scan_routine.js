@@ -149,7 +149,8 @@ function headerLines({ chain, first, rows, columns }, clock, data, labels) {
   const banks = [...new Set([data.bank, clock.bank])].filter((bank) => bank >= 0);
   return [
     say.scansKeys(rows, first, chain, readPorts), say.callUsage(labels.labelFor("scan")),
-    say.registersUsed(first > REGISTER_VALUES ? "R9" : first > 0 ? "R8" : "R7"), say.writesPorts(writtenPorts), ...banks.map(say.designates),
+    say.registersUsed(first > REGISTER_VALUES ? "R9" : first > 0 ? "R8" : "R7"), say.writesPorts(writtenPorts),
+    ...banks.map(say.designates),
   ].map((words) => `; ${words}`);
 }
 

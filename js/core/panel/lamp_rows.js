@@ -41,7 +41,9 @@ class LampRows {
       this.addGroup(group, isScanned(group) ? scanned++ : -1);
     }
     this.addGrid(face.grid.filter(({ lamp }) => lamp < count));
-    for (const lamp of lampsOutsideGroups(face, count)) if (this.names[lamp] !== "") this.rows.push([this.namedCell(lamp, this.cellWidth(lamp))]);
+    for (const lamp of lampsOutsideGroups(face, count)) {
+      if (this.names[lamp] !== "") this.rows.push([this.namedCell(lamp, this.cellWidth(lamp))]);
+    }
   }
 
   /**

@@ -72,6 +72,7 @@ export async function completeLine(line, calls) {
   const words = line.trimStart().split(/[ \t]+/);
   const begin = /** @type {string} */ (words.pop());
   const findWordsAfter = WORDS_AFTER[word];
-  const found = ANSWER_FORMATS.has(word) || word === "help" ? await (findWordsAfter ? findWordsAfter(words.length - 1, calls.ask) : []) : [];
+  const isKnown = ANSWER_FORMATS.has(word) || word === "help";
+  const found = isKnown && findWordsAfter ? await findWordsAfter(words.length - 1, calls.ask) : [];
   return [filterByPrefix(found, begin), begin];
 }

@@ -163,7 +163,9 @@ class ValueReplay {
  */
 export function replayValues(subject, inputs, values) {
   const replay = new ValueReplay(subject, inputs);
-  if (replay.readAddresses.length <= MAX_ENABLED_BREAKPOINTS) replay.serve(replay.readAddresses.map((address) => `break ${address}\n`).join(""));
+  if (replay.readAddresses.length <= MAX_ENABLED_BREAKPOINTS) {
+    replay.serve(replay.readAddresses.map((address) => `break ${address}\n`).join(""));
+  }
   let file = replay.file.slice();
   values.every((value) => {
     const { length } = replay.steps;

@@ -55,7 +55,8 @@ export function lengthError({ lines, length }) {
   let [line, before] = [0, 0];
   for (; before + lines[line].length < MAX_STORED_LENGTH; line++) before += lines[line].length + 1;
   const message = say.textTooLong(MAX_STORED_LENGTH.toLocaleString("en"), length.toLocaleString("en"));
-  return { number: TEXT_TOO_LONG, line: line + 1, from: Math.max(0, MAX_STORED_LENGTH - before - 1), to: lines[line].length, words: message };
+  const from = Math.max(0, MAX_STORED_LENGTH - before - 1);
+  return { number: TEXT_TOO_LONG, line: line + 1, from, to: lines[line].length, words: message };
 }
 
 /**

@@ -18,8 +18,8 @@ import * as say from "../../words/testing.js";
  * A label that a JMS calls. `line` is its line, and `count` is how often the instruction at the label ran.
  * @typedef {{ label: string, line: number, count: number }} Subroutine
  *
- * The coverage of a program. `instructions` and `ways` are the total numbers of instructions and branch directions. `run` and `directionsRun` are
- * how many of them were executed. `never` lists the lines that never ran.
+ * The coverage of a program. `instructions` and `ways` are the total numbers of instructions and branch directions. `run` and
+ * `directionsRun` are how many of them were executed. `never` lists the lines that never ran.
  * @typedef {{ lines: LineCoverage[], instructions: number, run: number, ways: number, directionsRun: number, never: LineRange[],
  *   subroutines: Subroutine[] }} Coverage
  */

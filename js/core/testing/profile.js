@@ -10,8 +10,8 @@
  * label. The code before the first label has a row with the label "" and the address -1.
  * @typedef {{ label: string, address: number, own: number, calls: CallCounts | null }} ProfileRow
  *
- * A profile. `total` is the number of all cycles. `rows` has a row for each label, and `keys` has one for each pressed key. `earlierInstructionCycles`
- * is the number of cycles of instructions that had started before a test.
+ * A profile. `total` is the number of all cycles. `rows` has a row for each label, and `keys` has one for each pressed key.
+ * `earlierInstructionCycles` is the number of cycles of instructions that had started before a test.
  * @typedef {{ total: number, rows: ProfileRow[], earlierInstructionCycles: number, keys: (KeyTimes & { key: string })[] }} Profile
  */
 

@@ -13,7 +13,7 @@ import { lineReference } from "../../words/stops.js";
  * The callbacks of the proof results.
  * @typedef {object} ProofCalls
  * @property {(judgedLine: PropertyVerdict) => void} goTo Shows the line of a property in the properties text.
- * @property {(judgedLine: PropertyVerdict, counterexample: Counterexample) => void} openCounterexample Opens a counterexample in the debugger.
+ * @property {(verdict: PropertyVerdict, counterexample: Counterexample) => void} openCounterexample Opens a counterexample in the debugger.
  * @property {(counterexample: Counterexample) => void} addTest Adds a counterexample's test to the program's tests.
  */
 

@@ -34,7 +34,8 @@ import * as say from "../../words/session.js";
  * @param {Texts} texts
  */
 function describeContents({ testText, propertiesText }) {
-  const containedParts = [...say.ALWAYS_SHARED_PARTS, ...(testText ? [say.THE_TESTS] : []), ...(propertiesText ? [say.THE_PROPERTIES] : [])];
+  const optionalParts = [...(testText ? [say.THE_TESTS] : []), ...(propertiesText ? [say.THE_PROPERTIES] : [])];
+  const containedParts = [...say.ALWAYS_SHARED_PARTS, ...optionalParts];
   return say.linkContains(containedParts.slice(0, -1).join(", "), containedParts[containedParts.length - 1]);
 }
 

@@ -93,7 +93,9 @@ export class SessionsController {
       openFolder: (read) => manager.openFolder(read),
       rename: (name) => calls.rename(name),
       describeStorage: () => (
-        this.store.isPersistent ? say.SAVED_IN_BROWSER_ONLY + (this.persistence.isPromised ? say.STORAGE_IS_PERSISTENT : "") : say.NOT_SAVED_ANYWHERE),
+        this.store.isPersistent
+          ? say.SAVED_IN_BROWSER_ONLY + (this.persistence.isPromised ? say.STORAGE_IS_PERSISTENT : "")
+          : say.NOT_SAVED_ANYWHERE),
     });
   }
 

@@ -20,8 +20,8 @@ import * as say from "../../words/session.js";
  * @property {() => void} handleEdit Handles an edit of a text.
  * @property {(boardText: string) => void} updateNames Updates the names that come from the board's text, which may have changed.
  * @property {() => Promise<string>} source Resolves to a source text that assembles to the contents of ROM. Rejects if the bench fails.
- * @property {(text: string) => Promise<boolean>} isProbablyNotProgram Resolves to true if every line of a text has an error. The text is then
- *   probably not a program.
+ * @property {(text: string) => Promise<boolean>} isProbablyNotProgram Resolves to true if every line of a text has an error. Then the text
+ *   is probably not a program.
  * @property {(shownName: TextName, lines: string) => void} handleLoadedTexts Handles texts that were loaded from a file. Shows the text
  *   `shownName` and puts `lines` into the console's input.
  * @property {(fault: unknown) => void} reportFailure Reports an error that a call threw.
@@ -108,7 +108,8 @@ export class TextsController {
     const session = this.calls.session();
     const { program, isGuess } = texts;
     const isSuspicious = isGuess === true && program !== null && (await this.calls.isProbablyNotProgram(program));
-    const question = { title: say.replaceByProbableNonProgram(name), words: [say.eachLineWrong(name)], accept: say.REPLACE_IT, refuse: say.LEAVE_AS_IS };
+    const title = say.replaceByProbableNonProgram(name);
+    const question = { title, words: [say.eachLineWrong(name)], accept: say.REPLACE_IT, refuse: say.LEAVE_AS_IS };
     if (isSuspicious && !(await this.confirmDialog.ask(question))) return;
     if (session && this.isShown(session)) this.loadTexts(name, texts);
   }

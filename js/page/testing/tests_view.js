@@ -56,7 +56,8 @@ export class TestsView {
   makeRow(outcome) {
     const { name, line, failure } = outcome;
     const mark = element("b", { className: failure ? "not-ok" : "ok" }, failure ? say.NOT_OK : "ok");
-    const head = element("p", {}, mark, " ", makeButton(name, () => this.calls.goTo(line), { className: "name", title: lineReference(line) }),
+    const head = element("p", {}, mark, " ",
+      makeButton(name, () => this.calls.goTo(line), { className: "name", title: lineReference(line) }),
       element("span", { className: "time" }, ` ${testDuration(outcome)}`));
     return element("li", {}, head, ...(failure ? this.failureNodes(outcome, failure) : []));
   }
@@ -85,7 +86,10 @@ export class TestsView {
       const callCells = calls ? [calls.times, calls.withCalls, calls.longest].map((count) => count.toLocaleString("en")) : ["", "", ""];
       return cells(name, address < 0 ? "" : hex(address, 3), own.toLocaleString("en"), percent(own), ...callCells);
     });
-    if (earlierInstructionCycles > 0) tableRows.push(cells(say.BEGUN_BEFORE, "", earlierInstructionCycles.toLocaleString("en"), percent(earlierInstructionCycles), "", "", ""));
+    if (earlierInstructionCycles > 0) {
+      const count = earlierInstructionCycles.toLocaleString("en");
+      tableRows.push(cells(say.BEGUN_BEFORE, "", count, percent(earlierInstructionCycles), "", "", ""));
+    }
     this.labels.replaceChildren(...tableRows);
     this.keys.hidden = keys.length === 0;
     descendant(this.keys, "tbody", HTMLElement).replaceChildren(...keys.map(({ key, presses, answered, first, last }) => (

@@ -349,7 +349,9 @@ export class EditorView {
     clearTimeout(this.sizeTimer);
     this.sizeTimer = window.setTimeout(() => {
       const { isUnsent } = this.language;
-      const [{ length }, limit, unit] = isUnsent ? [this.text, MAX_STORED_LENGTH, "characters"] : [this.benchText, MAX_SENT_LENGTH, "bytes"];
+      const [{ length }, limit, unit] = isUnsent
+        ? [this.text, MAX_STORED_LENGTH, "characters"]
+        : [this.benchText, MAX_SENT_LENGTH, "bytes"];
       this.counter.set(say.sizeOf(length.toLocaleString("en"), limit.toLocaleString("en"), unit));
       this.counter.node.classList.toggle("too-many", length > limit);
     }, REST_DELAY_MS);

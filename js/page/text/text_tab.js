@@ -98,8 +98,8 @@ export class TextTab {
   }
 
   /**
-   * Checks the text when a session has been opened, its tab comes to the front, or another text has changed: the names that it uses may have
-   * changed.
+   * Checks the text when a session has been opened, its tab comes to the front, or another text has changed: the names that it uses may
+   * have changed.
    */
   refresh() {
     this.offerFirstText();
