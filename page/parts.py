@@ -1,4 +1,5 @@
-"""The software of others from which the page is built: esbuild bundles its modules, CodeMirror 6 is its editor, and pako unpacks its data.
+"""The software of others from which the page is built: esbuild bundles its modules, CodeMirror 6 is its editor, and pako unpacks its data
+in browsers without DecompressionStream.
 
 CodeMirror and pako are in page/codemirror, from Debian's packages of trixie. page/codemirror/fetch downloads them, and page/codemirror/SUMS
 has the checksum of each file. The program esbuild is searched for in page/from_npm, where `npm install --prefix page/from_npm
