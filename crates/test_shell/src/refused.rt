@@ -6,7 +6,7 @@ use crate::sessions::{
 };
 use arrayvec::ArrayVec;
 use mcs_disk::{Disk, DiskFault, MemDisk};
-use mcs_fixtures::files::{NEW_BENCH, POKE};
+use mcs_fixtures::files::{NEW_BENCH, POKE_RECORD};
 use mcs_fixtures::texts::{WIRE_EXAMPLE, board_text_in};
 use mcs_journal::{FILE_SIZE, StoreFault};
 use mcs_session::session::Session;
@@ -218,7 +218,13 @@ fn one_allocation(rt: HostRuntime) {
 
 /// Writes a session of version 1 to a disk: a new bench and the record of `poke r5 9`.
 fn write_version_1(disk: &mut MemDisk) -> Result<(), DiskFault> {
-    for (at, bytes) in [NEW_BENCH[0], NEW_BENCH[1], NEW_BENCH[2], NEW_BENCH[3], POKE] {
+    for (at, bytes) in [
+        NEW_BENCH[0],
+        NEW_BENCH[1],
+        NEW_BENCH[2],
+        NEW_BENCH[3],
+        POKE_RECORD,
+    ] {
         if at <= disk.size() && bytes.len() <= disk.size() - at {
             disk.write(at, bytes)?;
         }
@@ -248,7 +254,7 @@ fn convert_version_1(alloc: Global, rt: &impl Abort) -> &'static str {
         }
         Err((StoreFault::NoMemory, mut disk)) => {
             let mut file = new_file(alloc, rt);
-            overwrite(rt, file.as_mut_slice(), POKE.0, POKE.1);
+            overwrite(rt, file.as_mut_slice(), POKE_RECORD.0, POKE_RECORD.1);
             let left = bytes_of(alloc, rt, &mut disk);
             assert!(rt; left.as_slice() == file.as_slice());
             expect_register(rt, &open_or_panic(alloc, rt, disk));

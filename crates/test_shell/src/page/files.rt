@@ -1,7 +1,7 @@
 //! Session files as the page stores them, and the page's calls on these files.
 use crate::checks::expect_equal;
 use crate::sessions::overwrite;
-use mcs_fixtures::files::{NEW_BENCH, POKE};
+use mcs_fixtures::files::{NEW_BENCH, POKE_RECORD};
 use mcs_journal::{FILE_SIZE, StoreFault};
 use mcs_shell::ends::ShellEnd;
 use mcs_wasm::fault::ServeFault;
@@ -27,7 +27,7 @@ pub(crate) fn overwrite_with_version_1(rt: &impl Abort, file: &mut [u8]) {
     for (at, bytes) in NEW_BENCH {
         overwrite(rt, file, at, bytes);
     }
-    overwrite(rt, file, POKE.0, POKE.1);
+    overwrite(rt, file, POKE_RECORD.0, POKE_RECORD.1);
 }
 
 /// Returns a session file of version 1 with a new bench and the record of `poke r5 9`.
