@@ -108,7 +108,7 @@ function pageResult(engine, file, input, call = "bench_serve") {
 
 function settle(engine, file) {
   const { instance } = engine;
-  instance.takeFile(file);
+  instance.copyFile(file);
   if (!engine.call((calls) => calls.bench_settle(instance.file.offset, BigInt(file.length)))) return file;
   return instance.view(instance.file, file.length).slice();
 }
