@@ -85,7 +85,7 @@ const REQUESTS: [(&str, &str); 24] = [
     ("trace 100000", "Trace(100000, [])"),
     (
         "trace 1 lamps ret lamps",
-        "Trace(1, [Lamps, Returns, Lamps])",
+        "Trace(1, [Lamps, ReturnAddresses, Lamps])",
     ),
     (
         "trace 10 acc cy pc dcl r15 rom.4095 ram.7.255 st.7.15.3",
