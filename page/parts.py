@@ -1,10 +1,10 @@
-"""The software of others from which the page is built: esbuild bundles its modules, CodeMirror 6 is its editor, and pako unpacks its data
+"""The third-party software from which the page is built: esbuild bundles its modules, CodeMirror 6 is its editor, and pako unpacks its data
 in browsers without DecompressionStream.
 
 CodeMirror and pako are in page/codemirror, from Debian's packages of trixie. page/codemirror/fetch downloads them, and page/codemirror/SUMS
 has the checksum of each file. The program esbuild is searched for in page/from_npm, where `npm install --prefix page/from_npm
 esbuild@VERSION` puts it, and then in PATH. With another version of esbuild, or with a zlib that packs differently, the page differs from the shipped
-one. They are used all the same, after a message.
+one. A message reports that, and the page is built all the same.
 """
 
 import hashlib
@@ -17,15 +17,15 @@ import zlib
 HERE = pathlib.Path(__file__).resolve().parent
 ESBUILD = "0.17.0"
 EDITOR = HERE / "codemirror"
-# A text, and the checksum (SHA-256) of this text packed by zlib. Another checksum shows that zlib packs differently here.
+# A sample text, and the checksum (SHA-256) of this text packed by zlib. If the checksum differs, zlib packs differently here.
 PACKED_TEXT = " ".join(str(number * number) for number in range(20000)).encode()
 PACKED_SUM = "c9235e861439903a62dc18ba276c200da9cfd6a308ace067475943966a4aaa78"
-# The imports from the editor in js/page.
+# Matches the imports of js/page from CodeMirror: the imported names, and the module.
 IMPORTS = re.compile(r'^import \{([^}]*)\}\s*from "(@codemirror/[a-z]+|style-mod)";', re.M)
 
 
 class MissingPart(Exception):
-    """A part is missing or is not the expected one. The message says what to do."""
+    """Raised if a part is missing or differs from the expected one. The message says what to do."""
 
 
 def esbuild():
@@ -52,7 +52,7 @@ def editor():
 
 
 def editor_imports(folder):
-    """Returns the names that the modules of a folder import from the editor, sorted, by module of the editor."""
+    """Returns the names that the modules of a folder import from CodeMirror: for each module of CodeMirror, the sorted names."""
     used = {}
     for path in sorted(folder.rglob("*.js")):
         for names, module in IMPORTS.findall(path.read_text()):

@@ -1,4 +1,4 @@
-"""A second assembler, written from the manual's chapter alone. It returns a program's bytes or its first error. It shares no code with the bench."""
+"""A second assembler, written only from the manual's chapter. It returns a program's bytes or its first error. It shares no code with the bench."""
 
 import re
 
@@ -21,7 +21,8 @@ MAX_ERRORS = 100
 
 
 class Refused(Exception):
-    """An error in a program: the error's number in the manual, and the number of the wrong line, from 1 (0 if no single line is wrong)."""
+    """Raised for an error in a program, with the error's number in the manual and the number of the wrong line, from 1 (0 if no single line is
+    wrong)."""
 
 
 def number_of(word):
@@ -134,7 +135,7 @@ class FirstPass:
         self.at = parsed[1] if parsed and parsed[0] == "ORG" else self.at + size_of(parsed)
 
     def skip(self):
-        """Reads the next line as if it were empty."""
+        """Counts the next line as an empty line, because it has an error."""
         self.rows.append((self.at, None))
 
 
@@ -170,7 +171,7 @@ class SecondPass:
         self.bytes, self.spans, self.names = {}, [], names
 
     def take(self, at, statement):
-        """Adds the statement of the next line."""
+        """Assembles the statement of the next line, which can be None, at an address. Raises Refused if the statement is wrong."""
         number = len(self.spans) + 1
         held = bytes_of(at, statement, self.names, number)
         if any(at + i in self.bytes for i in range(len(held))):

@@ -1,8 +1,8 @@
 """A second implementation of the bench's answers to lines, which docs/MANUAL.md ("Lines") defines. It runs the board of board4004.py.
 
 It implements the commands and these queries: `regs`, `state`, `lamps`, `ram`, `list`, `breaks` and `seq`, and also `count` and `trace`, which run
-a copy of the board. Python's TOML parser reads the texts of boards, and assembler.py reads the programs. It rejects only a key, a RAM chip or a
-ROM chip that the board lacks, and assumes that all other lines are valid.
+a copy of the board. Python's TOML parser reads the texts of boards, and assembler.py assembles the programs. This bench rejects only keys, RAM chips
+and ROM chips that the board lacks, and assumes that all other lines are valid.
 """
 
 from __future__ import annotations
@@ -53,8 +53,8 @@ def reader_of(place: str) -> Callable[[Board], str]:
 
 
 def count_instructions(board: Board, most: int) -> tuple[Counter[int], Counter[int], int, str]:
-    """Runs a board. Returns how often the instruction at each address was executed, how often it jumped, the number of cycles, and the reason for
-    the stop."""
+    """Runs a board for at most `most` cycles. Returns how often the instruction at each address was executed, how often it jumped, the number of
+    cycles, and the reason for the stop."""
     runs: Counter[int] = Counter()
     jumps: Counter[int] = Counter()
 
@@ -262,7 +262,7 @@ def poke(board: Board, place: str, text: str) -> str:
 
 
 def run_answer(cycles_and_stop: tuple[int, str]) -> str:
-    """Returns the words after `ok N` for a run or a step."""
+    """Returns the words after `ok N` for a run or a step, from its number of cycles and its reason for the stop."""
     return " ran {} {}".format(*cycles_and_stop)
 
 

@@ -2,7 +2,7 @@
 
 The 45 instructions and the chips 4001, 4002, 4003 and 4004 follow Intel's "MCS-4 Micro Computer Set, Users Manual" and data sheets, as
 docs/MANUAL.md describes them. Details that Intel leaves open follow docs/MANUAL.md, too: when a chain is clocked, which codes are not instructions,
-that an instruction of two cycles does all its work in the first one, and what stops a run.
+that a two-cycle instruction takes effect in its first cycle, and what stops a run.
 """
 
 from __future__ import annotations
@@ -21,7 +21,7 @@ Line = tuple[str, tuple[int, ...]]
 
 
 def table() -> dict[int, tuple[str, int]]:
-    """Returns the mnemonic for each valid code, with the number in the code's lower half: a register, a pair or a value."""
+    """Returns for each valid code the mnemonic and the operand in the code's lower half: a register, a pair or a value (0 for no operand)."""
     codes = {code: (name, 0) for name, code in CODES_WITHOUT_OPERAND.items()}
     for name, code in [*CODES_ON_REGISTER.items(), *((name, CODES_WITH_VALUES[name][1]) for name in ("JCN", "JUN", "JMS", "ISZ", "BBL", "LDM"))]:
         codes.update({code + low: (name, low) for low in range(16)})
@@ -44,7 +44,7 @@ class Chips:
 
     def __init__(self, text: str = "") -> None:
         wiring = tomllib.loads(text)
-        # A port's text begins with line 3, and a mask begins with line 0.
+        # The text of a port begins with the letter for line 3, and a mask begins with the letter for line 0.
         self.masks = {part["chip"]: part["port"][::-1] for part in wiring.get("rom", [])}
         self.chips = {part["bank"]: part["chips"] for part in wiring.get("ram", [])}
         self.clocks = [(line_of(part["clock"]), line_of(part["data"])) for part in wiring.get("chain", [])]
@@ -103,28 +103,28 @@ class Chips:
         """Returns the lamps in the format of `lamps`: `*` for on, `.` for off."""
         return "".join("*" if self.level(lamp) else "." for lamp in self.lamps)
 
-    # ---- what the chips do for the processor
+    # ---- the effects of instructions on the chips
 
     def send_src(self, bank: int, byte: int) -> None:
-        """SRC: all ROM chips store the byte, and so does the selected bank if it has chips."""
+        """Executes SRC: all ROM chips store the byte. The selected bank stores it, too, if it has chips."""
         self.rom_src = byte
         if bank in self.chips:
             self.bank_src[bank] = byte
 
     def read_port(self, chip: int) -> int:
-        """RDR: reads the input lines from the keys. Output lines read as the port's letters define."""
+        """Executes RDR: returns the levels of a port. The keys define the input lines, and the port's letters define the output lines."""
         mask = self.masks.get(chip, "0000")
         return sum((self.is_pulled(("rom", (chip, k))) if mask[k] == "i" else int(mask[k])) << k for k in range(4))
 
     def write_rom_port(self, value: int) -> None:
-        """WRR: writes the output lines of the selected ROM chip."""
+        """Executes WRR: writes the output lines of the selected ROM chip."""
         chip = self.rom_src >> 4
         if chip in self.masks:
             outputs = sum(1 << k for k in range(4) if self.masks[chip][k] != "i")
             self.write_latch(self.rom_latch, chip, value & outputs)
 
     def write_ram_port(self, bank: int, value: int) -> None:
-        """WMP: writes the output lines of the selected RAM chip."""
+        """Executes WMP: writes the output lines of the selected RAM chip."""
         if self.has_ram(bank, self.bank_src[bank]):
             self.write_latch(self.ram_latch, (bank, self.bank_src[bank] >> 6), value)
 
@@ -200,7 +200,7 @@ class Board:
         return self.rom[self.pc] not in CODES
 
     def cycle(self) -> None:
-        """Executes one cycle: the work of an instruction, or its pending second cycle."""
+        """Executes one cycle: the first cycle of an instruction, in which it takes effect, or its pending second cycle."""
         if self.owed:
             self.owed = 0
             return
@@ -235,8 +235,8 @@ class Board:
         return [self.chips.ram[bank][src] for bank, src in self.watches]
 
     def run(self, most: int, on_instruction: Callable[[int, int], None] | None = None) -> tuple[int, str]:
-        """Runs at most `most` cycles. Returns their number, and the reason for the stop. Calls `on_instruction` after the work of each instruction,
-        with the number of cycles before it and its address."""
+        """Runs at most `most` cycles. Returns the number of cycles, and the reason for the stop. Calls `on_instruction` after the first cycle of each
+        instruction, with the number of cycles before the instruction and its address."""
         done, changed = 0, False
         while not (stop := self.stops(done, most, changed)):
             at, begins, watched = self.pc, not self.owed, self.watched()
@@ -248,10 +248,10 @@ class Board:
         return done, stop
 
 
-# ---- the instructions; when they run, the program counter already points past their words
+# ---- the instructions; each is called after the program counter has moved past its words
 
 def jump_on_page(board: Board, low: int) -> None:
-    """Jumps to a word in the page of the counter."""
+    """Jumps to an address in the page of the program counter. `low` is the lower byte of the address."""
     board.pc = board.pc & 0xF00 | low
 
 
@@ -388,7 +388,7 @@ def adm(board: Board, _low: int, _second: int) -> None:
 
 
 def accumulator(change: Callable[[int, int], tuple[int, int]]) -> Callable[[Board, int, int], None]:
-    """Returns an instruction that changes accumulator and carry. `change` returns their new values, carry first."""
+    """Returns an instruction that changes only the accumulator and the carry. `change` takes both, and returns the new carry and accumulator."""
     def work(board: Board, _low: int, _second: int) -> None:
         board.cy, board.acc = change(board.acc, board.cy)
     return work

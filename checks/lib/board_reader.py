@@ -1,5 +1,5 @@
-"""A second reader of board texts, written from the manual's chapter alone. It finds the first error, and the part of the text that contains it. It
-shares no code with the bench."""
+"""A second parser of board texts, written only from the manual's chapter. It finds the first error, and the part of the text that contains the error.
+It shares no code with the bench."""
 
 import re
 import tomllib
@@ -72,8 +72,8 @@ class BoardReading:
         self.tables = list(tables_of(document))
 
     def first_error(self):
-        """Returns the first error: its number, the section, the number of the table and the key, as far as they apply. Returns None if the board
-        is valid."""
+        """Returns the first error: its number, the section, the number of the table, and the key; "" or 0 for a part that does not apply. Returns
+        None if the board is valid."""
         for find in (self.unknown_keys, self.missing_keys, self.badly_formed_values, self.excess_parts, self.repeated_numbers):
             for part in find():
                 return part

@@ -1,7 +1,8 @@
 // Runs the lamps and keys view of the Visual Studio Code extension with stand-ins for the editor: `node board_view.mjs FOLDER`. FOLDER is the
 // unpacked extension. The script uses the extension's module and the real debug adapter, which debugs the lock in real time. Each line of standard
-// input is JSON: { said } is a message from the view's page, { ask, args } is a request to the adapter, { end } ends the script. Lines of standard
-// output are { html } of the view, { post } with a message for the page, { asked, body } with the answer to a request, { stopped }, and { error }.
+// input is JSON: { said } is a message from the view's page, { ask, args } is a request to the adapter, and { end } ends the script. Each line of
+// standard output is also JSON: { html } is the view's HTML, { post } a message for the page, { asked, body } the answer to a request, { stopped } a
+// stop of the program, and { error } an error.
 import { createRequire } from "node:module";
 import { createInterface } from "node:readline";
 import { Client } from "./dap_client.mjs";

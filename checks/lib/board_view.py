@@ -1,6 +1,6 @@
 """Checks the lamps and keys view of the Visual Studio Code extension: `python3 board_view.py FOLDER`. FOLDER is the extension, unpacked from its
-.vsix. The view's page runs in Chromium with a stand-in for the editor's interface (acquireVsCodeApi). Its messages go to the extension's module,
-which runs with the real debug adapter (board_view.mjs), and back. Prints `ok WORDS` or `fault: WORDS` for each check."""
+.vsix. The view's page runs in Chromium with a stand-in for the editor's interface (acquireVsCodeApi). The extension's module runs in Node with the
+real debug adapter (board_view.mjs). Messages are passed between both. Prints `ok WORDS` or `fault: WORDS` for each check."""
 
 import json
 import pathlib
@@ -35,7 +35,7 @@ def verdict(found, wanted, what):
 
 
 class Bridge:
-    """Connects the view's page in the browser with the extension in Node, and passes the messages of each to the other."""
+    """Passes messages between the view's page in the browser and the extension in Node."""
 
     def __init__(self, folder, browser):
         self.browser = browser
@@ -60,7 +60,7 @@ class Bridge:
                 self.messages.append(message)
 
     def until(self, code, wanted, what):
-        """Waits until a script returns the wanted value, and passes messages on in the meantime."""
+        """Waits until a script returns the expected value. Passes messages in the meantime."""
         end = time.monotonic() + WAIT
         found = None
         while time.monotonic() < end:

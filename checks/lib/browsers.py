@@ -1,4 +1,4 @@
-"""The browsers in which checks/page opens the page, with the programs that each of them needs and the Debian packages of these programs."""
+"""The browsers in which checks/page opens the page, with the programs that each browser needs and the Debian packages of these programs."""
 
 import shutil
 

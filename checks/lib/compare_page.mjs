@@ -1,7 +1,7 @@
 // Compares the page's module with the program: `node compare_page.mjs MODULE MCS4 COUNT`. Both serve the examples and COUNT random scripts. The
-// answers, the exit status and each byte of the session file must be the same. This also holds if a script is split into two calls, if the file was
-// settled between them, if it has version 1, and if it is damaged. (To settle a file is to replace its records with a snapshot.) When the module gets
-// the lines in pieces, as the page does with long work, the answers must be the same as in one call.
+// answers, the exit status and each byte of the session file must be the same. The same must hold if a script is split into two calls, with or
+// without settling the file in between, and if the file has version 1 or is damaged. (To settle a file is to replace its records with a snapshot.) If
+// the module gets the lines in pieces, as the page sends long work, the answers must be the same as in one call.
 import { spawnSync } from "node:child_process";
 import { closeSync, existsSync, mkdtempSync, openSync, readFileSync, readdirSync, rmSync, writeFileSync } from "node:fs";
 import { tmpdir } from "node:os";
@@ -145,7 +145,7 @@ function compare(name, engine, file, input) {
   return wanted.file;
 }
 
-// Converts a settled file to version 1, which lacks the version byte and the number of watches. Returns null if the file has watches.
+// Converts a settled file of version 2 to version 1, which has no version byte and no number of watches. Returns null if the file has watches.
 function toVersion1(file) {
   const slot = file[8] % 2 === 0 ? 16 : 81936;
   const length = new DataView(file.buffer, file.byteOffset).getUint32(slot);
@@ -168,7 +168,7 @@ const QUESTIONS = "seq\nstate\nregs\nlamps\nports\nwatches\nbreaks\nboard\nram 0
 
 const ALL_ROM = [...Array(16).keys()].map((page) => `list ${page * 256} 256\n`).join("");
 
-// Counts a check that does not run the program.
+// Counts the result of a check, and prints its name if it failed.
 function verdict(name, isRight) {
   passed += isRight ? 1 : 0;
   failed += isRight ? 0 : 1;

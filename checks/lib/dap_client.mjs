@@ -39,7 +39,7 @@ export class Client extends MessageClient {
     return this.next((message) => message.type === "event" && message.event === name);
   }
 
-  /** Sends the requests from initialize to configurationDone. `configure` sets breakpoints. */
+  /** Sends the requests from initialize to configurationDone. `configure` is called before configurationDone and can set breakpoints. */
   async begin(args, configure = async () => {}) {
     const capabilities = await this.ask("initialize", { adapterID: "mcs4", linesStartAt1: true, columnsStartAt1: true, pathFormat: "path" });
     await this.ask("launch", args);

@@ -1,18 +1,18 @@
-;; Drives dap-mode over the lock. Each result is printed on standard error as a line after "shown: ". checks/debugging starts it with the
-;; configuration from the manual, in the folder of the lock.
+;; Debugs the lock example with dap-mode. Prints each result on standard error, on a line that begins with "shown: ". checks/debugging runs this
+;; script with the configuration from editors/README.md, in the folder of the lock.
 (setq dap-breakpoints-file (expand-file-name "breakpoints" (getenv "HOME")) dap-auto-configure-features nil
       dap-print-io nil dap-inhibit-io t)
 (defvar stops 0)
 (add-hook 'dap-stopped-hook (lambda (_) (setq stops (1+ stops))))
 (defun until-stopped (count)
-  "Waits until the machine has stopped COUNT times, and the frame is known."
+  "Waits until the machine has stopped COUNT times, and dap-mode has received the stack frame."
   (let ((turns 0))
     (while (and (< turns 600) (not (and (>= stops count) (dap--cur-session) (dap--debug-session-active-frame (dap--cur-session)))))
       (accept-process-output nil 0.1)
       (setq turns (1+ turns)))
     (accept-process-output nil 0.3)))
 (defun where (what)
-  "Reports where it stands."
+  "Prints WHAT, with the function and the line at which the program has stopped."
   (let ((frame (dap--debug-session-active-frame (dap--cur-session))))
     (message "shown: %s at %s line %s" what (gethash "name" frame) (gethash "line" frame))))
 (find-file "lock.asm")

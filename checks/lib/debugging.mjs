@@ -8,7 +8,7 @@ const TOP = new URL("../..", import.meta.url).pathname;
 const MCS4 = `${TOP}mcs4`;
 const [folder] = process.argv.slice(2);
 const STEPS = 200;
-/** The number of cycles that the program of the speed measurement runs. */
+/** The number of cycles up to the breakpoint in the program of the speed measurement. */
 const CYCLES_TO_BREAKPOINT = [1, 2, 3, 4, 5].reduce((sum, each) => sum + 2 * 12 * 16 ** (5 - each), 3 * 12 * 16 ** 5);
 
 function verdict(is, wanted, words) {
@@ -18,7 +18,7 @@ function verdict(is, wanted, words) {
 
 const matches = (words, pattern, what) => console.log(pattern.test(words) ? `ok ${what}` : `fault: ${what}: ${words}`);
 
-/** Serves lines in a session file with the program, and returns its answers. */
+/** Runs the program on a session file with these input lines, and returns its answers. */
 const mcs4 = (word, file, input) => execFileSync(process.env.MCS4, [word, file], { input, encoding: "utf8" }).split("\n").slice(1, -1);
 
 /** Returns the state in a session file. Reads a copy, because a file in use cannot be opened. */
@@ -277,8 +277,8 @@ async function timed(count, act) {
 /** Measures the time of a step, the time of a step back after ten million cycles, and the speed of a run to a breakpoint far ahead. */
 async function trySpeed() {
   const program = `${folder}/far.asm`;
-  // R0 is incremented 12 * 16 ** 5 times, by NOP and ISZ in 3 cycles. Each of R1 to R5 is incremented once in 16 increments of the register before
-  // it, by an ISZ in 2 cycles.
+  // R0 is incremented 12 * 16 ** 5 times; each time takes 3 cycles (NOP and ISZ). Each of R1 to R5 is incremented once in 16 increments of the
+  // register before it; each time takes 2 cycles (ISZ).
   const count = [0, 1, 2, 3, 4, 5].map((each) => `count${each}: ISZ R${each}, turn\n`).join("");
   writeFileSync(program, `        FIM P0, 0\n        FIM P1, 0\n        FIM P2, 0x04\nturn:   NOP\n${count}far:    JUN far\n`);
   const client = new Client(MCS4);

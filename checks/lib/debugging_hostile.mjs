@@ -80,7 +80,7 @@ function given(depth = 0) {
   return Object.fromEntries(Array.from({ length: upTo(7) }, () => [oneOf(NAMES), value(depth)]));
 }
 
-/** Returns arguments that are mostly valid, so that the adapter also reaches its later checks of the arguments. */
+/** Returns arguments most of which are valid, so that the adapter's later checks of the arguments are also tested. */
 function nearlyRight(command) {
   const right = { threadId: 1, frameId: 1, variablesReference: 1 + upTo(7), name: oneOf(["acc", "R4", "lamp 0"]), value: oneOf(TEXTS), expression: oneOf(TEXTS),
     context: oneOf(["repl", "watch", "hover", "clipboard"]), memoryReference: oneOf(["0x000", "0x10000", "ram.0"]), offset: upTo(300) - 20, count: upTo(5000),

@@ -30,7 +30,7 @@ function answersOf(file, input) {
   return execFileSync(process.env.MCS4, ["open", `${folder}/asked.mcs`], { input, encoding: "utf8" }).split("\n").slice(1, -1);
 }
 
-/** Creates a session file for the lock with the native program, without the debug adapter, and serves lines in it. */
+/** Creates a session file for the lock with the native program, without the debug adapter, and executes session lines in it. */
 function sessionFile(name, lines) {
   const file = `${folder}/${name}.mcs`;
   const bare = (text, mark) => text.split("\n").map((line) => line.replace(new RegExp(`${mark}.*`), "").trimEnd()).join("\n");

@@ -1,5 +1,5 @@
-"""The names that the crates define. checks/documents looks them up when a document says that a name is a definition, a function or a module. A
-search of all files would not be enough: after a renaming, comments and other languages can still contain the old name.
+"""The names that the crates define. checks/documents uses them to check a document's statement that a name is a definition, a function or a module. A
+search for the name in all files would not be enough: after a renaming, comments and files in other languages can still contain the old name.
 """
 
 import functools

@@ -15,7 +15,7 @@ return `${element.getBoundingClientRect().top} ${element.textContent}`"""
 
 
 class Fault(Exception):
-    """An error that the driver or the page returned instead of a value."""
+    """Raised if the driver or the page returns an error instead of a value."""
 
 
 def matches(found, wanted):
@@ -26,9 +26,9 @@ def matches(found, wanted):
 class Driven:
     # True if the driver can touch the page with several fingers.
     has_fingers = True
-    # True if a page in a background tab is hidden for its scripts.
+    # True if `document.hidden` is true for a page in a background tab.
     hides_tabs = True
-    # True if a page that receives only `pagehide` when the user leaves it can still run its functions.
+    # True if the browser always calls a page's `pagehide` listeners when the user leaves the page.
     runs_at_pagehide = True
     # The seconds after a scroll until the page has been drawn again.
     settle_seconds = 0
@@ -88,7 +88,7 @@ class Driven:
         } for number, selector in enumerate(selectors)])
 
     def touch(self, selector, time_down):
-        """Touches an element with one finger for a time in milliseconds. (WebKit's driver cannot touch, so its class sends the events by script.)"""
+        """Touches an element with one finger for a time in milliseconds. (For WebKit, whose driver cannot touch, a script dispatches the events.)"""
         self.fingers([selector], time_down)
 
     def click_secondary(self, x, y):

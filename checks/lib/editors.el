@@ -1,5 +1,5 @@
-;; Drives eglot over a text with errors. Each result is printed on standard error as a line after "shown: ". checks/editors starts it with the
-;; configuration from the manual.
+;; Opens a program with errors in eglot. Prints each result on standard error, on a line that begins with "shown: ". checks/editors runs this
+;; script with the configuration from editors/README.md.
 (setq eglot-sync-connect 60 eglot-connect-timeout 60)
 (find-file "wrong.asm")
 (call-interactively 'eglot)

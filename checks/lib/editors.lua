@@ -1,8 +1,9 @@
--- Drives Neovim's language client over the lock, and over a text with errors. Each result is printed on standard output as a line.
--- checks/editors starts it with the configuration from the manual.
+-- Uses Neovim's language client on the lock example, and on a program with errors. Prints each result as a line on standard output.
+-- checks/editors runs this script with the configuration from editors/README.md.
 local function say(...) io.stdout:write(string.format(...), "\n") io.stdout:flush() end
 local function quit() vim.cmd("qa!") end
-local patience = 60000
+-- The time in milliseconds to wait for each result.
+local timeout = 60000
 
 local function client_of(buffer)
     for id in pairs(vim.lsp.buf_get_clients(buffer)) do return id end
@@ -11,7 +12,7 @@ end
 local function edit(name)
     vim.cmd("edit " .. name)
     local buffer = vim.api.nvim_get_current_buf()
-    vim.wait(patience, function()
+    vim.wait(timeout, function()
         local id = client_of(buffer)
         return id ~= nil and vim.lsp.get_client_by_id(id).initialized == true
     end, 5)
@@ -27,7 +28,7 @@ end
 
 local function request(method, more)
     local params = vim.tbl_extend("force", vim.lsp.util.make_position_params(), more or {})
-    local answers = vim.lsp.buf_request_sync(0, method, params, patience)
+    local answers = vim.lsp.buf_request_sync(0, method, params, timeout)
     local _, answer = next(answers or {})
     if answer == nil then return nil end
     return answer.result, answer.error or answer.err
@@ -39,7 +40,7 @@ local function put(pattern, more)
 end
 
 local function diagnostics(buffer, count)
-    vim.wait(patience, function() return #vim.diagnostic.get(buffer) == count end, 5)
+    vim.wait(timeout, function() return #vim.diagnostic.get(buffer) == count end, 5)
     local found = vim.diagnostic.get(buffer)
     table.sort(found, function(one, other) return one.lnum < other.lnum end)
     for _, each in ipairs(found) do
@@ -49,7 +50,7 @@ local function diagnostics(buffer, count)
 end
 
 local function main()
-    -- The lock as it is.
+    -- The unchanged program of the lock: diagnostics, hover, definition, references, completion, symbols, renaming.
     local lock = edit("lock.asm")
     put("JCN zero, anew", 11)
     diagnostics(lock, 0)
@@ -58,7 +59,7 @@ local function main()
     say("hover %s", ((request("textDocument/hover")).contents.value:gsub("\n+", " | ")))
     put("JCN zero, anew", 11)
     vim.lsp.buf.definition()
-    vim.wait(patience, function() return vim.api.nvim_win_get_cursor(0)[1] ~= find("JCN zero, anew") end, 5)
+    vim.wait(timeout, function() return vim.api.nvim_win_get_cursor(0)[1] ~= find("JCN zero, anew") end, 5)
     say("definition %s", vim.api.nvim_get_current_line():sub(1, 13))
     put("JCN zero, anew", 11)
     local references = request("textDocument/references", { context = { includeDeclaration = true } })
@@ -69,15 +70,15 @@ local function main()
     say("symbols %d, the first %s", #symbols, symbols[1].name)
     put("JCN zero, anew", 11)
     vim.lsp.buf.rename("begin_anew")
-    vim.wait(patience, function() return find("JCN zero, begin_anew") ~= nil and find("begin_anew:") == 30 end, 5)
+    vim.wait(timeout, function() return find("JCN zero, begin_anew") ~= nil and find("begin_anew:") == 30 end, 5)
     say("renamed %s, %s", find("begin_anew:") and "its definition" or "not its definition", find("anew:") == 30 and "alone" or "more")
     diagnostics(lock, 0)
 
-    -- Layout, routines, lenses, the form of a statement.
+    -- Formatting, call hierarchy, code lenses, signature help, folding, inlay hints, workspace symbols.
     local text = vim.api.nvim_buf_get_lines(lock, 0, -1, false)
     local line = find("FIM P5, 0")
     vim.api.nvim_buf_set_lines(lock, line - 1, line, false, { "begin_anew:FIM P5,0;no digit yet" })
-    if vim.lsp.buf.format then vim.lsp.buf.format({ timeout_ms = patience }) else vim.lsp.buf.formatting_sync(nil, patience) end
+    if vim.lsp.buf.format then vim.lsp.buf.format({ timeout_ms = timeout }) else vim.lsp.buf.formatting_sync(nil, timeout) end
     say("layout %s", vim.api.nvim_buf_get_lines(lock, line - 1, line, false)[1])
     say("layout %s", vim.api.nvim_buf_get_lines(lock, 18, 19, false)[1])
     vim.api.nvim_buf_set_lines(lock, 0, -1, false, text)
@@ -96,7 +97,7 @@ local function main()
     for _, each in ipairs(hints) do say("hint %s", each.label) end
     for _, each in ipairs(request("workspace/symbol", { query = "begin_a" })) do say("in the workspace %s %s", each.containerName, each.name) end
 
-    -- Tests and properties.
+    -- The texts of tests and of properties.
     local tests = edit("lock.test")
     diagnostics(tests, 0)
     vim.api.nvim_buf_set_lines(tests, -1, -1, false, { "test a fault", "  press Q" })
@@ -106,11 +107,11 @@ local function main()
     local properties = edit("lock.props")
     diagnostics(properties, 0)
 
-    -- A program whose name has the bench's own ending.
+    -- A program with the extension .4004, which only the bench uses.
     local own = edit("own.4004")
     diagnostics(own, 3)
 
-    -- Faults, of which one is cured.
+    -- A program with three errors, one of which a code action corrects.
     local wrong = edit("wrong.asm")
     diagnostics(wrong, 3)
     put("JMP entre")
@@ -121,10 +122,10 @@ local function main()
         say("cure %s", each.title)
         vim.lsp.util.apply_workspace_edit(each.edit, "utf-16")
     end
-    vim.wait(patience, function() return #vim.diagnostic.get(wrong) == 2 end, 5)
+    vim.wait(timeout, function() return #vim.diagnostic.get(wrong) == 2 end, 5)
     diagnostics(wrong, 2)
 
-    -- The board: a lamp's line leads to its chip; without its RAM, the first lamp lacks its line.
+    -- The board: the definition of a lamp's line is its chip. When the RAM chip is moved to another bank, the first lamp's line is missing.
     local board = edit("board.toml")
     diagnostics(board, 0)
     put("ram0.0.2")

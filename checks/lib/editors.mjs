@@ -14,7 +14,7 @@ function verdict(is, wanted, words) {
   console.log(one === other ? `ok ${words}` : `fault: ${words}: ${one}, not ${other}`);
 }
 
-/** Returns the program's report about a source text: the address and size of each line, and the names with their values. */
+/** Returns the address and size of each line of a source text, and its names with their values, as the native program reports them (`map`). */
 function bySession(board, program) {
   const file = `${folder}/session.mcs`;
   const input = `wire\n${board}.\nasm\n${program}.\nmap\n${program}.\n`;

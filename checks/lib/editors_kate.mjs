@@ -17,7 +17,7 @@ const ends = new Set();
 const say = (line) => process.stdout.write(`${line}\n`);
 const shortly = () => new Promise((resume) => setTimeout(resume, 100));
 
-/** Calls `look` repeatedly until it returns a truthy value, and resolves to that value. */
+/** Calls `look` repeatedly until it returns a truthy value. Resolves to that value. Fails after TIMEOUT, with a message that contains `what`. */
 async function once(what, look) {
   for (const end = Date.now() + TIMEOUT; Date.now() < end;) {
     const found = look();

@@ -1,4 +1,4 @@
-// Tests of checks/editors that send the requests of Visual Studio Code, in its order, for the lock example as a project on disk. Prints `ok WORDS` or
+// Tests of checks/editors that send requests in the order of Visual Studio Code, for the lock example as a project on disk. Prints `ok WORDS` or
 // `fault: WORDS` for each check, and `speed: WORDS` for a measurement.
 import { copyFileSync, mkdirSync, readFileSync, symlinkSync, writeFileSync } from "node:fs";
 import { execFileSync } from "node:child_process";

@@ -1,5 +1,5 @@
 """Questions to mcs4-prove about the examples, with the expected answers. The conditions in the examples' properties (`never` lines, lines with a time
-limit, and lines with key presses) are written as comparisons of the machine's cells. Also has mutants: examples in which one instruction is replaced.
+limit, and lines with key presses) are written as comparisons of the machine's cells. Also contains mutants: examples with one instruction replaced.
 """
 
 from __future__ import annotations
@@ -74,7 +74,7 @@ class Example:
 EXAMPLES = [
     Example("a_fault_to_find.props", "may fail after 1 values", {"lamp 8 on and lamp 2 on": "in ramport 0 line3 1 1 & in ramport 0 line1 1 1"}),
     Example("counter.props", "too many", {never: DIGIT_COMPARISONS[never] for never in ("ram.0.0 > 9", "ram.0.64 > 9")}, most=20000),
-    # These comparisons do not include the maximum time of a key press.
+    # This question does not limit the duration of key presses, as the properties file does. So the property can fail.
     Example("counter_bounces.props", "may fail after 113 values", {"@count": "@count"}),
     Example("die.props", "holds 13", {
         "not lamps ...*... and not lamps *.....* and not lamps *..*..* and not lamps **...** and not lamps **.*.** and not lamps ***.*** "
@@ -144,7 +144,8 @@ class TimeLimit:
 
 
 def duration_question(props: str, line: str, condition: str, limit: int, answer: str, longest: int = -1, most: int = 1000000) -> TimeLimit:
-    """Returns the question how long comparisons are all true at the same time. The time ends when any of them becomes false."""
+    """Returns the question whether the comparisons of `condition` can all be true for longer than `limit` cycles. The stopwatch ends when any of them
+    becomes false."""
     comparisons = [each.split(" ", 1) for each in condition.split(" & ")]
     ends = [f"{'out' if word == 'in' else 'in'} {rest}" for word, rest in comparisons]
     return TimeLimit(props, line, [condition], ends, limit, answer, longest, most)

@@ -51,7 +51,7 @@ class Source:
         if at not in self.line_of:
             return f"{at:03X}, which the source does not fill"
         there, name = self.label_below(at)
-        # A label is not used for an address if the source leaves a gap between the two.
+        # The label is not used if the source has a gap between the label's address and this address.
         if any(between not in self.line_of for between in range(there, at)):
             name = ""
         named = f" ({name}{f' + {at - there}' if at > there else ''})" if name else ""
@@ -171,7 +171,7 @@ def read_vcd(text: str) -> tuple[list[str], Changes, int]:
 # ---- cover and profile
 
 def percent(part: int, whole: int) -> str:
-    """Returns a percentage in parentheses, or "" if the whole is 0."""
+    """Returns `part` as a percentage of `whole` in parentheses, or "" if `whole` is 0."""
     return f" ({100 * part / whole:.1f} %)" if whole else ""
 
 
@@ -219,7 +219,7 @@ def without_stops(start: Board) -> Board:
 
 
 class Calls:
-    """The open subroutine calls, and the time spent in each subroutine."""
+    """The open subroutine calls, and the number of cycles spent in each subroutine so far."""
 
     def __init__(self) -> None:
         self.open: list[tuple[int, int]] = []

@@ -103,7 +103,7 @@ const vscode = {
     "DocumentLink", "SymbolInformation", "CallHierarchyItem", "CallHierarchyIncomingCall", "CallHierarchyOutgoingCall"].map((name) => [name, class extends Plain {}])),
 };
 
-/** Checks the features of the extension besides help, names and errors, with a text of the line `start:  JUN start` and a line below it. */
+/** Checks the extension's features other than hover, names and diagnostics, in a text with the line `start:  JUN start` and a line below. */
 async function tryFeatures() {
   const [formatted] = await providers.registerDocumentRangeFormattingEditProvider
     .provideDocumentRangeFormattingEdits(document, { start: { line: 1, character: 0 }, end: { line: 1, character: 3 } }, { tabSize: 4, insertSpaces: true })
@@ -162,7 +162,7 @@ verdict(data.length % 5 === 0 && data.length > 0, true, "colours by what a word 
 await tryFeatures();
 verdict(factories.mcs4.createDebugAdapterDescriptor().given, [`${TOP}mcs4`, ["dap"], { env: {} }], "the debug adapter");
 verdict(factories.provider.resolveDebugConfiguration(undefined, {}).program, "/tmp/a.asm", "F5 debugs the program that is shown");
-// The extension claims an .asm file only in a folder with board.toml or below mcs4.toml, and only once. It does not claim other programs.
+// The extension assigns its language to an .asm file only if board.toml is in the file's folder, or mcs4.toml is there or above, and only once.
 const folder = mkdtempSync(join(tmpdir(), "extension."));
 for (const name of ["board", "project/deep/er", "other"]) mkdirSync(join(folder, name), { recursive: true });
 for (const name of ["board/board.toml", "project/mcs4.toml"]) writeFileSync(join(folder, name), "");

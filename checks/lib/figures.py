@@ -1,4 +1,4 @@
-"""The numbers that docs/PROOF.md states about the repository, computed from the repository. Each of them is in a phrase that PROOF must contain."""
+"""The numbers that docs/PROOF.md states about the repository, computed from the repository, each in a phrase that PROOF must contain."""
 
 import collections
 import pathlib

@@ -25,7 +25,7 @@ function run(cycles) {
     accept(" ran " cycles " end")
 }
 
-# Presses a key, and runs for the time that it is down, and then for the time that it is up. After an operator, that time is enough for the result.
+# Presses a key and releases it, and runs the program after each. After an operator, the second run is long enough for the calculation.
 function stroke(name) {
     key("press", name)
     run(1000)
@@ -57,7 +57,7 @@ file == 1 && /^# row [0-9]+:/ {
     for (i = 4; i <= NF; i++) place[$i == "CE" ? "E" : $i] = ($3 + 0) " " (i - 4)
 }
 
-# Copies the board and the program to the script, and their answers to the answers.
+# Copies the board and the program to the script, and the answers to them to the file of answers.
 file == 2 && /^press / { is_over = 1 }
 file == 2 && !is_over { print > script }
 file == 3 && /^ok 4/ { is_over = 1 }

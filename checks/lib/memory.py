@@ -37,7 +37,7 @@ def resident(root):
 
 
 def memory_growth(root, seconds):
-    """Returns the ratio of the memory at the end to the memory at the beginning. Each value is the median over a third of the time."""
+    """Measures the memory of a process tree for a number of seconds. Returns the ratio of the median in the last third to that in the first third."""
     sizes = []
     end = time.monotonic() + seconds
     while time.monotonic() < end:

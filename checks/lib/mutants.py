@@ -1,5 +1,5 @@
-"""Mutants that checks/time and checks/prove must detect: second implementations, each with one error that a program could have, and
-answers with one wrong line.
+"""Mutants that checks/time and checks/prove must detect: copies of the second implementation, each with one error that a program could have,
+and answers with one wrong line. The docstring of a mutant's function says what the mutant does wrong.
 """
 
 from __future__ import annotations
@@ -73,7 +73,7 @@ def stops_inside(board: Board, done: int, most: int, changed: bool) -> str:
 
 
 def ends_first(board: Board, done: int, most: int, changed: bool) -> str:
-    """Checks the end of a run before the other reasons to stop."""
+    """Reports the end of a run even if another reason to stop, which takes precedence, occurs in the same cycle."""
     return "end" if done == most else RIGHT_STOPS(board, done, most, changed)
 
 
@@ -158,18 +158,18 @@ def without(place: int) -> Callable[[Board], tuple]:
 
 
 def but_the_largest(board: Board) -> dict[int, Levels]:
-    """Omits the largest of several values."""
+    """Omits the largest value that the next cycle can read, unless it is the only value."""
     values = RIGHT_VALUES(board)
     return {value: values[value] for value in sorted(values)[:max(len(values) - 1, 1)]}
 
 
 def at_constant_test(board: Board) -> dict[int, Levels]:
-    """Keeps TEST at 1."""
+    """Keeps TEST at 1, so that JCN never reads a 0 there."""
     return {value: levels for value, levels in RIGHT_VALUES(board).items() if second_search.begins(board)[0] != "JCN" or levels[1] == 1}
 
 
 def looked_at_at_the_end(board: Board, levels: Levels, is_bad: Condition, pause: int) -> tuple[int, bool]:
-    """Tests conditions only at states, not in the cycles between them."""
+    """Tests conditions only when the search reaches a state, not in the cycles between two states."""
     cycles, _bad = RIGHT_GO_ON(board, levels, lambda _board: False, pause)
     return cycles, is_bad(board)
 
@@ -202,7 +202,7 @@ def restarted(board: Board) -> int:
 
 
 def ended_at_once(board: Board) -> int:
-    """Lets a stopwatch that has ended begin only after the next cycle."""
+    """Does not restart a stopwatch in the cycle in which it ends."""
     stopwatch = second_search.stopwatch_of(board)
     return 0 if stopwatch and second_search.elapsed_of(board) and stopwatch.ends(board) else RIGHT_ELAPSED(board)
 
@@ -211,19 +211,20 @@ RIGHT_SAVED, RIGHT_VALUES, RIGHT_GO_ON = second_search.saved, second_search.valu
 RIGHT_CONDITION, RIGHT_MET, RIGHT_BEGINS = second_search.condition_of, second_search.is_met, second_search.begins
 RIGHT_CYCLE, RIGHT_MISTAKES = second_search.cycle, second_search.mistakes
 def kept(board: Board) -> int:
-    """Keeps the marks that were seen when the condition holds."""
+    """Does not reset the number of seen marks when the condition becomes true."""
     sequence = second_search.mark_sequence_of(board)
     return second_search.seen_of(board) if sequence and sequence.opens(board) else RIGHT_SEEN(board)
 
 
 def seen_while_open(board: Board) -> int:
-    """Starts the search for marks while the condition holds."""
+    """Counts marks while the condition is true, instead of starting after it."""
     sequence = second_search.mark_sequence_of(board)
     return int(second_search.is_shown(board, sequence.marks[0])) if sequence and sequence.opens(board) else RIGHT_SEEN(board)
 
 
 def shown_by_line(level: str) -> Callable[[Board, Mark], bool]:
-    """Takes the level of a key from the line that it can pull, whatever else can pull the line, or whether the row is driven."""
+    """Concludes from the line of a key's column alone whether the key is down or up. Ignores other keys on that line, and whether the key's row is
+    driven."""
     def is_shown(board: Board, mark: Mark) -> bool:
         chips = board.chips
         if mark[0] != level or second_search.begins(board)[0] != "RDR" or mark[1:] not in second_search.all_keys(board):

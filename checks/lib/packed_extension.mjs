@@ -12,7 +12,7 @@ import { standIn } from "./vscode_stand_in.mjs";
 const TOP = new URL("../..", import.meta.url).pathname;
 const [extensionFolder, place] = process.argv.slice(2);
 const folder = join(place, "a board, and its program");
-/** The time in milliseconds to wait for each result. It is long, because the editor also waits, however busy the machine is. */
+/** The time in milliseconds to wait for each result. It is long, so that a busy machine does not cause an error. */
 const TIMEOUT = 60000;
 
 function verdict(is, wanted, words) {
@@ -43,7 +43,7 @@ function makeWorkspace() {
   writeFileSync(join(folder, "lone", "three_lamps.test"), "test it begins\n  run 10\n\ntest it fails\n  run 10\n  expect acc 9\n");
 }
 
-/** Sets up an environment in which no part of Fethsaim is on the PATH or in a variable. */
+/** Sets PATH to an empty folder, and removes the environment variables that could lead to Fethsaim. Checks that mcs4 cannot be started. */
 function makeBare() {
   const bare = join(place, "nothing");
   mkdirSync(bare);

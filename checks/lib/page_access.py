@@ -1,4 +1,4 @@
-"""The part of checks/page about accessibility. Checks the names, roles and states that the browser reports to a screen reader (its accessibility
+"""The part of checks/page about accessibility. Checks the names, roles and states that the browser reports to a screen reader (the accessibility
 tree), the order in which the Tab key reaches the controls, and the contrast of all letters, borders, marks and lamps in both colour schemes."""
 
 import re
@@ -13,7 +13,7 @@ CONTROL_ROLES = {"button", "textbox", "searchbox", "combobox", "checkbox", "slid
             "radio", "switch"}
 # The roles of regions and groups, which need a name so that a user of a screen reader can tell them apart.
 NAMED_ROLES = {"region", "group", "tablist", "tabpanel", "dialog", "table", "log", "complementary", "image", "alertdialog"}
-# Characters that mean nothing when a screen reader reads them aloud.
+# Symbols that a screen reader does not read aloud in a meaningful way.
 UNSPOKEN_SIGNS = re.compile("[\u25b2-\u25cf\u2713]")
 
 

@@ -15,7 +15,7 @@ window.Worker = function (...words) {
   return window.benchWorker;
 };"""
 
-# Code for the worker: when a message requests a fault, the fault occurs at the next call of the module, or immediately.
+# Code for the worker: a message selects a fault, which occurs at the next call of the module, or at once for faults that need no call.
 INSTALL_FAULTS = """
 (() => {
   const made = WebAssembly.Instance;

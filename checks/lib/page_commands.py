@@ -24,7 +24,7 @@ return option && option.getAttribute('aria-selected') === 'true' ? [...option.pa
 GET_FOCUSED_ID = "return document.activeElement.id"
 GET_TOOLTIP = "const tip = document.getElementById('tooltip'); return tip.hidden ? '' : tip.textContent"
 GET_FRONT_TAB = "return document.querySelector('#text-tabs [aria-selected=true]').id"
-# The buttons that have no command, because they answer, close or choose something in an open dialog, or belong to a field beside them.
+# The buttons without a command. They answer, close or choose something in an open dialog, or belong to the field next to them.
 BUTTONS_WITHOUT_COMMAND = {
     "menu-button": "opens the menu of files", "view-button": "opens the menu of panels", "cancel": "of work that goes on",
     "tour-close": "of the tour", "tour-back": "of the tour", "tour-put": "of the tour", "tour-next": "of the tour", "first-program": "as help.tour",
@@ -149,7 +149,7 @@ def check_keys(browser):
 
 
 def check_places(browser):
-    """Checks that Ctrl+P finds labels, addresses, lines, texts and examples, and goes to them."""
+    """Checks that Ctrl+P finds labels, addresses, lines, texts and examples, and that choosing one goes there."""
     chord(browser, CONTROL, "p")
     eventually(browser, "Control and P open the palette for places", IS_PALETTE_OPEN, True)
     verdict("its name", browser.script("return document.getElementById('palette').getAttribute('aria-label')"), "Go to")

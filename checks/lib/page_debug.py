@@ -1,7 +1,7 @@
 """The debugger on the page: breakpoints that stay at their lines while the source is edited, conditions, hit counts, log messages, saving, and
 the speed.
 
-An earlier version moved breakpoints of this program away from their lines. The addresses of the program's lines were counted manually.
+An earlier version of the page moved breakpoints of the program below away from their lines. The addresses of its lines were counted manually.
 """
 
 import re
@@ -208,7 +208,7 @@ def check_typed(browser):
 def check_back(browser):
     """Checks that going back leads to the last arrival at which a condition was true, or to the beginning if there is none. The result must not
     depend on how time was run."""
-    # Runs to the next arrival and beyond it. R9 is incremented 16 more times, every 11 cycles.
+    # Runs past the next arrival at which the condition is true. That takes 16 increments of R9, one every 11 cycles.
     for cycles in (150, 26, 77):
         lines_answered(browser, f"run {cycles}")
     browser.click("#back-breakpoint")

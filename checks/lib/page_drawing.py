@@ -297,7 +297,7 @@ const picture = document.getElementById("wiring-picture");
 const { left, top } = picture.getBoundingClientRect();
 const turn = { ctrlKey: arguments[1], deltaY: arguments[0], clientX: left + 50, clientY: top + 40, bubbles: true, cancelable: true };
 return picture.dispatchEvent(new WheelEvent("wheel", turn))"""
-# The part at a point of the panel.
+# The part that the picture shows at a point of the panel.
 GET_PART_AT_PLACE = """
 const { left, top } = document.getElementById("wiring-picture").getBoundingClientRect();
 const found = document.elementFromPoint(left + arguments[0], top + arguments[1]).closest(".part");
@@ -361,7 +361,7 @@ def check_by_fingers(browser):
     eventually(browser, "a button undoes it", GET_DRAWING_STATUS, "Undone.")
 
 
-# Converts a point of the window to the coordinates of the drawing. GET_HEAD_PLACE returns the centre of a part's heading in these coordinates.
+# GET_PLACE_ON_SHEET converts a point of the window to coordinates of the drawing. GET_HEAD_PLACE returns the centre of a part's heading in them.
 GET_PLACE_ON_SHEET = """
 const [x, y] = arguments;
 const at = new DOMPoint(x, y).matrixTransform(document.querySelector("#wiring-picture svg").getScreenCTM().inverse());

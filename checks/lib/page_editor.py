@@ -44,7 +44,7 @@ for (let key = 0; key < 100; key++) {{
 editor.undo();
 times.sort((one, other) => one - other);
 return times[50]"""
-# Measures the factor by which other work on the machine slows the browser down: the mean time of many short loops, divided by the shortest time.
+# Measures how much other work on the machine slows the browser down: the mean time of many short loops, divided by the shortest time.
 MEASURE_SLOWNESS = """
 const times = [];
 let sum = 0;

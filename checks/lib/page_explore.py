@@ -1,9 +1,9 @@
 """The part of checks/page about the search for counterexamples to properties.
 
-The page finds an error that was put into an example's program. Its counterexample is that of `mcs4 explore` with the same seed, and the session
-keeps running during the search. The counterexample opens as a session in the state that it describes. Its test can be added to the tests, and fails
-there. A search can be stopped. Errors in properties, seconds and boards are reported. Also: a program with so few states that its properties are
-proved, a search from a state that a test saves, the keyboard, a phone's width, and saving the text with the session and in a project."""
+The page finds an error that was put into an example's program. The counterexample is the same as that of `mcs4 explore` with the same seed, and the
+session keeps running during the search. The counterexample opens as a session in the state that it describes. Its test can be added to the tests,
+where it fails. A search can be stopped. Errors in properties, seconds and boards are reported. Also: a program with so few states that its properties
+are proved, a search from a state that a test saves, the keyboard, a phone's width, and saving the text with the session and in a project."""
 
 import os
 import re
@@ -32,7 +32,7 @@ GET_CYCLES = "return Number(document.getElementById('cycles').textContent.match(
 GET_COUNTEREXAMPLE_TEST = "return document.querySelector('#property-list pre').textContent"
 CONTROL, ENTER = "\ue009", "\ue007"
 LOCK = TOP / "examples/lock"
-# The seconds for a search, the same for the page and the tool, because a fifth of this time is used to minimise a counterexample.
+# The seconds for a search. They must be the same for the page and the tool, because a fifth of the time is for minimising a counterexample.
 SECONDS = 10
 
 

@@ -48,8 +48,8 @@ return [document.getElementById("digits").textContent,
 """
 # The number of segments that are on in the shape of each digit.
 SEGMENTS_OF = {"0": 6, "1": 2, "2": 5, "3": 5, "4": 4, "5": 5, "6": 6, "7": 3, "8": 7, "9": 6}
-# Records all announcements in `said`, and those less than half a second after a change of the display also in `saidEarly`. The page must announce the
-# display only after it has not changed for a second, which on a busy machine can happen even while the stopwatch is running.
+# Records all announcements in `said`. Announcements less than half a second after a change of the display are also recorded in `saidEarly`. The page
+# must announce the display only when it has been unchanged for a second. On a busy machine, that can happen even while the stopwatch is running.
 WATCH_ANNOUNCEMENTS = """
 const watch = (id, then) => new MutationObserver(then)
   .observe(document.getElementById(id), { childList: true, characterData: true, attributes: true, subtree: true });

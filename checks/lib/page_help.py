@@ -88,7 +88,7 @@ def run_program(browser):
 
 
 def check_tour(browser):
-    """Does what the texts of the tour's five steps say, and checks the results."""
+    """Performs the actions that the five steps of the tour describe, and checks the results."""
     browser.click("#help-button")
     browser.click("#tour-begin")
     eventually(browser, "the first program begins", GET_TOUR_TITLE, "1 of 5: A lamp")

@@ -39,7 +39,7 @@ GET_CONTROLS_WITHOUT_NAMES = """
 return [...document.querySelectorAll("button, input, select, textarea")].filter((each) => !each.textContent.trim()
   && !each.getAttribute("aria-label") && !each.labels?.length && !each.getAttribute("aria-labelledby")).length"""
 
-# Records the saved session several times: while the page is hidden, and when it is shown again.
+# Records several copies of the saved session: while the page is hidden, and when the page is shown again.
 WATCH_HIDDEN = """
 window.keptWhenHidden = [];
 const id = location.hash.slice("#session=".length);
@@ -59,7 +59,7 @@ PUT_INTO_EDITOR = "document.querySelector(`${arguments[0]} .cm-editor`).lineEdit
 # Blocks the page's thread for a number of milliseconds.
 BLOCK_PAGE = "const end = performance.now() + arguments[0]; while (performance.now() < end);"
 
-# True if the disassembly shows the counter. Its rows move with the counter, so an earlier click would hit another line.
+# True if the disassembly shows the program counter's line. The rows move with the counter, so an earlier click would hit another line.
 IS_AT_COUNTER = """const next = document.querySelector('#lines-of-program .next');
 return next !== null && next.textContent.includes(document.getElementById('value-pc').textContent)"""
 
@@ -306,7 +306,7 @@ def check_hidden_at_full_speed(browser):
 
 def check_speed_field(browser):
     """Checks that time runs at the speed that the speed field shows. Some browsers restore this field after a reload, others when the user returns to
-    the page. (The driver goes back, not a script, because a script's going back would skip a page without user input in Chromium.)"""
+    the page. (The driver goes back. If a script did, Chromium would skip a page without user input.)"""
     for what, come_again in {"a reload": lambda: browser.script("setTimeout(() => location.reload(), 50)"),
                              "coming back": lambda: (browser.go("about:blank"), browser.back())}.items():
         browser.type_into("#speed", "full")
@@ -383,7 +383,7 @@ def check_two_tabs(browser):
 
 
 def check_use(browser, page, folder, mcs4):
-    """Checks the basic use of the page in a browser that lacks none of the features that it needs."""
+    """Checks the basic use of the page in a browser that has all features that the page needs."""
     browser.go(page.as_uri())
     until_ready(browser)
     verdict("without a notice", browser.script(GET_NOTICE), "")
@@ -406,7 +406,7 @@ def check_by_chromium(browser, page):
     browser.go(page.as_uri())
     until_ready(browser)
     check_narrow(browser)
-    # The scripts with which checks wait can fail until their result is there. Such errors are not errors of the page.
+    # The scripts that wait for a result can fail until the result exists. These errors are not errors of the page.
     own = ("javascript ", "Script error", "favicon")
     verdict("no fault in the browser's log", [line for line in browser.log() if not any(word in line for word in own)], [])
 

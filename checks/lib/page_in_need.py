@@ -9,7 +9,7 @@ from page_in_browser import (ENTER, ESCAPE, GET_DIGITS, GET_NOTICE, GET_STATUS, 
 from verdicts import eventually, verdict
 from web_driver import Chromium
 
-# Scripts that take the store of sessions away, by the way in which a browser can lack one.
+# Scripts that make the store of sessions (IndexedDB) unusable. Each key names one way in which a browser can lack this store.
 NO_STORE = {
     "no IndexedDB": "Object.defineProperty(window, 'indexedDB', { value: undefined })",
     "IndexedDB and locks are refused": "IDBFactory.prototype.open = () => { throw new DOMException('', 'SecurityError'); };"
@@ -18,7 +18,7 @@ NO_STORE = {
 }
 NO_READING = "IDBObjectStore.prototype.getAll = () => { throw new DOMException('', 'UnknownError'); }"
 
-# Makes the browser's store full.
+# Makes every write to the browser's store fail, as if the store were full.
 FILL_STORE = """
 window.put = IDBObjectStore.prototype.put;
 IDBObjectStore.prototype.put = () => { throw new DOMException("", "QuotaExceededError"); }"""
@@ -108,8 +108,8 @@ window.ticking = setInterval(() => {
   window.longest = Math.max(window.longest, performance.now() - before);
   before = performance.now();
 }, 20)"""
-# With `?hang` in the address, the page never finishes opening a session, and does not learn that the user leaves it. With `?deaf=EVENT`, the page
-# does not receive that event.
+# With `?hang` in the address, the page never finishes opening a session, and does not receive the events that report that the user leaves. With
+# `?deaf=EVENT`, the page does not receive EVENT.
 MAKE_DEAF = """
 const deaf = (name) => addEventListener(name, (event) => event.stopImmediatePropagation(), true);
 if (location.search.startsWith("?deaf=")) deaf(location.search.slice(6));
@@ -258,7 +258,7 @@ def hang(browser, address):
 
 
 def check_left_soon(browser, address, session):
-    """Checks that a page that the user leaves within a second does not count as hung, whichever event tells the page that it is left."""
+    """Checks that a page that the user leaves within a second does not count as hung, whichever event reports to the page that the user leaves."""
     for query in ("", *(["?deaf=beforeunload"] if browser.runs_at_pagehide else []), "?deaf=pagehide"):
         browser.go("about:blank")
         browser.go(address.replace(".html", f".html{query}") + session)
@@ -304,7 +304,7 @@ def check_unended(browser, page, folder):
 
 
 def check_lacks(browser, page, folder):
-    """Checks the page when something fails or is missing."""
+    """Runs the checks of failures and of missing features."""
     check_long_work(browser, page)
     check_unended(browser, page, folder)
     check_failures(browser, page, folder)

@@ -261,7 +261,7 @@ GET_POPUP = "const shown = document.querySelector('.popup-message'); return show
 
 
 def check_refusals(browser):
-    """Checks that the errors about the ninth watch and the thirty-third breakpoint appear at the click."""
+    """Checks that the errors about a ninth watch and a thirty-third breakpoint appear at the clicked element."""
     lines_answered(browser, "\n".join(f"watch 7 {at}" for at in range(8)))
     browser.click(".ram button:nth-child(5)")
     eventually(browser, "a watch too many is refused at its cell", GET_POPUP, re.compile("8 characters"))
@@ -279,7 +279,7 @@ def check_refusals(browser):
 GET_WRONGLY_NAMED_CELLS = """
 return [...document.querySelectorAll(".ram button")].filter((each) => !/^[0-9A-F]$/.test(each.textContent)
   || each.getAttribute("aria-label") || !/bank \\d, chip \\d, register \\d, (character \\d+: SRC byte [0-9A-F]{2}|status character \\d)/.test(each.title)).length"""
-# Counts the changes in live regions within a number of seconds, which a screen reader would announce.
+# Counts the changes in ARIA live regions within a number of seconds. A screen reader would announce these changes.
 COUNT_ANNOUNCEMENTS = """
 window.said = 0;
 const places = [...document.querySelectorAll("output, [aria-live], [role=status], [role=alert], [role=log]")];

@@ -1,7 +1,7 @@
 """Scripts that measure a page from outside without changing its own scripts."""
 
-# A script to insert before the page's own. It stores the milliseconds of work in each real-time frame in `frames`. The work of a handler continues in
-# its promises, so the script waits for some of them.
+# A script to insert before the page's own. For each real-time frame, it stores the milliseconds of work on the main thread and in the worker in
+# `frames`. The work of a handler continues in its promises, so the script waits for some of them.
 INSTALL_PAGE_METER = """
 window.frames = [];
 let spent = 0;
@@ -22,7 +22,7 @@ const listen = Worker.prototype.addEventListener;
 Worker.prototype.addEventListener = function (kind, act) {
   listen.call(this, kind, measured(act, ({ data }) => {
     if (!data || !data.result || !data.result.ran) return;
-    window.frames.push(spent + data.took);
+    window.frames.push([spent, data.took]);
     spent = 0;
   }));
 };"""
@@ -124,8 +124,7 @@ new MutationObserver((_, own) => {
 }).observe(document.getElementById("digits"), { childList: true, characterData: true, subtree: true })"""
 GET_KEY_TIME = "return window.seen"
 
-# Clicks a button that searches for a goal, and stores the cycles per second in `searched`. A search for a change looks for a value that never
-# changes.
+# Clicks a button that searches for a goal, and stores the cycles per second in `searched`. A search for a change is for a value that never changes.
 START_SEARCH = """
 window.searched = 0;
 document.getElementById("change-place").value = "st.0.3.3";

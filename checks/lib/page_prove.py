@@ -25,7 +25,7 @@ COUNT_LIT_ROWS = "return [...document.querySelectorAll('#proof-list .lit')].leng
 CONTROL, SHIFT, ENTER = "\ue009", "\ue008", "\ue007"
 # The maximum time of a search in seconds, on a busy machine.
 LONGEST = 900
-# The number of common mistakes for which every program is checked.
+# The number of kinds of common mistakes for which the page checks every program.
 MISTAKES = 7
 CHANGED = "the program, the board or the text has changed since then"
 # The lamp is on while TEST is 0, and nothing turns the other lamp on.

@@ -1,5 +1,5 @@
 """The part of checks/page about the brightness of lamps. While time is running, the brightness corresponds to the fraction of time for which a lamp
-is on, as `trace` reports it. While time is paused, a lamp is either on or off. A display that is rewritten in each turn of the main loop always
+is on, as `trace` reports it. While time is paused, a lamp is either on or off. A display that is rewritten in each iteration of the main loop always
 shows its number. A display that is shifted in after a key press shows its number when the shifting is complete."""
 
 import re
@@ -9,7 +9,7 @@ from verdicts import eventually, verdict
 
 ROM = '[[rom]]\nchip = 0\nport = "0000"\n'
 PULSES_BOARD = ROM + "".join(f'[[lamp]]\nline = "rom0.{line}"\n' for line in range(4))
-# In each turn, lamp 0 is on for 3 cycles and lamp 1 for the other cycles. Lamp 2 is always on, lamp 3 never.
+# In each iteration, lamp 0 is on for 3 cycles and lamp 1 for the other cycles. Lamp 2 is always on, lamp 3 never.
 PULSES = "FIM P0, 0\nSRC P0\nloop: LDM 5\nWRR\nNOP\nLDM 6\nWRR\nFIM P1, 0\nwait: ISZ R2, wait\nJUN loop\n"
 # A board with a display, and a program that shifts the number 42 into it again and again, segment by segment.
 REFRESHED_BOARD, REFRESHED = ((TOP / f"js/test/two_digits.{kind}").read_text() for kind in ("toml", "asm"))

@@ -45,7 +45,7 @@ def check_passing(browser):
 
 
 def check_failing(browser):
-    """Checks that a test fails if a delay of the program is one turn too short, and that the session opens at the failure, with the test's texts."""
+    """Checks that a test fails if a delay loop has one iteration too few, and that the session opens at the failure, with the texts of the test."""
     program = browser.script(GET_TEXT_OF_EDITOR, "#program-editor")
     browser.script(PUT_INTO_EDITOR, "#program-editor", program.replace("0x0C", "0x0D"))
     verdict("an edit takes the counts away", browser.script(GET_COUNTS), [])

@@ -62,7 +62,8 @@ def texts_of(name):
 
 
 def first_call(program, name):
-    """Finds the first JMS that an example executes. Returns the cycles before it, the cycles of its subroutine, its address, and the next address."""
+    """Finds the first JMS that an example executes. Returns the cycles before it, the cycles of its subroutine, the JMS's address, and the address
+    after it."""
     file, _ = program.session(name, texts_of(name))
     lines = [line for line in program.tool("trace", file, 3000).splitlines() if re.match(r" *\d+  [0-9A-F]{3} ", line)]
     at = next(at for at, line in enumerate(lines) if " JMS " in line)
@@ -258,7 +259,7 @@ def check_back(browser):
 
 
 def check_never(browser):
-    """Checks that Stop, F8 and a reload end a run to an unreachable goal, and that the session then contains nothing but its runs."""
+    """Checks that Stop, F8 and a reload end a run to an unreachable goal, and that the session then contains only the runs."""
     choose_example(browser, "empty bench")
     lines_answered(browser, 'wire\n[[rom]]\nchip = 0\nport = "0000"\n.\nasm\nJMS round\nround: JUN round\n.\nstep')
     for what, stop in {"F8": lambda: browser.script(PRESS_KEY, "F8", False), "Stop": lambda: browser.click("#run")}.items():

@@ -33,7 +33,7 @@ const editor = document.querySelector("#program-editor .cm-editor").lineEditor;
 editor.focus();
 editor.setCursor({ line: arguments[0] - 1, ch: editor.getLine(arguments[0] - 1).indexOf(arguments[1]) })"""
 GET_NEXT_LINE = "return document.querySelector('#program-editor .next').textContent"
-# The next instruction after each step, starting at ADD, worked out manually.
+# The instruction or label at which each step stops, starting at ADD. The list was worked out manually.
 STEPS = ("BBL", "JUN turn", "turn:", "SRC", "LDM", "WRM", "INC", "JMS", "JUN turn")
 GET_LINE_VALUES = "return [...document.querySelectorAll('#program-editor .line-values')].map((each) => each.textContent)"
 GET_WATCHES = """return [...document.querySelectorAll("#watched-list li")].map((row) =>
@@ -134,7 +134,7 @@ MOVE_FOCUS = "document.activeElement.blur(); document.querySelector(arguments[0]
 
 
 def check_last_change(browser):
-    """Checks that the tip of a cell reports its last change and the instruction that made it, and that going back to the change leads there."""
+    """Checks that a cell's tooltip reports its last change and the instruction that made it, and that going back to the change leads there."""
     if browser.script("return document.getElementById('run').textContent") == "Pause":
         stop_time(browser)
     lines_answered(browser, "run 100\npoke ram.0.0x13 5\nrun 7")

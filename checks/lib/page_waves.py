@@ -231,7 +231,7 @@ def check_live(browser, folder, mcs4):
 
 
 def changes_after(file, cycle):
-    """Returns the changes after a cycle, counted from that cycle."""
+    """Returns the changes after a cycle, with their times counted from that cycle."""
     lines = file.decode().split("$enddefinitions $end\n")[1].split("\n")
     found, now = [], 0
     for line in lines:
@@ -243,7 +243,7 @@ def changes_after(file, cycle):
 
 
 def difference(some, others):
-    """Returns a description of the first difference between two lists, or of their lengths if one of them is empty."""
+    """Returns a description of the first difference between two lists. If one of them is empty, returns a description of their lengths."""
     if not some or not others:
         return f"{len(some)} and {len(others)} changes"
     for one, other in zip(some, others):

@@ -101,7 +101,7 @@ def check_arrangement(browser):
     check_reset(browser)
 
 
-# --- the first impression
+# --- what a new user sees first
 
 # Defines `inView`, which returns true if a part of an element is visible, and `controls`, the visible controls.
 FIND_IN_VIEW = """
@@ -175,7 +175,7 @@ def check_first_glance(browser, page, at_size):
         verdict(f"no target is below 24 pixels with {text}", browser.script(FIND_SMALL_CONTROLS, 24), [])
 
 
-# --- details that get lost easily
+# --- details that later changes can easily break
 
 IS_FORM_IN_VIEW = """
 const { left, top, right, bottom } = document.getElementById("chosen").getBoundingClientRect();
@@ -196,8 +196,8 @@ GET_HELP_WIDTH = "return document.getElementById('help').getBoundingClientRect()
 
 
 def check_small_things(browser, at_size):
-    """Checks details: all settings of twenty keys are visible, a display has its colour in the gallery, an empty bench offers one way to begin, and
-    others."""
+    """Checks details, such as these: all settings of twenty keys are visible, a display has its colour in the gallery, and an empty bench offers one
+    way to begin."""
     at_size(browser, 1440, 900)
     choose_example(browser, "calculator")
     show_text(browser, "wiring")

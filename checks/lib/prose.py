@@ -3,7 +3,7 @@
 import re
 
 MAX_WORDS = 30
-# Patterns for words that make a native reader stop, each with the words to write instead.
+# Patterns for unidiomatic or vague words, each with the words to write instead.
 AVOIDED = {
     r"tells?|told|telling": "report, print, say or show",
     r"(?:comes?|came) (?:to|about)": "reach or happen",

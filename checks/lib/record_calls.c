@@ -9,7 +9,7 @@
      remove      before a lock, the name of the locked file is removed
      cut K       before a read, the file is truncated to its first K bytes
      other K     before a read, the byte of the file at offset K is changed
-   CALL_MOST=M limits each read or write of a file to M bytes. With CALL_AGAIN=1, each call on a file first fails once with EINTR; these failures
+   CALL_MOST=M limits each read or write of a file to M bytes. With CALL_AGAIN=1, each call on a file first fails once with EINTR. These failures
    are not recorded. */
 #define _GNU_SOURCE
 #include <dlfcn.h>
@@ -50,7 +50,7 @@ static void put(const char *line) {
     if (record >= 0 && real_write(record, line, strlen(line)) < 0) _exit(99);
 }
 
-/* Records a call. Returns the change to make to it, which CALL_DOES names, or NULL. */
+/* Records a call. If it is the call with the number CALL, returns the change that CALL_DOES names; otherwise returns NULL. */
 static const char *does(const char *form, ...) {
     char line[1024];
     va_list parts;

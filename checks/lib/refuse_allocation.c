@@ -1,5 +1,5 @@
 /* Makes one allocation of a program fail: the one with the number REFUSED_ALLOCATION, counted from 1. The program is started with this library
-   loaded before the C library (LD_PRELOAD). When the allocation fails, a byte is written to file descriptor 9, to tell the check that it did. */
+   loaded before the C library (LD_PRELOAD). When the allocation fails, the library writes a byte to file descriptor 9, which the check reads. */
 #include <stdlib.h>
 #include <unistd.h>
 

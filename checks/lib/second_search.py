@@ -1,5 +1,5 @@
 """A second implementation of mcs4-prove, which runs the board of board4004.py and shares no code with the program. It searches breadth-first through
-everything that a machine can do with any keys and any level of TEST, and tests the conditions of a question on the way.
+all states that a machine can reach with any keys and any level of TEST, and tests the conditions of a question in each cycle.
 
 A state is everything in a machine except its inputs. It includes the number of cycles that the stopwatch shows, if the question has a stopwatch, and
 the number of marks that were seen, if the question has marks. (A mark is a key that the program must read as up or as down.)

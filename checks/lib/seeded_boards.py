@@ -25,7 +25,7 @@ class Wiring:
     def __init__(self, chance: random.Random) -> None:
         self.chance = chance
         pages = {0, *chance.choices([1, 1, 2, 14, 15, chance.randrange(16)], k=chance.randrange(1, 3))}
-        # Often includes the page after each page, because instructions at the end of a page continue there.
+        # Often adds the page after a page, because instructions at the end of a page continue on the next page.
         self.pages = sorted(pages | {(page + 1) % 16 for page in pages if chance.random() < 0.4})
         ports = {*self.pages, *chance.sample(range(16), chance.randrange(4))}
         self.ports = {chip: chance.choice(["0000", "0000", "1111", "".join(chance.choices("i01", k=4)), "iiii"]) for chip in sorted(ports)}

@@ -118,7 +118,7 @@ class KeyReadingProgram(ReadingProgram):
 
 
 def random_walk(question: Question, chance: random.Random) -> Iterator[Board]:
-    """Yields the machine at several states of a random walk."""
+    """Yields the machine at several states of a random walk, in which keys and TEST have random levels."""
     board = power_on(question)
     yield board
     for _n in range(chance.randrange(MAX_WALK_STATES)):

@@ -1,4 +1,4 @@
-"""Writes and reads session files as docs/FORMAT.md specifies, without the program. Implements the few commands with which the checks fill the files.
+"""Writes and reads session files as docs/FORMAT.md specifies, without the program. Implements only the commands that the checks put into the files.
 
 `ExpectedSession` computes the expected bytes of a session's file after each accepted command: its snapshot, its records, and all other bytes, except
 the unused part of each snapshot area.

@@ -55,9 +55,9 @@ PACKAGES = {
 
 @dataclass(frozen=True)
 class Check:
-    """A script in checks/, with the commands and files that it needs, and those that only parts of it need. Also: its usual time in seconds, and the
-    seconds that each installed browser adds; its arguments, by mode if they differ; whether it must run alone; whether it reads what the gate builds;
-    and which part of the script this is, if its parts run in parallel."""
+    """A script in checks/, with the commands and files that it needs, and those that only some parts of it need. Also: its usual time in seconds, and
+    the seconds that each installed browser adds; its arguments, by mode if they differ; whether it must run alone; whether it reads what the gate
+    builds; and which part of the script this is, if its parts run in parallel."""
 
     name: str
     needs: str = ""

@@ -75,7 +75,7 @@ status $1"
     verdict "$(outcome "$@")" "$wanted" "$*"
 }
 
-# Checks wrong arguments: the usage is printed, and the status is 2. Arguments: the message, then the command, `./mcs4 NAME ..`.
+# Checks that a command with wrong arguments prints a message and its usage, with status 2. Arguments: the message, and the command `./mcs4 NAME ..`.
 misuses() {
     wanted="$3: $1
 usage: mcs4 $3

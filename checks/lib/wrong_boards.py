@@ -95,7 +95,7 @@ def spoil_text(chance, text):
 
 
 def top_of(chance):
-    """Returns a line that goes before all others."""
+    """Returns a line to insert at the top of a board's text, which is usually an error there."""
     section, value = chance.choice([*KINDS, *UNKNOWN_KEYS[:6]]), chance.choice(["1", "[1]", "[{}, 2]", "{}", "{ chip = 1 }", '"a"', "[\n]"])
     return f"{section}{chance.choice(EQUALS)}{value}{chance.choice(TEXT_ENDS)}"
 

@@ -5,7 +5,7 @@ from __future__ import annotations
 BOARD = ["wire", "[[rom]]", "chip = 0", 'port = "0000"', "."]
 PROGRAM = ["asm", "next: RDR", " JUN next", "."]
 BEGUN = ["most 9", "pause 9", *BOARD, *PROGRAM]
-# Lines that are invalid after BEGUN.
+# Lines that are invalid in a question, after the lines in BEGUN.
 NO_LINES = [
     "most", "most x", "most -1", "most 1 2", "most 4000000001", f"most {'9' * 5000}", "most 0x", "most 1.5", "Most 1", "pause", "pause 0", "pause 1000000001",
     "pause 0x", "memory", "memory x", "memory 1000001", "wire", "wire x", "asm", "asm x", ".", "[[rom]]", "never x", "nevermore", "prove it", "proved",

@@ -1,7 +1,7 @@
 ;;; mcs4-mode.el --- programs and boards of the MCS-4 bench  -*- lexical-binding: t -*-
 ;;; Code:
 
-;; Words, made by editors/make.mjs out of those that the page knows; edits of them are lost.
+;; editors/make.mjs generates the next four word lists from the page's word lists; edits to them are lost.
 (defconst mcs4-instructions '("ADD" "ADM" "BBL" "CLB" "CLC" "CMA" "CMC" "DAA" "DAC" "DCL" "FIM" "FIN" "IAC" "INC" "ISZ" "JCN" "JIN" "JMS" "JUN" "KBP" "LD" "LDM" "NOP" "RAL" "RAR" "RD0" "RD1" "RD2" "RD3" "RDM" "RDR" "SBM" "SRC" "STC" "SUB" "TCC" "TCS" "WMP" "WR0" "WR1" "WR2" "WR3" "WRM" "WRR" "XCH"))
 (defconst mcs4-directives '("ORG" "DB"))
 (defconst mcs4-face '("bar" "buzzer" "colour" "die" "display" "grid" "lamp" "matrix" "port" "printer" "row" "test" "title"))
@@ -20,11 +20,11 @@
       ("\\_<\\(?:R\\(?:1[0-5]\\|[0-9]\\)\\|P[0-7]\\)\\_>" . font-lock-builtin-face)
       ("\\_<\\(?:0x[0-9A-F]+\\|[0-9]+\\)\\_>" . font-lock-constant-face)
       (,(concat "\\_<" mcs4-name "\\_>") . font-lock-variable-name-face)))
-  "What stands in a program.")
+  "Font-lock keywords for programs.")
 
 ;;;###autoload
 (define-derived-mode mcs4-mode prog-mode "MCS-4"
-  "Programs for the MCS-4 bench."
+  "Major mode for programs of the MCS-4 bench."
   (modify-syntax-entry ?\; "<" mcs4-mode-syntax-table)
   (modify-syntax-entry ?\n ">" mcs4-mode-syntax-table)
   (modify-syntax-entry ?_ "_" mcs4-mode-syntax-table)
@@ -37,11 +37,11 @@
     (,(concat "^[ \t]*\\[+[ \t]*" (regexp-opt mcs4-tables t) "[ \t]*\\]") 1 font-lock-type-face)
     ("\\([A-Za-z0-9_-]+\\)[ \t]*=" 1 font-lock-variable-name-face)
     ("\\_<[+-]?[0-9][0-9A-Za-z_.]*" . font-lock-constant-face))
-  "What stands in the text of a board.")
+  "Font-lock keywords for board texts.")
 
 ;;;###autoload
 (define-derived-mode mcs4-board-mode prog-mode "MCS-4 board"
-  "Boards of the MCS-4 bench."
+  "Major mode for board texts of the MCS-4 bench."
   (modify-syntax-entry ?# "<" mcs4-board-mode-syntax-table)
   (modify-syntax-entry ?\n ">" mcs4-board-mode-syntax-table)
   (modify-syntax-entry ?' "\"" mcs4-board-mode-syntax-table)

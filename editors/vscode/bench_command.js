@@ -24,7 +24,7 @@ class BenchCommand {
     return this.hasSettingFailed ? "" : this.vscode.workspace.getConfiguration("mcs4").get("command") || "";
   }
 
-  /** The program to start, its first arguments (before those of the command), and additions to the environment. */
+  /** The program to start, its arguments before the command's name, and the variables to add to its environment. */
   get launchForm() {
     const { configuredCommand, ownScript } = this;
     if (configuredCommand !== "") return { program: configuredCommand, words: [], env: {} };

@@ -17,7 +17,10 @@ function projectFolder(file) {
   }
 }
 
-/** @param {string} file */
+/**
+ * Returns true if a file belongs to the bench.
+ * @param {string} file
+ */
 function belongsToBench(file) {
   return existsSync(join(dirname(file), "board.toml")) || projectFolder(file) !== "";
 }

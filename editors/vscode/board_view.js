@@ -14,7 +14,7 @@ class BoardView {
     this.folder = folder;
     /** The open web views, in the side bar and in panels. */
     this.pages = new Set();
-    /** The debug session whose board the view draws, and all values that the session has reported about the board. */
+    /** The debug session whose board the view draws, and the values that the session has reported about the board; both null if there is none. */
     this.session = null;
     this.shown = null;
   }

@@ -35,11 +35,11 @@ export function parseCount(name, word, max) {
 }
 
 /**
- * Returns the project in `folder` (option `-C`). Without this option, returns the project in the current folder if there are fewer than `neededCount`
- * arguments, otherwise null.
+ * Returns the project in `folder` (option `-C`). Without this option, returns the project in the current folder if there are fewer than
+ * `neededCount` arguments. Returns null if there are enough arguments, or if the current folder has no project.
  * @param {string | undefined} folder
  * @param {string[]} words
- * @param {number} neededCount the number of arguments from which on the command needs no project
+ * @param {number} neededCount the number of arguments that makes a project unnecessary
  */
 export async function findProject(folder, words, neededCount) {
   if (folder === undefined && (words.length >= neededCount || !existsSync(PROJECT_FILE))) return null;

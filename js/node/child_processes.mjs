@@ -1,18 +1,19 @@
-// The child processes of the Node tools. Most children have their own process group. A signal from the tool then also reaches the processes that the
-// child has started.
+// The child processes of the Node tools. Most children have their own process group, so that a signal from the tool also reaches the
+// processes that the child has started.
 import { processes } from "./lazy_child_process.mjs";
 
 /** The maximum output of a child in characters. A child that prints more is terminated. */
 const MAX_OUTPUT = 1048576;
 /**
- * An environment variable that is set for children. A command that has this variable suppresses the messages that each user should see only once.
+ * An environment variable that this module sets for children. A command with this variable suppresses the messages that each user should
+ * see only once.
  */
 export const IS_RUN_BY_COMMAND = "MCS4_IS_RUN_BY_COMMAND";
-/** True if the system has process groups, which Windows has not. */
+/** True if the system has process groups. Windows has none. */
 const HAS_GROUPS = process.platform !== "win32";
 /**
- * The time in milliseconds after which a child that ignores SIGTERM is killed. A child that is a copy of this tool gets more time, because it must
- * first end its own children.
+ * The time in milliseconds after which the tool kills a child that ignores SIGTERM. A child that is a copy of this tool gets more time,
+ * because it must first end its own children.
  */
 const KILL_DELAYS = { command: 1000, tool: 10000 };
 
@@ -38,7 +39,7 @@ function sendSignal(pid, signal) {
 }
 
 /**
- * Tracks a child until it ends. Resolves to its exit status, its signal, and an error message if it could not be started.
+ * Tracks a child until it ends. Resolves to its exit status, its signal, and an error message if the child could not start.
  * @param {import("node:child_process").ChildProcess} child
  * @param {boolean} hasGroup
  */

@@ -31,12 +31,12 @@ export function usageLines(name) {
  * @param {string} name
  */
 export function usageText(name) {
-  return say.usageOf(usageLines(name));
+  return say.formatUsage(usageLines(name));
 }
 
 /** Returns the usage text of mcs4. */
 export function mcs4Usage() {
-  return say.usageOf(say.MCS4_USAGE.map(([form]) => form).filter((form) => !form.endsWith("refusals")));
+  return say.formatUsage(say.MCS4_USAGE.map(([form]) => form).filter((form) => !form.endsWith("refusals")));
 }
 
 /**
@@ -51,7 +51,7 @@ export function optionRows(name) {
   return [...rows, ["-h, --help", say.HELP_OPTION]];
 }
 
-/** @type {(head: string, rows: string[][]) => string} formats a list with a heading; the description of each entry is below the entry */
+/** @type {(head: string, rows: string[][]) => string} formats a list with a heading, and the description of each entry below the entry */
 const formatList = (head, rows) => `${head}\n${rows.map(([word, does]) => `${INDENT}${word}\n${foldText(does, DEEP_INDENT)}`).join("\n")}`;
 
 /** @type {(head: string, lines: string[]) => string} */
@@ -92,6 +92,6 @@ export function mcs4Help(top) {
     ...groups,
     formatItems(say.STATUS_HEAD, say.MCS4_STATUS),
     formatItems(say.ENVIRONMENT_HEAD, say.MCS4_ENVIRONMENT),
-    ...(top === "" ? [] : [say.whereManualIs(top)]),
+    ...(top === "" ? [] : [say.manualLocation(top)]),
   ].join("\n\n")}\n`;
 }

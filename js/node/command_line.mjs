@@ -36,7 +36,10 @@ async function unknownOptionError(word, options) {
   return new UsageError(say.noOption(word, suggestions.map((name) => `--${name}`)));
 }
 
-/** @type {(value: string | undefined, isInline: boolean) => boolean} true if an option has no value, or if its value is another option */
+/**
+ * @type {(value: string | undefined, isInline: boolean) => boolean} true if an option has no value, or if its value looks like another
+ * option
+ */
 const lacksValue = (value, isInline) => value === undefined || value === "" || (!isInline && /^-[^\d]/.test(value));
 
 /**

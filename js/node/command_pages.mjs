@@ -70,7 +70,7 @@ function mcs4ManualPage() {
     ...formatSection(titles.status, formatTaggedRows(statusRows(say.MCS4_STATUS))),
     ...formatSection(titles.environment, formatTaggedRows(variables)),
     ...formatSection(titles.files, formatTaggedRows(files)),
-    ...formatSection(titles.seeAlso, [escapeRoff(say.MANUAL_IS)]),
+    ...formatSection(titles.seeAlso, [escapeRoff(say.MANUAL_REFERENCE)]),
   ].map((line) => `${line}\n`).join("");
 }
 

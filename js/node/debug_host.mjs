@@ -1,5 +1,5 @@
-// The functions that the debugger needs from its host, implemented for Node: access to files and to session files. Session files are written only by
-// the native program (`mcs4 open`).
+// The functions that the debugger needs from its host, implemented for Node: access to files and to session files. Only the native program
+// (`mcs4 open`) writes session files.
 import { closeSync, existsSync, fsyncSync, openSync, realpathSync } from "node:fs";
 import { dirname, isAbsolute, join, resolve, sep } from "node:path";
 import { findLockHolder, readUnlocked } from "./file_locks.mjs";
@@ -11,7 +11,7 @@ import { isInside, readUserFile, readUserText, prepareReplacement } from "./user
 /** The maximum size of a session file in bytes. */
 const MAX_SESSION_BYTES = 1048576;
 
-/** A session file and the program that serves it. `replace` replaces the file atomically, so the file is complete at every moment. */
+/** A session file and the program that serves it. `replace` replaces the file atomically, so that the file is complete at every moment. */
 class SessionFile {
   constructor(name, program) {
     this.name = name;
@@ -46,7 +46,7 @@ class SessionFile {
   }
 }
 
-/** @type {(name: string) => string} converts a path to forward slashes, which the whole debugger uses and Windows accepts */
+/** @type {(name: string) => string} converts a path to forward slashes, which the debugger expects and Windows accepts */
 const toSlashes = (name) => (sep === "/" ? name : name.split(sep).join("/"));
 
 function syncFolder(name) {

@@ -37,8 +37,8 @@ const JOB_VARIABLE = "MCS4_EXPLORE_JOB";
 let isStopped = false;
 
 /**
- * Returns the text of the tests that save the start state of a campaign. The campaign names the file of the tests; otherwise it is the `.test` file
- * next to the properties.
+ * Returns the text of the tests that save the start state of a campaign; "" if the campaign has no start state. If the campaign names no
+ * test file, reads the `.test` file next to the properties file.
  * @param {{ from: { file: string, line: number, state: string } | null }} campaign
  * @param {string} name the name of the properties file
  */
@@ -53,8 +53,8 @@ function readStartTests({ from }, name) {
 }
 
 /**
- * Asks a model about key sequences. The model is a command that reads them. Resolves to its answers (`shown`), one line for each sequence, or to an
- * error message (`fault`).
+ * Asks a model about key sequences. The model is a shell command that reads a line for each sequence and prints what the display must show.
+ * Resolves to the printed lines (`shown`) and an error message (`fault`; "" for none).
  */
 async function askModel(command, keySequences) {
   const { status, stdout, stderr, signal } = await runCommand("sh", ["-c", command], `${keySequences.join("\n")}\n`);
@@ -79,8 +79,8 @@ class Exploration {
   }
 
   /**
-   * Reads the texts. Resolves to the subject of the search (the board and its program), the campaign, the initial state, and all texts on which the
-   * result depends.
+   * Reads the texts. Resolves to the subject of the search (the board and its program), the campaign, the initial state, and all texts that
+   * determine the result.
    */
   async readTexts() {
     const { engine, settings: { texts: { board, program, properties } } } = this;
@@ -133,7 +133,7 @@ class Exploration {
     return run.report({ names, sums, seconds: (user + system) / 1e6, isStopped });
   }
 
-  /** Prints a counterexample as soon as it is found. */
+  /** Prints a counterexample to standard error. */
   printCounterexample(property, { steps }) {
     printError(`# ${say.foundLine(propertyLocation(property, { names: this.names }), property.text, property.isGoal, formatSteps(steps))}\n`);
   }
@@ -169,7 +169,7 @@ function readReport(name) {
     const report = JSON.parse(text);
     if (report.form === "explore 1") return report;
   } catch {
-    // The error is thrown below.
+    // The statement below throws the error.
   }
   throw new CommandError(say.notAReport(name));
 }

@@ -8,7 +8,7 @@ import { sessionInUse } from "../words/adapter.js";
 
 /** The exit status of `flock` if another process holds the lock. */
 const LOCKED_STATUS = 75;
-/** Matches a lock in /proc/locks. Captures the process that holds it, and the device and inode of the file. */
+/** Matches a lock in /proc/locks. Captures the process that holds the lock, and the device and inode of the file. */
 const FLOCK_LINE = /^\d+: FLOCK +\w+ +\w+ +(\d+) +([0-9a-f]+):([0-9a-f]+):(\d+) /;
 
 /** @param {string} name the name of a file in /proc */
@@ -36,8 +36,8 @@ function findLockHolders(name) {
 }
 
 /**
- * Returns the command line and id of the process that holds the lock of a file. Returns "" if there is no such process, or if this user cannot see
- * it.
+ * Returns the command line and id of the process that holds the lock of a file. Returns "" if there is no such process, or if the user may
+ * not see the process.
  * @param {string} name
  */
 export function findLockHolder(name) {

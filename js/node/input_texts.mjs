@@ -14,13 +14,13 @@ const UTF8_MARK = Buffer.from([0xEF, 0xBB, 0xBF]);
 const UTF_16 = { fffe: "utf-16le", feff: "utf-16be" };
 
 /**
- * The text of a board or a program, from a file. `name` is the name of the file, `before` the number of lines before the text in the file, and
- * `encoding` the encoding of the file.
+ * The text of a board or a program, from a file. `name` is the name of the file, `before` is the number of lines before the text in the
+ * file, and `encoding` is the encoding for output of the text.
  * @typedef {{ name: string, text: string, before: number, encoding: BufferEncoding }} GivenText
  */
 
 /**
- * Decodes a text and removes its byte order mark. UTF-16 is recognised by its mark. Bytes that are not valid UTF-8 are decoded as Latin 1.
+ * Decodes a text and removes its byte order mark. Recognises UTF-16 by its mark. Decodes bytes that are not valid UTF-8 as Latin 1.
  * @param {Buffer} bytes
  * @returns {{ text: string, encoding: BufferEncoding }}
  */
@@ -57,7 +57,7 @@ export class InputTexts {
   }
 
   /**
-   * Returns the contents of the file, pipe or standard input that an argument names. Throws an error if there is nothing in it.
+   * Returns the contents of the file, pipe or standard input that an argument names. Throws an error if there are no bytes.
    * @param {string} name
    * @param {number} maxBytes the maximum number of bytes
    */
@@ -96,8 +96,8 @@ export class InputTexts {
   }
 
   /**
-   * Returns the text of a board (`wire`) or of a program (`asm`). This is the whole file; if the file is a session script, it is the text of the
-   * first such command.
+   * Returns the text of a board (`wire`) or of a program (`asm`). If the file is a session script, returns the text after the first such
+   * command, otherwise the complete file.
    * @param {string} name
    * @param {"wire" | "asm"} word
    * @returns {GivenText}

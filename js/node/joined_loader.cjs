@@ -1,10 +1,10 @@
-// Loads the joined file of a command: a single file that tools/join_commands.mjs has built from the command's modules, and that starts faster than
-// these. A joined file is used only if its checksum matches the sources in the tree. Checksums are slow to compute, so the user's cache stores the
-// sizes and times of the sources. While these are unchanged, the checksum is not computed again. (tools/lib/start.sh does the same for the native
-// program.)
+// Loads the joined file of a command. tools/join_commands.mjs builds it from all modules of the command, and it starts faster than the
+// separate modules. The loader uses a joined file only if its checksum matches the sources in the tree. Checksums are slow to compute, so
+// the user's cache stores the sizes and times of the sources. While these are unchanged, the loader does not compute the checksum again.
+// (tools/lib/start.sh does the same for the native program.)
 //
-// Compiling a joined file takes a tenth of the startup time. The cache therefore also stores the compiled code of each command, in the version that
-// ran last.
+// Compiling a joined file takes a tenth of the startup time. The cache therefore also stores the compiled code of the last version of each
+// command that ran.
 "use strict";
 const {
   closeSync, existsSync, fsyncSync, lstatSync, mkdirSync, openSync, readFileSync, renameSync, rmSync, statSync, writeFileSync,
@@ -19,8 +19,8 @@ const OWNER_ONLY_MODE = 0o700;
 const OWNER_ONLY_FILE_MODE = 0o600;
 const OTHERS_ACCESS_BITS = 0o077;
 /**
- * The age in milliseconds up to which a file is too new to be cached. On a file system that records times in whole seconds, the next change of such a
- * file might not change its time.
+ * The age in milliseconds up to which a file is too new for the cache. On a file system that records times in whole seconds, the next
+ * change of such a file might not change its time.
  */
 const RECENT_CHANGE_TIME = 3000;
 /** The length of the header before the compiled code, in bytes. */
@@ -102,7 +102,8 @@ function writeToCache(path, ...parts) {
 }
 
 /**
- * Returns true if files have the given checksum. Does not compute it if their sizes and times are the same as when the checksum was last verified.
+ * Returns true if files have the given checksum. Does not compute the checksum if the sizes and times of the files are the same as at the
+ * last successful check.
  * @param {string} folder the cache folder; "" for none
  * @param {string} name the name of a command
  * @param {string[]} files

@@ -1,6 +1,6 @@
-// Runs a command of mcs4: `node mcs4.cjs COMMAND ..`. The script mcs4 in the top folder calls this file. Old versions of Node must also be able to
-// read this file, which then reports that the version is too old. Old versions do not know the prefix `node:`, so no module is loaded before the
-// version check. This file and the joined files are CommonJS modules, which Node loads faster than ES modules.
+// Runs a command of mcs4: `node mcs4.cjs COMMAND ..`. The script mcs4 in the top folder calls this file. Old versions of Node must also be
+// able to read this file, which then reports that the version is too old. Old versions do not know the prefix `node:`, so this file loads
+// no module before the version check. This file and the joined files are CommonJS modules, which Node loads faster than ES modules.
 "use strict";
 
 const MIN_NODE_VERSION = 18;

@@ -18,7 +18,7 @@ export function explainAtTerminal(name) {
 }
 
 /**
- * Returns a function that ends the process after all output has been written. The arguments of this function are the exit status and the reason.
+ * Returns a function that ends the process after it has written all output. The function takes the exit status and the reason.
  * @param {string} name the command's name
  * @returns {(status: number, words?: string) => void}
  */

@@ -1,4 +1,5 @@
-// Starts the proved WebAssembly module as the engine of the commands, on systems without a native program. Each user sees a message about this once.
+// Starts the proved WebAssembly module as the engine of the commands, on systems without a native program. Prints a message about this once
+// for each user.
 /* global WebAssembly */
 import { closeSync, existsSync, openSync } from "node:fs";
 import { join } from "node:path";

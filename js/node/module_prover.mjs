@@ -4,8 +4,8 @@ import { startModule } from "./module_engine.mjs";
 const SIGNALS = /** @type {const} */ (["SIGHUP", "SIGINT", "SIGTERM"]);
 
 /**
- * Returns a function that answers the questions of `mcs4 prove`. A whole search is a single call of the module, during which no signal handler can
- * run. The handlers are therefore removed, so that a signal ends the process immediately.
+ * Returns a function that answers the questions of `mcs4 prove`. A search is a single call of the module, during which no signal handler
+ * can run. The function therefore removes the handlers during the call, so that a signal ends the process immediately.
  * @returns {(question: string) => string}
  */
 export function makeModuleProver() {

@@ -1,9 +1,9 @@
 // An engine that uses the native program to run sessions, with blocking system calls. js/core/engine/engine_host.js describes the interface.
 //
 // A state is represented by a token: the index of a node in a tree. A node stores its parent, and the commands that lead from the parent to it. Each
-// running process is at one state. When a process serves lines, it moves to another state. To reach a state without a process, the engine starts a
-// process on the nearest copy of a session file above the state in the tree, and repeats the commands since then. Files are therefore copied only
-// when a state is needed for the second time.
+// running process is at one state. When a process executes commands, it moves to another state. To reach a state without a process, the
+// engine starts a process on the nearest copy of a session file above the state in the tree, and repeats the commands since then. The
+// engine therefore copies a file only when it needs a state for the second time.
 //
 // A shell starts a program for each session, ten times as fast as Node could start it. Node and the program communicate over named pipes. All files
 // are in a private folder of the user. The shell removes this folder when Node has ended, even after a signal.
@@ -24,13 +24,13 @@ import { TOP } from "./top_folder.mjs";
  * @typedef {import("../core/engine/engine_host.js").EngineHost} EngineHost
  * @typedef {import("../core/engine/engine_host.js").State} State
  *
- * A node of the tree. `copy` is the path of a copy of its session file; "" if there is none. `count` is the number of commands in the session; -1 if
- * it is not known yet.
+ * A node of the tree. `copy` is the path of a copy of its session file; "" if there is none. `count` is the number of commands in the
+ * session; -1 if unknown.
  * @typedef {{ parent: number, commands: string, copy: string, count: number }} StateNode
  *
- * An analysis of session lines. `commands` are the commands among them, including their texts, without the queries. `seqs` is the number of `seq`
- * lines. `isWhole` is true if the last line and the last text are complete.
- * @typedef {{ commands: string, seqs: number, isWhole: boolean }} LineAnalysis
+ * An analysis of session lines. `commands` are the commands among them, including their texts, without the queries. `seqCount` is the
+ * number of `seq` lines. `isComplete` is true if the last line and the last text are complete.
+ * @typedef {{ commands: string, seqCount: number, isComplete: boolean }} LineAnalysis
  */
 
 /** The maximum number of processes, each at one state. */
@@ -42,7 +42,7 @@ const PIPE_CAPACITY = 4096;
 const BUFFER_SIZE = 1 << 16;
 const TOKEN_SIZE = 4;
 export const SESSION_BYTES = 163856;
-/** The maximum number of cached analyses. They are cached because the same lines are often served repeatedly. */
+/** The maximum number of cached analyses. The engine caches them because it often serves the same lines again. */
 const MAX_ANALYSES = 500;
 
 /** An error of the program itself: it is missing, does not answer, or has ended. */
@@ -56,23 +56,23 @@ export class ProgramError extends CommandError {}
  * @returns {LineAnalysis}
  */
 function analyse(lines) {
-  let [commands, seqs] = ["", 0];
+  let [commands, seqCount] = ["", 0];
   /** @type {{ isQuery: boolean } | null} */
   let text = null;
-  for (const wholeLine of lines.replace(/\n$/, "").split("\n")) {
-    const line = stripCarriageReturn(wholeLine);
+  for (const rawLine of lines.replace(/\n$/, "").split("\n")) {
+    const line = stripCarriageReturn(rawLine);
     const isAsking = text ? text.isQuery : isQuery(line.trim().split(/[ \t]/, 1)[0]);
     if (!isAsking && (text || line.trim() !== "")) commands += `${line}\n`;
-    if (!text && isSeqQuery(line)) seqs += 1;
+    if (!text && isSeqQuery(line)) seqCount += 1;
     if (text && line === ".") text = null;
     else if (!text && opensText(line)) text = { isQuery: isAsking };
   }
-  return { commands, seqs, isWhole: !text && (lines === "" || lines.endsWith("\n")) };
+  return { commands, seqCount, isComplete: !text && (lines === "" || lines.endsWith("\n")) };
 }
 
 /**
- * Splits lines into pieces that fit into a pipe, so that no write blocks forever. Only a piece that is a single text can be longer, because the
- * program reads a whole text before it answers.
+ * Splits lines into pieces that fit into a pipe, so that no write blocks forever. Only a piece with a single text can be longer, because
+ * the program reads the complete text before it answers.
  * @param {string} lines
  */
 function splitForPipe(lines) {
@@ -110,7 +110,9 @@ if [ -e "$folder" ]; then rm -rf -- "$folder"; fi`;
 const SHELL = "starter";
 /** The exit status of the shell if no program is given and start.sh does not know one. */
 const UNKNOWN_PROGRAM = 3;
-/** The shell script. It finds the program if none is given, creates the pipes, starts the loop, and prints the path of the program. */
+/**
+ * The shell script. The script finds the program if none is given, creates the pipes, starts the loop, and prints the path of the program.
+ */
 const SHELL_SCRIPT = `trap "" HUP INT TERM
 program=$1 top=$2 folder=$3
 shift 3
@@ -125,7 +127,10 @@ printf %s "$program"`;
 
 /** The shell that starts the programs, and its folder. */
 class Starter {
-  /** @param {string} program the program's path; "" for the program that ./mcs4 starts, if it is known without comparing sources */
+  /**
+   * @param {string} program the program's path; "" for the program that ./mcs4 starts, if start.sh knows the program without comparing
+   * sources
+   */
   constructor(program) {
     this.root = temporaryRoot();
     this.folder = temporaryFolder("mcs4");
@@ -180,8 +185,8 @@ class Session {
     this.starter = starter;
     this.name = name;
     this.file = join(starter.folder, name);
-    /** The index of the session's state, or -1 if it is not known. */
-    this.at = -1;
+    /** The index of the session's state; -1 if unknown. */
+    this.stateIndex = -1;
     this.buffer = Buffer.allocUnsafe(BUFFER_SIZE);
     const { slot, input, output } = starter.start(word, name);
     this.slot = slot;
@@ -215,30 +220,30 @@ class Session {
 
   /**
    * Reads answers until they are complete or the program has ended.
-   * @param {(text: string) => boolean} isWhole returns true if the answers so far are complete
+   * @param {(text: string) => boolean} isComplete returns true if the answers so far are complete
    */
-  readUntil(isWhole) {
+  readUntil(isComplete) {
     let text = "";
     do {
       const count = readSync(this.output, this.buffer);
       if (count === 0) this.hasEnded = true;
       text += this.buffer.latin1Slice(0, count);
-    } while (!this.hasEnded && !isWhole(text));
+    } while (!this.hasEnded && !isComplete(text));
     return text;
   }
 
   /**
-   * Serves lines. Returns the lines of their answers. Sends a `seq` line after the lines, because its answer marks the end. If the lines themselves
-   * contain `seq`, counts these answers, too.
+   * Sends lines to the program. Returns the answer lines. Sends a `seq` line after the lines, because its answer marks the end. If the
+   * lines themselves contain `seq`, counts the answers to `seq`.
    * @param {string} lines
    */
   exchange(lines) {
     /** @type {string[]} */
     let answers = [];
     for (const piece of splitForPipe(lines)) {
-      const { seqs } = analyse(piece);
+      const { seqCount } = analyse(piece);
       const text = this.send(`${piece}seq\n`, (output) => (
-        /(?:^|\n)seq \d+\n$/.test(output.slice(-30)) && (seqs === 0 || (output.match(/^seq \d+$/gm) || []).length > seqs)));
+        /(?:^|\n)seq \d+\n$/.test(output.slice(-30)) && (seqCount === 0 || (output.match(/^seq \d+$/gm) || []).length > seqCount)));
       if (this.hasEnded) throw this.makeEndedError();
       const outputLines = text.split("\n");
       this.count = Number(outputLines[outputLines.length - 2].slice("seq ".length));
@@ -249,7 +254,7 @@ class Session {
   }
 
   /**
-   * Serves lines that end without a line feed or within a text, and ends the session. Returns the lines of the answers.
+   * Sends lines that end without a line feed or within a text, and ends the session. Returns the answer lines.
    * @param {string} lines
    */
   exchangeLast(lines) {
@@ -264,17 +269,17 @@ class Session {
   }
 
   /**
-   * Sends lines. Returns the text of their answers. If the program has ended, returns its remaining output.
+   * Sends lines to the program. Returns the text of the answers. If the program has ended, returns its remaining output.
    * @param {string} lines
-   * @param {(text: string) => boolean} isWhole returns true if the answers so far are complete
+   * @param {(text: string) => boolean} isComplete returns true if the answers so far are complete
    */
-  send(lines, isWhole) {
+  send(lines, isComplete) {
     try {
       writeSync(this.input, lines);
     } catch (error) {
       if (error.code !== "EPIPE") throw error;
     }
-    return this.readUntil(isWhole);
+    return this.readUntil(isComplete);
   }
 
   /** Empties the input pipe of a program that has ended early, so that the next program with this pipe does not read the remaining lines. */
@@ -349,13 +354,13 @@ export class NativeEngine {
    */
   serve(state, lines, into) {
     const number = this.nodeIndex(state);
-    const { commands, isWhole } = this.analyse(lines);
-    if (!isWhole) return this.serveLast(number, lines, into);
+    const { commands, isComplete } = this.analyse(lines);
+    if (!isComplete) return this.serveLast(number, lines, into);
     const session = this.sessionAt(number);
     const opened = `session ${session.count}`;
     const answers = this.exchange(session, lines);
-    if (commands !== "") session.at = this.addState({ parent: number, commands, copy: "", count: session.count });
-    this.writeIndex(into, session.at);
+    if (commands !== "") session.stateIndex = this.addState({ parent: number, commands, copy: "", count: session.count });
+    this.writeIndex(into, session.stateIndex);
     return { status: 0, opened, answers };
   }
 
@@ -365,15 +370,15 @@ export class NativeEngine {
    */
   ask(state, lines) {
     const number = this.nodeIndex(state);
-    const { commands, isWhole } = this.analyse(lines);
-    if (commands === "" && isWhole) {
+    const { commands, isComplete } = this.analyse(lines);
+    if (commands === "" && isComplete) {
       const session = this.sessionAt(number);
       return { status: 0, opened: `session ${session.count}`, answers: this.exchange(session, lines) };
     }
     const session = this.newSession(number);
     const opened = `session ${session.count}`;
-    const answers = isWhole ? this.exchange(session, lines) : session.exchangeLast(lines);
-    this.drop(session, isWhole);
+    const answers = isComplete ? this.exchange(session, lines) : session.exchangeLast(lines);
+    this.drop(session, isComplete);
     return { status: 0, opened, answers };
   }
 
@@ -462,7 +467,7 @@ export class NativeEngine {
   }
 
   /**
-   * Serves lines in a session. Returns the lines of the answers. Drops the session if that fails.
+   * Sends lines to a session. Returns the answer lines. Drops the session if this fails.
    * @param {Session} session
    * @param {string} lines
    */
@@ -476,7 +481,7 @@ export class NativeEngine {
   }
 
   /**
-   * Serves lines that end without a line feed or within a text. The new state is a copy of the session file.
+   * Executes lines that end without a line feed or within a text. The new state is a copy of the session file.
    * @param {number} number the index of the state
    * @param {string} lines
    * @param {State} into
@@ -497,7 +502,7 @@ export class NativeEngine {
    * @param {number} number the index of the state
    */
   sessionAt(number) {
-    const index = this.sessions.findIndex(({ at }) => at === number);
+    const index = this.sessions.findIndex(({ stateIndex }) => stateIndex === number);
     if (index < 0) return this.newSession(number);
     if (index > 0) this.sessions.unshift(...this.sessions.splice(index, 1));
     return this.sessions[0];
@@ -518,7 +523,7 @@ export class NativeEngine {
       this.exchange(session, lines);
       this.storeCopy(number, session.file);
     }
-    session.at = number;
+    session.stateIndex = number;
     return session;
   }
 
@@ -535,7 +540,8 @@ export class NativeEngine {
   }
 
   /**
-   * Stores a copy of a state that had to be rebuilt, so that it need not be rebuilt again. Keeps only the last MAX_COPIES copies.
+   * Stores a copy of a state that the engine had to rebuild, so that it need not rebuild the state again. Keeps only the last MAX_COPIES
+   * copies.
    * @param {number} number the index of the state
    * @param {string} file
    */

@@ -50,7 +50,9 @@ const noProgramResult = () => ({ program: "", fault: hasStarter ? notForSystem(t
 /** @type {FoundProgram | null} the cached result of the search for the program */
 let foundProgram = null;
 
-/** Returns the program that the environment variable MCS4 names, or the program that ./mcs4 starts. Builds the latter if necessary. */
+/**
+ * Returns the program that the environment variable MCS4 names, or else the program that ./mcs4 starts. Builds this program if necessary.
+ */
 function findProgram() {
   if (process.env.MCS4) return { program: process.env.MCS4, fault: "", isUnsupported: false };
   foundProgram ||= runStarter(FIND_PROGRAM) || noProgramResult();
@@ -82,7 +84,7 @@ let nativeEngine = null;
 
 /**
  * Starts the engine: the native program, or the proved module if there is no program for this system. Each user sees a message about the use of the
- * module once. The engine's processes and files are removed when this process ends.
+ * module once. When this process ends, it also ends the engine's processes and removes its files.
  * @returns {Promise<EngineHost>}
  */
 export async function startEngine() {
@@ -111,7 +113,7 @@ export function endEngine() {
 let signalAction = null;
 
 /**
- * Registers signal handlers that end the process through `endProcess`, so that unfinished files are removed.
+ * Registers signal handlers that end the process through `endProcess`, so that its exit handlers remove unfinished files.
  * @param {(status: number) => void} [endProcess] ends the process with an exit status
  */
 export function endOnSignals(endProcess = process.exit) {
@@ -171,7 +173,7 @@ export async function readCheckedMap(engine, codes, program) {
   const { sessionProgram } = await import("../core/engine/session_program.js");
   const { faults, other, map } = sessionProgram(engine, codes, program.text);
   if (faults.length > 0) throw await rejectedTextsError(engine, { program }, faults);
-  if (other) throw new CommandError(otherProgram(program.name, other.address, other.is, other.line + program.before, other.makes));
+  if (other) throw new CommandError(otherProgram(program.name, other.address, other.romByte, other.line + program.before, other.sourceByte));
   return map;
 }
 
@@ -184,7 +186,8 @@ export async function yieldToMessages() {
 }
 
 /**
- * Assembles a program on a board with all possible ROM chips, instead of its own board. Resolves to its source map, and the byte at each address.
+ * Assembles a program on a board with all possible ROM chips, instead of its own board. Resolves to the program's source map, and the byte
+ * at each address.
  * @param {EngineHost} engine
  * @param {import("./input_texts.mjs").GivenText} program
  */

@@ -1,4 +1,4 @@
-// The output of the Node tools. A call returns only after everything is written. Control characters in texts are printed in the form `\x1B`.
+// The output of the Node tools. A call returns only after it has written everything. Prints control characters in texts in the form `\x1B`.
 import { fstatSync, writeSync } from "node:fs";
 import { escapeControls } from "../core/text/control_escapes.js";
 
@@ -7,10 +7,10 @@ const STDERR = 2;
 /** The exit status if no process reads standard output any more: the status that shells use for SIGPIPE. */
 const PIPE_STATUS = 141;
 
-/** An error that ends a command with exit status 1. Each line of the message is printed after the command's name. */
+/** An error that ends a command with exit status 1. The command's name precedes each line of the printed message. */
 export class CommandError extends Error {}
 
-/** An error in a command's arguments. The usage is printed below the message, and the exit status is 2. */
+/** An error in a command's arguments, which ends the command with exit status 2. The usage follows the printed message. */
 export class UsageError extends Error {}
 
 /**
@@ -87,7 +87,7 @@ export function printError(text) {
 }
 
 /**
- * Writes a text for other programs to standard output, byte for byte. On a terminal, control characters are escaped.
+ * Writes a text for other programs to standard output, byte for byte. Escapes control characters if standard output is a terminal.
  * @param {string} text
  * @param {BufferEncoding} encoding
  */

@@ -26,7 +26,7 @@ const MIN_BITS = { colours256: 8, colours8: 4 };
 const COLOURS_OF_256 = {
   red: [88, 160, 196], amber: [94, 172, 214], yellow: [100, 184, 226], green: [22, 34, 46], blue: [19, 27, 33], white: [240, 248, 231],
 };
-/** The code of each lamp colour on a terminal with 8 colours. Amber is shown as yellow without the brightest level. */
+/** The code of each lamp colour on a terminal with 8 colours. Amber has the code of yellow, without the brightest level. */
 const COLOURS_OF_8 = { red: 31, amber: 33, yellow: 33, green: 32, blue: 34, white: 37 };
 
 /** @type {(colour: string, level: number) => string} */
@@ -35,7 +35,7 @@ const paint256 = (colour, level) => `\x1b[${level === 3 ? "1;" : ""}38;5;${COLOU
 const paint8 = (colour, level) => `\x1b[${["2;", "", colour === "amber" ? "" : "1;"][level - 1]}${COLOURS_OF_8[colour]}m`;
 
 /**
- * Returns the function that returns the escape sequence for a lamp's colour and level. Returns null if the terminal has no colours or NO_COLOR is
+ * Returns the function that makes the escape sequence for a lamp's colour and level; null if the terminal has no colours or NO_COLOR is
  * set.
  * @param {import("node:tty").WriteStream} output
  * @param {Record<string, string | undefined>} env
@@ -62,7 +62,7 @@ export class PanelTerminal {
     this.isGone = false;
     /** True if the terminal could not be restored. */
     this.isLost = false;
-    /** @type {TypedKey[]} the typed keys that have not been handled yet */
+    /** @type {TypedKey[]} the typed keys that the panel has not handled yet */
     this.keys = [];
     /** @type {string[]} the rows that are currently on the screen */
     this.drawnRows = [];

@@ -1,6 +1,6 @@
-// The history of lines typed at prompts, in a private file of the user: $XDG_STATE_HOME/mcs4/history. Several prompts can add lines at the same time,
-// because each of them holds a lock while it does. A new prompt shortens a file that has become too long. If the file cannot be created or used,
-// readline stores the lines until the prompt ends.
+// The history of lines typed at prompts, in a private file of the user: $XDG_STATE_HOME/mcs4/history. Several prompts can add lines at the
+// same time, because each of them holds a lock while it writes. A new prompt shortens a file that has become too long. If a prompt cannot
+// create or use the file, only readline stores the lines, until the prompt ends.
 import { closeSync, constants, existsSync, fchmodSync, fstatSync, mkdirSync, openSync, readSync, rmSync, statSync, writeSync } from "node:fs";
 import { dirname, isAbsolute, join } from "node:path";
 import { escapeControls } from "../core/text/control_escapes.js";
@@ -10,12 +10,12 @@ import { prepareReplacement } from "./user_files.mjs";
 export const MAX_LINES = 1000;
 /** The maximum length of a line in the history, in characters. */
 const MAX_LINE_LENGTH = 1000;
-/** The size in bytes above which the file is shortened, and its maximum size after it has been shortened. */
+/** The size in bytes above which a prompt shortens the file, and the maximum size of the shortened file. */
 const MAX_BYTES = 262144;
 const SHORTENED_BYTES = 131072;
-/** The age in milliseconds after which a lock file is considered the leftover of a killed process and removed. */
+/** The age in milliseconds above which a lock file counts as left behind by a killed process. A prompt then removes the file. */
 const STALE_LOCK_AGE = 10000;
-/** The time in milliseconds to wait for the lock. After that, the line is added without the lock. */
+/** The time in milliseconds to wait for the lock. After this time, the prompt adds the line without the lock. */
 const LOCK_TIMEOUT = 1000;
 /** The time in milliseconds between two attempts to acquire the lock. */
 const RETRY_INTERVAL = 3;
@@ -104,7 +104,7 @@ export class PromptHistory {
     });
   }
 
-  /** Calls `operation` with the open file, and holds the lock during the call if possible. After an error, the file is not used again. */
+  /** Calls `operation` with the open file, and holds the lock during the call if possible. After an error, does not use the file again. */
   withFile(operation) {
     if (this.name === "") return;
     const lock = `${this.name}.lock`;
@@ -125,7 +125,7 @@ export class PromptHistory {
     }
   }
 
-  /** Adds a line, unless it is blank, too long, or equal to the last one. */
+  /** Adds a line, unless it is blank, too long, or equal to the last line. */
   add(line) {
     if (line.trim() === "" || line === this.lastLine || line.length > MAX_LINE_LENGTH) return;
     this.lastLine = line;

@@ -1,4 +1,5 @@
-// Creates the report of `mcs4 explain`. For each rejected line of a script, it contains the line, the wrong line in its text, and the reason.
+// Creates the report of `mcs4 explain`. For each rejected line of a script, the report contains the reason, and the line itself or the
+// wrong line in the text after it.
 import { parseRefusal } from "../core/bench/answers.js";
 import { INVALID_CHARACTER, LINE_TOO_LONG, MAX_LINE_LENGTH, NOT_ASCII, opensText } from "../core/bench/inputs.js";
 import { parseNumber } from "../core/bench/numbers.js";
@@ -10,14 +11,14 @@ import { MAX_SHOWN_LENGTH, NO_FORM, RejectedTexts, spellingHint, describeRefusal
  * @typedef {import("../core/bench/script_answers.js").AnsweredInput} AnsweredInput
  */
 
-/** The kinds of texts in a script, by the command or query that the text belongs to. */
+/** The kinds of texts in a script, by the command or query that precedes the text. */
 const TEXT_KINDS = { wire: "board", wiring: "board", asm: "program", map: "program", errors: "program" };
 
 /** @type {(line: string) => string} describes the first invalid character in a line; "" if there is none */
-function foreignCharacter(line) {
+function describeInvalidCharacter(line) {
   const [character = ""] = INVALID_CHARACTER.exec(line) || [];
   if (character === "") return "";
-  return character > "\x7f" ? say.foreignCharacter(character) : say.foreignByte(character.charCodeAt(0).toString(16).toUpperCase().padStart(2, "0"));
+  return character > "\x7f" ? say.characterHint(character) : say.byteHint(character.charCodeAt(0).toString(16).toUpperCase().padStart(2, "0"));
 }
 
 /** The rejected lines of a script. */
@@ -31,7 +32,9 @@ export class RejectedLines {
     this.engine = engine;
     this.lines = lines;
     this.describeAddress = describeAddress;
-    /** The text of the current board; "" for none. It is null if the board was wired before the script, because its text is then not known. */
+    /**
+     * The text of the current board; "" for none. The value is null if the text is unknown because the board was wired before the script.
+     */
     this.boardText = null;
   }
 
@@ -55,7 +58,8 @@ export class RejectedLines {
   }
 
   /**
-   * Returns a list with the report line about the address in an input. The list is empty if the input has no address, or if no source is known.
+   * Returns the report line about the address in an input, as a list. The list is empty if the input has no address, or if no source is
+   * known.
    * @param {AnsweredInput} answeredInput
    */
   addressLines({ input: { line, words: [kind, first = "", second = ""] } }) {
@@ -76,9 +80,9 @@ export class RejectedLines {
     const { number } = refusal;
     const error = opensText(input.line) ? this.findTextError(answeredInput, refusal) : null;
     const shownLine = this.lines[at + (error ? error.line : 0) - 1];
-    const hint = number === NOT_ASCII ? foreignCharacter(shownLine) : number === NO_FORM && error ? spellingHint(shownLine) : "";
+    const hint = number === NOT_ASCII ? describeInvalidCharacter(shownLine) : number === NO_FORM && error ? spellingHint(shownLine) : "";
     return [
-      say.refusedLine(at, number, error ? error.line : 0, `${error ? error.words : describeRefusal(number)}${hint}`),
+      say.rejectedLine(at, number, error ? error.line : 0, `${error ? error.words : describeRefusal(number)}${hint}`),
       `    ${shownLine.slice(0, MAX_SHOWN_LENGTH)}`, ...this.addressLines(answeredInput),
     ];
   }

@@ -1,5 +1,5 @@
-// Composes messages about rejected texts for a terminal. A message has the file, the line number, the number of the refusal with its meaning, and the
-// line itself.
+// Composes messages about rejected texts for a terminal. A message contains the file name, the line number, the number and meaning of the
+// refusal, and the line itself.
 import { readFileSync } from "node:fs";
 import { readBoard } from "../core/bench/answers.js";
 import { readWiring } from "../core/bench/text_check_answers.js";
@@ -10,7 +10,7 @@ import { SourceMap } from "../core/machine/source_map.js";
 import { findDefinedNames } from "../core/text/assembly.js";
 import { createBoardError } from "../core/text/board_error.js";
 import { MISSING_ROM, createLineError, findMissingRoms } from "../core/text/program_errors.js";
-import { alignedText, sentText } from "../core/text/sendable_text.js";
+import { asciiCommentsText, sentText } from "../core/text/sendable_text.js";
 import { boardTables } from "../core/text/text_help.js";
 import { readPageData } from "./page_parts.mjs";
 
@@ -23,13 +23,14 @@ import { readPageData } from "./page_parts.mjs";
 
 const MAX_ERRORS = 20;
 export const MAX_SHOWN_LENGTH = 120;
+/** The error number of the assembler for a line whose form it does not know. */
 export const NO_FORM = 30;
 /** Matches a line in the syntax of another assembler. */
 const OTHER_SPELLING = new RegExp("[ \\t,][0-7]P([ \\t,]|$)|[0-9]<|[ \\t,][0-9][0-9A-F]*H([ \\t,]|$)|[ \\t,][$][0-9A-F]|^[A-Z_][A-Z0-9_]*,|"
   + "[ \\t]/|[ \\t](TZ|TN|CZ|CN|AZ|AN)[ \\t,]");
 
 /** @type {ErrorMessages | null} */
-let words = null;
+let errorMessages = null;
 /** @type {ReturnType<typeof boardTables> | null} */
 let tables = null;
 /** @type {ReturnType<typeof readInstructions> | null} */
@@ -44,13 +45,13 @@ function readManual() {
   return { tables, instructions };
 }
 
-/** Returns the message of the refusal with a number. */
+/** Returns the meaning of a refusal, given by its number. */
 export function describeRefusal(number) {
-  if (!words) {
+  if (!errorMessages) {
     const rows = readFileSync(new URL("../../tools/lib/refusals.txt", import.meta.url), "utf8").split("\n");
-    words = new ErrorMessages(Object.fromEntries(rows.filter((row) => /^\d/.test(row)).map((row) => [row.slice(0, 2), row.slice(3)])));
+    errorMessages = new ErrorMessages(Object.fromEntries(rows.filter((row) => /^\d/.test(row)).map((row) => [row.slice(0, 2), row.slice(3)])));
   }
-  return words.refusalMeaning(number);
+  return errorMessages.refusalMeaning(number);
 }
 
 /**
@@ -61,7 +62,7 @@ export function spellingHint(line) {
   return OTHER_SPELLING.test(line.replace(/;.*/, "").toUpperCase()) ? "; mcs4 import takes programs in Intel's and AS's spelling" : "";
 }
 
-/** Composes the messages about rejected texts. An engine checks the texts again to find the details. */
+/** The messages about rejected texts. An engine checks the texts again to find the details. */
 export class RejectedTexts {
   /**
    * @param {EngineHost} engine
@@ -79,7 +80,7 @@ export class RejectedTexts {
   findBoardError(text) {
     const { engine } = this;
     const error = readWiring(engine.ask(engine.begin(), `wiring\n${sentText(text, "#")}.\n`).answers[0]);
-    return error && error.line > 0 ? createBoardError(alignedText(text, "#"), error, readManual().tables, describeRefusal) : null;
+    return error && error.line > 0 ? createBoardError(asciiCommentsText(text, "#"), error, readManual().tables, describeRefusal) : null;
   }
 
   /**
@@ -109,7 +110,7 @@ export class RejectedTexts {
     if (kind === "board") return line > 0 ? null : this.findBoardError(text);
     if (number === MISSING_ROM) return this.findLineWithoutRom(text);
     if (line === 0 || number < NO_FORM) return null;
-    const lines = alignedText(text, ";").split("\n");
+    const lines = asciiCommentsText(text, ";").split("\n");
     const facts = { instructions: readManual().instructions, names: findDefinedNames(lines) };
     return createLineError(lines, { line, number }, facts, describeRefusal);
   }
@@ -132,7 +133,7 @@ export class RejectedTexts {
   }
 
   /**
-   * Returns the messages about all errors. At most MAX_ERRORS of them are listed.
+   * Returns the messages about the first MAX_ERRORS errors, and the number of further errors.
    * @param {TextFault[]} faults
    */
   message(faults) {

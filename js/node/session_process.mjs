@@ -18,12 +18,13 @@ export class SessionProcess {
   /**
    * @param {"new" | "open"} word
    * @param {string} name
-   * @param {boolean} [isAtTerminal] true if the program shares this process's standard error; signals from the terminal then do not reach the program
+   * @param {boolean} [isAtTerminal] true if the program uses this process's standard error; signals from the terminal then do not reach the
+   *   program
    */
   constructor(word, name, isAtTerminal = false) {
     this.child = spawn(programPath(), [word, name], { stdio: ["pipe", "pipe", isAtTerminal ? "inherit" : "pipe"], detached: isAtTerminal });
     this.child.stdout.setEncoding("utf8");
-    /** @type {string[]} the answer lines that have not been read yet */
+    /** @type {string[]} the answer lines that `readLines` has not returned yet */
     this.lines = [];
     /** The incomplete last line of the output. */
     this.partialLine = "";
@@ -77,7 +78,7 @@ export class SessionProcess {
   }
 
   /**
-   * Serves lines. Resolves to their answers.
+   * Sends lines to the program. Resolves to the answer lines.
    * @param {string} lines
    * @param {number} count the number of answer lines
    */
@@ -87,8 +88,8 @@ export class SessionProcess {
   }
 
   /**
-   * Serves one input, or several inputs without `seq`. Sends a `seq` line after them, because its answer marks the end, however many answers there
-   * are.
+   * Sends one input, or several inputs without `seq`, to the program. Sends a `seq` line after them, whose answer marks the end of their
+   * answers.
    * @param {string} input
    * @param {(line: string) => void} onAnswer called with each answer line as it arrives
    */
@@ -118,7 +119,7 @@ export class SessionProcess {
 }
 
 /**
- * Resolves to an answer; after a refusal, adds the message of the refusal. Loads the messages at the first refusal.
+ * Resolves to an answer. Adds the meaning if the answer is a refusal. Loads the messages at the first refusal.
  * @param {string} answer
  */
 async function addRefusalMessage(answer) {

@@ -57,7 +57,7 @@ async function endProgram(program, unservedInput) {
 }
 
 /**
- * Serves the lines that the user types at a terminal. Resolves to the exit status.
+ * Executes the lines that the user types at a terminal. Resolves to the exit status.
  * @param {"new" | "open"} word
  * @param {string} name the session's file name
  */

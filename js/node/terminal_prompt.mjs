@@ -1,5 +1,5 @@
-// A prompt at a terminal. Node's readline edits, completes and recalls lines. Lines are served in sequence; input that arrives in the meantime waits.
-// On a terminal that cannot move its cursor, the terminal itself edits the lines.
+// A prompt at a terminal. Node's readline edits, completes and recalls lines. The prompt executes lines in sequence; input that arrives in
+// the meantime waits. On a terminal that cannot move its cursor, the terminal itself edits the lines.
 //
 //     const terminal = new TerminalPrompt(prompt, { output: process.stderr });
 //     await terminal.run();      // resolves to the status of a signal, or to 0 at `prompt.isEnded` and at the end of input
@@ -12,9 +12,9 @@ import { MAX_LINES, PromptHistory } from "./prompt_history.mjs";
 import { isDumb, makePainter } from "./terminal.mjs";
 
 /**
- * The receiver of typed lines. `label` is the text of the prompt. `take` serves a line. `complete` resolves to the completions of a line, and to the
- * end of the line that they replace. `interrupt` stops the line in progress, and returns false if it cannot be stopped. `drop` discards incomplete
- * input and returns a message about it.
+ * The receiver of typed lines. `label` is the text of the prompt. `isEnded` is true after a line that ends the prompt. `take` executes a
+ * line. `complete` resolves to the completions of a line, and to the end of the line that they replace. `interrupt` stops the line in
+ * progress, and returns false if it cannot be stopped. `drop` discards incomplete input and returns a message about it.
  * @typedef {{ label: string, isEnded: boolean, take: (line: string) => Promise<boolean>,
  *   complete: (line: string) => Promise<[string[], string]>, interrupt: () => boolean, drop: () => string }} LinePrompt
  */
@@ -23,7 +23,7 @@ import { isDumb, makePainter } from "./terminal.mjs";
  * The streams and callbacks of a prompt at a terminal.
  * @typedef {object} TerminalCalls
  * @property {import("node:tty").WriteStream} output the terminal that shows the prompt and the messages
- * @property {() => void} [onServed] called after a line has been served
+ * @property {() => void} [onServed] called after the execution of a line
  * @property {() => void} [onLeave] called when the prompt returns the terminal: at Ctrl-Z and at its end
  * @property {() => void} [onReturn] called when the prompt has the terminal again after Ctrl-Z
  */
@@ -37,7 +37,7 @@ const BOLD = 1;
 const RED = 31;
 /** The assumed width of a terminal that does not report its width, in columns. */
 const DEFAULT_WIDTH = 80;
-/** The minimum width at which messages are wrapped, in columns. */
+/** The minimum width to which messages are wrapped, in columns. */
 const MIN_WIDTH = 20;
 
 /** The input stream of readline. It receives the input of the terminal piece by piece. */
@@ -67,9 +67,9 @@ export class TerminalPrompt {
     this.isDumb = isDumb(process.env);
     this.paint = makePainter(process.env);
     this.history = new PromptHistory(process.env);
-    /** The pieces of input that have not been handled yet. */
+    /** The pieces of input that wait for handling. */
     this.waitingInput = [];
-    /** True while a line is being served or completed, and before the first prompt. */
+    /** True during the execution or completion of a line, and before the first prompt. */
     this.isBusy = true;
     this.isPasting = false;
     this.hasInputEnded = false;
@@ -87,7 +87,7 @@ export class TerminalPrompt {
 
   // --- output ---
 
-  /** The width at which messages are wrapped, in columns. */
+  /** The width to which messages are wrapped, in columns. */
   get width() {
     return Math.max(MIN_WIDTH, (this.output.columns || DEFAULT_WIDTH) - 1);
   }
@@ -166,7 +166,7 @@ export class TerminalPrompt {
     else if (!this.hasEnded) this.showNextPrompt();
   }
 
-  /** Ends the prompt after an unexpected error, with which the promise of `run` then rejects. */
+  /** Ends the prompt after an unexpected error. The promise of `run` then rejects with this error. */
   endWithError(error) {
     const resolve = this.resolveEnd;
     this.resolveEnd = () => resolve(Promise.reject(error));
@@ -184,7 +184,7 @@ export class TerminalPrompt {
     this.resolveEnd();
   }
 
-  /** Switches off bracketed paste and calls `onLeave`. (The terminal's mode is restored when readline closes or Node ends.) */
+  /** Switches off bracketed paste and calls `onLeave`. (Readline restores the terminal's mode when it closes, and Node when it ends.) */
   releaseTerminal() {
     if (this.hasLeft) return;
     this.hasLeft = true;
@@ -194,7 +194,10 @@ export class TerminalPrompt {
 
   // --- input ---
 
-  /** Handles input from the terminal. If Ctrl-C is typed while a line is being served, stops that line and discards the input before the key. */
+  /**
+   * Handles input from the terminal. If Ctrl-C arrives during the execution of a line, stops the line and discards the input before the
+   * key.
+   */
   handleInput(text) {
     const stopIndex = this.isBusy && !this.isDumb && !this.isPasting ? text.lastIndexOf(CTRL_C) : -1;
     if (stopIndex >= 0) {
@@ -206,7 +209,7 @@ export class TerminalPrompt {
     }
   }
 
-  /** Handles waiting input, up to the first line that must be served. */
+  /** Handles waiting input, up to the first line to execute. */
   handleWaiting() {
     while (!this.isBusy && !this.hasEnded && this.waitingInput.length > 0) {
       const unhandledText = this.handlePiece(this.waitingInput[0]);

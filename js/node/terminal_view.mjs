@@ -1,6 +1,6 @@
 // Shows the debugger's view (js/core/prompt/view.js) on a terminal. The view occupies the upper rows, and commands scroll in the rows below. On a
-// terminal that cannot move its cursor (TERM=dumb), the view is printed after each command instead. With TERM=dumb or NO_COLOR, the view has no
-// colours.
+// terminal that cannot move its cursor (TERM=dumb), this module prints the view after each command instead. With TERM=dumb or NO_COLOR, the
+// view has no colours.
 import { MIN_COLUMNS, MIN_ROWS, View, viewSize } from "../core/prompt/view.js";
 import { isDumb, makePainter } from "./terminal.mjs";
 
@@ -32,7 +32,7 @@ export class TerminalView {
     if (isOn === this.isOn) return "";
     if (isOn && !this.size) return NO_ROOM_MESSAGE;
     this.isOn = isOn;
-    if (isOn) this.place();
+    if (isOn) this.reserveRows();
     else this.leave();
     return "";
   }
@@ -43,7 +43,7 @@ export class TerminalView {
   }
 
   /** Clears the terminal, and limits scrolling to the rows below the view. */
-  place() {
+  reserveRows() {
     const { size, output } = this;
     if (this.isDumb) return;
     if (!size) {
@@ -66,7 +66,7 @@ export class TerminalView {
   /** Redraws the view and the prompt after a resize, or after other programs have used the terminal. */
   redraw() {
     if (!this.isOn || this.isDumb) return;
-    this.place();
+    this.reserveRows();
     this.draw();
     this.showPrompt();
   }

@@ -1,4 +1,5 @@
-// The code that `mcs4 test`, `cover` and `profile` share. It runs tests, or the next cycles of a session, and counts what is executed.
+// The code that `mcs4 test`, `cover` and `profile` share. Runs tests, or the next cycles of a session, and counts the executed
+// instructions.
 import { runTests } from "../core/testing/test_suite.js";
 import { failureLine } from "../core/testing/tap.js";
 import { excludeEachOther, otherProgram, sessionStopped } from "../words/commands.js";
@@ -41,7 +42,7 @@ async function resolveNames(folder, givenNames) {
  * @param {string | undefined} folder
  * @param {string[]} givenNames
  */
-export async function runTestCommand({ Counting, checkNames = () => {}, outcome: tapOf = () => "", report = () => {} }, folder, givenNames) {
+export async function runTestCommand({ Counting, checkNames = () => {}, outcome: formatOutcome = () => "", report = () => {} }, folder, givenNames) {
   const allNames = await resolveNames(folder, givenNames);
   checkNames(allNames);
   const [boardName, programName, ...names] = allNames;
@@ -52,7 +53,7 @@ export async function runTestCommand({ Counting, checkNames = () => {}, outcome:
   const engine = await startEngine();
   const printOutcome = (outcome, number, total) => {
     printError(failureLine(outcome));
-    print(tapOf(outcome, number, total));
+    print(formatOutcome(outcome, number, total));
   };
   const suite = { boardText: board.text, programText: program.text, sources };
   const result = await runTests(engine, suite, yieldToMessages, { Counting, ended: printOutcome });
@@ -79,7 +80,7 @@ export async function countCycles({ name, Counting, checkNames = () => {}, repor
   const state = await openSession(engine, texts, session);
   const { faults, other, counted: counts } = await countSession(engine, state, program.text, cycles, Counting);
   if (faults.length > 0) throw await rejectedTextsError(engine, { program }, faults);
-  if (other) throw new CommandError(otherProgram(programName, other.address, other.is, other.line + program.before, other.makes));
+  if (other) throw new CommandError(otherProgram(programName, other.address, other.romByte, other.line + program.before, other.sourceByte));
   if (counts.stop !== "end") printError(`${name}: ${sessionStopped(counts.elapsed, counts.stop)}\n`);
   report(counts, program);
   return 0;

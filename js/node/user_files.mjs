@@ -121,7 +121,7 @@ export function readUserFile(name, maxBytes) {
 }
 
 /**
- * Reads an open pipe or standard input to its end. Blocks until then.
+ * Reads an open pipe or standard input to its end. Blocks until the end.
  * @param {number} stream
  * @param {string} name
  * @param {number} maxBytes the maximum number of bytes
@@ -164,7 +164,7 @@ function followLinks(name) {
   }
 }
 
-/** Returns an unpredictable name. (Loads node:crypto only here, because it is slow to load.) */
+/** Returns an unpredictable name. (Loads node:crypto only here, because this module is slow to load.) */
 function randomName() {
   return createRequire(import.meta.url)("node:crypto").randomBytes(12).toString("hex");
 }
@@ -223,7 +223,7 @@ function checkWritable(target, { mode }) {
 }
 
 /**
- * Gives a new file the owner and mode of its target. Throws a FileErrorReason if that is not allowed.
+ * Gives a new file the owner and mode of its target. Throws a FileErrorReason if the user may not set this owner.
  * @param {number} file
  * @param {import("node:fs").Stats} oldStat
  */
@@ -240,7 +240,7 @@ function copyOwner(file, { uid, gid, mode }) {
 }
 
 /**
- * Creates the temporary file that will replace another file. Follows links.
+ * Creates the temporary file that will replace a file. Follows the links in the file's path.
  * @param {string} name
  * @param {string | Uint8Array} bytes
  */
@@ -257,7 +257,8 @@ function isStream(name) {
 }
 
 /**
- * Writes a user's file atomically: at every moment, the file has either the old bytes or the new ones. Writes directly to a device or a pipe.
+ * Writes a user's file atomically: at every moment, the file has either the old bytes or the new bytes. Writes directly to a device or a
+ * pipe.
  * @param {string} name
  * @param {string | Uint8Array} bytes
  */
@@ -355,7 +356,7 @@ function makeFolder(folder) {
  * Renames temporary files to their targets. If one rename fails, removes the files already renamed.
  * @param {Replacement[]} replacements
  */
-function putAll(replacements) {
+function replaceTargets(replacements) {
   const targets = [];
   try {
     for (const replacement of replacements) {
@@ -377,14 +378,14 @@ function putAll(replacements) {
 export function writeNewFiles(folder, files, names) {
   const withFolderError = (/** @type {() => any} */ operation) => withFileError(`cannot write in ${folder}`, operation);
   const stat = withFolderError(() => statSync(folder, { throwIfNoEntry: false }));
-  if (stat && !stat.isDirectory()) throw new UserFileError(say.isNoFolder(folder));
+  if (stat && !stat.isDirectory()) throw new UserFileError(say.isNotFolder(folder));
   const existingPath = withFolderError(() => names.map((name) => join(folder, name)).find((name) => lstatSync(name, { throwIfNoEntry: false })));
   if (existingPath) throw new UserFileError(say.alreadyExists(existingPath));
   const madeFolders = withFileError(`cannot make ${folder}`, () => makeFolder(folder));
   const replacements = [];
   try {
     for (const { name, content } of files) replacements.push(prepareReplacement(join(folder, name), content));
-    withFileError(`cannot write in ${folder}`, () => putAll(replacements));
+    withFileError(`cannot write in ${folder}`, () => replaceTargets(replacements));
   } catch (error) {
     for (const replacement of replacements) replacement.drop();
     for (const name of madeFolders) rmdirSync(name);

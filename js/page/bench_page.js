@@ -58,7 +58,7 @@ export class Page {
     this.snapshotView = makeSnapshotView(this);
     this.logView = new LogView(words);
     this.layout = new Layout(() => this.printContents());
-    this.workView = new ProgressView();
+    this.progressView = new ProgressView();
     this.editors = makeEditors(this, manual);
     this.breakpoints = makeBreakpointsController(this);
     this.source = makeSource(this);
@@ -110,7 +110,7 @@ export class Page {
     };
   }
 
-  /** Compares the program's text with ROM. Called whenever either of them may have changed. */
+  /** Compares the program's source text with the contents of ROM. Called whenever the text or ROM may have changed. */
   checkSource() {
     return this.source.check().catch((fault) => this.recovery.reportFailure(fault));
   }
@@ -148,8 +148,8 @@ export class Page {
     this.cyclesView.open(record.cycles);
   }
 
-  /** Checks the tests and the properties of an opened session. Their tabs are rarely in front, so the session is visible first. */
-  checkTrialTexts() {
+  /** Checks the tests and the properties of a newly opened session. Called last, because their tabs are usually not in front. */
+  checkTestsAndProperties() {
     this.testsTab.refresh();
     this.exploreTab.refresh();
   }
@@ -157,7 +157,7 @@ export class Page {
   /**
    * Draws a new board in place of the current one, together with the front panel that the board's text declares.
    * @param {SessionRecord} record
-   * @param {string[]} board the bench's answers to the query `board`
+   * @param {string[]} board the lines of the bench's answer to the query `board`
    */
   draw(record, board) {
     const { pendingBoardText } = this.editors;
@@ -176,8 +176,8 @@ export class Page {
   }
 
   /**
-   * Shows an edited front panel. If the text describes a different board from the one in use, the panel appears only after the user applies
-   * that board.
+   * Shows the front panel of an edited board text. If the text describes a different board from the board in use, the panel does not change
+   * until the user applies the text.
    * @param {string} boardText
    */
   readFace(boardText) {
@@ -203,7 +203,7 @@ export class Page {
     this.storedHistory.addReport(past, { file: session.record.file, total, reset });
     this.cyclesView.update({ total, reset }, this.runController.clock.isRunning);
     session.record.cycles = this.cyclesView.cycles.storedCounts;
-    this.historyView.showFuture(future);
+    this.historyView.updateForwardButton(future);
     if (board) this.draw(session.record, board);
     this.snapshotView.show(snapshot, isPassing, litShares);
     if (printed) {

@@ -35,7 +35,7 @@ export function makeSnapshotView(page) {
     describeRefusal: (number) => page.words.refusalMeaning(number),
     explain: (name) => describeCell(page.cellWords, name),
     showCounterLine: (counter) => page.source.showNext(counter, runController.isFast || page.currentSession.willRun),
-    receiveBreakpoints: (breakpoints) => page.breakpoints.manager.take(breakpoints),
+    receiveBreakpoints: (breakpoints) => page.breakpoints.manager.updateFromBench(breakpoints),
     toggleBreakpoint: (address) => page.breakpoints.manager.toggleAddress(address),
     revealAddress: (address) => page.source.reveal(address),
     watchLamps: (face, number) => {
@@ -90,7 +90,7 @@ export function connectSound({ runController, snapshotView }, boardText) {
  * @returns {DrawingController}
  */
 export function makeDrawingController(page) {
-  const scanKeys = (/** @type {import("../core/bench/answers.js").Board} */ board) => insertKeyScan(page, board);
+  const insertScan = (/** @type {import("../core/bench/answers.js").Board} */ board) => insertKeyScan(page, board);
   const { bench, boardEditor, currentSession, snapshotView: { wiring } } = page;
   const { editor } = boardEditor;
   const { tabs } = page.layout;
@@ -113,14 +113,14 @@ export function makeDrawingController(page) {
       tabs.choose("board");
       editor.select(lines);
     },
-    scanKeys,
+    insertKeyScan: insertScan,
     session: () => currentSession.session,
     saveSession: () => currentSession.markChangedAndSave(),
     reportFailure: (fault) => page.recovery.reportFailure(fault),
   });
   tabs.onShown("wiring", () => {
     wiring.showLevels();
-    drawing.followText();
+    drawing.updateFromText();
   });
   editor.onCaretMove = (line) => wiring.mark(partAtLine(drawnPartLines(editor.text), line));
   return drawing;
@@ -150,7 +150,7 @@ export function makeScope(page) {
       // A recording continues from the current state, so time must be paused.
       await page.runController.pause();
       try {
-        return await page.workView.show(say.RECORDING_LINES,
+        return await page.progressView.show(say.RECORDING_LINES,
           (signal, progress) => page.bench.call("record", [cycles, isBefore, textsWithValues(values)], { signal, progress }));
       } catch (fault) {
         if (fault instanceof CancelledError) scope.status.set(say.NOTHING_RECORDED);

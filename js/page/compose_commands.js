@@ -30,7 +30,7 @@ import * as say from "../words/page_commands.js";
 /** The key of the stored preference that says whether the welcome cards have been shown. */
 const WELCOME_SHOWN_KEY = "welcome";
 
-/** @type {TextName[]} the texts in the order of the page's editors */
+/** @type {TextName[]} the names of the texts, in the order of the page's `textEditors` */
 const EDITOR_NAMES = ["board", "program", "tests", "properties"];
 
 /**
@@ -45,8 +45,8 @@ function show({ layout }, name) {
 
 /**
  * The components that are created before the page: the theme, the tooltips and the toolbar.
- * @typedef {{ theme: Theme, tips: Tooltips, toolbar: ToolbarView }} Shell
- * @returns {Shell}
+ * @typedef {{ theme: Theme, tips: Tooltips, toolbar: ToolbarView }} PageFrame
+ * @returns {PageFrame}
  */
 export function makeShell() {
   const theme = new Theme(new Preferences());
@@ -65,12 +65,12 @@ function projectCalls({ exportView, notice, recovery, sessionsController, linkSh
     save: () => void manager.save(),
     saveSession: () => void manager.saveSession(),
     exportFiles: () => exportView.open(),
-    projects: () => void view.open(),
-    examples: () => void view.openExamples(),
+    openProjects: () => void view.open(),
+    openExamples: () => void view.openExamples(),
     share: () => {
       linkSharing.share().catch((fault) => recovery.reportFailure(fault));
     },
-    notices: () => notice.list.open(),
+    openNotices: () => notice.list.open(),
     hasNotices: () => notice.list.messages.length > 0,
     print: () => print(),
   };
@@ -84,7 +84,7 @@ function timeCalls(page) {
   const { snapshotView, programEditor, runController, lineServer, travel } = page;
   return {
     isRunning: () => runController.clock.isRunning,
-    runOrStop: () => runController.runOrStop(),
+    continueOrPause: () => runController.continueOrPause(),
     step: () => void runController.stepOnce(),
     goOn: travel.goOn.bind(travel),
     goBack: travel.goBack.bind(travel),
@@ -92,8 +92,8 @@ function timeCalls(page) {
     canGoForward: () => !button("forward").disabled,
     runToCursor: () => runToLine(page, programEditor.editor.editor.getCursor().line + 1),
     /** @param {string} line */
-    serve: (line) => void lineServer.serveLines(line),
-    test: () => void lineServer.serveLines(`test ${snapshotView.test.isOn ? 0 : 1}\n`),
+    sendLine: (line) => void lineServer.serveLines(line),
+    toggleTestPin: () => void lineServer.serveLines(`test ${snapshotView.test.isOn ? 0 : 1}\n`),
     /** @param {string} id */
     setSpeed: (id) => {
       const speeds = byId("speed", HTMLSelectElement);
@@ -112,16 +112,16 @@ function textCalls(page) {
   const findFrontEditor = () => page.textEditors[EDITOR_NAMES.findIndex((name) => name === layout.tabs.shownName)];
   return {
     /** @param {TextName} name */
-    send: (name) => {
+    sendText: (name) => {
       show(page, name);
       page.textEditors[EDITOR_NAMES.indexOf(name)].calls.send();
     },
     /** @param {boolean} isSource */
     hasText: (isSource) => findFrontEditor() !== undefined && (!isSource || findFrontEditor() === programEditor),
-    /** @param {import("./commands/command_table.js").TextAct} textAction */
-    inText: (textAction) => findFrontEditor() && findFrontEditor().performAction(textAction),
+    /** @param {import("./commands/command_table.js").TextAction} textAction */
+    performTextAction: (textAction) => findFrontEditor() && findFrontEditor().performAction(textAction),
     /** @param {import("./machine/breakpoint_form.js").BreakpointField} [fieldName] */
-    breakpoint: (fieldName) => {
+    toggleOrEditBreakpoint: (fieldName) => {
       show(page, "program");
       if (fieldName) programEditor.editBreakpoint(fieldName);
       else programEditor.toggleBreakpoint();
@@ -148,7 +148,7 @@ export class Commands {
    * @param {Page} page
    * @param {Guide} guide
    * @param {Example[]} examples
-   * @param {Shell} shell
+   * @param {PageFrame} shell
    */
   constructor(page, guide, examples, { theme, toolbar }) {
     this.page = page;
@@ -159,7 +159,7 @@ export class Commands {
     this.welcome = this.makeWelcome(guide);
     this.palette = new PaletteView({
       commands: () => [...COMMANDS, ...this.dynamicCommands()].map((command) => this.makeEntry(command)),
-      places: (query) => listDestinations(query, this.createPlaceCallbacks()),
+      places: (query) => listDestinations(query, this.makePlaceCalls()),
     });
     theme.onChange = () => page.scope.view.requestDrawing();
     listenToKeys((command) => this.execute(command), isDialogOpen);
@@ -197,14 +197,14 @@ export class Commands {
       },
       toggle: (id) => field(id).click(),
       togglePanel: (id) => page.layout.panels.toggle(id),
-      fullPanel: (id) => page.layout.panels.toggleFull(id),
-      scanKeys: () => insertKeyScan(page, page.snapshotView.board),
+      toggleMaximizedPanel: (id) => page.layout.panels.toggleFull(id),
+      insertKeyScan: () => insertKeyScan(page, page.snapshotView.board),
       hasKeys: () => page.snapshotView.board.matrix !== null,
       resetLayout: () => page.layout.panels.reset(),
-      welcome: () => this.welcome.open(),
+      openWelcome: () => this.welcome.open(),
       toggleHelp: () => guide.help.toggle(wordAtCaret(page)),
-      help: (query) => guide.help.open(query),
-      palette: (begin) => this.open(begin),
+      openHelp: (query) => guide.help.open(query),
+      openPalette: (begin) => this.open(begin),
     };
   }
 
@@ -225,20 +225,20 @@ export class Commands {
   }
 
   /** @returns {import("./commands/palette_places.js").PlaceCalls} */
-  createPlaceCallbacks() {
+  makePlaceCalls() {
     const { page, calls, examples } = this;
     return {
       map: () => page.source.map,
       examples: () => examples.map(({ name }) => name),
       projects: () => this.projects,
       show: calls.show,
-      line: (line) => {
+      showLine: (line) => {
         show(page, "program");
         page.programEditor.editor.goTo({ line: line - 1, ch: 0 });
       },
-      address: (address) => page.snapshotView.goTo.show(address),
-      example: (name) => void page.sessionsController.beginExampleByName(name),
-      project: (id) => void page.sessionsController.open(id),
+      showAddress: (address) => page.snapshotView.goTo.show(address),
+      beginExample: (name) => void page.sessionsController.beginExampleByName(name),
+      openProject: (id) => void page.sessionsController.open(id),
     };
   }
 
@@ -254,7 +254,7 @@ export class Commands {
       ...snapshotView.front.keys.map((key) => labelledCommand(`key.${formatKey(key.key)}`,
         say.pressKey(key.legend || formatKey(key.key)), "key", () => {
         keyPresser.pressOrRelease(key, false);
-        keyPresser.liftFinger(key.key);
+        keyPresser.endPress(key.key);
       })),
     ];
   }

@@ -18,7 +18,7 @@ export function makeCurrentSession(page) {
     begin: (record) => page.begin(record),
     show: (shown) => page.show(shown),
     checkSource: () => page.checkSource(),
-    checkTrialTexts: () => page.checkTrialTexts(),
+    checkTestsAndProperties: () => page.checkTestsAndProperties(),
     run: () => page.runController.run(),
     showPaused: (words) => page.runController.endRun(words),
     stopTime: () => page.runController.stopRun(),
@@ -44,7 +44,7 @@ export function makeRecovery(page) {
     showLastFrame: (frame) => page.runController.handleFrame(frame),
     reopenSession: async (record) => {
       page.show(await page.currentSession.requestOpening(record));
-      page.breakpoints.manager.again();
+      page.breakpoints.manager.resend();
     },
   });
 }
@@ -74,7 +74,7 @@ export function makeRunController(page) {
     cycles: () => page.cyclesView.cycles.total,
     describeCounter: () => addressWithName(page.snapshotView.counter, page.source.map),
     describeCondition: (id) => describeBreakpointCondition(page.breakpoints.manager.list.get(id), page.breakpoints.manager.faults.get(id)),
-    countUnreadable: () => page.breakpoints.manager.faults.size,
+    countInvalidBreakpoints: () => page.breakpoints.manager.faults.size,
     describeRefusal: (number) => page.words.refusalMeaning(number),
     step: () => page.lineServer.serveLines("step\n"),
     reportFailure: (fault) => page.recovery.reportFailure(fault),
@@ -89,7 +89,7 @@ export function makeLineServer(page) {
   const { currentSession, runController } = page;
   return new LineServer(page.bench, page.words, page.notice, {
     map: () => page.source.map,
-    work: (words, work) => page.workView.show(words, (signal, progress) => work({ signal, progress })),
+    work: (words, work) => page.progressView.show(words, (signal, progress) => work({ signal, progress })),
     counter: () => page.snapshotView.counter,
     show: (result) => {
       if (result.hasChangedRom) page.snapshotView.forgetRom();

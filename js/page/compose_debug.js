@@ -53,7 +53,7 @@ export function makeBreakpointsController(page) {
     showSource: () => page.layout.showText("program"),
     focusSource: () => page.programEditor.editor.editor.focus(),
     runTo: (line) => runToLine(page, line),
-    freshSource: () => page.source.waitForCheck(),
+    ensureSourceChecked: () => page.source.waitForCheck(),
     checkSource: () => page.source.check(),
     showMessage: (words) => page.snapshotView.message.show(words),
     reportFailure: (fault) => page.recovery.reportFailure(fault),
@@ -66,12 +66,12 @@ export function makeTravel(page) {
   return new Travel(page.bench, {
     pause: () => runController.pause(),
     texts: () => page.breakpoints.texts(),
-    aim: (goal) => runController.storeGoal(goal),
+    storeGoal: (goal) => runController.storeGoal(goal),
     change: (words, work) => page.lineServer.performWork(words, work),
     runTo: (goal) => runController.run(goal),
-    counted: (tally) => page.breakpoints.count(tally),
+    reportTally: (tally) => page.breakpoints.count(tally),
     reasonOf: (stop, goal) => runController.describeStop(stop, goal),
-    where: () => runController.counterText,
+    describeCounter: () => runController.counterText,
     breakpoint: (id) => page.breakpoints.manager.list.get(id),
     showMessage: (words) => runController.showMessage(words),
   });
@@ -153,7 +153,7 @@ export function makeHeatView(page) {
 }
 
 /**
- * Returns the names that expressions can use: names from the board in use, from the program in ROM, and from the watch.
+ * Returns the names that expressions can use: names from the board in use, from the program in ROM, and from the watch list.
  * @param {Page} page
  */
 function expressionNames({ snapshotView, source, breakpoints }) {
@@ -194,7 +194,7 @@ export function makeMistakesView(page, problems) {
     stopAtMistakes: (kinds) => {
       page.bench.call("stopAtFaults", [kinds]).catch((fault) => page.recovery.reportFailure(fault));
     },
-    showCount: (count) => problems.showBugCount(count),
+    showCount: (count) => problems.showMistakeCount(count),
     storedKinds: () => preferences.get("stops"),
     storeKinds: (kinds) => preferences.set("stops", kinds),
   });

@@ -1,4 +1,4 @@
-// Creates the components for sessions, files and guides. The callbacks connect each of them to the page's other components.
+// Creates the components for sessions, files and the guide. The callbacks connect each of them to the page's other components.
 
 import { Guide } from "./help/guide.js";
 import { forgetStory } from "./session/address.js";
@@ -86,7 +86,7 @@ export function makeLinkSharing(page) {
  * @param {Page} page
  * @returns {import("../core/help/story_actions.js").ActionCalls}
  */
-function makeActCalls({ layout, snapshotView, keyPresser, runController, source, travel }) {
+function makeStoryCalls({ layout, snapshotView, keyPresser, runController, source, travel }) {
   return {
     addressOf: (label) => {
       const name = source.map && source.map.names.get(label);
@@ -94,7 +94,7 @@ function makeActCalls({ layout, snapshotView, keyPresser, runController, source,
     },
     keys: () => snapshotView.front.keys,
     run: async () => {
-      // If time is running toward a goal, pause it first, so that the next run has no goal.
+      // If a run toward a goal is in progress, pause first, so that the next run has no goal.
       if (runController.goal) await runController.pause();
       runController.run();
     },
@@ -110,7 +110,7 @@ function makeActCalls({ layout, snapshotView, keyPresser, runController, source,
     isDown: ({ key }) => runController.willBeDown(key, snapshotView.front.isDown(key)),
     press: (boardKey) => {
       keyPresser.pressOrRelease(boardKey, false);
-      keyPresser.liftFinger(boardKey.key);
+      keyPresser.endPress(boardKey.key);
     },
     showText: (name) => layout.showText(name),
     showPanel: (name) => layout.showPanel(name),
@@ -137,7 +137,7 @@ export function makeGuide(page, manual) {
       else layout.showText("program");
     },
     replace: (program, words) => page.textsController.replace("program", program, words),
-    acts: makeActCalls(page),
+    acts: makeStoryCalls(page),
     handleTourEnd: forgetStory,
     showRefusal: (words) => page.notice.show(words, "session"),
   });

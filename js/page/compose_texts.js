@@ -1,4 +1,5 @@
-// Creates the text editors, with their tests and searches. The callbacks connect each of them to the page's other components.
+// Creates the text editors, the tabs for tests and properties, and the list of problems. The callbacks connect each of them to the page's
+// other components.
 
 import { formatErrorCount } from "../core/bench/error_messages.js";
 import { ExploreTab } from "./explore/explore_tab.js";
@@ -41,7 +42,7 @@ export function makeEditors(page, manual) {
     editBreakpoint: (line, what) => page.breakpoints.editLine(line, what).catch((fault) => page.recovery.reportFailure(fault)),
     openMarginMenu: (line, point) => page.breakpoints.openMenu(line, point),
     describeName: (name) => page.source.meaningOf(name),
-    valuesAt: (text, at) => page.sourceValues.at(text, at),
+    valuesAt: (text, at) => page.sourceValues.valueAt(text, at),
     makeEditable: (cell, { place, name }) => page.snapshotView.editor.makeEditable(cell, { place, name, digits: 1 }),
     replaceBoard: (text, words) => page.textsController.replace("board", text, words),
     showFaultCount: (name, count) => page.layout.tabs.setMark(name, count > 0 ? formatErrorCount(count) : ""),
@@ -68,7 +69,7 @@ export function makeProblemsView(page) {
 }
 
 /**
- * Shows the names of nibbles in the RAM view. The names come from the watch and from the source.
+ * Shows the names of nibbles in the RAM view. The names come from the watch list and from the source.
  * @param {Page} page
  */
 export function showNibbleNames({ snapshotView, watchView, source }) {
@@ -123,7 +124,7 @@ export function makeTextsController(page) {
 }
 
 /**
- * Inserts a key scan routine for a board into the source and shows it. The insertion is one edit, so one undo removes it.
+ * Inserts a key scan routine for a board into the source and shows the routine. The insertion is one edit, so one undo removes it.
  * @param {Page} page
  * @param {import("../core/bench/answers.js").Board} board
  */
@@ -150,9 +151,9 @@ export function makeTestsTab(page, manual) {
     faults: (texts) => bench.call("testFaults", [texts]),
     sample: (texts) => bench.call("sampleTest", [texts]),
     run: async (texts) => {
-      // The worker serves one call at a time, so time stands still during the tests. Pausing it here shows the user why.
+      // The worker serves one call at a time, so time cannot run during the tests. Pausing first shows this to the user.
       await runController.pause();
-      return page.workView.show(say.RUNNING_TESTS, (signal, progress) => bench.call("runTests", [texts], { signal, progress }));
+      return page.progressView.show(say.RUNNING_TESTS, (signal, progress) => bench.call("runTests", [texts], { signal, progress }));
     },
     describeRefusal: (number) => words.refusalMeaning(number),
     showCounts: (report, programText) => {
@@ -182,9 +183,9 @@ function addTest({ testsTab, textsController }, test) {
 }
 
 /**
- * Opens a new session with the texts and executes lines in it, so that the user can step back through them.
+ * Opens a new session with the texts and executes lines in the session, so that the user can step back from the final state.
  * @param {Page} page
- * @param {{ name: string, lines: string, message: string }} scenario
+ * @param {{ name: string, lines: string, message: string }} scenario the session's name, the lines, and the message to show afterwards
  * @param {import("../core/explore/sliced_search.js").ExploredTexts} texts
  */
 async function openWithLines(page, { name, lines, message }, texts) {

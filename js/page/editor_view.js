@@ -1,4 +1,4 @@
-// The board view of the editor extension: lamps, displays and keys, drawn by the page's views. The extension sends changes
+// The board view of the editor extension: lamps, displays and keys, drawn by the page's views. The extension sends updates
 // (adapter/remote_front_panel.js) and receives key presses. editors/vsix bundles this module into one script. The HTML is in
 // editors/vscode/board_view.html.
 
@@ -45,32 +45,32 @@ keyPresser.listenToKeyboard();
 button("test").addEventListener("click", () => sendKey(pinKey(front.testLevel === "1" ? 0 : 1), true));
 
 /**
- * Shows changes of the board.
- * @param {FrontPanelUpdate | null} news null after the end of debugging
+ * Shows an update of the front panel.
+ * @param {FrontPanelUpdate | null} update null after the end of debugging
  */
-function show(news) {
-  block("front").hidden = news === null;
-  block("nothing").hidden = news !== null;
-  if (news === null) {
+function show(update) {
+  block("front").hidden = update === null;
+  block("nothing").hidden = update !== null;
+  if (update === null) {
     keyPresser.forget();
     return;
   }
-  if (news.board) {
+  if (update.board) {
     keyPresser.forget();
-    const [board, face] = [readBoard(news.board), new Face(news.boardText || "")];
+    const [board, face] = [readBoard(update.board), new Face(update.boardText || "")];
     front.draw(board, face);
     printer.draw(board, face);
   }
-  if (news.isRunning !== undefined) isRunning = news.isRunning;
-  if (news.test !== undefined) {
-    front.showTest(news.test);
-    button("test").textContent = `TEST ${news.test}`;
-    button("test").setAttribute("aria-pressed", String(news.test === "1"));
+  if (update.isRunning !== undefined) isRunning = update.isRunning;
+  if (update.test !== undefined) {
+    front.showTest(update.test);
+    button("test").textContent = `TEST ${update.test}`;
+    button("test").setAttribute("aria-pressed", String(update.test === "1"));
   }
-  if (news.printed) printer.showPrinted(news.printed);
-  if (news.keys) front.showKeys(news.keys);
-  const marks = news.lamps ?? front.marks;
-  if (news.litShares) front.showBrightness(marks, news.litShares, Infinity);
+  if (update.printed) printer.showPrinted(update.printed);
+  if (update.keys) front.showKeys(update.keys);
+  const marks = update.lamps ?? front.marks;
+  if (update.litShares) front.showBrightness(marks, update.litShares, Infinity);
   else if (!isRunning) front.showLamps(marks);
 }
 

@@ -11,8 +11,8 @@ import { StatusView } from "./ui/status_view.js";
 import { Tabs } from "./ui/tabs.js";
 
 /**
- * @typedef {import("./print_view.js").PrintContents} Printed
- * @typedef {import("./ui/splitter.js").Border} Border
+ * @typedef {import("./print_view.js").PrintContents} PrintContents
+ * @typedef {import("./ui/splitter.js").SplitterOptions} SplitterOptions
  */
 
 const TEXT_TABS = ["program", "board", "wiring", "tests", "properties"];
@@ -20,17 +20,17 @@ const DOCK_TABS = ["disassembly", "waves", "console", "problems"];
 /** @type {Record<string, string>} the name of the dock tab that contains each dock panel, by panel id */
 const DOCK_TAB_BY_PANEL = { listing: "disassembly", scope: "waves", talk: "console", problems: "problems" };
 
-/** @type {Border[]} */
+/** @type {SplitterOptions[]} */
 const SPLITTERS = [
   { id: "front-splitter", panel: "front", property: "--front-width", side: "right", min: 160, max: 700 },
   { id: "dock-splitter", panel: "dock", property: "--dock-height", side: "top", min: 60, max: 1200 },
   { id: "side-splitter", panel: "side", property: "--side-width", side: "left", min: 240, max: 900 },
-  ...["processor", "calls", "watched", "breakpoints", "memory", "ports"].map((panel) => /** @type {Border} */ (
+  ...["processor", "calls", "watched", "breakpoints", "memory", "ports"].map((panel) => /** @type {SplitterOptions} */ (
     { id: `${panel}-splitter`, panel, property: `--height-${panel}`, side: "bottom", min: 28, max: 900 })),
 ];
 
 export class Layout {
-  /** @param {() => Printed} readContents returns the contents to print */
+  /** @param {() => PrintContents} readContents returns the contents to print */
   constructor(readContents) {
     this.preferences = new Preferences();
     const { preferences } = this;

@@ -20,7 +20,7 @@ import * as say from "../words/page.js";
 /**
  * @typedef {import("../core/engine/examples.js").Example} Example
  * @typedef {import("./session/store.js").SessionStore} SessionStore
- * @typedef {import("./compose_commands.js").Shell} Shell
+ * @typedef {import("./compose_commands.js").PageFrame} Shell
  * @typedef {import("../core/help/manual.js").ManualSection} ManualSection
  * @typedef {{ refusals: Record<string, string>, examples: Example[], manual: ManualSection[] }} Data The data that page/build embeds in the
  *   page.

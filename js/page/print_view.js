@@ -1,5 +1,5 @@
-// The printed page: the current state of the lamps, and both texts in full. The editors themselves cannot be printed, because they contain
-// only their visible lines.
+// The printed page: the current state of the lamps, and the complete texts of the source and the board. The editors themselves cannot be
+// printed, because they contain only their visible lines.
 
 import { block, element } from "./ui/dom.js";
 import * as say from "../words/page.js";

@@ -35,7 +35,7 @@ export class Recovery {
     this.words = words;
     this.notice = notice;
     this.calls = calls;
-    /** True while a new worker starts in place of a terminated one. */
+    /** True while a new worker starts in place of a terminated worker. */
     this.isRestarting = false;
   }
 

@@ -1,4 +1,4 @@
-// All views of the board and its processor. Reads each snapshot and passes the changes on to the views.
+// The views of the board and its processor. `SnapshotView` reads each snapshot and passes the changes to these views.
 
 import { readBoard, parseRefusal } from "../core/bench/answers.js";
 import { CellEditor } from "./machine/cell_editor.js";
@@ -27,31 +27,35 @@ import * as say from "../words/page.js";
 
 /**
  * The callbacks of SnapshotView.
- * @typedef {object} SnapshotOwnCalls
+ * @typedef {object} ViewCalls
  * @property {(node: HTMLButtonElement, key: BoardKey) => void} connectKey Connects a button to its key.
  * @property {() => boolean} isRunning Returns true if time is running.
  * @property {() => boolean} isFast Returns true if the speed is too high for the disassembly to follow each instruction.
- * @property {() => boolean} isWiringShown Returns true if the Wiring tab's picture is in front.
+ * @property {() => boolean} isWiringShown Returns true if the Wiring tab is in front.
  * @property {(lines: string) => Promise<string[]>} ask Resolves to the bench's answers to queries.
  * @property {(line: string) => Promise<string | null>} serveLine Sends a line to the bench. Resolves to its answer, or to null after a
  *   failure. A failure has already been reported.
  * @property {(number: number) => string} describeRefusal Returns the message for a numbered error of the bench.
- * @property {(name: string) => string} explain Returns the description of a register, a memory cell or a name in the program.
+ * @property {(name: string) => string} explain Returns the manual's description of a register or another cell, or "" if there is
+ *   none.
  * @property {(counter: number) => void} showCounterLine Shows the program counter's line in the source.
  * @property {(breakpoints: string[]) => void} receiveBreakpoints Receives the addresses of the bench's breakpoints, each as three
  *   hexadecimal digits.
  * @property {(address: number) => void} toggleBreakpoint Sets or removes the breakpoint at an address.
  * @property {(address: number) => void} revealAddress Shows an address in the source after the disassembly has moved to it.
  * @property {(face: string, number: number) => void} watchLamps Asks the bench to measure the duty cycle of each lamp; `face` is the
- *   panel's comments and `number` the panel's number.
+ *   text of the front panel's comments and `number` the panel's serial number.
  * @property {(cycles: number) => number} timeOf Returns the duration of a number of cycles in milliseconds at the current speed; Infinity
- *   at full speed.
+ *   at full speed and at one instruction per second.
  * @property {(fault: unknown) => void} reportFailure Reports an error that a call threw.
  */
 
-/** @typedef {import("./board/printer_view.js").PrinterCalls & SnapshotOwnCalls} SnapshotCalls */
+/** @typedef {import("./board/printer_view.js").PrinterCalls & ViewCalls} SnapshotCalls */
 
-/** @typedef {{ handleLamps: (lamps: string) => void, handleKeyCount: (keysDown: number) => void }} Watcher */
+/**
+ * A listener for changes of lamps and keys. `lamps` has one character per lamp, `*` for on. `keysDown` is the number of keys that are down.
+ * @typedef {{ handleLamps: (lamps: string) => void, handleKeyCount: (keysDown: number) => void }} Watcher
+ */
 
 /** While time is running fast, the interval in milliseconds between updates of the views whose values change too quickly to read. */
 const DRAW_INTERVAL = 100;
@@ -93,10 +97,10 @@ export class SnapshotView {
   }
 
   /**
-   * Sets or clears a watch. If the bench rejects the command, shows its message near the click.
-   * @param {boolean} isSet
-   * @param {string} place
-   * @param {HTMLElement} [anchor]
+   * Sets or clears a watch. If the bench rejects the command, shows the error message near the click.
+   * @param {boolean} isSet true if the watch is set and must be cleared
+   * @param {string} place the bank and the nibble, in the syntax of the `watch` command
+   * @param {HTMLElement} [anchor] the element next to which the message appears
    */
   async toggleWatch(isSet, place, anchor) {
     const refusal = this.refusalMessage(await this.calls.serveLine(`${isSet ? "un" : ""}watch ${place}\n`));
@@ -105,7 +109,7 @@ export class SnapshotView {
 
   /**
    * Returns the error message for an answer that rejects a command, or "" for any other answer.
-   * @param {string | null} answer
+   * @param {string | null} answer null if the call has failed
    */
   refusalMessage(answer) {
     if (answer === null) return say.NOT_DONE;
@@ -120,7 +124,7 @@ export class SnapshotView {
 
   /**
    * Draws a new board in place of the current one.
-   * @param {string[]} answers the bench's answers to the query `board`
+   * @param {string[]} answers the lines of the bench's answer to the query `board`
    * @param {string} boardText the board's text, which declares its front panel
    */
   draw(answers, boardText) {
@@ -188,7 +192,7 @@ export class SnapshotView {
 
   /**
    * Shows the perceived brightness of the lamps while time is running, otherwise their state at this instant.
-   * @param {string | undefined} lamps one character per lamp (`*` for on) if a lamp has changed
+   * @param {string | undefined} lamps one character per lamp (`*` for on); undefined if no lamp has changed
    * @param {import("../core/engine/brightness_meter.js").LitShares | null} litShares
    */
   showLamps(lamps, litShares) {

@@ -4,10 +4,10 @@ import { test } from "node:test";
 import { readFileSync } from "node:fs";
 import { MAX_MESSAGE, frameMessage } from "../core/server/framing.js";
 import { EYE_CYCLES } from "../core/time/mcs4_time.js";
-import { FILES, FakeFile, LOCK, SOURCE, engine, served } from "./adapter_client.js";
+import { FILES, FakeFile, LOCK, SOURCE, engine, startAdapter } from "./adapter_client.js";
 
 test("messages are answered in their order, each by a number of its own; what is none is reported", async () => {
-  const { connection, messages, answer, ask, until } = served();
+  const { connection, messages, answer, ask, until } = startAdapter();
   assert.deepEqual((await answer("threads")).message, "send initialize first");
   await ask("initialize", {});
   assert.equal((await answer("initialize", {})).message, "initialize can be sent only once");
@@ -31,7 +31,7 @@ test("messages are answered in their order, each by a number of its own; what is
 test("what cannot be launched is refused in words, and another launch can follow", async () => {
   const wrong = { "/a.asm": "go: JMP go\n", "/board.toml": FILES["/lock/board.toml"], "/b/b.asm": "NOP\n",
     "/c/mcs4.toml": "board = \"b.toml\"\nprogram = \"/x.asm\"\n" };
-  const { answer, ask } = served({ ...FILES, ...wrong });
+  const { answer, ask } = startAdapter({ ...FILES, ...wrong });
   await ask("initialize", {});
   const refused = async (args) => (await answer("launch", args)).message;
   assert.match(await refused(undefined), /^launch needs "project"/);
@@ -49,7 +49,7 @@ test("what cannot be launched is refused in words, and another launch can follow
 });
 
 test("breakpoints at lines, labels and addresses, with conditions, hits and notes", async () => {
-  const { begin, ask, move, output, evaluate, lines } = served();
+  const { begin, ask, move, output, evaluate, lines } = startAdapter();
   await begin();
   const set = async (breakpoints, source = SOURCE) => (await ask("setBreakpoints", { source, breakpoints })).breakpoints;
   const [plain, moved, none, unread, hits] = await set([{ line: 31 }, { line: 25 }, { line: 500 }, { line: 33, condition: "foo = 1" },
@@ -81,7 +81,7 @@ test("breakpoints at lines, labels and addresses, with conditions, hits and note
 });
 
 test("over, into, out, back and back again; goto; values are set", async () => {
-  const { begin, ask, answer, move, evaluate, lines } = served();
+  const { begin, ask, answer, move, evaluate, lines } = startAdapter();
   await begin();
   for (const [command, line] of [["stepIn", 26], ["next", 27], ["next", 28], ["next", 29], ["stepIn", 80]]) {
     await move(command);
@@ -135,7 +135,7 @@ test("over, into, out, back and back again; goto; values are set", async () => {
 });
 
 test("scopes, variables, memory and disassembly", async () => {
-  const { begin, ask, answer, evaluate } = served();
+  const { begin, ask, answer, evaluate } = startAdapter();
   await begin();
   const { scopes } = await ask("scopes", { frameId: 1 });
   assert.deepEqual(scopes.map(({ name }) => name), ["Registers", "Pairs", "RAM", "Ports", "Lamps", "Keys", "Names"]);
@@ -165,7 +165,7 @@ test("scopes, variables, memory and disassembly", async () => {
 });
 
 test("each row of a disassembly has an address of its own, which a client can read", async () => {
-  const { begin, ask } = served();
+  const { begin, ask } = startAdapter();
   await begin();
   const rows = async (memoryReference, instructionOffset, instructionCount) => (
     (await ask("disassemble", { memoryReference, instructionOffset, instructionCount })).instructions);
@@ -182,7 +182,7 @@ test("each row of a disassembly has an address of its own, which a client can re
 });
 
 test("memory is written whole or not at all, and one wrong reference spoils no other breakpoint", async () => {
-  const { begin, ask, answer, evaluate } = served();
+  const { begin, ask, answer, evaluate } = startAdapter();
   await begin();
   const data = Buffer.from([9, 8, 255]).toString("base64");
   assert.match((await answer("writeMemory", { memoryReference: "ram.0", data })).message, /^poke ram.0.2 255: the bench answered no 11$/);
@@ -196,7 +196,7 @@ test("memory is written whole or not at all, and one wrong reference spoils no o
 });
 
 test("a step out without an open call is refused with words that are shown", async () => {
-  const { begin, answer, ask, move, stops, until } = served();
+  const { begin, answer, ask, move, stops, until } = startAdapter();
   await begin();
   const refused = await answer("stepOut", { threadId: 1 });
   assert.deepEqual([refused.success, refused.message, refused.body.error.showUser], [false, "no call is open here", true]);
@@ -210,7 +210,7 @@ test("a step out without an open call is refused with words that are shown", asy
 
 test("a line in the console that changes the machine says where it is now", async () => {
   for (const supportsInvalidatedEvent of [false, true]) {
-    const { begin, ask, stops, messages } = served();
+    const { begin, ask, stops, messages } = startAdapter();
     await begin({ ...LOCK, supportsInvalidatedEvent });
     assert.equal(stops()[0].description, "Paused at 000 (line 16).");
     const lines = [["poke pc 0x02C", /^Paused at 02C \(.*line 26\)\.$/], ["step", /^Paused at 02D \(/], ["reset", /^Paused at 000 /]];
@@ -227,7 +227,7 @@ test("a line in the console that changes the machine says where it is now", asyn
 });
 
 test("time that runs is paused; what is done meanwhile is done between pieces", async () => {
-  const { begin, ask, answer, until, messages, stops, evaluate } = served();
+  const { begin, ask, answer, until, messages, stops, evaluate } = startAdapter();
   await begin({ ...LOCK, stopOnEntry: false });
   assert.equal((await answer("stackTrace", { threadId: 1 })).message, "notStopped");
   assert.equal((await answer("next", { threadId: 1 })).message, "notStopped");
@@ -245,7 +245,7 @@ test("time that runs is paused; what is done meanwhile is done between pieces", 
 });
 
 test("a client that draws the board receives it once, what changes, and moves keys by their places", async () => {
-  const { begin, ask, answer, move, evaluate, messages, until } = served();
+  const { begin, ask, answer, move, evaluate, messages, until } = startAdapter();
   assert.equal((await answer("watchBoard")).message, "send initialize first");
   await begin();
   const { board, boardText, ...shown } = await ask("watchBoard");
@@ -276,7 +276,7 @@ test("a client that draws the board receives it once, what changes, and moves ke
 
 test("a breakpoint below the last instruction is set when the program gets an instruction there", async () => {
   const files = { ...FILES };
-  const { begin, ask, move, until } = served(files);
+  const { begin, ask, move, until } = startAdapter(files);
   await begin();
   const { breakpoints: [none] } = await ask("setBreakpoints", { source: SOURCE, breakpoints: [{ line: 500 }] });
   assert.equal(none.verified, false);
@@ -286,7 +286,7 @@ test("a breakpoint below the last instruction is set when the program gets an in
 });
 
 test("in real time a cycle takes as long as on a real board", async () => {
-  const { adapter, begin, ask, until, stops } = served();
+  const { adapter, begin, ask, until, stops } = startAdapter();
   await begin({ ...LOCK, realTime: true });
   const before = stops().length;
   const from = performance.now();
@@ -298,7 +298,7 @@ test("in real time a cycle takes as long as on a real board", async () => {
   await until(() => stops().length > before);
   const time = performance.now() - from;
   const { total } = adapter.current.launchResult.session.debugger.session.count;
-  // The first 1/60 s is simulated at once.
+  // The first 1/60 s of machine time is simulated at once, without waiting.
   assert.ok(total > 1000 && total * 0.0108 < time + 17, `${total} cycles in ${time} ms`);
 });
 
@@ -307,7 +307,7 @@ test("a session file has at each stop what was done; its breakpoints are as they
   const program = FILES["/lock/lock.asm"].replace(/[ \t]*;.*/g, "");
   engine.serve(file.bytes, `wire\n${FILES["/lock/board.toml"].replace(/^#.*$/gm, "")}.\nasm\n${program}.\nbreak 0x02E\n`, file.bytes);
   file.now = file.bytes.slice();
-  const { begin, ask, move, evaluate, answer } = served(FILES, { "/s.mcs": file });
+  const { begin, ask, move, evaluate, answer } = startAdapter(FILES, { "/s.mcs": file });
   await begin({ ...LOCK, session: "/s.mcs" });
   const same = async () => assert.equal(engine.ask(file.now, "state\n").answers[0], await evaluate("state", "repl"));
   await ask("setBreakpoints", { source: SOURCE, breakpoints: [{ line: 83 }] });
@@ -333,17 +333,17 @@ test("a session file has at each stop what was done; its breakpoints are as they
 test("a session file is made, or opened without a program; another program is refused", async () => {
   const sessions = {};
   const files = { ...FILES, "/lock/other.asm": "LDM 1\n" };
-  const made = served(files, sessions);
+  const made = startAdapter(files, sessions);
   await made.begin({ ...LOCK, session: "/new.mcs" });
   await made.ask("disconnect", {});
   assert.deepEqual(made.ended, [0]);
   sessions["/new.mcs"] = new FakeFile(sessions["/new.mcs"].now);
-  const other = served(files, sessions);
+  const other = startAdapter(files, sessions);
   await other.ask("initialize", {});
   const wrong = await other.answer("launch", { program: "/lock/other.asm", session: "/new.mcs" });
   assert.match(wrong.message, /other.asm differs from the ROM of new.mcs: ROM has another byte at 0x000. "load": true puts it there/);
   sessions["/new.mcs"] = new FakeFile(sessions["/new.mcs"].now);
-  const bare = served(files, sessions);
+  const bare = startAdapter(files, sessions);
   await bare.begin({ session: "/new.mcs" });
   const { stackFrames: [{ source, line }] } = await bare.ask("stackTrace", { threadId: 1 });
   assert.equal(source.sourceReference, 1);
@@ -357,7 +357,7 @@ const THREE = "test it shows 12\n  run 10\n  save shown\n\ntest it goes on\n  fr
 test("a test is debugged: where it fails, or at its end, with its past", async () => {
   const project = FILES["/lock/mcs4.toml"].replace(/^tests.*$/m, 'tests = ["a b.test"]');
   const files = { ...FILES, "/lock/mcs4.toml": project, "/lock/a b.test": THREE };
-  const { ask, begin, move, messages } = served(files);
+  const { ask, begin, move, messages } = startAdapter(files);
   await begin({ test: "it fails", tests: "/lock/a b.test" });
   const output = () => messages.filter(({ event }) => event === "output").map(({ body }) => body.output).join("");
   assert.match(output(), /^\/lock\/a b\.test:15: it fails: acc is \d+, but must be 9\n/);
@@ -367,12 +367,12 @@ test("a test is debugged: where it fails, or at its end, with its past", async (
   assert.notEqual(await counter(), failed);
   await ask("restart", {});
   assert.equal(await counter(), failed);
-  const other = served(files);
+  const other = startAdapter(files);
   await other.begin({ test: "it goes on", tests: "/lock/a b.test" });
   const shown = other.messages.filter(({ event }) => event === "output").map(({ body }) => body.output).join("");
   assert.match(shown, /The test passes: it goes on\./);
   const failing = async (given) => {
-    const { ask: request, answer: response } = served(files);
+    const { ask: request, answer: response } = startAdapter(files);
     await request("initialize", { adapterID: "mcs4" });
     return (await response("launch", given)).message;
   };
@@ -383,7 +383,7 @@ test("a test is debugged: where it fails, or at its end, with its past", async (
 test("a client that draws the board receives what is printed, and clears it", async () => {
   const example = (name) => readFileSync(new URL(`../../examples/printing_calculator/${name}`, import.meta.url), "utf8");
   const files = { "/p/board.toml": example("board.toml"), "/p/p.asm": example("printing_calculator.asm") };
-  const { begin, ask, answer, messages } = served(files);
+  const { begin, ask, answer, messages } = startAdapter(files);
   await begin({ program: "/p/p.asm" });
   assert.deepEqual((await ask("watchBoard")).printed.codes, []);
   const lines = async (text) => {
@@ -401,10 +401,10 @@ test("a client that draws the board receives what is printed, and clears it", as
 test("names of files as Windows has them lead to the board and the tests beside them", async () => {
   const place = "C:/Users/me/my boards";
   const files = Object.fromEntries(Object.entries(FILES).map(([name, text]) => [name.replace("/lock", place), text]));
-  const { begin, ask } = served({ ...files, [`${place}/other/lock.asm`]: files[`${place}/lock.asm`], [`${place}/lock.test`]: THREE });
+  const { begin, ask } = startAdapter({ ...files, [`${place}/other/lock.asm`]: files[`${place}/lock.asm`], [`${place}/lock.test`]: THREE });
   await begin({ program: `${place}/lock.asm` });
   const { stackFrames: [{ source }] } = await ask("stackTrace", { threadId: 1 });
   assert.equal(source.path, `${place}/lock.asm`);
-  const other = served({ ...files, [`${place}/lock.test`]: THREE });
+  const other = startAdapter({ ...files, [`${place}/lock.test`]: THREE });
   await other.begin({ test: "it shows 12", tests: `${place}/lock.test` });
 });

@@ -15,13 +15,16 @@ export const FILES = Object.fromEntries(["board.toml", "lock.asm", "mcs4.toml"].
 export const LOCK = { program: "/lock/lock.asm" };
 export const SOURCE = { path: "/lock/lock.asm" };
 
-const PATIENCE = 20000;
+const TIMEOUT = 20000;
 
-/** @type {DebugAdapter[]} */
-const begun = [];
+/**
+ * The adapters that the current test has started.
+ * @type {DebugAdapter[]}
+ */
+const startedAdapters = [];
 afterEach(async () => {
-  // A run of time that a test has not ended would never end.
-  for (const adapter of begun.splice(0)) await adapter.leave();
+  // If a test ends while time is running, only this call stops it.
+  for (const adapter of startedAdapters.splice(0)) await adapter.leave();
 });
 
 /** A stand-in for the program that serves a session file. It stores the file's bytes and the lines that it has received. */
@@ -51,8 +54,8 @@ export class FakeFile {
   }
 }
 
-/** Returns an adapter and its client. `files` are the texts by path, and `sessions` the session files. */
-export function served(files = FILES, sessions = {}) {
+/** Returns an adapter and its client. `files` has the text of each file and `sessions` the FakeFile of each session file, by path. */
+export function startAdapter(files = FILES, sessions = {}) {
   const reader = new MessageReader();
   const messages = [];
   const ended = [];
@@ -77,10 +80,10 @@ export function served(files = FILES, sessions = {}) {
     end: (status) => ended.push(status),
   };
   const adapter = new DebugAdapter(connection, engine, readPageData(), host);
-  begun.push(adapter);
+  startedAdapters.push(adapter);
   let seq = 0;
   const until = async (matches) => {
-    const end = performance.now() + PATIENCE;
+    const end = performance.now() + TIMEOUT;
     while (!messages.some(matches)) {
       if (performance.now() > end) throw new Error(`nothing came: ${JSON.stringify(messages.slice(-3))}`);
       await new Promise(setImmediate);

@@ -3,11 +3,11 @@
 import assert from "node:assert/strict";
 import { test } from "node:test";
 import { frameMessage } from "../core/server/framing.js";
-import { FILES, FakeFile, LOCK, engine, served } from "./adapter_client.js";
+import { FILES, FakeFile, LOCK, engine, startAdapter } from "./adapter_client.js";
 
 const SHOW = 0x71;
 
-/** Returns the session file of the example "lock" after the bench has served some lines. */
+/** Returns the session file of the example "lock" after the bench has executed some session lines. */
 function sessionOfLock(lines = "") {
   const file = new FakeFile(engine.begin());
   const program = FILES["/lock/lock.asm"].replace(/[ \t]*;.*/g, "");
@@ -19,7 +19,7 @@ function sessionOfLock(lines = "") {
 test("attach debugs what a session file has, and leaves the file as it is", async () => {
   const file = sessionOfLock("run 100\npress 1 1\n");
   const before = file.now.slice();
-  const { begin, ask, move, evaluate, ended, answer } = served(FILES, { "/s.mcs": file });
+  const { begin, ask, move, evaluate, ended, answer } = startAdapter(FILES, { "/s.mcs": file });
   await begin({ command: "attach", session: "/s.mcs" });
   assert.equal(await evaluate("state", "repl"), engine.ask(before, "state\n").answers[0]);
   await move("stepIn");
@@ -34,7 +34,7 @@ test("attach debugs what a session file has, and leaves the file as it is", asyn
 
 test("attach writes a session file only where the user wants it", async () => {
   const file = sessionOfLock("run 100\n");
-  const { begin, ask, move, evaluate } = served(FILES, { "/s.mcs": file });
+  const { begin, ask, move, evaluate } = startAdapter(FILES, { "/s.mcs": file });
   await begin({ command: "attach", session: "/s.mcs", write: true, program: "/lock/lock.asm" });
   await move("stepIn");
   await evaluate("poke r4 7", "repl");
@@ -47,7 +47,7 @@ test("what cannot be attached to is refused in words", async () => {
   const inUse = Object.assign(sessionOfLock(), { isInUse: true });
   const none = new FakeFile(new Uint8Array(5000));
   const sessions = { "/s.mcs": sessionOfLock(), "/used.mcs": inUse, "/none.mcs": none };
-  const { ask, answer } = served({ ...FILES, "/lock/other.asm": "LDM 1\n" }, sessions);
+  const { ask, answer } = startAdapter({ ...FILES, "/lock/other.asm": "LDM 1\n" }, sessions);
   await ask("initialize", {});
   const refused = async (args) => (await answer("attach", args)).message;
   assert.equal(await refused({ program: "/lock/lock.asm" }), "attach needs \"session\", a session file; launch starts a program");
@@ -60,7 +60,7 @@ test("what cannot be attached to is refused in words", async () => {
 });
 
 test("a request that waits is cancelled at once, a long line in the console ends, and nothing of it is done", async () => {
-  const { begin, ask, send, answerTo, answer, evaluate } = served();
+  const { begin, ask, send, answerTo, answer, evaluate } = startAdapter();
   await begin();
   const long = send("evaluate", { expression: `poke r4 7\n${"run 100000\n".repeat(900)}`, context: "repl" });
   const waits = send("completions", { text: "r", column: 2 });
@@ -77,7 +77,7 @@ test("a request that waits is cancelled at once, a long line in the console ends
 
 test("progress of a long run and of a search in the past is reported, and stopped by cancel", async () => {
   for (const supportsProgressReporting of [true, false]) {
-    const { adapter, begin, ask, messages, until, stops, evaluate } = served();
+    const { adapter, begin, ask, messages, until, stops, evaluate } = startAdapter();
     await begin({ ...LOCK, client: { supportsProgressReporting } });
     adapter.progress.after = 0;
     const events = () => messages.filter(({ event = "" }) => event.startsWith("progress"));
@@ -98,7 +98,7 @@ test("progress of a long run and of a search in the past is reported, and stoppe
     const last = events().pop();
     assert.deepEqual([last.event, last.body], ["progressEnd", { progressId: body.progressId }]);
     const before = events().length;
-    // The program has not changed r14 in the whole recorded past.
+    // The program has not changed r14 at any time in the recorded history.
     await evaluate("back r14", "repl");
     await until(() => stops().length === 3);
     const [start, ...more] = events().slice(before);
@@ -109,7 +109,7 @@ test("progress of a long run and of a search in the past is reported, and stoppe
 });
 
 test("numbers are in the base that the client asks for", async () => {
-  const { begin, ask, answer, move } = served();
+  const { begin, ask, answer, move } = startAdapter();
   await begin();
   for (const expression of ["acc", "P2"]) await ask("setExpression", { expression, value: "11" });
   const values = async (scope, format) => {
@@ -147,7 +147,7 @@ test("numbers are in the base that the client asks for", async () => {
 });
 
 test("references of memory are numbers, by which a client can count", async () => {
-  const { begin, ask, answer, evaluate, messages } = served({ ...FILES, "/lock/two.toml": FILES["/lock/board.toml"] });
+  const { begin, ask, answer, evaluate, messages } = startAdapter({ ...FILES, "/lock/two.toml": FILES["/lock/board.toml"] });
   await begin({ ...LOCK, client: { supportsMemoryEvent: true } });
   const [bank] = (await ask("variables", { variablesReference: 3 })).variables;
   assert.equal(bank.memoryReference, "0x10000");
@@ -187,7 +187,7 @@ test("references of memory are numbers, by which a client can count", async () =
 });
 
 test("names of keys, lamps and labels are completed where they are meant", async () => {
-  const { begin, ask, answer } = served();
+  const { begin, ask, answer } = startAdapter();
   await begin();
   const offered = async (text, more = {}) => (await ask("completions", { text, column: text.length + 1, ...more })).targets;
   const labels = async (text, more) => (await offered(text, more)).map(({ label }) => label);
@@ -198,13 +198,13 @@ test("names of keys, lamps and labels are completed where they are meant", async
   assert.deepEqual(await labels("poke r4 7\npress 7", { line: 2, column: 8 }), ["7"]);
   assert.deepEqual((await offered("poke r4 7\npress 7", { line: 2, column: 8 }))[0].start, 17);
   assert.match((await answer("completions", { text: "r", column: 2, line: 4 })).message, /no such line/);
-  const zero = served();
+  const zero = startAdapter();
   await zero.begin({ ...LOCK, client: { columnsStartAt1: false } });
   assert.deepEqual((await zero.ask("completions", { text: "press #", column: 7 })).targets, [{ label: "#", start: 6, length: 1 }]);
 });
 
 test("a step leads into the call that is chosen", async () => {
-  const { begin, ask, answer, move, lines } = served();
+  const { begin, ask, answer, move, lines } = startAdapter();
   await begin();
   await move("stepIn");
   const { targets } = await ask("stepInTargets", { frameId: 1 });
@@ -219,7 +219,7 @@ test("a step leads into the call that is chosen", async () => {
 });
 
 test("a breakpoint on the way to the call that is chosen stops before it", async () => {
-  const { begin, ask, move, lines } = served();
+  const { begin, ask, move, lines } = startAdapter();
   await begin();
   await move("stepIn");
   const { targets } = await ask("stepInTargets", { frameId: 1 });
@@ -229,7 +229,7 @@ test("a breakpoint on the way to the call that is chosen stops before it", async
 });
 
 test("a frame begins again where its subroutine was called, with what the machine was then", async () => {
-  const { begin, ask, answer, move, lines, evaluate } = served();
+  const { begin, ask, answer, move, lines, evaluate } = startAdapter();
   await begin();
   await ask("setFunctionBreakpoints", { breakpoints: [{ name: "scan" }] });
   await move("continue");
@@ -252,7 +252,7 @@ test("a frame begins again where its subroutine was called, with what the machin
 });
 
 test("an error after a response leaves the requests that follow in their order", async () => {
-  const { connection, begin, ask, until } = served();
+  const { connection, begin, ask, until } = startAdapter();
   await begin();
   connection.runFollowUp({ followUp: () => { throw new Error("too late"); } });
   await until(({ body }) => body && body.output === "too late\n");
@@ -261,7 +261,7 @@ test("an error after a response leaves the requests that follow in their order",
 
 test("what is asked while a stop is written to the session file is answered", async () => {
   const file = sessionOfLock();
-  const { begin, ask, send, answerTo } = served(FILES, { "/s.mcs": file });
+  const { begin, ask, send, answerTo } = startAdapter(FILES, { "/s.mcs": file });
   await begin({ session: "/s.mcs" });
   const write = file.ask.bind(file);
   let requestNumber = 0;
@@ -277,11 +277,11 @@ test("what is asked while a stop is written to the session file is answered", as
 });
 
 test("of a message whose rest does not come the client gets the error", () => {
-  const { connection, messages } = served();
+  const { connection, messages } = startAdapter();
   connection.take(frameMessage({ seq: 1, type: "request", command: "initialize", arguments: {} }).subarray(0, 60));
   assert.match(connection.reportIncomplete(), /^only \d+ of the \d+ bytes that Content-Length announces have arrived$/);
   assert.equal(messages[0].message, connection.reader.incomplete);
-  const other = served();
+  const other = startAdapter();
   other.connection.take(new TextEncoder().encode("Content-Len"));
   assert.equal(other.connection.reportIncomplete(), "only a part of the head of a message has arrived");
 });

@@ -2,11 +2,11 @@
 // a condition.
 import assert from "node:assert/strict";
 import { test } from "node:test";
-import { FILES, LOCK, engine, served } from "./adapter_client.js";
+import { FILES, LOCK, engine, startAdapter } from "./adapter_client.js";
 
 /**
- * Returns the first changes of a place, as the bench's `trace` reports them: the value before and after, and the address of the next
- * instruction.
+ * Returns the first `count` changes of a register or memory cell, as the bench's `trace` reports them: the value before and after, and the
+ * address of the next instruction.
  */
 function changesOf(place, count) {
   const file = engine.begin();
@@ -29,7 +29,7 @@ const counter = async ({ evaluate }) => Number((await evaluate("pc")).split(",")
 test("time stops after each change of a register, a pair, a port, a lamp, a line and a chain", async () => {
   for (const [name, place] of [["R0", "r0"], ["acc", "acc"], ["cy", "cy"], ["lamp 0", "lamp 0"], ["chain0", "chain0"], ["ram0.0", "ram0.0"],
     ["lamps", "lamps"], ["rom0", "rom0"], ["SRC", "src"], ["rom0.1", "rom0.1"], ["chain0.2", "chain0.2"]]) {
-    const server = served();
+    const server = startAdapter();
     const { begin, ask, move } = server;
     await begin();
     const { dataId, canPersist, accessTypes } = await ask("dataBreakpointInfo", { name: place });
@@ -48,7 +48,7 @@ test("time stops after each change of a register, a pair, a port, a lamp, a line
 });
 
 test("the value at each stop is the one that the bench traces", async () => {
-  const server = served();
+  const server = startAdapter();
   await server.begin();
   await watch(server, { dataId: "r0" });
   for (const { before, after } of changesOf("r0", 8)) {
@@ -59,7 +59,7 @@ test("the value at each stop is the one that the bench traces", async () => {
 });
 
 test("variables name what can be watched; keys, names and the counter cannot be", async () => {
-  const server = served();
+  const server = startAdapter();
   const { begin, ask } = server;
   await begin();
   const { scopes } = await ask("scopes", { frameId: 1 });
@@ -88,14 +88,14 @@ test("variables name what can be watched; keys, names and the counter cannot be"
 test("a change counts where a condition holds after it, and from a hit on", async () => {
   const all = changesOf("acc", 400);
   const wanted = all.filter(({ after }) => parseInt(after, 16) >= 8);
-  const server = served();
+  const server = startAdapter();
   await server.begin();
   await watch(server, { dataId: "acc", condition: "acc >= 8" });
   for (const { after, next } of wanted.slice(0, 3)) {
     await server.move("continue");
     assert.deepEqual([await server.evaluate("acc"), await counter(server)], [`0x${after}`, next]);
   }
-  const hit = served();
+  const hit = startAdapter();
   await hit.begin();
   await watch(hit, { dataId: "acc", hitCondition: "4" });
   const { description } = await hit.move("continue");
@@ -103,7 +103,7 @@ test("a change counts where a condition holds after it, and from a hit on", asyn
 });
 
 test("what is watched stops steps over, runs in the console and going back, and stays after a restart", async () => {
-  const server = served();
+  const server = startAdapter();
   const { begin, ask, move, evaluate, stops, until } = server;
   await begin();
   await watch(server, { dataId: "lamp 0" });
@@ -135,7 +135,7 @@ test("what is watched stops steps over, runs in the console and going back, and 
 
 test("characters of RAM beyond those that the bench watches stop time, too", async () => {
   const program = `${Array.from({ length: 10 }, (_, at) => ` FIM P0, ${at}\n SRC P0\n LDM ${at + 1}\n WRM\n`).join("")}end: JUN end\n`;
-  const server = served({ ...FILES, "/lock/ten.asm": program });
+  const server = startAdapter({ ...FILES, "/lock/ten.asm": program });
   await server.begin({ program: "/lock/ten.asm", board: "/lock/board.toml" });
   const wanted = Array.from({ length: 10 }, (_, at) => ({ dataId: `ram.0.0x0${at}` }));
   const answers = await watch(server, ...wanted);
@@ -150,14 +150,14 @@ test("characters of RAM beyond those that the bench watches stop time, too", asy
 });
 
 /**
- * MISTAKES is a loop that makes a mistake in each turn: RDR reads a port without inputs. R0 counts the turns. FAR is the same loop after a
- * delay of about 200,000 cycles.
+ * MISTAKES is a loop that makes a mistake in each iteration: RDR reads a port without inputs. R0 counts the iterations. FAR is the same
+ * loop after a delay of about 200,000 cycles.
  */
 const MISTAKES = " FIM P1, 0\n SRC P1\nturn: INC R0\n RDR\n JUN turn\n";
 const FAR = ` FIM P2, 0\n FIM P3, 0\nwait: ISZ R4, wait\n ISZ R5, wait\n ISZ R6, wait\n ISZ R7, wait\n${MISTAKES}`;
 
 test("a common mistake stops where its condition holds", async () => {
-  const server = served({ ...FILES, "/lock/m.asm": MISTAKES, "/lock/far.asm": FAR });
+  const server = startAdapter({ ...FILES, "/lock/m.asm": MISTAKES, "/lock/far.asm": FAR });
   const { begin, ask, move, evaluate, output } = server;
   await begin({ program: "/lock/m.asm", board: "/lock/board.toml" });
   const { breakpoints } = await ask("setExceptionBreakpoints", { filters: [], filterOptions: [{ filterId: "lines", condition: "r0 = 9" },
@@ -178,7 +178,7 @@ test("a common mistake stops where its condition holds", async () => {
 });
 
 test("with a filter a mistake that comes late is found at its instruction", async () => {
-  const server = served({ ...FILES, "/lock/far.asm": FAR });
+  const server = startAdapter({ ...FILES, "/lock/far.asm": FAR });
   await server.begin({ ...LOCK, program: "/lock/far.asm", board: "/lock/board.toml" });
   await server.ask("setExceptionBreakpoints", { filters: ["lines"] });
   const stop = await server.move("continue");

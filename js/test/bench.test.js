@@ -4,8 +4,8 @@ import { mock, test } from "node:test";
 import { Bench } from "../core/bench/bench_client.js";
 import { CancelledError, WorkerDiedError } from "../core/bench/bench_errors.js";
 
-/** Returns a bench client and the stand-ins for its workers. The test sets the answers of the stand-ins. */
-function begin() {
+/** Returns a bench client and the stand-ins for its workers. The test decides what the stand-ins answer, and when. */
+function createClient() {
   mock.timers.enable({ apis: ["setInterval", "setTimeout"] });
   const workers = [];
   const bench = new Bench(() => {
@@ -25,8 +25,8 @@ function begin() {
   return { bench, workers };
 }
 
-async function started() {
-  const { bench, workers } = begin();
+async function startedClient() {
+  const { bench, workers } = createClient();
   const start = bench.start();
   workers[0].reply(5);
   await start;
@@ -36,7 +36,7 @@ async function started() {
 test.afterEach(() => mock.timers.reset());
 
 test("a worker is started with the module, and answers requests by their numbers", async () => {
-  const { bench, worker } = await started();
+  const { bench, worker } = await startedClient();
   assert.equal(bench.size, 5);
   const first = bench.call("ask", ["seq\n"]);
   const second = bench.call("ask", ["regs\n"]);
@@ -48,7 +48,7 @@ test("a worker is started with the module, and answers requests by their numbers
 });
 
 test("a reply that is reported early is taken once, and only where none before it is waited for", async () => {
-  const { bench, worker } = await started();
+  const { bench, worker } = await startedClient();
   const first = bench.call("advance", [100]);
   const second = bench.call("advance", [100, "0 0"]);
   const done = [];
@@ -64,7 +64,7 @@ test("a reply that is reported early is taken once, and only where none before i
 });
 
 test("long work reports its progress, and can be cancelled", async () => {
-  const { bench, worker } = await started();
+  const { bench, worker } = await startedClient();
   const controller = new AbortController();
   const received = [];
   const served = bench.call("serve", ["seq\n"], { signal: controller.signal, progress: (done, total) => received.push([done, total]) });
@@ -80,7 +80,7 @@ test("long work reports its progress, and can be cancelled", async () => {
 });
 
 test("a worker that does not hear that it is to stop is ended", async () => {
-  const { bench, worker } = await started();
+  const { bench, worker } = await startedClient();
   let died = 0;
   bench.listener.died = () => { died += 1; };
   const controller = new AbortController();
@@ -92,7 +92,7 @@ test("a worker that does not hear that it is to stop is ended", async () => {
 });
 
 test("a worker that owes something and gives no sign of life is ended; one that owes nothing is not", async () => {
-  const { bench, worker } = await started();
+  const { bench, worker } = await startedClient();
   mock.timers.tick(60000);
   assert.equal(worker.ended, false);
   const answer = bench.call("ask", ["seq\n"]);
@@ -107,7 +107,7 @@ test("a worker that owes something and gives no sign of life is ended; one that 
 });
 
 test("a script fault in the worker ends it, and another one can be started", async () => {
-  const { bench, workers, worker } = await started();
+  const { bench, workers, worker } = await startedClient();
   const answer = bench.call("ask", ["seq\n"]);
   worker.listeners.error({ preventDefault: () => {} });
   await assert.rejects(answer, WorkerDiedError);
@@ -123,7 +123,7 @@ test("a script fault in the worker ends it, and another one can be started", asy
 });
 
 test("arrays of files go back to the worker with the next request, but no others", async () => {
-  const { bench, worker } = await started();
+  const { bench, worker } = await startedClient();
   const count = worker.sent.length;
   bench.returnBuffer(new ArrayBuffer(4));
   bench.returnBuffer(new ArrayBuffer(5));
@@ -134,7 +134,7 @@ test("arrays of files go back to the worker with the next request, but no others
 });
 
 test("at full speed they go back at once", async () => {
-  const { bench, worker } = await started();
+  const { bench, worker } = await startedClient();
   const count = worker.sent.length;
   bench.isRunning = true;
   bench.returnBuffer(new ArrayBuffer(4));

@@ -187,8 +187,8 @@ test("values are completed by the lines that the board has so far, and an empty 
   assert.equal(first.text, '[[rom]]\nchip = 0\nport = "0000"');
 });
 
-/** Returns the number of reads of a text's words while the text is checked. */
-function looksAt(text) {
+/** Returns how often the reader accesses the words of a board text while it parses the text. */
+function countWordReads(text) {
   const reader = new BoardReader(text);
   let looks = 0;
   reader.words = new Proxy(reader.words, {
@@ -203,7 +203,7 @@ function looksAt(text) {
 
 test("a text that is four times as long is read by four times as many looks at its words", () => {
   for (const line of ["wire\n", "asm\n.\n", "x =\n", "x = [1,\n", "[[lamp]]\n", "a . b\n", "x = [\n", "{a = [1}\n"]) {
-    const [short, long] = [16384, 65536].map((size) => looksAt(line.repeat(size / line.length)));
+    const [short, long] = [16384, 65536].map((size) => countWordReads(line.repeat(size / line.length)));
     assert.ok(short > 1000 && long < 4.5 * short, `${JSON.stringify(line)}: ${short} and ${long} looks`);
   }
 });

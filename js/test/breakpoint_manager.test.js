@@ -12,14 +12,14 @@ const MAP = new SourceMap(["map lines 4 names 3", "line 1 000 0", "line 2 000 2"
   "name go 000", "name put 002"], TEXT);
 
 /** Returns a breakpoint manager and a stand-in for the bench, which accepts every call and then reports its breakpoints. */
-function begin(kept, breaks = []) {
+function createManager(kept, breaks = []) {
   const seen = { messages: [], listEdited: 0, set: [], failed: [] };
   const bench = { breaks };
   const keeper = new BreakpointManager({
     set: async (placed) => {
       seen.set.push(placed.map(({ line, address }) => [line, address]));
       bench.breaks = placed.filter((each) => !isSoft(each)).map(({ address }) => hex(address, 3));
-      keeper.take(bench.breaks);
+      keeper.updateFromBench(bench.breaks);
       return placed.filter(({ condition }) => condition === "no").map(({ id }) => [id, "it is none"]);
     },
     changed: () => {},
@@ -31,11 +31,11 @@ function begin(kept, breaks = []) {
     failed: (fault) => seen.failed.push(fault),
   });
   keeper.open("one", kept);
-  keeper.take(bench.breaks);
+  keeper.updateFromBench(bench.breaks);
   return { keeper, seen, bench };
 }
 /** Returns the edit that replaces one text with another. */
-function replacing(old, text) {
+function replacementEdit(old, text) {
   const removed = old.split("\n");
   const to = { line: removed.length - 1, ch: removed[removed.length - 1].length };
   return [{ from: { line: 0, ch: 0 }, to, text: text.split("\n"), removed, isWhole: true }];
@@ -43,14 +43,14 @@ function replacing(old, text) {
 const linesOf = ({ list }) => list.all.map(({ line, address }) => [line, address]);
 
 test("opening a session asks for nothing where it has no breakpoints, and touches nothing", async () => {
-  const { keeper, seen } = begin(undefined);
+  const { keeper, seen } = createManager(undefined);
   keeper.setSourceMap(MAP, "");
   await keeper.allSent;
   assert.deepEqual([seen.set, seen.listEdited, seen.failed], [[], 0, []]);
 });
 
 test("breakpoints of a session that has none beside it are taken, and get lines once the source is known", async () => {
-  const { keeper, seen } = begin(undefined, ["000", "7FF"]);
+  const { keeper, seen } = createManager(undefined, ["000", "7FF"]);
   assert.deepEqual(linesOf(keeper), [[0, 0], [0, 0x7FF]]);
   keeper.setSourceMap(MAP, "");
   await keeper.allSent;
@@ -58,7 +58,7 @@ test("breakpoints of a session that has none beside it are taken, and get lines 
 });
 
 test("one at a line without bytes goes to the next instruction, and says so; a second click takes it away", async () => {
-  const { keeper, seen, bench } = begin([]);
+  const { keeper, seen, bench } = createManager([]);
   keeper.setSourceMap(MAP, "");
   keeper.toggleLine(3);
   await keeper.allSent;
@@ -72,33 +72,33 @@ test("one at a line without bytes goes to the next instruction, and says so; a s
 });
 
 test("one inside an instruction goes to the next one, and says so", async () => {
-  const { keeper, seen, bench } = begin([]);
+  const { keeper, seen, bench } = createManager([]);
   keeper.setSourceMap(MAP, "");
-  keeper.take(["001"]);
+  keeper.updateFromBench(["001"]);
   await keeper.allSent;
   assert.deepEqual([linesOf(keeper), bench.breaks], [[[4, 2]], ["002"]]);
   assert.deepEqual(seen.messages, ["001 is inside the instruction of line 2: its breakpoint is at the next one, line 4."]);
 });
 
 test("lines break and unbreak that were typed are followed", async () => {
-  const { keeper, bench } = begin([]);
+  const { keeper, bench } = createManager([]);
   keeper.setSourceMap(MAP, "");
-  keeper.take(["000"]);
+  keeper.updateFromBench(["000"]);
   await keeper.allSent;
   assert.deepEqual(linesOf(keeper), [[2, 0]]);
   keeper.change(keeper.list.all[0].id, { isOn: false });
   await keeper.allSent;
   assert.deepEqual(bench.breaks, []);
-  keeper.take(["000"]);
+  keeper.updateFromBench(["000"]);
   await keeper.allSent;
   assert.deepEqual(keeper.list.all.map(({ isOn }) => isOn), [true]);
-  keeper.take([]);
+  keeper.updateFromBench([]);
   await keeper.allSent;
   assert.deepEqual(linesOf(keeper), []);
 });
 
 test("a line break that is typed while the bench is yet to have the list is followed, too", async () => {
-  const { keeper, bench } = begin([]);
+  const { keeper, bench } = createManager([]);
   keeper.setSourceMap(MAP, "");
   // The bench serves a line after it has received the request, and reports the line before the request has ended.
   const { calls } = keeper;
@@ -106,7 +106,7 @@ test("a line break that is typed while the bench is yet to have the list is foll
   calls.set = async (placed) => {
     const faults = await set(placed);
     bench.breaks = [...bench.breaks, "000"];
-    keeper.take(bench.breaks);
+    keeper.updateFromBench(bench.breaks);
     return faults;
   };
   keeper.toggleAddress(0x700);
@@ -117,7 +117,7 @@ test("a line break that is typed while the bench is yet to have the list is foll
 });
 
 test("a change is sent before the bench has answered the one before, and the answers are taken in that order", async () => {
-  const { keeper } = begin([{ line: 2, address: 0 }]);
+  const { keeper } = createManager([{ line: 2, address: 0 }]);
   keeper.setSourceMap(MAP, "");
   await keeper.allSent;
   const [{ id }] = keeper.list.all;
@@ -136,26 +136,26 @@ test("a change is sent before the bench has answered the one before, and the ans
 });
 
 test("words are kept as they are typed, and the bench gets them once they are entered", async () => {
-  const { keeper, seen } = begin([{ line: 2, address: 0, isOn: true, condition: "", from: 1, note: "" }, { line: 4, address: 2 }]);
+  const { keeper, seen } = createManager([{ line: 2, address: 0, isOn: true, condition: "", from: 1, note: "" }, { line: 4, address: 2 }]);
   keeper.setSourceMap(MAP, "");
   await keeper.allSent;
   const [{ id }] = keeper.list.all;
   const before = seen.set.length;
-  keeper.type(id, { condition: "r4 = " });
+  keeper.saveTypedEdit(id, { condition: "r4 = " });
   assert.deepEqual(keeper.savedBreakpoints.map(({ condition }) => condition), ["r4 = ", ""]);
   assert.deepEqual([seen.set.length, seen.listEdited, keeper.list.all[0].condition], [before, 1, ""]);
-  keeper.type(id, { condition: "r4 = 7" });
+  keeper.saveTypedEdit(id, { condition: "r4 = 7" });
   keeper.change(id, { condition: "r4 = 7" });
   keeper.change(id, { condition: "r4 = 8" });
   await keeper.allSent;
   assert.deepEqual([keeper.savedBreakpoints[0].condition, keeper.list.all[0].condition], ["r4 = 8", "r4 = 8"]);
-  keeper.type(id, { note: "R4 is {r4}" });
+  keeper.saveTypedEdit(id, { note: "R4 is {r4}" });
   keeper.open("two", undefined);
   assert.deepEqual(keeper.savedBreakpoints, []);
 });
 
 test("a bench that fails is reported once, and the next list is sent", async () => {
-  const { keeper, seen, bench } = begin([]);
+  const { keeper, seen, bench } = createManager([]);
   keeper.setSourceMap(MAP, "");
   const { set } = keeper.calls;
   keeper.calls.set = async () => { throw new Error("it died"); };
@@ -167,7 +167,7 @@ test("a bench that fails is reported once, and the next list is sent", async () 
 });
 
 test("a text that is not what stands in ROM takes breakpoints, which stop once it is assembled", async () => {
-  const { keeper, seen, bench } = begin([]);
+  const { keeper, seen, bench } = createManager([]);
   keeper.setSourceMap(null, "Source and ROM differ from line 4 (0x002). Assemble to update.");
   keeper.toggleLine(4);
   await keeper.allSent;
@@ -181,7 +181,7 @@ test("a text that is not what stands in ROM takes breakpoints, which stop once i
 });
 
 test("a program that is assembled anew has its breakpoints where their lines are: the old ones go, in one call", async () => {
-  const { keeper, seen, bench } = begin([{ line: 2, address: 0 }, { line: 4, address: 2 }], ["000", "002"]);
+  const { keeper, seen, bench } = createManager([{ line: 2, address: 0 }, { line: 4, address: 2 }], ["000", "002"]);
   keeper.setSourceMap(MAP, "");
   await keeper.allSent;
   keeper.applyTextEdits([{ from: { line: 0, ch: 7 }, to: { line: 0, ch: 7 }, text: ["", "NOP"], removed: [""] }]);
@@ -195,7 +195,7 @@ test("a program that is assembled anew has its breakpoints where their lines are
 });
 
 test("what cannot be read is reported; one that is off is kept; hits are counted", async () => {
-  const { keeper, bench } = begin([{ line: 2, address: 0, condition: "no" }, { line: 4, address: 2, isOn: false }]);
+  const { keeper, bench } = createManager([{ line: 2, address: 0, condition: "no" }, { line: 4, address: 2, isOn: false }]);
   keeper.setSourceMap(MAP, "");
   await keeper.allSent;
   const [first, second] = keeper.list.all;
@@ -208,7 +208,7 @@ test("what cannot be read is reported; one that is off is kept; hits are counted
 });
 
 test("one more than the bench has is kept, and off", async () => {
-  const { keeper, seen } = begin([]);
+  const { keeper, seen } = createManager([]);
   for (let address = 0x100; address < 0x121; address++) keeper.toggleAddress(address);
   await keeper.allSent;
   assert.deepEqual([keeper.list.enabledCount, keeper.list.all.length, seen.messages.length], [32, 33, 1]);
@@ -221,78 +221,78 @@ test("one more than the bench has is kept, and off", async () => {
   assert.deepEqual([keeper.list.enabledCount, seen.set.pop().length], [32, 32]);
 });
 
-const KEPT = [{ line: 2, address: 0, isOn: true, condition: "r5 = 13", from: 3, note: "" },
+const STORED_BREAKPOINTS = [{ line: 2, address: 0, isOn: true, condition: "r5 = 13", from: 3, note: "" },
   { line: 4, address: 2, isOn: false, condition: "", from: 1, note: "acc is {acc}" }];
-const OTHERS = { short: "; a\n NOP", long: "; a\n; b\n NOP\n NOP\n; c" };
+const OTHER_PROGRAMS = { short: "; a\n NOP", long: "; a\n; b\n NOP\n NOP\n; c" };
 
-for (const [what, other] of Object.entries(OTHERS)) {
+for (const [what, other] of Object.entries(OTHER_PROGRAMS)) {
   test(`a text that is replaced by a ${what} one has its breakpoints and their words again once it is back`, async () => {
-    const { keeper } = begin(KEPT, ["000"]);
+    const { keeper } = createManager(STORED_BREAKPOINTS, ["000"]);
     keeper.setSourceMap(MAP, "");
-    keeper.applyTextEdits(replacing(TEXT, other));
+    keeper.applyTextEdits(replacementEdit(TEXT, other));
     keeper.setSourceMap(null, "assemble it");
     // Load the other text into ROM. Its lines have other numbers.
-    keeper.setSourceMap(new SourceMap(["map lines 2 names 0", "line 1 000 0", "line 2 000 1"], OTHERS.short), "");
+    keeper.setSourceMap(new SourceMap(["map lines 2 names 0", "line 1 000 0", "line 2 000 1"], OTHER_PROGRAMS.short), "");
     await keeper.allSent;
-    keeper.applyTextEdits(replacing(other, TEXT));
-    assert.deepEqual(keeper.list.savedBreakpoints, KEPT);
-    // The same must hold when the user edits one text into the other.
+    keeper.applyTextEdits(replacementEdit(other, TEXT));
+    assert.deepEqual(keeper.list.savedBreakpoints, STORED_BREAKPOINTS);
+    // The result must be the same when the user's edits turn one text into the other.
     keeper.removeAll();
     keeper.toggleLine(1);
-    keeper.applyTextEdits(replacing(TEXT, `${other}\n`));
-    keeper.applyTextEdits(replacing(`${other}\n`, TEXT));
+    keeper.applyTextEdits(replacementEdit(TEXT, `${other}\n`));
+    keeper.applyTextEdits(replacementEdit(`${other}\n`, TEXT));
     assert.deepEqual(linesOf(keeper).map(([line]) => line), [2]);
   });
 }
 
 test("the bench has the breakpoints of a text that is back, whatever the source is found to be", async () => {
-  const { keeper, bench } = begin([{ line: 4, address: 2 }], ["002"]);
+  const { keeper, bench } = createManager([{ line: 4, address: 2 }], ["002"]);
   keeper.setSourceMap(MAP, "");
-  keeper.applyTextEdits(replacing(TEXT, OTHERS.short));
+  keeper.applyTextEdits(replacementEdit(TEXT, OTHER_PROGRAMS.short));
   await keeper.allSent;
   assert.deepEqual(bench.breaks, []);
-  keeper.applyTextEdits(replacing(OTHERS.short, TEXT));
+  keeper.applyTextEdits(replacementEdit(OTHER_PROGRAMS.short, TEXT));
   await keeper.allSent;
   assert.deepEqual([bench.breaks, linesOf(keeper)], [["002"], [[4, 2]]]);
 });
 
 test("what is done with breakpoints while another text is there stays", () => {
-  const { keeper } = begin(KEPT);
-  keeper.applyTextEdits(replacing(TEXT, OTHERS.long));
+  const { keeper } = createManager(STORED_BREAKPOINTS);
+  keeper.applyTextEdits(replacementEdit(TEXT, OTHER_PROGRAMS.long));
   keeper.change(keeper.list.findByAddress(0).id, { condition: "r5 = 14" });
   keeper.toggleAddress(0x700);
   assert.deepEqual(linesOf(keeper), [[0, 0], [0, 2], [0, 0x700]]);
-  keeper.applyTextEdits(replacing(OTHERS.long, TEXT));
+  keeper.applyTextEdits(replacementEdit(OTHER_PROGRAMS.long, TEXT));
   assert.deepEqual(linesOf(keeper), [[2, 0], [4, 2], [0, 0x700]]);
   assert.deepEqual(keeper.list.all.map(({ condition }) => condition), ["r5 = 14", "", ""]);
 });
 
 test("a session that is come back to brings them back, too", () => {
-  const { keeper } = begin(KEPT);
-  keeper.applyTextEdits(replacing(TEXT, OTHERS.short));
+  const { keeper } = createManager(STORED_BREAKPOINTS);
+  keeper.applyTextEdits(replacementEdit(TEXT, OTHER_PROGRAMS.short));
   const left = structuredClone(keeper.list.savedBreakpoints);
   keeper.open("two", undefined);
   keeper.open("one", left);
-  keeper.applyTextEdits(replacing(OTHERS.short, TEXT));
-  assert.deepEqual(keeper.list.savedBreakpoints, KEPT);
+  keeper.applyTextEdits(replacementEdit(OTHER_PROGRAMS.short, TEXT));
+  assert.deepEqual(keeper.list.savedBreakpoints, STORED_BREAKPOINTS);
 });
 
 test("no more come back than there can be on", () => {
-  const { keeper } = begin(Array.from({ length: 32 }, (_, at) => ({ line: at + 1, address: at })));
+  const { keeper } = createManager(Array.from({ length: 32 }, (_, at) => ({ line: at + 1, address: at })));
   const many = Array.from({ length: 32 }, (_, at) => `line ${at}`).join("\n");
-  keeper.applyTextEdits(replacing(many, ""));
+  keeper.applyTextEdits(replacementEdit(many, ""));
   for (let address = 0x100; address < 0x110; address++) keeper.toggleAddress(address);
-  keeper.applyTextEdits(replacing("", many));
+  keeper.applyTextEdits(replacementEdit("", many));
   assert.deepEqual([keeper.list.enabledCount, keeper.list.all.length, keeper.list.all[31].isOn], [32, 48, true]);
 });
 
 test("words that are no others change nothing, but end what was typed", async () => {
-  const { keeper, seen } = begin([{ line: 2, condition: "r5 = 1" }]);
+  const { keeper, seen } = createManager([{ line: 2, condition: "r5 = 1" }]);
   const [{ id }] = keeper.list.all;
   const same = { condition: "r5 = 1", from: 1, note: "" };
   keeper.change(id, same);
   assert.equal(seen.listEdited, 0);
-  keeper.type(id, { ...same, condition: "r5 =" });
+  keeper.saveTypedEdit(id, { ...same, condition: "r5 =" });
   assert.deepEqual([keeper.savedBreakpoints[0].condition, seen.listEdited], ["r5 =", 1]);
   keeper.change(id, same);
   assert.deepEqual([keeper.savedBreakpoints[0].condition, seen.listEdited], ["r5 = 1", 2]);

@@ -9,7 +9,7 @@ import { EYE_PERSISTENCE_MS } from "../core/time/mcs4_time.js";
 import { displayedNumber } from "../core/board/digit_patterns.js";
 import { DisplayText } from "../core/board/display_text.js";
 import { Face } from "../core/board/face.js";
-import { SoundPieces, soundSamples } from "../core/board/sound_samples.js";
+import { SampleBuffer, soundSamples } from "../core/board/sound_samples.js";
 import { BenchCalls } from "../core/engine/bench_calls.js";
 import { PerceivedText } from "../core/engine/perceived_text.js";
 import { examplesOfPage, pageModule } from "./page_session.js";
@@ -18,15 +18,15 @@ import { examplesOfPage, pageModule } from "./page_session.js";
 const FRAME = 1543;
 const FRAME_TIME = 1000 / 60;
 
-/** In each turn of the loop, lamp 0 is on for 3 cycles and lamp 1 for the other cycles. Lamp 2 is always on, lamp 3 never. */
+/** In each iteration of the loop, lamp 0 is on for 3 cycles and lamp 1 for the other cycles. Lamp 2 is always on, lamp 3 never. */
 const PULSES = {
   board: `[[rom]]\nchip = 0\nport = "0000"\n${[0, 1, 2, 3].map((line) => `[[lamp]]\nline = "rom0.${line}"\n`).join("")}`,
   program: "FIM P0, 0\nSRC P0\nloop: LDM 5\nWRR\nNOP\nLDM 6\nWRR\nFIM P1, 0\nwait: ISZ R2, wait\nJUN loop\n",
 };
 
 /**
- * Two rows of three lamps. In each turn, columns 0 and 2 of row 0 are on for 5 cycles, then column 1 of row 1 for 10 cycles. Then all lamps
- * are off.
+ * Two rows of three lamps. In each iteration of the loop, columns 0 and 2 of row 0 are on for 5 cycles, then column 1 of row 1 for 10
+ * cycles. Then all lamps are off.
  */
 const SCANNED = {
   board: `# matrix 0: 2 rows of 3 scanned by 4\n[[rom]]\nchip = 0\nport = "0000"\n[[ram]]\nbank = 0\nchips = 2\n${
@@ -41,7 +41,7 @@ loop:   LDM 5\nSRC P0\nWMP\nLDM 1\nSRC P1\nWMP
 
 const textOf = (name) => readFileSync(new URL(name, import.meta.url), "utf8");
 
-/** A display of two digits. In each turn of its main loop, the program rewrites the display lamp by lamp. */
+/** A display of two digits. In each iteration of its main loop, the program rewrites the display lamp by lamp. */
 const REFRESHED = { board: textOf("two_digits.toml"), program: textOf("two_digits.asm") };
 
 async function begin({ board, program }) {
@@ -53,20 +53,23 @@ async function begin({ board, program }) {
 }
 
 /** Returns the bench's answers to `lamps` before each cycle and after the last cycle. */
-function marksOf(calls, cycles) {
+function lampAnswers(calls, cycles) {
   const answers = calls.ask(`lamps\n${"run 1\nlamps\n".repeat(cycles)}`).filter((line) => line.startsWith("lamps"));
   return answers.map((line) => line.slice("lamps ".length));
 }
 
 /** Returns the number of cycles for which each lamp is on, counted from the answers to `lamps`. */
-function lookedAt(calls, cycles) {
-  const marks = marksOf(calls, cycles).slice(0, cycles);
+function cyclesOn(calls, cycles) {
+  const marks = lampAnswers(calls, cycles).slice(0, cycles);
   return [...marks[0]].map((_, lamp) => marks.filter((each) => each[lamp] === "*").length);
 }
 
-/** Returns when each lamp changes, found from the answers to `lamps`; null for a lamp that does not change. */
-function movedIn(calls, cycles) {
-  const marks = marksOf(calls, cycles);
+/**
+ * Returns when each lamp changes, computed from the answers to `lamps`: the cycle of the first change, the longest time between two
+ * changes, and the cycles after the last change. Returns null for a lamp that does not change.
+ */
+function lampChanges(calls, cycles) {
+  const marks = lampAnswers(calls, cycles);
   return [...marks[0]].map((_, lamp) => {
     const moments = marks.flatMap((each, at) => (at > 0 && each[lamp] !== marks[at - 1][lamp] ? [at] : []));
     if (moments.length === 0) return null;
@@ -78,8 +81,8 @@ function movedIn(calls, cycles) {
 test("how long lamps are lit, and when they change, is reported to the cycle", async () => {
   const calls = await begin(PULSES);
   for (const cycles of [1, 7, FRAME, 2000, 11]) {
-    const [wanted, moved] = [lookedAt(calls, cycles), movedIn(calls, cycles)];
-    const [last] = marksOf(calls, cycles).slice(-1);
+    const [wanted, moved] = [cyclesOn(calls, cycles), lampChanges(calls, cycles)];
+    const [last] = lampAnswers(calls, cycles).slice(-1);
     const { litShares } = calls.advance(cycles);
     assert.deepEqual([litShares.face, litShares.cycles, litShares.lamps, litShares.moved, litShares.marks],
       [7, cycles, wanted, moved, last]);
@@ -88,7 +91,7 @@ test("how long lamps are lit, and when they change, is reported to the cycle", a
 
 test("what an eye sees is the part of the time that trace reports, to 2 %", async () => {
   const calls = await begin(PULSES);
-  const parts = lookedAt(calls, 3800).map((lit) => lit / 3800);
+  const parts = cyclesOn(calls, 3800).map((lit) => lit / 3800);
   const seen = new Brightness(new Face(PULSES.board), 4);
   for (let frame = 0; frame < 30; frame++) {
     seen.add(calls.advance(FRAME).litShares, FRAME_TIME);
@@ -140,7 +143,7 @@ test("the edges of a line are reported to the cycle, and its samples have its pi
     const wanted = lampLines.map((line) => (line["lamps ".length] === "*" ? 1 : -1));
     assert.deepEqual([...soundSamples(calls.advance(cycles).heard)], wanted);
   }
-  const pieces = new SoundPieces(4200);
+  const pieces = new SampleBuffer(4200);
   let [rises, count] = [0, 0];
   for (let frame = 0; frame < 60; frame++) {
     for (const sample of pieces.add(calls.advance(FRAME).heard) || []) {
@@ -149,15 +152,15 @@ test("the edges of a line are reported to the cycle, and its samples have its pi
       count += 1;
     }
   }
-  // A turn of the program takes 41 cycles.
+  // An iteration of the program's loop takes 41 cycles.
   assert.ok(Math.abs(rises / count - 1 / 41) < 0.01 / 41, `${rises} in ${count}`);
   calls.listenTo("");
   assert.equal(calls.advance(100).heard, null);
 });
 
 /**
- * Returns the perceived state of a board with one lamp, and the function `pass`. `pass` lets `time` milliseconds pass, with the lamp on for
- * the fraction `lit` of that time.
+ * Returns the perceived brightness of a board with one lamp, and the function `pass`. `pass` simulates `time` milliseconds, in which the
+ * lamp is on for the fraction `lit` of the time.
  */
 function oneLamp() {
   const seen = new Brightness(new Face(""), 1);

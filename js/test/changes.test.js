@@ -1,4 +1,4 @@
-// Tests the marks of changed values: shown while time is paused, none while it is running.
+// Tests the marks on changed values, which the page shows while time is paused and removes while time is running.
 
 import assert from "node:assert/strict";
 import test from "node:test";

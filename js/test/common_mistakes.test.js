@@ -22,7 +22,7 @@ before(async () => {
 });
 
 /** Returns a debug session with a program and its source map. */
-function open(program) {
+function openSession(program) {
   const session = new DebugSession(engine, { board: BOARD, program });
   assert.deepEqual(session.rejectedTexts, []);
   const text = sentText(program, ";");
@@ -33,7 +33,7 @@ function open(program) {
 }
 
 /** Returns the mistakes that are reported during some frames of a program, each with its source line. */
-function mistakesOf(program, frames = 3, debug = open(program)) {
+function mistakesOf(program, frames = 3, debug = openSession(program)) {
   const faults = Array.from({ length: frames }, () => debug.advance(1543).tally.usual).flat();
   return faults.map(({ address, words }) => `${debug.commonMistakes.map.lineOf(address)}: ${words}`);
 }
@@ -79,8 +79,8 @@ test("nothing is reported of what is right", () => {
 });
 
 test("time stops before one that it is to stop at, and goes on with it", () => {
-  const debug = open("LDM 1\nFIM P0, 0x10\nSRC P0\nWRR\nLDM 2\nend: JUN end\n");
-  debug.commonMistakes.stops.add("lines");
+  const debug = openSession("LDM 1\nFIM P0, 0x10\nSRC P0\nWRR\nLDM 2\nend: JUN end\n");
+  debug.commonMistakes.stoppingKinds.add("lines");
   const frame = debug.advance(1543);
   assert.deepEqual([frame.cycles, frame.stop.why, frame.tally.usual.length, debug.counter], [4, "usual", 1, 4]);
   debug.begin();
@@ -91,14 +91,14 @@ test("time stops before one that it is to stop at, and goes on with it", () => {
 
 test("it is reported once a run, and anew in the next one", () => {
   const program = "turn: FIM P0, 0x10\nSRC P0\nWRR\nJUN turn\n";
-  const debug = open(program);
+  const debug = openSession(program);
   assert.equal(mistakesOf(program, 5, debug).length, 1);
   debug.begin();
   assert.equal(mistakesOf(program, 5, debug).length, 1);
 });
 
 test("later a sample is looked at, and all again after a key", () => {
-  const debug = open("turn: JUN turn\n");
+  const debug = openSession("turn: JUN turn\n");
   const looked = () => {
     let sum = 0;
     for (let at = 0; at < 32; at++) sum += Number(debug.commonMistakes.cyclesToCheck([{ line: "run 1543", change: null }]) > 0);
@@ -117,7 +117,7 @@ test("later a sample is looked at, and all again after a key", () => {
 
 test("where lamps wait for a key it is looked for once they are reported, and reported with the next frame", () => {
   const program = "JMS a\nend: JUN end\na: FIM P0, 0x10\nSRC P0\nWRR\nBBL 0\n";
-  const [now, later] = [open(program), open(program)];
+  const [now, later] = [openSession(program), openSession(program)];
   for (const each of [now, later]) each.session.queue.press(pinKey(1));
   const wanted = now.advance(1543).tally.usual;
   assert.equal(wanted.length, 1);
@@ -135,12 +135,12 @@ test("where lamps wait for a key it is looked for once they are reported, and re
 
 test("but at once where time stops in that frame, or is to stop at a fault", () => {
   const program = "FIM P0, 0x10\nSRC P0\nWRR\nJUN on\non: NOP\nend: JUN end\n";
-  const broken = open(program);
+  const broken = openSession(program);
   broken.session.changeBreaks("break 7\n");
   const frame = broken.advance(1543, true);
   assert.deepEqual([frame.stop.why, frame.tally.usual.length], ["break", 1]);
-  const stops = open(program);
-  stops.commonMistakes.stops.add("lines");
+  const stops = openSession(program);
+  stops.commonMistakes.stoppingKinds.add("lines");
   const stopped = stops.advance(1543, true);
   assert.deepEqual([stopped.stop.why, stopped.cycles, stopped.tally.usual.length], ["usual", 3, 1]);
 });

@@ -56,7 +56,7 @@ turn:   LD R5
         JUN turn
 `;
 /** A program in which each of the conditions becomes true and becomes false. */
-const SEARCHED = `limit = 9
+const SEARCH_PROGRAM = `limit = 9
 start:  FIM P0, 0x12
         SRC P0
 turn:   LD R5
@@ -74,15 +74,15 @@ turn:   LD R5
 `;
 const WATCHED = ["count = R5", "digit = ram 0 0x12", "P2"];
 /** The registers and memory cells that the test sets to random values, each with the number of its values. */
-const POKED = [["acc", 16], ["cy", 2], ["r5", 16], ["r4", 16], ["ram.0.0x12", 16], ["pc", 12]];
+const RANDOM_CELLS = [["acc", 16], ["cy", 2], ["r5", 16], ["r4", 16], ["ram.0.0x12", 16], ["pc", 12]];
 
 /**
  * Conditions that a user of the debugger can type. Each has a function that computes the expected result from the bench's answers to
  * `regs`, `lamps`, `state` and `ram 0`.
- * @typedef {{ acc: number, cy: number, pc: number, r: number[], lamps: string, keys: string[], test: string, digit: number }} Is
- * @type {[string, (is: Is) => boolean][]}
+ * @typedef {{ acc: number, cy: number, pc: number, r: number[], lamps: string, keys: string[], test: string, digit: number }} MachineState
+ * @type {[string, (is: MachineState) => boolean][]}
  */
-const MEANT = [
+const CONDITIONS = [
   ["R5 == 10", ({ r }) => r[5] === 10], ["R5=10", ({ r }) => r[5] === 10], ["r5 == 0xA", ({ r }) => r[5] === 10],
   ["acc == 10", ({ acc }) => acc === 10], ["r5 >= 8 && cy == 1", ({ r, cy }) => r[5] >= 8 && cy === 1],
   ["r5 > 8 or cy = 1", ({ r, cy }) => r[5] > 8 || cy === 1], ["count > 9", ({ r }) => r[5] > 9],
@@ -96,8 +96,8 @@ const MEANT = [
   ["lamp or = 1 and lamp 1 off", ({ lamps }) => lamps[4] === "*" && lamps[0] === "."],
   ["lamps & 6 = 4", ({ lamps }) => lamps[1] === "." && lamps[2] === "*"],
 ];
-/** Conditions about keys and the TEST pin, which only commands change. They are allowed for breakpoints and while time is paused. */
-const MEANT_THERE = [
+/** Conditions about keys and the TEST pin, which no run changes. They are allowed only for breakpoints and while time is paused. */
+const INPUT_CONDITIONS = [
   ["key = down", ({ keys }) => keys.includes("0.1")],
   ["key # up and key A down", ({ keys }) => !keys.includes("0.3") && keys.includes("0.0")],
   ["(key no down)", ({ keys }) => keys.includes("0.2")], ["test = 0", (is) => is.test === "0"], ["key WALK down", (is) => is.test === "0"],
@@ -113,14 +113,14 @@ before(() => {
   names = { ...session.names, watched: collectWatchNames(WATCHED) };
 });
 
-const upTo = (random, most) => Math.floor(random() * most);
+const below = (random, most) => Math.floor(random() * most);
 
 /** Sets the machine to a random state, and returns the bench's answers about that state. */
-async function changed(random) {
-  const pokes = POKED.map(([place, most]) => `poke ${place} ${upTo(random, most)}\n`).join("");
-  const ports = `asm\n FIM P0, 0\n SRC P0\n LDM ${upTo(random, 16)}\n WMP\n FIM P0, 0x40\n SRC P0\n LDM ${upTo(random, 2)}\n WMP\n.\n`;
-  const keys = [0, 1, 2, 3].map((column) => `${upTo(random, 2) ? "press" : "release"} 0 ${column}\n`).join("");
-  await session.debugger.session.serve(`${ports}poke pc 0\nrun 10\n${pokes}${keys}test ${upTo(random, 2)}\n`, async () => true);
+async function setRandomState(random) {
+  const pokes = RANDOM_CELLS.map(([place, most]) => `poke ${place} ${below(random, most)}\n`).join("");
+  const ports = `asm\n FIM P0, 0\n SRC P0\n LDM ${below(random, 16)}\n WMP\n FIM P0, 0x40\n SRC P0\n LDM ${below(random, 2)}\n WMP\n.\n`;
+  const keys = [0, 1, 2, 3].map((column) => `${below(random, 2) ? "press" : "release"} 0 ${column}\n`).join("");
+  await session.debugger.session.serve(`${ports}poke pc 0\nrun 10\n${pokes}${keys}test ${below(random, 2)}\n`, async () => true);
   const [regs, lamps, state, ...ram] = session.debugger.session.ask("regs\nlamps\nstate\nram 0\n");
   const [, acc, cy, pc, tested, registers] = /^acc (.) cy (.) pc (...) owed . dcl . test (.) r (\w{16})/.exec(regs);
   return {
@@ -129,14 +129,14 @@ async function changed(random) {
   };
 }
 
-/** Returns the names that conditions can use, including those in the watch list. */
-function known() {
+/** Returns the context in which the page parses conditions: the session with all names, including those in the watch list. */
+function conditionContext() {
   Object.defineProperty(session, "names", { configurable: true, value: names });
   return { session, face: names.face, instructions: new Map(), frontPanelText: () => "" };
 }
 
 /** Resolves to the result of a call, or to the message of its error. */
-async function orFault(call) {
+async function resultOrError(call) {
   try {
     return await call();
   } catch (fault) {
@@ -144,7 +144,7 @@ async function orFault(call) {
   }
 }
 
-const now = ({ places }) => session.debugger.readPlaces(places);
+const currentValues = ({ places }) => session.debugger.readPlaces(places);
 
 /** The prompt of `mcs4 debug` for the session, and the prompt's last output. */
 let prompt;
@@ -159,8 +159,8 @@ before(() => {
 });
 
 /**
- * For each use of conditions, a function that evaluates a condition now. It returns true or false, or the error message if that use does
- * not accept the condition.
+ * For each use of conditions, a function that evaluates a condition in the machine's current state. Each function returns true or false, or
+ * an error message if this use does not accept the condition.
  */
 const USES = {
   test: (text) => {
@@ -175,27 +175,28 @@ const USES = {
     return fault || joinPieces(watched.pieces(new MachineState(look), names)) === "true";
   },
   "mcs4 debug": async (text) => {
-    known();
+    conditionContext();
     await prompt.take(`print ${text}`);
     return /^(true|false)$/.test(printed) ? printed === "true" : printed;
   },
   breakpoint: (text) => {
     const { soft, fault } = compileBreakpoint({ id: 1, address: 0, condition: text, from: 1, note: "", hits: 0 }, names);
-    return fault || soft.holds(now(soft));
+    return fault || soft.holds(currentValues(soft));
   },
   "log message": (text) => {
     const { note, fault } = compileNote(`{${text}}`, names);
-    return fault || note.words(now(note)) === "true";
+    return fault || note.words(currentValues(note)) === "true";
   },
-  evaluate: (text) => orFault(() => evaluateExpression(text, known()) === "true"),
-  console: (text) => orFault(async () => (await new Console({ isMoving: false }, known(), null, {}).serveLine(text)).words === "true"),
+  evaluate: (text) => resultOrError(() => evaluateExpression(text, conditionContext()) === "true"),
+  console: (text) => resultOrError(async () => (
+    (await new Console({ isMoving: false }, conditionContext(), null, {}).serveLine(text)).words === "true")),
   trigger: (text) => {
     const { trigger, fault } = readTrigger(text, createBoardLines(names.board, BOARD, true, []), names);
-    return fault || trigger.holds(now(trigger));
+    return fault || trigger.holds(currentValues(trigger));
   },
   property: (text) => {
     const { campaign, faults } = readCampaign(`press A\nalways ${text}\n`, { names, instructions: [] });
-    return faults.length > 0 ? faults[0].words : campaign.properties[0].condition.holds(now(campaign.properties[0].condition));
+    return faults.length > 0 ? faults[0].words : campaign.properties[0].condition.holds(currentValues(campaign.properties[0].condition));
   },
 };
 
@@ -205,8 +206,8 @@ for (const [use, holds] of Object.entries(USES)) {
     const seen = new Map();
     const isLive = use !== "trigger" && use !== "property";
     for (let round = 0; round < 60; round++) {
-      const is = await changed(random);
-      for (const [text, meant] of isLive ? [...MEANT, ...MEANT_THERE] : MEANT) {
+      const is = await setRandomState(random);
+      for (const [text, meant] of isLive ? [...CONDITIONS, ...INPUT_CONDITIONS] : CONDITIONS) {
         const held = await holds(text);
         assert.equal(held, meant(is), `${text}: ${JSON.stringify(is)}`);
         seen.set(text, (seen.get(text) || new Set()).add(held));
@@ -234,8 +235,8 @@ test("an error in a condition is the same in each place of use; a breakpoint wit
   assert.equal(soft.holds([]), true);
 });
 
-/** Returns the state of the machine as the functions in MEANT use it. */
-function isNow() {
+/** Returns the state of the machine in the form that the functions in CONDITIONS take. */
+function machineState() {
   const [regs, lamps, ...ram] = session.debugger.session.ask("regs\nlamps\nram 0\n");
   const [, acc, cy, pc, owed, tested, registers] = /^acc (.) cy (.) pc (...) owed (.) dcl . test (.) r (\w{16})/.exec(regs);
   return {
@@ -245,44 +246,44 @@ function isNow() {
 }
 
 test("searches of the past, and on: a condition is found where it became true, instruction by instruction", async () => {
-  const own = new DebugSession(engine, { board: BOARD, program: SEARCHED });
+  const own = new DebugSession(engine, { board: BOARD, program: SEARCH_PROGRAM });
   Object.defineProperty(own, "names", { configurable: true, value: { ...own.names, watched: collectWatchNames(WATCHED) } });
   const kept = session;
   session = own;
   try {
     const bench = own.debugger.session;
-    const all = [{ is: isNow(), total: bench.count.total }];
+    const all = [{ is: machineState(), total: bench.count.total }];
     for (let step = 0; step < 260; step++) {
-      await own.into();
-      all.push({ is: isNow(), total: bench.count.total });
+      await own.stepInto();
+      all.push({ is: machineState(), total: bench.count.total });
     }
     const last = all.length - 1;
     let compared = 0;
-    for (const [text, meant] of MEANT) {
+    for (const [text, meant] of CONDITIONS) {
       const rises = all.flatMap(({ is }, at) => (at > 0 && meant(is) && !meant(all[at - 1].is) ? [at] : []));
-      const went = await own.back({ kind: "when", condition: text });
+      const went = await own.goBack({ kind: "when", condition: text });
       // The session is now at the instruction that makes the condition true.
       const want = rises.length === 0 ? all[last] : all[rises[rises.length - 1] - 1];
       assert.deepEqual([went.isDone, bench.count.total], [rises.length > 0, want.total], `back ${text}: ${went.words}`);
       if (rises.length > 0) assert.match(went.words, /: this instruction makes .* true\.$/);
       else assert.match(went.words, /has not become true in the remembered past\.$/);
-      if (went.isDone) own.forward();
+      if (went.isDone) own.goForward();
       assert.equal(bench.count.total, all[last].total);
       compared += rises.length > 0 ? 1 : 0;
     }
     assert.ok(compared > 12, String(compared));
     // Run forward from power-on.
-    const begun = new DebugSession(engine, { board: BOARD, program: SEARCHED });
+    const begun = new DebugSession(engine, { board: BOARD, program: SEARCH_PROGRAM });
     Object.defineProperty(begun, "names", { configurable: true, value: { ...begun.names, watched: collectWatchNames(WATCHED) } });
-    for (const [text, meant] of MEANT) {
+    for (const [text, meant] of CONDITIONS) {
       const [first] = all.flatMap(({ is, total }, at) => (at > 0 && meant(is) && !meant(all[at - 1].is) ? [total] : []));
       if (first === undefined) continue;
-      const stop = await begun.go({ kind: "when", condition: text });
+      const stop = await begun.runToGoal({ kind: "when", condition: text });
       assert.equal(stop.why, "goal", `${text}: ${stop.words}`);
       // If the condition becomes true in a two-cycle instruction, time stops after the first cycle.
       const { total } = begun.debugger.session.count;
       assert.ok(total === first || total === first - 1, `${text}: ${total}, ${first}`);
-      await begun.back({ kind: "stop" });
+      await begun.goBack({ kind: "stop" });
     }
   } finally {
     session = kept;
@@ -290,7 +291,7 @@ test("searches of the past, and on: a condition is found where it became true, i
 });
 
 test("what no trace shows is refused where nothing else is asked", () => {
-  for (const [text] of MEANT_THERE) {
+  for (const [text] of INPUT_CONDITIONS) {
     assert.match(compileTracedCondition(text, names).fault, /^no run changes .*: ask for it at a breakpoint$/);
   }
 });
@@ -324,9 +325,9 @@ test("a text of any kind is read in time, and an error is in a column of it", ()
   const began = process.cpuUsage();
   let taken = 0;
   for (let each = 0; each < 10000; each++) {
-    const count = upTo(random, each % 100 === 0 ? 1500 : 14);
-    const glue = upTo(random, 4) === 0 ? "" : " ";
-    const text = Array.from({ length: count }, () => pieces[upTo(random, pieces.length)]).join(glue);
+    const count = below(random, each % 100 === 0 ? 1500 : 14);
+    const glue = below(random, 4) === 0 ? "" : " ";
+    const text = Array.from({ length: count }, () => pieces[below(random, pieces.length)]).join(glue);
     const setting = (all) => readSetting(all, names.map, names.board);
     const readers = [compileCondition, compileExpression, compileTestCondition, compileTracedCondition, setting];
     for (const read of readers) {
@@ -338,9 +339,9 @@ test("a text of any kind is read in time, and an error is in a column of it", ()
   assert.ok(taken > 200, String(taken));
   // The same parser also reads other contexts of conditions. Its error messages name the column.
   for (let each = 0; each < 1500; each++) {
-    const text = Array.from({ length: upTo(random, 12) }, () => pieces[upTo(random, pieces.length)]).join(" ");
+    const text = Array.from({ length: below(random, 12) }, () => pieces[below(random, pieces.length)]).join(" ");
     const heads = ["while ", "once ", "after press A, ", "after press A within 5 ms, ", "never ", "always ", ""];
-    const line = heads[upTo(random, heads.length)] + text.replace("+", ",") + [", never cy 1", "", " for 5 ms"][upTo(random, 3)];
+    const line = heads[below(random, heads.length)] + text.replace("+", ",") + [", never cy 1", "", " for 5 ms"][below(random, 3)];
     readCampaign(line, { names, instructions: [] });
     readTests(`test t\nexpect ${text}\nuntil ${text} within 5\nset ${text}\n`, names);
     for (const fault of [parseWatch(text, names).fault, parseWatch(`x = ${text}`, names).fault, parseGoal(text, names).fault,
@@ -393,8 +394,8 @@ test("the conditions of the examples' tests mean the same here", () => {
       if (old.condition.needs.length > 0) continue;
       assert.deepEqual([read.fault, read.condition?.places], ["", old.condition.places], text);
       for (let round = 0; round < 20; round++) {
-        const values = old.condition.places.map((place) => (place === "lamps" ? own.board.lamps.map(() => ".*"[upTo(random, 2)]).join("")
-          : upTo(random, place === "pc" ? 4096 : 16).toString(16).toUpperCase().padStart(place === "pc" ? 3 : 1, "0")));
+        const values = old.condition.places.map((place) => (place === "lamps" ? own.board.lamps.map(() => ".*"[below(random, 2)]).join("")
+          : below(random, place === "pc" ? 4096 : 16).toString(16).toUpperCase().padStart(place === "pc" ? 3 : 1, "0")));
         assert.equal(read.condition.holds(values), old.condition.holds(values), `${text}: ${values}`);
         assert.equal(read.condition.explain(values), old.condition.explain(values), `${text}: ${values}`);
       }

@@ -5,7 +5,7 @@ import { readBoard } from "../core/bench/answers.js";
 import { Face } from "../core/board/face.js";
 import { MAX_PLACES } from "../core/bench/inputs.js";
 import { compileCondition, compileTestCondition } from "../core/conditions/condition_language.js";
-import { parseDuration, parseWholeDuration } from "../core/conditions/durations.js";
+import { parseDuration, parseExactDuration } from "../core/conditions/durations.js";
 import { SourceMap } from "../core/machine/source_map.js";
 import { ForecastAnswers, rowValues } from "../core/engine/forecast_answers.js";
 import { begin } from "./page_session.js";
@@ -18,7 +18,7 @@ const WIRED = [
 const TEXT = `# lamp 0: _ _ locked open alarm\n# display 0: 1 digit\n${WIRED}\n`;
 const PROGRAM = "limit = 5\nstart: FIM P0, 0\nSRC P0\nLDM 4\nWMP\nWRM\nFIM P1, 0x40\nSRC P1\nLDM 1\nWMP\nend: JUN end\n";
 
-/** Returns a session with that board and program after some lines, and the names that the board and the program define. */
+/** Returns a session with the board TEXT and the program PROGRAM after some session lines, and the names that both define. */
 async function bench(lines = "") {
   const calls = await begin("empty bench", `wire\n${TEXT}.\nasm\n${PROGRAM}.\n${lines}`);
   const board = readBoard(calls.ask("board\n"));
@@ -147,6 +147,6 @@ test("times", () => {
   const shown = [["538", 538], ["538 cycles", 538], ["1 cycle", 1], ["20 ms", 1852], ["20ms", 1852], ["1.5 s", 138889], ["0", 0],
     ["1.5", 0], ["ms", 0], ["", 0],
     ["3 x", 0], ["1000000001", 0], ["-3", 0], ["1.5.2 ms", 0]];
-  for (const [text, cycles] of shown) assert.equal(parseWholeDuration(text.split(" ")), cycles, text);
+  for (const [text, cycles] of shown) assert.equal(parseExactDuration(text.split(" ")), cycles, text);
   assert.deepEqual(parseDuration(["pace", "43", "ms", "1", "s"], 1), { cycles: 3981, words: 2 });
 });

@@ -25,13 +25,13 @@ test("accepted commands, their cycles, and resets", () => {
 
 test("since the last stop: the stretch that ended there, until another one begins", () => {
   const cycles = new Cycles();
-  cycles.take({ total: 500, reset: 0 });
-  cycles.take({ total: 900, reset: 0 });
+  cycles.update({ total: 500, reset: 0 });
+  cycles.update({ total: 900, reset: 0 });
   assert.equal(cycles.counts.sinceStop, 900);
   cycles.stop();
-  cycles.take({ total: 900, reset: 0 });
+  cycles.update({ total: 900, reset: 0 });
   assert.equal(cycles.counts.sinceStop, 900);
-  cycles.take({ total: 902, reset: 0 });
+  cycles.update({ total: 902, reset: 0 });
   assert.deepEqual([cycles.counts.sinceStop, cycles.counts.sinceReset], [2, 902]);
   assert.deepEqual(new Cycles(cycles.storedCounts).counts, cycles.counts);
 });
@@ -40,10 +40,10 @@ test("marks: from one to here, between two, and then anew", () => {
   const cycles = new Cycles({ total: 10, reset: 0, from: 0, marks: [] });
   assert.equal(cycles.counts.marked, null);
   cycles.mark();
-  cycles.take({ total: 936, reset: 0 });
+  cycles.update({ total: 936, reset: 0 });
   assert.equal(cycles.counts.marked, 926);
   cycles.mark();
-  cycles.take({ total: 2000, reset: 0 });
+  cycles.update({ total: 2000, reset: 0 });
   assert.equal(cycles.counts.marked, 926);
   cycles.mark();
   assert.equal(cycles.counts.marked, 0);
@@ -52,15 +52,15 @@ test("marks: from one to here, between two, and then anew", () => {
 test("places by their names", () => {
   const board = readBoard(["board", "[[rom]]", "chip = 1", 'port = "iiii"', "[[ram]]", "bank = 0", "chips = 1", "[[chain]]",
     'clock = "ram0.0.0"', 'data = "ram0.0.1"', "chips = 2", "[[lamp]]", 'line = "ram0.0.3"', "[[lamp]]", 'line = "chain0.5"']);
-  /** Returns the line in which `trace` reports a place, with the place's value if one is given. */
-  const linesOf = (name, ...values) => {
+  /** Returns a place's name, the places that `trace` must report for it on this board, and its value, computed from the reported values. */
+  const reading = (name, ...values) => {
     const place = parsePlace(name);
     return [place.name, place.probesOn(board).join(" "), place.value(values)];
   };
   assert.deepEqual([
-    linesOf("acc", "6"), linesOf("R15", "9"), linesOf("ram.0.63", "C"), linesOf("st.0.1.2", "2"), linesOf("ram0.0.3", "1"),
-    linesOf("rom1.2", "0"),
-    linesOf("rom1", "D"), linesOf("ram0.0", "2"), linesOf("chain0.19", "1"), linesOf("lamp1", "1"), linesOf("lamps", ".*"),
+    reading("acc", "6"), reading("R15", "9"), reading("ram.0.63", "C"), reading("st.0.1.2", "2"), reading("ram0.0.3", "1"),
+    reading("rom1.2", "0"),
+    reading("rom1", "D"), reading("ram0.0", "2"), reading("chain0.19", "1"), reading("lamp1", "1"), reading("lamps", ".*"),
   ], [
     ["acc", "acc", "6"], ["r15", "r15", "9"], ["ram.0.0x3F", "ram.0.0x3F", "C"], ["st.0.1.2", "st.0.1.2", "2"],
     ["ram0.0.3", "ram0.0.3", "1"], ["rom1.2", "rom1.2", "0"], ["rom1", "rom1", "D"],

@@ -25,7 +25,7 @@ line = "ram0.0.0"
 [[lamp]]
 line = "ram0.0.1"
 `;
-// R4 counts up from 0. Each turn of the loop calls `show`, which writes R4 to the lamps and waits 34 cycles.
+// R4 counts up from 0. Each iteration of the loop calls `show`, which writes R4 to the lamps and waits 34 cycles.
 const PROGRAM = `; counts
 start:  FIM P0, 0
         SRC P0
@@ -47,53 +47,53 @@ before(async () => {
   engine = await Engine.load(pageModule);
 });
 
-const open = (program = PROGRAM) => new DebugSession(engine, { board: BOARD, program });
+const openSession = (program = PROGRAM) => new DebugSession(engine, { board: BOARD, program });
 
 test("a session in memory: breakpoints at lines, moves, values, back and forward", async () => {
-  const session = open();
+  const session = openSession();
   assert.deepEqual(session.rejectedTexts, []);
   session.breakpoints.add({ line: LINE.blank });
   const { moved, faults } = await session.applyBreakpoints();
   assert.deepEqual([moved, faults], [["Line 5 puts no bytes into ROM: its breakpoint is at the next instruction, line 6."], []]);
-  const stop = await session.go();
+  const stop = await session.runToGoal();
   assert.deepEqual([stop.why, stop.id, session.line], ["break", 1, LINE.increment]);
   assert.equal(stop.words, "Paused at 005 (turn + 2, line 6), at a breakpoint.");
-  assert.equal((await session.into()).words, "At 006 (turn + 3, line 7), after 1 cycle, 0.011 ms.");
+  assert.equal((await session.stepInto()).words, "At 006 (turn + 3, line 7), after 1 cycle, 0.011 ms.");
   assert.deepEqual(session.values(["r4", "lamps", "acc", "nothing"]), ["1", "..", "0", ""]);
-  assert.equal((await session.go({ kind: "over" })).words, "At 003 (turn, line 4), after 2 cycles, 0.022 ms.");
-  await session.into();
+  assert.equal((await session.runToGoal({ kind: "over" })).words, "At 003 (turn, line 4), after 2 cycles, 0.022 ms.");
+  await session.stepInto();
   assert.deepEqual([session.line, session.returns[0]], [LINE.show, 5]);
-  const out = await session.go({ kind: "out" });
+  const out = await session.runToGoal({ kind: "out" });
   assert.deepEqual([out.why, out.returns, session.line], ["goal", true, LINE.increment]);
   assert.match(out.words, /^Returned to 005 \(turn \+ 2, line 6\), after 37 cycles/);
   assert.deepEqual(session.values(["lamp 0"]), ["*"]);
-  const back = await session.back({ kind: "instruction" });
+  const back = await session.goBack({ kind: "instruction" });
   assert.deepEqual([back.isDone, session.line], [true, LINE.back]);
-  assert.equal(session.forward().isDone, true);
+  assert.equal(session.goForward().isDone, true);
   assert.equal(session.line, LINE.increment);
 });
 
-/** Runs until a stop `count` times. Returns the values of a place at each stop. */
-async function stopsOf(session, count, place) {
+/** Runs to the next stop, `count` times. Returns the value of a register or memory cell at each stop. */
+async function valuesAtStops(session, count, place) {
   const seen = [];
   for (let stop = 0; stop < count; stop++) {
-    await session.go();
+    await session.runToGoal();
     seen.push(session.values([place])[0]);
   }
   return seen;
 }
 
 test("a condition, a count of hits, and a note in place of a stop; no file has them", async () => {
-  const session = open();
+  const session = openSession();
   const odd = session.breakpoints.add({ line: LINE.write, condition: "r4 > 9 and lamp two off" });
   await session.applyBreakpoints();
-  assert.deepEqual(await stopsOf(session, 4, "r4"), [..."ADEA"]);
+  assert.deepEqual(await valuesAtStops(session, 4, "r4"), [..."ADEA"]);
   assert.equal(session.breakpoints.get(odd.id).hits, 4);
-  const counted = open();
+  const counted = openSession();
   const { id } = counted.breakpoints.add({ line: LINE.show, from: 5 });
   counted.breakpoints.add({ line: LINE.increment, note: "R4 is {r4}, lamps {lamps}, two {two}" });
   await counted.applyBreakpoints();
-  const stop = await counted.go();
+  const stop = await counted.runToGoal();
   assert.deepEqual([stop.why, stop.id, counted.values(["r4"])[0]], ["break", id, "4"]);
   assert.deepEqual(stop.tally.notes.map(({ words }) => words),
     ["R4 is 0, lamps .., two .", "R4 is 1, lamps *., two .", "R4 is 2, lamps .*, two *", "R4 is 3, lamps **, two *"]);
@@ -102,16 +102,16 @@ test("a condition, a count of hits, and a note in place of a stop; no file has t
 });
 
 test("conditional breakpoints stop where one of the bench does, whatever the frames", async () => {
-  const plain = open();
+  const plain = openSession();
   plain.breakpoints.add({ line: LINE.show });
   await plain.applyBreakpoints();
   const wanted = [];
   for (let stop = 0; stop < 40; stop++) {
-    await plain.go();
+    await plain.runToGoal();
     if (plain.values(["r4"])[0] === "7") wanted.push(plain.debugger.session.count.total);
   }
   for (const frame of [1, 7, 1543, 100000]) {
-    const soft = open();
+    const soft = openSession();
     soft.breakpoints.add({ line: LINE.show, condition: "r4 = 7" });
     soft.breakpoints.add({ line: LINE.wait, note: "waits" });
     await soft.applyBreakpoints();
@@ -124,78 +124,78 @@ test("conditional breakpoints stop where one of the bench does, whatever the fra
 });
 
 test("a breakpoint stops a move; one that cannot be read says why, and stops every time until it is mended", async () => {
-  const session = open();
+  const session = openSession();
   session.breakpoints.add({ line: LINE.write, condition: "r4 = 0" });
   const broken = session.breakpoints.add({ line: LINE.increment, condition: "r44 = 0" });
   const lacking = session.breakpoints.add({ line: LINE.wait, note: "{rom3}" });
   const { faults } = await session.applyBreakpoints();
   assert.deepEqual(faults, [[broken.id, "r44: no such place; the registers are r0 to r15 (column 1)"],
     [lacking.id, "the note asks for {rom3}: the board has no ROM 3 (column 2)"]]);
-  await session.go({ kind: "here", address: 3 });
-  const stop = await session.go({ kind: "over" });
+  await session.runToGoal({ kind: "here", address: 3 });
+  const stop = await session.runToGoal({ kind: "over" });
   assert.deepEqual([stop.why, session.line], ["break", LINE.write]);
   const stops = [];
-  for (let more = 0; more < 4; more++) stops.push([(await session.go()).id, session.line]);
+  for (let more = 0; more < 4; more++) stops.push([(await session.runToGoal()).id, session.line]);
   assert.deepEqual(stops, [[lacking.id, LINE.wait], [lacking.id, LINE.wait], [lacking.id, LINE.wait], [lacking.id, LINE.wait]]);
   session.breakpoints.change(lacking.id, { note: "{rom0}" });
   session.breakpoints.change(broken.id, { condition: "accu = 1" });
   await session.applyBreakpoints();
-  const unsure = await session.go();
+  const unsure = await session.runToGoal();
   assert.deepEqual([unsure.id, session.line], [broken.id, LINE.increment]);
   assert.equal(unsure.words, "Paused at 005 (turn + 2, line 6), at a breakpoint that has an error, "
     + "accu: no such place; the accumulator is acc (column 1).");
-  assert.equal((await session.go()).id, broken.id);
+  assert.equal((await session.runToGoal()).id, broken.id);
   session.breakpoints.change(broken.id, { condition: "R4 == 0b11 || r4 >= 0xF" });
   await session.applyBreakpoints();
   const mended = [];
-  for (let more = 0; more < 3; more++) mended.push([(await session.go()).id, session.values(["r4"])[0]]);
+  for (let more = 0; more < 3; more++) mended.push([(await session.runToGoal()).id, session.values(["r4"])[0]]);
   assert.deepEqual(mended, [[broken.id, "3"], [broken.id, "F"], [1, "0"]]);
   assert.match(stop.words, /^Paused at 009 \(show \+ 1, line 9\), at a breakpoint, when r4 = 0, after 3 cycles, .*; the return .* not/);
 });
 
 test("breakpoints are no part of the past: going back leaves them, and what comes after is done again as it was", async () => {
-  const session = open();
+  const session = openSession();
   const { session: bench } = session.debugger;
-  await session.go({ kind: "count", count: 20 });
+  await session.runToGoal({ kind: "count", count: 20 });
   const first = session.breakpoints.add({ line: LINE.write });
   await session.applyBreakpoints();
-  await session.go();
+  await session.runToGoal();
   const seen = [bench.count.total, session.values(["r4", "pc"])];
-  await session.go();
+  await session.runToGoal();
   session.breakpoints.remove(first.id);
   session.breakpoints.add({ line: LINE.increment });
   await session.applyBreakpoints();
-  await session.back({ kind: "stop" });
-  await session.back({ kind: "stop" });
+  await session.goBack({ kind: "stop" });
+  await session.goBack({ kind: "stop" });
   assert.deepEqual([bench.count.total, session.values(["r4", "pc"])], seen);
   assert.deepEqual(bench.ask("breaks\n"), ["breaks 005"]);
-  await session.go();
+  await session.runToGoal();
   assert.equal(session.line, LINE.increment);
-  for (let more = 0; more < 3; more++) await session.go();
+  for (let more = 0; more < 3; more++) await session.runToGoal();
   const end = [bench.count.total, session.values(["r4", "pc"])];
-  await session.back({ kind: "instruction" });
-  await session.into();
+  await session.goBack({ kind: "instruction" });
+  await session.stepInto();
   assert.deepEqual([bench.count.total, session.values(["r4", "pc"])], end);
 });
 
-/** Runs until a breakpoint stops time, `count` times. Returns the total cycle count and the value of r4 at each stop. */
-async function arrivalsOf(session, count) {
+/** Runs to the next breakpoint, `count` times. Returns the total cycle count and the value of r4 at each stop. */
+async function statesAtBreakpoints(session, count) {
   const seen = [];
   for (let stop = 0; stop < count; stop++) {
-    await session.go();
+    await session.runToGoal();
     seen.push([session.debugger.session.count.total, session.values(["r4"])[0]]);
   }
   return seen;
 }
 
-const backToArrival = (session, place = "") => session.back({ kind: "arrival", place });
+const backToArrival = (session, place = "") => session.goBack({ kind: "arrival", place });
 
 test("back to the last arrival at a breakpoint: the stops of the way there, whatever was done between", async () => {
-  const session = open();
+  const session = openSession();
   const { session: bench } = session.debugger;
   session.breakpoints.add({ line: LINE.write });
   await session.applyBreakpoints();
-  const seen = await arrivalsOf(session, 30);
+  const seen = await statesAtBreakpoints(session, 30);
   session.breakpoints.add({ line: LINE.increment, isOn: false });
   session.breakpoints.add({ line: LINE.back, note: "no stop" });
   await session.applyBreakpoints();
@@ -213,16 +213,16 @@ test("back to the last arrival at a breakpoint: the stops of the way there, what
   assert.match(begin.words, /^Back at 000 \(start, line 2\), .* earlier, at the beginning of the remembered past: no breakpoint was/);
   const none = await backToArrival(session);
   assert.deepEqual([none.isDone, none.words], [false, "Nothing was done: the remembered past reaches no further back."]);
-  for (let times = 0; times < seen.length + 1; times++) session.forward();
+  for (let times = 0; times < seen.length + 1; times++) session.goForward();
   assert.equal(bench.count.total, total);
 });
 
 test("back to an arrival: conditions are asked, counts are not, and breakpoints of then are not those of now", async () => {
-  const session = open();
+  const session = openSession();
   const { session: bench } = session.debugger;
   const first = session.breakpoints.add({ line: LINE.show });
   await session.applyBreakpoints();
-  const seen = await arrivalsOf(session, 40);
+  const seen = await statesAtBreakpoints(session, 40);
   session.breakpoints.remove(first.id);
   const { id } = session.breakpoints.add({ line: LINE.show, condition: "r4 = 3", from: 100 });
   await session.applyBreakpoints();
@@ -236,7 +236,7 @@ test("back to an arrival: conditions are asked, counts are not, and breakpoints 
 });
 
 test("back to an arrival meets what is watched, by the bench or beside it, and stands before the change", async () => {
-  const session = open(PROGRAM.replace("BBL 0", "WRM\n BBL 0"));
+  const session = openSession(PROGRAM.replace("BBL 0", "WRM\n BBL 0"));
   const { session: bench } = session.debugger;
   session.breakpoints.add({ line: LINE.show, condition: "r4 = 2" });
   await session.applyBreakpoints();
@@ -246,7 +246,7 @@ test("back to an arrival meets what is watched, by the bench or beside it, and s
   assert.deepEqual([watched.end, watched.place, watched.line], ["change", "ram.0.0x00", ""]);
   assert.match(watched.words, /: this instruction changes ram\.0\.0x00 from \w to \w\.$/);
   const old = session.values(["ram.0.0x00"])[0];
-  await session.into();
+  await session.stepInto();
   assert.notEqual(session.values(["ram.0.0x00"])[0], old);
   await bench.serve("unwatch 0 0\n", async () => true);
   const beside = await backToArrival(session, "r4");
@@ -256,14 +256,14 @@ test("back to an arrival meets what is watched, by the bench or beside it, and s
 });
 
 test("back to an arrival is found in what is kept of a long run, at once", async () => {
-  // R0 to R3 count the turns. The program reaches `hit` once in 16 ** 4 turns.
+  // R0 to R3 count the iterations. The program reaches `hit` once in 16 ** 4 iterations.
   const turns = [0, 1, 2, 3].map((each) => ` ISZ R${each}, turn\n`).join("");
-  const session = open(`start: FIM P0, 0\n FIM P1, 0\nturn: NOP\n${turns}hit: NOP\n JUN turn\n`);
+  const session = openSession(`start: FIM P0, 0\n FIM P1, 0\nturn: NOP\n${turns}hit: NOP\n JUN turn\n`);
   const { session: bench } = session.debugger;
   const hit = session.map.findValue("hit");
   session.breakpoints.add({ line: session.map.lineOf(hit) });
   await session.applyBreakpoints();
-  const seen = await arrivalsOf(session, 3);
+  const seen = await statesAtBreakpoints(session, 3);
   for (let frame = 0; bench.count.total < 10000000; frame++) {
     if (session.debugger.advance(400000).stop) seen.push([bench.count.total, ""]);
   }
@@ -274,7 +274,7 @@ test("back to an arrival is found in what is kept of a long run, at once", async
 });
 
 test("a program that is assembled anew takes its breakpoints along", async () => {
-  const session = open();
+  const session = openSession();
   session.breakpoints.add({ line: LINE.increment });
   session.breakpoints.add({ line: LINE.back, isOn: false });
   await session.applyBreakpoints();
@@ -285,14 +285,14 @@ test("a program that is assembled anew takes its breakpoints along", async () =>
   assert.deepEqual(session.debugger.session.ask("breaks\n"), ["breaks 006"]);
   assert.deepEqual(await session.setProgram("LDM 99\n"), { number: 33, line: 1 });
   await session.debugger.session.serve("reset\n", async () => true);
-  await session.go();
+  await session.runToGoal();
   assert.equal(session.line, LINE.increment + 1);
 });
 
 test("a pause ends a run without a stop", async () => {
-  const session = open("JMS x\nx: JUN x\n");
-  await session.go({ kind: "count", count: 1 });
-  const stop = await session.go({ kind: "out" }, async (done) => done < 1000000);
+  const session = openSession("JMS x\nx: JUN x\n");
+  await session.runToGoal({ kind: "count", count: 1 });
+  const stop = await session.runToGoal({ kind: "out" }, async (done) => done < 1000000);
   assert.equal(stop.why, "pause");
   assert.match(stop.words, /^Paused at 002 \(x, line 2\), after .*; the return from the subroutine was not reached\.$/);
 });
@@ -306,7 +306,7 @@ test("notes report lamps by their names and ports as digits", () => {
   assert.equal(note.words(["1", "0", "9"]), "*. rom 9 {");
 });
 
-const edited = (lines, edit) => {
+const linesAfterEdit = (lines, edit) => {
   const list = new BreakpointList(lines.map((line) => ({ line })));
   list.edit(edit);
   return list.all.map(({ line }) => line);
@@ -315,18 +315,18 @@ const at = (line, ch = 0) => ({ line, ch });
 
 test("breakpoints move with the lines of the text", () => {
   const typed = { from: at(3, 5), to: at(3, 5), text: ["x"], removed: [""] };
-  assert.deepEqual(edited([2, 4, 6], typed), [2, 4, 6]);
+  assert.deepEqual(linesAfterEdit([2, 4, 6], typed), [2, 4, 6]);
   // Insert a line break before line 4, at its beginning, in its middle, and at its end.
-  assert.deepEqual(edited([3, 4, 5], { from: at(2, 9), to: at(2, 9), text: ["", ""], removed: [""] }), [3, 5, 6]);
-  assert.deepEqual(edited([3, 4, 5], { from: at(3), to: at(3), text: ["", ""], removed: [""] }), [3, 5, 6]);
-  assert.deepEqual(edited([3, 4, 5], { from: at(3, 4), to: at(3, 4), text: ["", ""], removed: [""] }), [3, 4, 6]);
-  // Lines 3 and 4 are deleted whole; line 4 is joined to line 3.
-  assert.deepEqual(edited([2, 3, 4, 5], { from: at(2), to: at(4), text: ["", ""].slice(1), removed: ["a", "b", ""] }), [2, 3]);
-  assert.deepEqual(edited([3, 4, 5], { from: at(2, 3), to: at(3, 0), text: [""], removed: ["", ""] }), [3, 4]);
+  assert.deepEqual(linesAfterEdit([3, 4, 5], { from: at(2, 9), to: at(2, 9), text: ["", ""], removed: [""] }), [3, 5, 6]);
+  assert.deepEqual(linesAfterEdit([3, 4, 5], { from: at(3), to: at(3), text: ["", ""], removed: [""] }), [3, 5, 6]);
+  assert.deepEqual(linesAfterEdit([3, 4, 5], { from: at(3, 4), to: at(3, 4), text: ["", ""], removed: [""] }), [3, 4, 6]);
+  // First delete lines 3 and 4, with their line breaks. Then join line 4 to line 3.
+  assert.deepEqual(linesAfterEdit([2, 3, 4, 5], { from: at(2), to: at(4), text: ["", ""].slice(1), removed: ["a", "b", ""] }), [2, 3]);
+  assert.deepEqual(linesAfterEdit([3, 4, 5], { from: at(2, 3), to: at(3, 0), text: [""], removed: ["", ""] }), [3, 4]);
   // Replace the whole text with a text that has one more line at its beginning.
   const removed = ["a", "b", "c", "d"];
-  assert.deepEqual(edited([2, 4], { from: at(0), to: at(3, 1), text: ["new", ...removed], removed }), [3, 5]);
-  assert.deepEqual(edited([2, 4], { from: at(0), to: at(3, 1), text: ["a", "new", "b", "c", "d"], removed }), [3, 5]);
+  assert.deepEqual(linesAfterEdit([2, 4], { from: at(0), to: at(3, 1), text: ["new", ...removed], removed }), [3, 5]);
+  assert.deepEqual(linesAfterEdit([2, 4], { from: at(0), to: at(3, 1), text: ["a", "new", "b", "c", "d"], removed }), [3, 5]);
 });
 
 test("a line that is taken out takes its breakpoint along, and brings it back when that is undone", () => {
@@ -339,7 +339,7 @@ test("a line that is taken out takes its breakpoint along, and brings it back wh
 
 test("where all of the text is another one, breakpoints are where their addresses are", () => {
   const [removed, text] = [["a", "b", "c", "d"], ["new", "lines", "here", "x"]];
-  // Either both texts end with a line feed, or neither does. If the lines below stay, the edit does not replace the whole text.
+  // First no text ends with a line feed, then both do. In the third case, lines below the edit stay, so it does not replace the whole text.
   for (const [end, isWhole, lines] of [[[], true, [[3, -1], [0, 4]]], [[""], true, [[3, -1], [0, 4]]], [[], false, [[2, 4], [3, -1]]]]) {
     const list = new BreakpointList([{ line: 2, address: 4 }, { line: 3 }]);
     list.edit({ from: at(0), to: at(3 + end.length), text: [...text, ...end], removed: [...removed, ...end], isWhole });
@@ -348,8 +348,8 @@ test("where all of the text is another one, breakpoints are where their addresse
 });
 
 test("where a breakpoint has a condition or a count, the words of the stop have it", async () => {
-  const session = open();
+  const session = openSession();
   session.breakpoints.add({ line: LINE.write, condition: "r4 = 2", from: 2 });
   await session.applyBreakpoints();
-  assert.match((await session.go()).words, /^Paused at 009 \(show \+ 1, line 9\), at a breakpoint, when r4 = 2, at hit 2\.$/);
+  assert.match((await session.runToGoal()).words, /^Paused at 009 \(show \+ 1, line 9\), at a breakpoint, when r4 = 2, at hit 2\.$/);
 });

@@ -18,16 +18,16 @@ const BOARD = readBoard([
 const LINES = createBoardLines(BOARD, "# row 0: 7 CE\n", false);
 const numberOf = (waves, name) => waves.lines.findIndex((line) => line.name === name);
 
-/** Returns a recording. `changes` has the moments at which each line changes, by line name. Each line begins at 0. */
-function wavesOf(changes, cycles) {
+/** Returns a recording. `changes` has the cycles in which each line changes, by line name. Each line begins at level 0. */
+function recordingOf(changes, cycles) {
   const tracks = LINES.map(({ name, width }) => (
     { first: 0, moments: Uint32Array.from(changes[name] || []), values: width > 1 ? new Float64Array(0) : null }));
   return new Waves({ from: 0, cycles, isStuck: false, isOwed: false, lines: LINES, tracks,
     moments: Uint32Array.of(0), counters: Uint16Array.of(0), listing: [], program: null });
 }
 
-/** Returns the values of a row, each with its first moment. */
-function rowOf(waves, name) {
+/** Returns the values of a row, each with the cycle in which it begins. */
+function valuesOfRow(waves, name) {
   const line = numberOf(waves, name);
   return [waves.from, ...waves.changesOf(line)].map((moment) => `${moment} ${waves.valueAt(line, moment)}`);
 }
@@ -43,24 +43,24 @@ const TRACE = {
   "chain0.4": [116, 133],
   "chain0.5": [133],
 };
-const TOOK_IN = ["0 = 000", "10 1", "20 0", "30 0", "46 = 004", "100 1", "116 1", "132 = 013", "133 0", "149 = 026"];
+const SHIFTED_BITS = ["0 = 000", "10 1", "20 0", "30 0", "46 = 004", "100 1", "116 1", "132 = 013", "133 0", "149 = 026"];
 
 test("a shift register's row has each bit that came in, and its bits at rest", () => {
-  assert.deepEqual(rowOf(wavesOf(TRACE, 200), "shift.chain0"), TOOK_IN);
+  assert.deepEqual(valuesOfRow(recordingOf(TRACE, 200), "shift.chain0"), SHIFTED_BITS);
 });
 
 test("it is at rest only once the recording has come so far", () => {
-  assert.deepEqual(rowOf(wavesOf(TRACE, 148), "shift.chain0"), TOOK_IN.slice(0, -1));
-  assert.deepEqual(rowOf(wavesOf(TRACE, 149), "shift.chain0"), TOOK_IN);
-  assert.deepEqual(rowOf(wavesOf({}, 50), "shift.chain0"), ["0 = 000"]);
+  assert.deepEqual(valuesOfRow(recordingOf(TRACE, 148), "shift.chain0"), SHIFTED_BITS.slice(0, -1));
+  assert.deepEqual(valuesOfRow(recordingOf(TRACE, 149), "shift.chain0"), SHIFTED_BITS);
+  assert.deepEqual(valuesOfRow(recordingOf({}, 50), "shift.chain0"), ["0 = 000"]);
 });
 
 test("its bits are written as numbers are", () => {
-  const waves = wavesOf(TRACE, 200);
+  const waves = recordingOf(TRACE, 200);
   waves.base = "binary";
-  assert.equal(rowOf(waves, "shift.chain0")[7], "132 = 0000010011");
+  assert.equal(valuesOfRow(waves, "shift.chain0")[7], "132 = 0000010011");
   waves.base = "decimal";
-  assert.equal(rowOf(waves, "shift.chain0")[7], "132 = 19");
+  assert.equal(valuesOfRow(waves, "shift.chain0")[7], "132 = 19");
 });
 
 // Row 0 is bit 1 of the chain, and column 0 is line 2 of ROM 1. The user presses a key of row 0, another one, and both. A key is also
@@ -71,7 +71,7 @@ const SCAN = {
 };
 
 test("a key scan has the rows that are driven, and the keys that answer", () => {
-  assert.deepEqual(rowOf(wavesOf(SCAN, 100), "scan.keys"), [
+  assert.deepEqual(valuesOfRow(recordingOf(SCAN, 100), "scan.keys"), [
     "0 -", "10 row 0", "20 row 0: 7", "30 row 0: 7 CE", "40 row 0: CE", "45 row 0", "50 rows 0+1", "55 rows 0+1: column 1", "60 row 1: 1.1",
     "65 row 1", "70 row 1: 1.0", "80 row 1", "90 -",
   ]);
@@ -80,10 +80,10 @@ test("a key scan has the rows that are driven, and the keys that answer", () => 
 test("piece by piece, without what was before, the rows are the same", () => {
   const all = { ...SCAN, ...TRACE, "chain0.1": SCAN["chain0.1"], "chain0.2": SCAN["chain0.2"] };
   for (const name of ["shift.chain0", "scan.keys"]) {
-    const whole = wavesOf(all, 200);
+    const whole = recordingOf(all, 200);
     const wanted = [...whole.changesOf(numberOf(whole, name))].map((moment) => `${moment} ${whole.valueAt(numberOf(whole, name), moment)}`);
     for (const size of [1, 7, 16, 50]) {
-      const parts = wavesOf({}, 0);
+      const parts = recordingOf({}, 0);
       const got = [];
       parts.changesOf(numberOf(parts, name));
       for (let from = 0; from < 200; from += size) {
@@ -94,7 +94,7 @@ test("piece by piece, without what was before, the rows are the same", () => {
         parts.append({ from, cycles: to, isStuck: false, isOwed: false, tracks: tracks.map((data, line) => (
           { ...data, values: parts.lines[line].width > 1 ? new Float64Array(0) : null })), moments: new Uint32Array(0),
         counters: new Uint16Array(0), listing: [] });
-        got.push(...rowOf(parts, name).slice(1));
+        got.push(...valuesOfRow(parts, name).slice(1));
       }
       assert.deepEqual(got, wanted, `${name} by ${size}`);
     }
@@ -102,7 +102,7 @@ test("piece by piece, without what was before, the rows are the same", () => {
 });
 
 test("a decoder is searched for its changes, a scan for a key; a trigger names a line", () => {
-  const waves = wavesOf(SCAN, 100);
+  const waves = recordingOf(SCAN, 100);
   const moments = (text) => {
     const { search, fault } = readSearch(text, waves, -1);
     return search ? [find(waves, search, 0, true), find(waves, search, 100, false)] : fault;
@@ -114,7 +114,7 @@ test("a decoder is searched for its changes, a scan for a key; a trigger names a
 });
 
 test("a file has decoders as texts without blanks, and they are shown at first where they change", () => {
-  const waves = wavesOf(SCAN, 100);
+  const waves = recordingOf(SCAN, 100);
   const file = [...vcdParts(waves, [numberOf(waves, "scan.keys")])].join("");
   assert.match(file, /\$var string 1 A scan\.keys \$end/);
   assert.match(file, /#2160\nsrow_0:_7 A\n/);

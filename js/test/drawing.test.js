@@ -6,7 +6,7 @@ import { Face, findFaceErrors } from "../core/board/face.js";
 import { printerLines, missingParts } from "../core/board/face_board.js";
 import { SHELF_PARTS, applyAction, matchesBench } from "../core/drawing/drawing_actions.js";
 import { boardLines } from "../core/bench/board_form.js";
-import { canWire, possibleSources, possibleTargets, inputLines, boardWithBuzzer } from "../core/drawing/board_lines.js";
+import { canConnect, possibleSources, possibleTargets, inputLines, boardWithBuzzer } from "../core/drawing/board_lines.js";
 import { selectionForm } from "../core/drawing/selection_form.js";
 import { applyEdits, inverseEdits } from "../core/drawing/text_edits.js";
 import { parseFaceLine } from "../core/board/face_words.js";
@@ -28,7 +28,7 @@ const onBench = (name, act) => test(name, async () => {
 });
 const examples = examplesOfPage.map(({ name, board }) => ({ name, text: board })).filter(({ text }) => text);
 
-/** Boards in other styles of writing. */
+/** Boards whose texts have other TOML styles than the examples. */
 const OTHERS = [
   { name: "nothing", text: "" },
   { name: "a comment alone", text: "# A board to come" },
@@ -43,7 +43,7 @@ const OTHERS = [
 const BOARDS = [...examples, ...OTHERS];
 
 /** Returns the bench's answer to each text: the board, or an error number. */
-function ask(texts) {
+function boardAnswers(texts) {
   const { answers } = engine.ask(empty, texts.map((text) => `wire\n${sentText(text, "#")}.\nboard\n`).join(""));
   const replies = [];
   for (const answer of answers) {
@@ -63,7 +63,7 @@ const textOf = (board) => [
 ].join("");
 
 /** Returns the board with one more wire, as the manual defines it. Uses no code of the page. */
-function wired(board, line, target) {
+function withWire(board, line, target) {
   const next = structuredClone(board);
   const [kind, number] = [target.split(" ")[0], Number(target.split(" ")[1])];
   if (kind === "clock" || kind === "data") next.chains[number][kind] = line;
@@ -82,12 +82,12 @@ const comments = (text) => text.split("\n").flatMap((line) => {
   return found && !parseFaceLine(line) ? [found[0]] : [];
 });
 
-/** Checks an action: the bench accepts the new text and reports the intended board, all comments stay, and the edits can be undone. */
+/** Checks an action: the bench accepts the new text and reports the board `wanted`, all comments stay, and the edits can be undone. */
 function check(name, text, act, wanted) {
   const done = applyAction(text, act);
   const said = `${name}: ${JSON.stringify(act)}`;
   assert.equal(done.refusal, "", said);
-  const [first, after] = ask([text, done.text]);
+  const [first, after] = boardAnswers([text, done.text]);
   assert.match(after.first, /^ok/, `${said}\n${done.text}`);
   assert.ok(matchesBench(done.text, after.board), said);
   if (wanted) assert.deepEqual(readBoard(after.board), wanted, said);
@@ -101,7 +101,7 @@ function check(name, text, act, wanted) {
 }
 
 onBench("each board is read as the bench reads it", () => {
-  ask(BOARDS.map(({ text }) => text)).forEach(({ first, board }, at) => {
+  boardAnswers(BOARDS.map(({ text }) => text)).forEach(({ first, board }, at) => {
     assert.match(first, /^ok/, BOARDS[at].name);
     assert.ok(matchesBench(BOARDS[at].text, board), BOARDS[at].name);
   });
@@ -109,7 +109,7 @@ onBench("each board is read as the bench reads it", () => {
 
 onBench("a text that is read otherwise is not edited", () => {
   for (const text of ['[[rom]]\n"chip" = 0\nport = "00\\u00300"\n', 'rom = [{ chip = 0, port = """0000""" }]\n']) {
-    const [{ first, board }] = ask([text]);
+    const [{ first, board }] = boardAnswers([text]);
     assert.deepEqual([first, matchesBench(text, board)], ["ok 1", false]);
   }
   assert.match(applyAction("[[rom\n", { kind: "add", part: "ram" }).refusal, /has errors/);
@@ -164,7 +164,7 @@ onBench("so does a printer, with its strobe and with the port of its code", () =
 });
 
 for (const { name, text } of BOARDS) {
-  const read = () => readBoard(ask([text])[0].board);
+  const read = () => readBoard(boardAnswers([text])[0].board);
 
   onBench(`${name}: what the shelf offers can be added, and goes again without a trace`, () => {
     const board = read();
@@ -188,7 +188,7 @@ for (const { name, text } of BOARDS) {
     const some = lines.filter((_, at) => lines.length < 30 || at % 13 === 0);
     for (const line of some) {
       for (const target of possibleTargets(board, line).filter((_, at) => at % 5 === 0 || board.lamps.length < 8)) {
-        const done = check(name, text, { kind: "wire", line, target }, wired(board, line, target));
+        const done = check(name, text, { kind: "wire", line, target }, withWire(board, line, target));
         assert.deepEqual(comments(done.text), comments(text));
         const old = inputLines(board).get(target);
         assert.ok(possibleSources(done.board, target).includes(old));
@@ -209,7 +209,7 @@ for (const { name, text } of BOARDS) {
       const missing = comments(text).filter((comment) => !left.includes(comment));
       // A comment in one of the part's lines is deleted with the part.
       if (examples.some((each) => each.name === name)) assert.deepEqual(missing, [], `${name}: ${part}`);
-      checkLeft(board, new Face(text), done, part);
+      checkOtherParts(board, new Face(text), done, part);
     }
   });
 
@@ -282,7 +282,7 @@ for (const { name, text } of BOARDS) {
  * Checks that all other parts are unchanged after a part was deleted. Lamps and chains are renumbered, and each lamp still has its name and
  * its colour.
  */
-function checkLeft(old, oldFace, { board, text }, part) {
+function checkOtherParts(old, oldFace, { board, text }, part) {
   const face = new Face(text);
   const number = Number(part.split(" ")[1]);
   const isGone = (line) => (part.startsWith("rom ") && line.startsWith(`rom${number}.`)) || (part.startsWith("ram ")
@@ -313,18 +313,18 @@ function checkLeft(old, oldFace, { board, text }, part) {
 onBench("what may be wired is what the bench takes, and all of it is offered", () => {
   const some = examples.filter((each) => ["lock", "counter", "first", "traffic light"].includes(each.name));
   for (const { name, text } of [...some, OTHERS[3]]) {
-    const board = readBoard(ask([text])[0].board);
+    const board = readBoard(boardAnswers([text])[0].board);
     const pairs = boardLines(board).flatMap((line) => [...inputLines(board).keys()].map((target) => ({ line, target })));
-    const answers = ask(pairs.map(({ line, target }) => textOf(wired(board, line.name, target))));
+    const answers = boardAnswers(pairs.map(({ line, target }) => textOf(withWire(board, line.name, target))));
     pairs.forEach(({ line, target }, at) => {
-      assert.equal(canWire(board, line, target), answers[at].first.startsWith("ok"),
+      assert.equal(canConnect(board, line, target), answers[at].first.startsWith("ok"),
         `${name}: ${line.name} to ${target}: ${answers[at].first}`);
     });
   }
 });
 
 /** Returns a generator of pseudo-random numbers that are the same in each run. */
-function chances(seed) {
+function createRandom(seed) {
   let state = seed;
   return (list) => {
     state = (Math.imul(state, 1103515245) + 12345) >>> 0;
@@ -333,7 +333,7 @@ function chances(seed) {
 }
 
 /** Returns a random action that a user can perform on a board with the shelf, a pin, a field or a button. */
-function anyAct(pick, board, face) {
+function randomAction(pick, board, face) {
   const lines = boardLines(board).map((line) => line.name);
   const parts = ["", ...board.roms.map(({ chip }) => `rom ${chip}`), ...board.banks.map(({ bank }) => `ram ${bank}.0`),
     ...board.chains.map((_, at) => `chain ${at}`), ...(board.matrix ? ["keys"] : []), ...inputLines(board).keys(), ...lines];
@@ -352,13 +352,13 @@ function anyAct(pick, board, face) {
 onBench("whatever is done one after the other, the bench takes the text, comments stay, and all of it can be undone", () => {
   let [done, refused] = [0, 0];
   for (let seed = 1; seed <= 30; seed++) {
-    const pick = chances(seed);
+    const pick = createRandom(seed);
     const begun = pick(["", ...examples.map(({ text }) => text)]);
     let text = begun;
     const back = [];
     for (let step = 0; step < 25; step++) {
       const face = new Face(text);
-      const act = anyAct(pick, boardWithBuzzer(readBoard(ask([text])[0].board), face), face);
+      const act = randomAction(pick, boardWithBuzzer(readBoard(boardAnswers([text])[0].board), face), face);
       if (applyAction(text, act).refusal) refused += 1;
       else {
         const next = check(`seed ${seed}`, text, act);

@@ -19,7 +19,7 @@ const examples = examplesOfPage;
 const boardOf = (wanted) => examples.find(({ name }) => name === wanted).board;
 
 /** Returns a drawn board for a text, as the page creates it. */
-async function drawn(text = "") {
+async function createDrawnBoard(text = "") {
   const engine = await loading;
   const file = engine.begin();
   const desk = { text, steps: [], shown: null, asked: 0, whileAsked: () => {} };
@@ -49,14 +49,14 @@ async function drawn(text = "") {
 }
 
 test("an empty bench: parts come with what they need, and a wire goes from pin to pin", async () => {
-  const desk = await drawn();
+  const desk = await createDrawnBoard();
   const { drawing } = desk;
   assert.deepEqual([desk.shown.fault, [...desk.shown.shelf.values()].every((why) => why === "")], ["", true]);
-  await drawing.act({ kind: "add", part: "keys" });
+  await drawing.performInOrder({ kind: "add", part: "keys" });
   assert.equal(desk.shown.lastMessage, "The keys were added, with ROM 0, chain 0 and ROM 1.");
   assert.deepEqual([desk.shown.selected, desk.shown.shelf.get("keys")],
     ["keys", "A board has one key matrix: give it more rows and columns."]);
-  await drawing.act({ kind: "add", part: "lamp" });
+  await drawing.performInOrder({ kind: "add", part: "lamp" });
   await drawing.handleClick("rom0.2");
   assert.equal(desk.shown.lastMessage, "Wire from line rom0.2: it can end at 3 pins.");
   assert.deepEqual([...desk.shown.ends], ["clock 0", "data 0", "lamp 0"]);
@@ -71,7 +71,7 @@ test("an empty bench: parts come with what they need, and a wire goes from pin t
 });
 
 test("a wire may begin at what takes it; one that cannot be is none, and Escape leaves it", async () => {
-  const desk = await drawn(boardOf("lock"));
+  const desk = await createDrawnBoard(boardOf("lock"));
   const { drawing } = desk;
   await drawing.handleClick("column 1");
   assert.deepEqual([...desk.shown.ends], possibleSources(desk.shown.board, "column 1").filter((line) => line !== "rom1.1"));
@@ -89,7 +89,7 @@ test("a wire may begin at what takes it; one that cannot be is none, and Escape 
 });
 
 test("what cannot be is refused in words, and the text stays", async () => {
-  const desk = await drawn(boardOf("lock"));
+  const desk = await createDrawnBoard(boardOf("lock"));
   for (const [act, words] of [
     [{ kind: "delete", part: "clock 0" }, /wire it to another line, or delete the chain/],
     [{ kind: "delete", part: "rom0.1" }, /only with its chip/],
@@ -98,14 +98,14 @@ test("what cannot be is refused in words, and the text stays", async () => {
     [{ kind: "wire", line: "rom1.0", target: "clock 0" }, /is an input line/],
     [{ kind: "colour", lamp: 0, colour: "amber" }, /^No change\.$/],
   ]) {
-    await desk.drawing.act(act);
+    await desk.drawing.performInOrder(act);
     assert.match(desk.shown.lastMessage, words);
   }
   assert.equal(desk.text, boardOf("lock"));
 });
 
 test("a text with faults is not drawn in; what was drawn last stays", async () => {
-  const desk = await drawn(boardOf("lock"));
+  const desk = await createDrawnBoard(boardOf("lock"));
   desk.text = `${desk.text}\n[[lamp]]\n`;
   await desk.drawing.refresh();
   assert.match(desk.shown.fault, /^The bench rejects the board's text: refusal 2[02]\. Board shows where\.$/);
@@ -114,7 +114,7 @@ test("a text with faults is not drawn in; what was drawn last stays", async () =
   desk.text = text.replace('"rom1.0"', '"rom1\\u002e0"');
   await desk.drawing.refresh();
   assert.match(desk.shown.fault, /the picture cannot change/);
-  await desk.drawing.act({ kind: "add", part: "rom" });
+  await desk.drawing.performInOrder({ kind: "add", part: "rom" });
   assert.match(desk.shown.lastMessage, /^It was not done\. .* the picture cannot change/);
   desk.text = text;
   await desk.drawing.refresh();
@@ -123,27 +123,27 @@ test("a text with faults is not drawn in; what was drawn last stays", async () =
 
 test("what is longer than the bench takes is not done", async () => {
   const long = `${'lamp = [] # x\n'}${"rom = []\n".repeat(0)}${" \n".repeat(16370)}`;
-  const desk = await drawn(long);
+  const desk = await createDrawnBoard(long);
   assert.equal(desk.shown.fault, "");
-  await desk.drawing.act({ kind: "add", part: "rom" });
+  await desk.drawing.performInOrder({ kind: "add", part: "rom" });
   assert.match(desk.shown.lastMessage, /^It was not done\. The bench rejects the board's text: refusal 13\./);
   assert.equal(desk.text, long);
 });
 
 test("a text that is edited while the bench is asked keeps that edit", async () => {
-  const desk = await drawn(boardOf("lock"));
+  const desk = await createDrawnBoard(boardOf("lock"));
   desk.whileAsked = () => {
     desk.whileAsked = () => {};
     desk.text = `# typed meanwhile\n${desk.text}`;
   };
-  await desk.drawing.act({ kind: "add", part: "ram" });
+  await desk.drawing.performInOrder({ kind: "add", part: "ram" });
   assert.match(desk.text, /^# typed meanwhile\n[^]*chips = 2\n/);
   assert.deepEqual(desk.shown.board.banks.map(({ chips }) => chips), [2]);
 });
 
 test("acts that follow one another at once are done one after the other", async () => {
-  const desk = await drawn();
-  await Promise.all([1, 2, 3, 4].map(() => desk.drawing.act({ kind: "add", part: "lamp" })));
+  const desk = await createDrawnBoard();
+  await Promise.all([1, 2, 3, 4].map(() => desk.drawing.performInOrder({ kind: "add", part: "lamp" })));
   assert.deepEqual(desk.shown.board.lamps, ["ram0.0.0", "ram0.0.1", "ram0.0.2", "ram0.0.3"]);
 });
 
@@ -163,14 +163,14 @@ test("a line of a face is no title", () => {
 });
 
 test("a board is known to be the one that is wired", async () => {
-  const desk = await drawn(boardOf("lock"));
+  const desk = await createDrawnBoard(boardOf("lock"));
   assert.equal(desk.shown.isWired, false);
   desk.drawing.setSessionBoard(desk.drawing.answers);
   await desk.drawing.refresh();
   assert.equal(desk.shown.isWired, true);
-  await desk.drawing.act({ kind: "colour", lamp: 0, colour: "blue" });
+  await desk.drawing.performInOrder({ kind: "colour", lamp: 0, colour: "blue" });
   assert.equal(desk.shown.isWired, true);
-  await desk.drawing.act({ kind: "add", part: "lamp" });
+  await desk.drawing.performInOrder({ kind: "add", part: "lamp" });
   assert.equal(desk.shown.isWired, false);
 });
 
@@ -199,32 +199,34 @@ test("each value that a field offers can be set, or is refused in words; each bu
 });
 
 test("where chains were dragged to follows their numbers, and comes back with the text", async () => {
-  const desk = await drawn(boardOf("calculator"));
+  const desk = await createDrawnBoard(boardOf("calculator"));
   const { drawing } = desk;
   const { movedParts: parts } = drawing;
   const begun = [["chain 0", { x: 1, y: 2 }], ["chain 1", { x: 3, y: 4 }], ["rom 0", { x: 5, y: 6 }]];
-  parts.begin(begun);
-  await drawing.act({ kind: "add", part: "lamp" });
+  parts.load(begun);
+  await drawing.performInOrder({ kind: "add", part: "lamp" });
   assert.equal(parts.takeChanges(), false);
-  await drawing.act({ kind: "delete", part: "chain 0" });
-  assert.deepEqual([Object.fromEntries(parts.moved), parts.takeChanges()], [{ "chain 0": { x: 3, y: 4 }, "rom 0": { x: 5, y: 6 } }, true]);
+  await drawing.performInOrder({ kind: "delete", part: "chain 0" });
+  const moved = { "chain 0": { x: 3, y: 4 }, "rom 0": { x: 5, y: 6 } };
+  assert.deepEqual([Object.fromEntries(parts.positions), parts.takeChanges()], [moved, true]);
   await drawing.undoOrRedo("undo");
-  assert.deepEqual([Object.fromEntries(parts.moved), parts.takeChanges(), parts.takeChanges()], [Object.fromEntries(begun), true, false]);
+  const changes = () => [parts.takeChanges(), parts.takeChanges()];
+  assert.deepEqual([Object.fromEntries(parts.positions), ...changes()], [Object.fromEntries(begun), true, false]);
   await drawing.undoOrRedo("undo");
-  assert.deepEqual([Object.fromEntries(parts.moved), parts.takeChanges()], [Object.fromEntries(begun), false]);
+  assert.deepEqual([Object.fromEntries(parts.positions), parts.takeChanges()], [Object.fromEntries(begun), false]);
 });
 
 test("of several chains that go, those between them keep their places", () => {
   const parts = new MovedParts();
-  parts.begin([0, 1, 2, 3].map((at) => [`chain ${at}`, { x: at, y: 0 }]));
-  parts.note("before", "after", [2, 0]);
-  const chains = () => [...parts.moved].sort().map(([part, { x }]) => `${part} ${x}`);
+  parts.load([0, 1, 2, 3].map((at) => [`chain ${at}`, { x: at, y: 0 }]));
+  parts.recordDeletion("before", "after", [2, 0]);
+  const chains = () => [...parts.positions].sort().map(([part, { x }]) => `${part} ${x}`);
   for (let times = 0; times < 2; times++) {
-    parts.follow("before", "after");
+    parts.updateForTextChange("before", "after");
     assert.deepEqual(chains(), ["chain 0 1", "chain 1 3"]);
-    parts.follow("after", "before");
+    parts.updateForTextChange("after", "before");
     assert.deepEqual(chains(), ["chain 0 0", "chain 1 1", "chain 2 2", "chain 3 3"]);
   }
-  parts.follow("before", "another");
+  parts.updateForTextChange("before", "another");
   assert.equal(chains().length, 4);
 });

@@ -43,7 +43,7 @@ const BOARD = 'wire\n[[rom]]\nchip = 0\nport = "0000"\n[[ram]]\nbank = 0\nchips 
 const PROGRAM = "asm\nloop: IAC\n      WMP\n      JUN loop\n.\n";
 
 /** Runs a test on both hosts. The results must be equal. */
-function onBoth(name, act) {
+function testOnBothHosts(name, act) {
   test(name, async () => {
     const found = [];
     for (const engine of Object.values(hosts)) found.push(await act(engine));
@@ -58,7 +58,7 @@ function stateAfter(engine, lines) {
   return state;
 }
 
-onBoth("a new session has no commands, and questions leave it as it is", (engine) => {
+testOnBothHosts("a new session has no commands, and questions leave it as it is", (engine) => {
   const state = engine.begin();
   const { status, opened, answers } = engine.ask(state, "seq\nregs\nlamps\nseq\n");
   assert.deepEqual([status, opened, answers[0], answers[3]], [0, "session 0", "seq 0", "seq 0"]);
@@ -66,7 +66,7 @@ onBoth("a new session has no commands, and questions leave it as it is", (engine
   return answers;
 });
 
-onBoth("commands lead to the next state; the state before stays", (engine) => {
+testOnBothHosts("commands lead to the next state; the state before stays", (engine) => {
   const before = stateAfter(engine, BOARD + PROGRAM);
   const after = new Uint8Array(engine.size);
   const { opened, answers } = engine.serve(before, "run 10\nlamps\n", after);
@@ -77,14 +77,14 @@ onBoth("commands lead to the next state; the state before stays", (engine) => {
   return [answers, engine.ask(before, "state\n"), engine.ask(after, "state\n")];
 });
 
-onBoth("commands that are asked about change nothing", (engine) => {
+testOnBothHosts("commands that are asked about change nothing", (engine) => {
   const state = stateAfter(engine, BOARD + PROGRAM);
   const answers = [engine.ask(state, "run 7\ntrace 1\nseq\n"), engine.ask(state, "poke acc 9\nregs\n"), engine.ask(state, "regs\nseq\n")];
   assert.equal(answers[2].answers[1], "seq 2");
   return answers;
 });
 
-onBoth("a trace goes through breakpoints, its last lines end at one, and the session stays", async (engine) => {
+testOnBothHosts("a trace goes through breakpoints, its last lines end at one, and the session stays", async (engine) => {
   const state = stateAfter(engine, `${BOARD}${PROGRAM}run 3\nbreak 0x002\n`);
   const trace = new SessionTrace(engine, state, async () => {});
   const linesOf = async (pieces) => {
@@ -102,7 +102,7 @@ onBoth("a trace goes through breakpoints, its last lines end at one, and the ses
   return next;
 });
 
-onBoth("a VCD file is written piece by piece", async (engine) => {
+testOnBothHosts("a VCD file is written piece by piece", async (engine) => {
   const state = copyWithoutStops(engine, stateAfter(engine, `${BOARD}${PROGRAM}`));
   const board = readBoard(engine.ask(state, "board\n").answers);
   const all = chooseLines(board, "", false, ["ram0.0", "acc", "pc", "ram0.0[3:0]"]);
@@ -118,7 +118,7 @@ onBoth("a VCD file is written piece by piece", async (engine) => {
   return file;
 });
 
-onBoth("a copy of a state is the same state, and many states can be returned to", (engine) => {
+testOnBothHosts("a copy of a state is the same state, and many states can be returned to", (engine) => {
   const states = [stateAfter(engine, BOARD + PROGRAM)];
   for (let at = 1; at <= 50; at++) {
     const state = states[at - 1].slice();
@@ -129,7 +129,7 @@ onBoth("a copy of a state is the same state, and many states can be returned to"
   return [0, 50, 20, 3, 20, 49, 3, 50].map((at) => engine.ask(states[at].slice(), "state\n"));
 });
 
-onBoth("no line, blank lines and refused lines", (engine) => {
+testOnBothHosts("no line, blank lines and refused lines", (engine) => {
   const state = engine.begin();
   return [
     "", "\n\n  \n", "nonsense\nrun\nrun 0\nseq 5\n SEQ\n", `${"x".repeat(300)}\nseq\n`, "poke acc 99\n", "run 5 6 7\r\nregs\r\n",
@@ -137,7 +137,7 @@ onBoth("no line, blank lines and refused lines", (engine) => {
   ].map((lines) => [engine.serve(state, lines, state), engine.ask(state, lines)]);
 });
 
-onBoth("`seq` within a text is a line of it, and `seq` has answers of its own", (engine) => {
+testOnBothHosts("`seq` within a text is a line of it, and `seq` has answers of its own", (engine) => {
   const state = stateAfter(engine, BOARD);
   return [
     engine.serve(state, "seq\nasm\nseq\nseq\n.\nseq\n seq \n", state), engine.ask(state, "map\nseq\n.\nseq\n"),
@@ -145,7 +145,7 @@ onBoth("`seq` within a text is a line of it, and `seq` has answers of its own", 
   ];
 });
 
-onBoth("lines whose last one, or whose text, has no end", (engine) => {
+testOnBothHosts("lines whose last one, or whose text, has no end", (engine) => {
   const state = stateAfter(engine, BOARD + PROGRAM);
   const answers = [engine.ask(state, "seq\nreg"), engine.ask(state, "run 5\nasm\n NOP\n"), engine.serve(state, "run 5\nasm\n NOP", state)];
   assert.deepEqual(answers[0].answers, ["seq 2", "no 10"]);
@@ -153,7 +153,7 @@ onBoth("lines whose last one, or whose text, has no end", (engine) => {
   return [answers, engine.ask(state, "state\n")];
 });
 
-onBoth("more lines, and longer texts and answers, than a pipe takes", (engine) => {
+testOnBothHosts("more lines, and longer texts and answers, than a pipe takes", (engine) => {
   const state = stateAfter(engine, BOARD);
   const long = `asm\n${"; a comment that is long\n".repeat(20000)} NOP\n.\n`;
   const many = "regs\nlist 0 256\nlamps\n".repeat(1500);
@@ -163,13 +163,13 @@ onBoth("more lines, and longer texts and answers, than a pipe takes", (engine) =
   return [answers.length, answers.slice(-300), engine.ask(state, "state\n")];
 });
 
-onBoth("the bytes of a session file lead to the same state on each host", (engine) => {
+testOnBothHosts("the bytes of a session file lead to the same state on each host", (engine) => {
   const bytes = engine.bytesOf(stateAfter(engine, `${BOARD + PROGRAM}run 9\nbreak 2\n`));
   assert.equal(bytes.length, module.size);
   return Object.values(hosts).map((host) => host.ask(host.stateOf(bytes), "state\nboard\nlist 0 8\n"));
 });
 
-onBoth("a state of bytes that were read from a file does not share their memory, nor that of its copies", (engine) => {
+testOnBothHosts("a state of bytes that were read from a file does not share their memory, nor that of its copies", (engine) => {
   const read = Buffer.from(engine.bytesOf(stateAfter(engine, BOARD + PROGRAM)));
   const state = engine.stateOf(read);
   const copy = state.slice();
@@ -178,7 +178,7 @@ onBoth("a state of bytes that were read from a file does not share their memory,
   return [engine.ask(state, "state\n"), engine.ask(copy, "state\n"), state.constructor.name];
 });
 
-onBoth("bytes that are no session file are rejected by a number", (engine) => {
+testOnBothHosts("bytes that are no session file are rejected by a number", (engine) => {
   const whole = engine.bytesOf(stateAfter(engine, BOARD));
   const damaged = whole.slice().fill(255, 0, 4096);
   return [new Uint8Array(10), whole.slice(0, 1000), damaged].map((bytes) => {
@@ -191,7 +191,7 @@ onBoth("bytes that are no session file are rejected by a number", (engine) => {
   });
 });
 
-onBoth("tests, coverage and profile of examples", async (engine) => {
+testOnBothHosts("tests, coverage and profile of examples", async (engine) => {
   const texts = (name) => ({ boardText: example(`${name}/board.toml`), programText: example(`${name}/${name}.asm`) });
   const printed = [];
   for (const name of ["three_lamps", "lock"]) {

@@ -25,8 +25,8 @@ import { pageModule } from "./page_session.js";
 
 const engine = new Engine(new globalThis.WebAssembly.Module(pageModule));
 
-// Key A switches the lamp `on` on if it is down for 20 cycles. Key B switches the lamp off. Key C, at TEST, makes a fourth nested call. Key
-// D executes a BBL without a call.
+// If key A is down for 20 cycles, the program switches the lamp named `on` on. Key B makes it switch the lamp off. Key C, at TEST, makes it
+// execute a fourth nested call, and key D a BBL without a call.
 const BOARD = `# row 0: A B C D
 # lamp 0: on
 # test: button WALK
@@ -85,14 +85,14 @@ const subject = createSubject(engine, BOARD, PROGRAM);
 const campaignOf = (text) => readCampaign(text, subject);
 const faultsOf = (text) => campaignOf(text).faults.map(({ line, words }) => `${line}: ${words}`);
 
-/** The maximum number of cycles for minimising a counterexample. */
-const PATIENCE = 5e6;
+/** The maximum number of cycles to simulate while a counterexample is minimised. */
+const MAX_MINIMISING_CYCLES = 5e6;
 
-/** Resolves to the results of a search of some seconds. */
+/** Searches for at most some seconds. Resolves to the results. */
 async function explore(text, seconds = 20, confirm = () => true, seed = 1) {
   const { campaign, faults } = campaignOf(text);
   assert.deepEqual(faults, []);
-  const run = new CampaignRun(subject, campaign, seed, confirm, PATIENCE);
+  const run = new CampaignRun(subject, campaign, seed, confirm, MAX_MINIMISING_CYCLES);
   const asked = campaign.properties.filter(({ line }) => line > 0).length;
   const end = performance.now() + 1000 * seconds;
   while (performance.now() < end && run.counterexamples.slice(0, asked).includes(null)) await run.runFor(20);
@@ -149,7 +149,7 @@ test("each form of a property is found broken, or reached, with a test that says
 
 test("a fourth call and a BBL without a call are seen, with no property of them", async () => {
   const { counterexamples: found, campaign } = await explore("press C D\nwait 20 to 300\nreach @four");
-  const run = new CampaignRun(subject, campaign, 1, () => true, PATIENCE);
+  const run = new CampaignRun(subject, campaign, 1, () => true, MAX_MINIMISING_CYCLES);
   const of = (form) => run.counterexamples[campaign.properties.findIndex((each) => each.form === form)];
   const end = performance.now() + 60000;
   while (performance.now() < end && !(of("calls") && of("returns"))) await run.runFor(20);
@@ -163,10 +163,10 @@ test("what holds for all inputs is proved first, and is not searched for", async
   const small = createSubject(engine, board, "look: JCN 1, lit\n LDM 0\n JUN put\nlit: LDM 1\nput: WMP\n JUN look\n");
   const text = "test\nwait 1 to 20\nnever lamp 1 on\nnever lamp 0 on\nreach lamp 1 on\nreach lamp 0 on\nnever lamp 0 on for 1 s\n";
   const { campaign } = readCampaign(text, small);
-  const run = new CampaignRun(small, campaign, 1, () => true, PATIENCE, null, undefined, 30000);
+  const run = new CampaignRun(small, campaign, 1, () => true, MAX_MINIMISING_CYCLES, null, undefined, 30000);
   const reported = () => run.report({ names: { board: "", program: "", properties: "" }, sums: "", seconds: 1, isStopped: false })
     .properties.map(({ states, found }) => `${states} ${found !== null}`);
-  // At the snapshots, the accumulator and the lamp are both 0 or both 1.
+  // In each snapshot, the accumulator and the lamp are both 0 or both 1.
   const expected = ["2 false", "0 true", "2 false", "0 true", "0 false", "2 false", "2 false", "2 false"];
   const end = performance.now() + 60000;
   do await run.runFor(20); while (performance.now() < end && !isDeepStrictEqual(reported(), expected));
@@ -178,7 +178,7 @@ test("a program that runs for long without a read does not hold up the search", 
   const loops = ["R1", "R2", "R3", "R4", "R5"].map((register) => ` ISZ ${register}, more\n`).join("");
   const slow = createSubject(engine, board, `all: INC R0\nmore: NOP\n${loops} JUN all\n`);
   const { campaign } = readCampaign("test\nnever r6 = 1\n", slow);
-  const run = new CampaignRun(slow, campaign, 1, () => true, PATIENCE, null, undefined, 100);
+  const run = new CampaignRun(slow, campaign, 1, () => true, MAX_MINIMISING_CYCLES, null, undefined, 100);
   const before = process.cpuUsage();
   await run.runFor(20);
   // The limit is in microseconds. A thousand runs of a million cycles would take minutes.
@@ -198,11 +198,11 @@ test("a model says what the display has to show, and what is wrong with it is re
     askedKeys.push(...chains);
     return { shown: chains.map((keys) => (keys.includes("A") ? "1" : "0")), fault: "" };
   };
-  const run = new CampaignRun(shown, campaign, 1, () => true, PATIENCE, says);
+  const run = new CampaignRun(shown, campaign, 1, () => true, MAX_MINIMISING_CYCLES, says);
   while (!run.counterexamples[0]) await run.runFor(20);
   assert.equal(run.counterexamples[0].test, "test model ./says\n  pace 300 200\n  keys A B\n  expect display 1\n");
   assert.match(askedKeys[0], /^[AB]( [AB])*$/);
-  const wrong = new CampaignRun(shown, campaign, 1, () => true, PATIENCE, () => ({ shown: [], fault: "it died" }));
+  const wrong = new CampaignRun(shown, campaign, 1, () => true, MAX_MINIMISING_CYCLES, () => ({ shown: [], fault: "it died" }));
   await wrong.runFor(20);
   assert.equal(wrong.fault, "it died");
 });
@@ -272,7 +272,7 @@ test("keys that are down together at first go up in time, one after the other", 
   assert.ok(steps.every(({ wait }) => wait >= 1));
 });
 
-// After a press of A, the program counts for 99,940 cycles. After that, key B switches the lamp `on` on.
+// After a press of A, the program counts for 99,940 cycles. After that, a press of B makes it switch the lamp named `on` on.
 const LATE = `${DRIVE}first:  SRC P2
         RDR
         RAR
@@ -301,7 +301,7 @@ stay:   JUN stay
 test("a find is made short where keys are held for a short time, and waits are as long as a run can be", async () => {
   const late = createSubject(engine, BOARD, LATE);
   const { campaign } = readCampaign("press A B\ntogether 1\nheld at most 1000\nwait 100 to 100000\nnever lamp on on\n", late);
-  const run = new CampaignRun(late, campaign, 3, () => true, 4 * PATIENCE);
+  const run = new CampaignRun(late, campaign, 3, () => true, 4 * MAX_MINIMISING_CYCLES);
   while (run.counterexamples[0] === null) await run.runFor(20);
   assert.deepEqual(run.counterexamples[0].test.split("\n").slice(1, 6),
     ["  run 100", "  press A", "  run 100", "  release A", "  run 100000"]);
@@ -376,9 +376,9 @@ test("files that are kept come back as they were", () => {
   const files = new DeltaFiles(subject.file);
   const other = subject.file.slice();
   engine.serve(other, "press 0 1\nrun 500\n", other);
-  const kept = files.keep(other);
+  const kept = files.encode(other);
   assert.ok(kept.indexes.length < 500);
-  assert.deepEqual(files.file(files.keep(subject.file)), subject.file);
+  assert.deepEqual(files.file(files.encode(subject.file)), subject.file);
   assert.deepEqual(files.file(kept), other);
 });
 

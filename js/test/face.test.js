@@ -6,7 +6,7 @@ import { DisplayText } from "../core/board/display_text.js";
 import { Face, findFaceErrors, moreErrors } from "../core/board/face.js";
 import { missingParts } from "../core/board/face_board.js";
 
-/** Returns the contents of a sample file: the comments of a board, or their meaning. */
+/** Returns the contents of a sample file: the comments of a board (.face), or the expected description of the front panel (.expected). */
 const sample = (name) => readFileSync(new URL(`../../checks/faces/${name}`, import.meta.url), "utf8");
 const board = readBoard(["board", ...sample("board.toml").trim().split("\n")]);
 

@@ -1,5 +1,6 @@
-// A stand-in for the bench's module. Its session is one byte: the number of commands so far. Lines: `run N` answers `ok C ran N end`, or
-// stops early if the count reaches `stopAt`; `trap` fails; any other command is `ok C`. After `memory` calls, it answers with error 90.
+// A stand-in for the bench's module. Its session is one byte, C: the number of commands so far. The answer to `run N` is `ok C ran N end`,
+// or an early stop if C reaches `stopAt`. `trap` makes the module fail. The answer to any other command is `ok C`. After `memory` calls,
+// the stand-in answers with error 90 (no memory).
 
 import { BenchRefusal, BenchTrap } from "../core/bench/bench_errors.js";
 import { readInputs } from "../core/bench/inputs.js";

@@ -88,7 +88,7 @@ test("texts that put an image into ROM have room in the bench", () => {
 
 test("an image comes into the ROMs of the board, and goes into a file", async () => {
   const board = ["board", "[[rom]]", "chip = 1", 'port = "0000"'];
-  // One more line is for a ROM that the board does not have.
+  // The last line is for a ROM that the board does not have.
   const lines = [...Array(257).keys()].map((at) => `${(256 + at).toString(16).toUpperCase()} D1    LDM 1`);
   /** @type {string[]} */
   const done = [];

@@ -52,7 +52,7 @@ foul:   LDM 4
         WMP
 end:    JUN end
 `;
-/** A faulty program that reads PRESS only once in sixteen turns, so that it misses a short press. */
+/** A faulty program that reads PRESS only once in sixteen iterations, so that it misses a short press. */
 const LATE = PROGRAM.replace("wait:   JCN pressed, foul\n        ISZ R4, wait", "wait:   ISZ R4, wait\n        JCN pressed, foul");
 const INPUTS = "press START PRESS\nwait 20 to 200\nnote lamps\nheld at most 30\n";
 
@@ -60,7 +60,7 @@ const campaignOf = (text, program = PROGRAM) => readCampaign(INPUTS + text, crea
 const faultOf = (text) => campaignOf(text).faults.map(({ words }) => words).join();
 
 /** Searches for some seconds. Resolves to the counterexample of the first property, or to null if the search finds none. */
-async function found(text, program, seconds) {
+async function findCounterexample(text, program, seconds) {
   const subject = createSubject(engine, BOARD, program);
   const { campaign, faults } = readCampaign(INPUTS + text, subject);
   assert.deepEqual(faults, []);
@@ -70,8 +70,8 @@ async function found(text, program, seconds) {
   return run.counterexamples[0];
 }
 
-/** Resolves to true if a test fails on a program. */
-async function fails(text, program) {
+/** Resolves to true if a program test fails on a program. */
+async function testFails(text, program) {
   const { faults, outcomes } = await runTests(engine, { boardText: BOARD, programText: program, testText: text }, async () => true);
   assert.deepEqual(faults, []);
   return outcomes[0].failure !== null;
@@ -80,14 +80,14 @@ async function fails(text, program) {
 test("if PRESS comes while it waits, the foul lamp comes on: the program that is late is found, the other one is not", async () => {
   // If PRESS is pressed in the last cycles of the wait, the program may read it only after `go`.
   const text = "while lamp waiting on, after press PRESS within 20 lamp foul on or lamp go on\n";
-  const find = await found(text, LATE, 30);
+  const find = await findCounterexample(text, LATE, 30);
   assert.ok(find);
   assert.match(find.test, /^test while lamp waiting on, after press PRESS within 20 lamp foul on or lamp go on\n/);
   assert.match(find.test, /\n {2}until lamp foul on or lamp go on within 20\n$/);
-  assert.deepEqual([await fails(find.test, LATE), await fails(find.test, PROGRAM)], [true, false]);
-  assert.equal(await found(text, PROGRAM, 1), null);
+  assert.deepEqual([await testFails(find.test, LATE), await testFails(find.test, PROGRAM)], [true, false]);
+  assert.equal(await findCounterexample(text, PROGRAM, 1), null);
   // Without the guard, the property is violated, because PRESS after the wait is not a foul.
-  assert.ok(await found("after press PRESS within 20 lamp foul on\n", PROGRAM, 30));
+  assert.ok(await findCounterexample("after press PRESS within 20 lamp foul on\n", PROGRAM, 30));
 });
 
 test("each guard is found broken, with a test that fails", async () => {
@@ -98,9 +98,9 @@ test("each guard is found broken, with a test that fails", async () => {
     "while lamp waiting on, at @foul lamp go on", "once lamp foul on, reach lamp foul on", "while lamp go on, reach @stop",
     "once lamp waiting on, while lamp go on, after press START within 300, never lamps go",
   ]) {
-    const find = await found(`${text}\n`, PROGRAM, 30);
+    const find = await findCounterexample(`${text}\n`, PROGRAM, 30);
     assert.ok(find, text);
-    assert.equal(await fails(find.test, PROGRAM), !text.includes("reach"), `${text}\n${find.test}`);
+    assert.equal(await testFails(find.test, PROGRAM), !text.includes("reach"), `${text}\n${find.test}`);
   }
 });
 
@@ -121,10 +121,10 @@ test("what is no guard is reported", () => {
 // --- the second implementation: random runs in which the conditions C and G change, and the keys K and J are pressed ---
 
 const LENGTH = 90;
-const upTo = (random, most) => Math.floor(random() * most);
+const below = (random, most) => Math.floor(random() * most);
 
-function worldOf(random) {
-  const often = [0, 0.02, 0.12][upTo(random, 3)];
+function randomRun(random) {
+  const often = [0, 0.02, 0.12][below(random, 3)];
   const signal = () => {
     let is = random() < 0.5;
     return Array.from({ length: LENGTH + 1 }, () => {
@@ -133,8 +133,8 @@ function worldOf(random) {
     });
   };
   const acts = [];
-  for (let time = upTo(random, 12); time < LENGTH; time += upTo(random, 20)) {
-    acts.push({ time, act: ["K", "K", "J", "reset", "none"][upTo(random, 5)] });
+  for (let time = below(random, 12); time < LENGTH; time += below(random, 20)) {
+    acts.push({ time, act: ["K", "K", "J", "reset", "none"][below(random, 5)] });
   }
   return { c: signal(), g: signal(), acts: acts.filter(({ act }) => act !== "reset" || random() < 0.3) };
 }
@@ -143,7 +143,7 @@ function worldOf(random) {
  * Reports the events of a random run to a property in order. Returns the time at which the property is violated, or -1 if it is not
  * violated.
  */
-function brokenBy(property, { c, g, acts }) {
+function violationTime(property, { c, g, acts }) {
   const memory = property.from(0, 0);
   const opensAt = (time) => property.guards.map(({ condition }) => condition !== null && g[time]);
   let broken = -1;
@@ -195,7 +195,7 @@ function instantsOf({ c, g, acts }, guards) {
 }
 
 /** For each form of property, a function that returns the times at which the property is violated, as the manual defines it. */
-const READ = {
+const VIOLATION_TIMES = {
   never: (instants) => (instants.find(({ c, isOpen }) => isOpen && c) || { time: -1 }).time,
   always: (instants) => (instants.find(({ c, isOpen, isReset }) => isOpen && !isReset && !c) || { time: -1 }).time,
   "never for": (instants, limit) => {
@@ -242,10 +242,10 @@ while r4 = 1, after press START within 13, after press PRESS within 9 lamp go on
   assert.equal(properties.length, 17);
   const seen = new Map();
   for (let round = 0; round < 1500; round++) {
-    const world = worldOf(random);
+    const world = randomRun(random);
     for (const property of properties) {
-      const brokenAt = brokenBy(property, world);
-      const read = READ[property.form](instantsOf(world, property.guards), property.limit);
+      const brokenAt = violationTime(property, world);
+      const read = VIOLATION_TIMES[property.form](instantsOf(world, property.guards), property.limit);
       assert.equal(brokenAt, read, `${property.text}: ${JSON.stringify(world)}`);
       seen.set(property.text, (seen.get(property.text) || new Set()).add(read >= 0));
     }

@@ -36,14 +36,14 @@ turn:   SRC P0
         WR2
         JUN turn
 `;
-// The expected values are calculated. 7 cycles precede the first SRC, and a turn takes 8 cycles. In each turn, the first WRM, at 009,
-// changes ram.0.0x12. The second WRM writes the same value. WR2 writes to a chip that the board lacks.
-const SETUP = 7;
-const TURN = 8;
+// The expected values are calculated. 7 cycles precede the first SRC, and an iteration takes 8 cycles. In each iteration, the first WRM, at
+// 009, changes ram.0.0x12. The second WRM writes the same value. WR2 writes to a chip that the board lacks.
+const SETUP_CYCLES = 7;
+const LOOP_CYCLES = 8;
 const ALL = "seq\nstate\nram 0\nram 2\n";
 
 /** Returns a session in which the program has run for `cycles` cycles, 30 at a time. */
-async function ran(cycles) {
+async function sessionAfter(cycles) {
   const calls = await begin("three lamps");
   await calls.serve(`wire\n${BOARD}.\nasm\n${PROGRAM}.\nreset\n`);
   for (let done = 0; done < cycles; done += 30) await calls.serve(`run ${Math.min(30, cycles - done)}\n`);
@@ -55,7 +55,7 @@ const FRAME = 1543;
 test("while time runs the same is reported of the cycles that pass, frame by frame", async () => {
   const calls = await begin("three lamps");
   await calls.serve(`wire\n${BOARD.split("[[ram]]\nbank = 2")[0]}.\nasm\n${PROGRAM}.\nreset\n`);
-  assert.equal(calls.advance(SETUP).warmed, null);
+  assert.equal(calls.advance(SETUP_CYCLES).warmed, null);
   calls.watchRam(true);
   const passing = new RecentHeat();
   for (let frame = 0; frame < 20; frame++) {
@@ -72,23 +72,23 @@ test("while time runs the same is reported of the cycles that pass, frame by fra
 });
 
 test("of several chips one is looked at in each frame, and of full speed a sample", async () => {
-  const calls = await ran(SETUP);
+  const calls = await sessionAfter(SETUP_CYCLES);
   calls.watchRam(true);
   const reported = Array.from({ length: 6 }, () => calls.advance(80).warmed);
   assert.deepEqual(reported.map(({ cells }) => cells.map(({ place, count }) => `${place} ${count}`)), [
     ["ram.0.0x12 10"], [], [], ["ram.0.0x12 10"], [], []]);
   assert.equal(calls.advance(50000).warmed, null);
-  const { warmed } = calls.bench.session.measureAhead();
+  const { warmed } = calls.bench.session.forecastMeters();
   assert.deepEqual([warmed.chips, warmed.cycles, warmed.cells.length], [3, 2778, 1]);
   assert.equal(describeHeatStatus(warmed, false), "Counted while running, in one of 3 chips at a time, at full speed in samples.");
   assert.equal(describeHeatStatus({ chips: 1 }, true), "Counted while running.");
 });
 
 test("what changed is counted over the past, to the cycle, and nothing is undone", async () => {
-  const calls = await ran(SETUP + 20 * TURN);
+  const calls = await sessionAfter(SETUP_CYCLES + 20 * LOOP_CYCLES);
   const before = calls.ask(ALL);
-  const { cycles, cells } = await calls.heat(SETUP + 20 * TURN);
-  assert.equal(cycles, SETUP + 20 * TURN);
+  const { cycles, cells } = await calls.heat(SETUP_CYCLES + 20 * LOOP_CYCLES);
+  assert.equal(cycles, SETUP_CYCLES + 20 * LOOP_CYCLES);
   assert.deepEqual(cells, [
     { place: "ram.0.0x12", count: 20, ago: 6, address: 0x009, line: "" },
   ]);
@@ -96,15 +96,17 @@ test("what changed is counted over the past, to the cycle, and nothing is undone
 });
 
 test("of a shorter stretch that alone, and of a longer one as far as is remembered", async () => {
-  const calls = await ran(SETUP + 20 * TURN);
-  for (const [wanted, reported, count] of [[TURN, TURN, 1], [5, 5, 0], [3 * TURN + 3, 3 * TURN + 3, 3], [1e7, SETUP + 20 * TURN, 20]]) {
+  const calls = await sessionAfter(SETUP_CYCLES + 20 * LOOP_CYCLES);
+  for (const [wanted, reported, count] of [
+    [LOOP_CYCLES, LOOP_CYCLES, 1], [5, 5, 0], [3 * LOOP_CYCLES + 3, 3 * LOOP_CYCLES + 3, 3], [1e7, SETUP_CYCLES + 20 * LOOP_CYCLES, 20],
+  ]) {
     const { cycles, cells } = await calls.heat(wanted);
     assert.deepEqual([cycles, cells.reduce((sum, cell) => sum + cell.count, 0)], [reported, count]);
   }
 });
 
 test("a line that pokes is reported as such, also in a bank that no SRC has selected", async () => {
-  const calls = await ran(SETUP);
+  const calls = await sessionAfter(SETUP_CYCLES);
   await calls.serve("poke st.2.5.3 9\npoke ram.2.0x7F 1\npoke ram.2.0x7F 1\nrun 2\n");
   const { cells } = await calls.heat(100);
   assert.deepEqual(cells.filter(({ line }) => line), [
@@ -117,13 +119,13 @@ test("long runs are looked through in parts, with the same result", async () => 
   const once = await begin("three lamps");
   await once.serve(`wire\n${BOARD}.\nasm\n${PROGRAM}.\nreset\nrun 100000\nrun 63\n`);
   const { cycles, cells } = await once.heat(1e7);
-  const turns = Math.floor((100063 - SETUP) / TURN);
+  const turns = Math.floor((100063 - SETUP_CYCLES) / LOOP_CYCLES);
   assert.deepEqual([cycles, cells[0].place], [100063, "ram.0.0x12"]);
   assert.ok(cells[0].count === turns || cells[0].count === turns + 1, `${cells[0].count} of ${turns}`);
 });
 
 test("it is cancelled like other long work, and a board without RAM has none", async () => {
-  const calls = await ran(SETUP + 20 * TURN);
+  const calls = await sessionAfter(SETUP_CYCLES + 20 * LOOP_CYCLES);
   calls.bench.shouldContinue = async () => false;
   await assert.rejects(calls.heat(1000), CancelledError);
   const bare = await begin("three lamps");

@@ -18,7 +18,7 @@ class FakeButton extends EventTarget {
 }
 
 /** Returns a KeyPresser with two keys, and the log of its calls. */
-function bench(isRunning) {
+function createPresser(isRunning) {
   const down = new Set();
   const done = [];
   const note = (word, key) => {
@@ -43,24 +43,24 @@ function bench(isRunning) {
 }
 
 const wait = (time) => new Promise((done) => setTimeout(done, time));
-const LONGER = 120;
+const LONG_PRESS_MS = 120;
 
 for (const isRunning of [true, false]) {
   const when = isRunning ? "while time runs" : "while time stands still";
 
   test(`a swipe that begins on a key presses nothing, ${when}`, async () => {
-    const { done, buttons } = bench(isRunning);
+    const { done, buttons } = createPresser(isRunning);
     buttons[0].fire("pointerdown");
     buttons[0].fire("pointercancel");
     buttons[0].fire("lostpointercapture");
-    await wait(LONGER);
+    await wait(LONG_PRESS_MS);
     assert.deepEqual(done, []);
   });
 
   test(`a slow swipe takes its press back, ${when}`, async () => {
-    const { done, down, buttons } = bench(isRunning);
+    const { done, down, buttons } = createPresser(isRunning);
     buttons[0].fire("pointerdown");
-    await wait(LONGER);
+    await wait(LONG_PRESS_MS);
     assert.deepEqual(done, ["press 0 0"]);
     buttons[0].fire("pointercancel");
     buttons[0].fire("lostpointercapture");
@@ -68,10 +68,10 @@ for (const isRunning of [true, false]) {
   });
 
   test(`a slow swipe over a key that stays down leaves it down, ${when}`, async () => {
-    const { down, buttons } = bench(isRunning);
+    const { down, buttons } = createPresser(isRunning);
     down.add("0 0");
     buttons[0].fire("pointerdown");
-    await wait(LONGER);
+    await wait(LONG_PRESS_MS);
     assert.equal(down.size, 0);
     buttons[0].fire("pointercancel");
     assert.deepEqual([...down], ["0 0"]);
@@ -79,7 +79,7 @@ for (const isRunning of [true, false]) {
 }
 
 test("a click that comes of a tap presses nothing more", () => {
-  const { done, buttons } = bench(true);
+  const { done, buttons } = createPresser(true);
   buttons[0].fire("pointerdown");
   buttons[0].fire("pointerup");
   buttons[0].fire("click", { detail: 0 });
@@ -87,7 +87,7 @@ test("a click that comes of a tap presses nothing more", () => {
 });
 
 test("a tap presses and lets go", () => {
-  const { done, buttons } = bench(true);
+  const { done, buttons } = createPresser(true);
   buttons[0].fire("pointerdown");
   buttons[0].fire("pointerup");
   buttons[0].fire("lostpointercapture");
@@ -95,10 +95,10 @@ test("a tap presses and lets go", () => {
 });
 
 test("two fingers hold two keys", async () => {
-  const { done, down, buttons } = bench(true);
+  const { done, down, buttons } = createPresser(true);
   buttons[0].fire("pointerdown", { pointerId: 1 });
   buttons[1].fire("pointerdown", { pointerId: 2 });
-  await wait(LONGER);
+  await wait(LONG_PRESS_MS);
   assert.deepEqual([...down], ["0 0", "0 1"]);
   buttons[0].fire("pointerup", { pointerId: 1 });
   buttons[1].fire("pointerup", { pointerId: 2 });
@@ -106,7 +106,7 @@ test("two fingers hold two keys", async () => {
 });
 
 test("a mouse presses at once, and with Shift the key stays down", () => {
-  const { done, down, buttons } = bench(true);
+  const { done, down, buttons } = createPresser(true);
   buttons[0].fire("pointerdown", { pointerType: "mouse" });
   assert.deepEqual(done, ["press 0 0"]);
   buttons[0].fire("pointerup", { pointerType: "mouse" });
@@ -116,7 +116,7 @@ test("a mouse presses at once, and with Shift the key stays down", () => {
 });
 
 test("while time stands still a tap turns a key over", () => {
-  const { done, buttons } = bench(false);
+  const { done, buttons } = createPresser(false);
   for (let tap = 0; tap < 2; tap++) {
     buttons[0].fire("pointerdown");
     buttons[0].fire("pointerup");

@@ -53,7 +53,7 @@ const BOARDS = {
 /** A number of cycles in which the routine completes at least two scans. */
 const TWO_SCANS = 30000;
 
-/** Returns the answers to the last of some lines. */
+/** Serves lines in a session, and returns the answers. */
 function answersOf(engine, session, lines) {
   const { answers } = engine.serve(session, lines, session);
   return answers;

@@ -18,7 +18,7 @@ const WORDS = [...ANSWER_FORMATS.keys(), ...`acc cy pc dcl r0 r15 r16 rx
   0X0F 0x -1 1.0 00012 0xfff 0x1000 99999999999999999999 r0x1 r01`.split(/\s+/)];
 
 /** Returns a generator of pseudo-random numbers below 2^31 for a seed. */
-function seeded(seed) {
+function createRandom(seed) {
   let state = seed;
   return (count) => {
     state = (Math.imul(state, 1103515245) + 12345) & 0x7fffffff;
@@ -26,8 +26,8 @@ function seeded(seed) {
   };
 }
 
-/** Returns the error number with which the bench rejects the form of a line, or 0 if the bench accepts the form. */
-function refused(line) {
+/** Returns the error number with which the bench rejects the syntax of a line, or 0 if the bench accepts the syntax. */
+function refusalNumber(line) {
   const refusal = parseRefusal(engine.ask(engine.begin(), `${line}\n`).answers[0] || "");
   return refusal && OF_LINES.includes(refusal.number) ? refusal.number : 0;
 }
@@ -35,7 +35,7 @@ function refused(line) {
 const numberOf = (line) => (findLineError(line) || { number: 0 }).number;
 
 test("each line of words is rejected as the bench does", () => {
-  const next = seeded(4004);
+  const next = createRandom(4004);
   const firsts = [...ANSWER_FORMATS.keys(), "poke", "poke", "trace", "trace", "list", "watch"];
   for (let at = 0; at < 6000; at++) {
     const first = next(8) === 0 ? WORDS[next(WORDS.length)] : firsts[next(firsts.length)];
@@ -43,7 +43,7 @@ test("each line of words is rejected as the bench does", () => {
     const line = [first, ...Array.from({ length: more }, () => WORDS[next(WORDS.length)])].join(next(5) === 0 ? "\t " : " ");
     // These commands open a text, so the bench does not answer them yet.
     if (/^(wire|asm|map|wiring|errors)$/.test(line)) continue;
-    assert.equal(numberOf(line), refused(line), line);
+    assert.equal(numberOf(line), refusalNumber(line), line);
   }
 });
 
@@ -55,13 +55,13 @@ test("the ends of ranges", () => {
     "poke dcl 8", "poke rom.4095 255", "poke rom.0 256", "poke st.7.15.3 15", "poke st.7.15.3 16", "trace 1 chain3.79",
     "trace 1 chain3.80", "trace 0 acc",
   ];
-  for (const line of lines) assert.equal(numberOf(line), refused(line), line);
+  for (const line of lines) assert.equal(numberOf(line), refusalNumber(line), line);
 });
 
 test("length and characters", () => {
   const lines = ["", "  \t", " ".repeat(256), `seq${" ".repeat(252)}`, `seq${" ".repeat(253)}`, "seq\x01", "seq é", "seq ; \x7f", " seq "];
   for (const line of lines) {
-    assert.equal(numberOf(line), refused(line), JSON.stringify(line));
+    assert.equal(numberOf(line), refusalNumber(line), JSON.stringify(line));
   }
 });
 

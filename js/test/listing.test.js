@@ -6,7 +6,7 @@ import { ListingReader } from "../core/machine/listing_reader.js";
 import { isInsideLine, visibleLines } from "../core/machine/listing_range.js";
 
 /** Returns a generator of pseudo-random numbers that are the same in each run. */
-function seeded(seed) {
+function createRandom(seed) {
   let state = seed;
   return (below) => {
     state = (Math.imul(state, 1103515245) + 12345) & 0x7fffffff;
@@ -20,7 +20,7 @@ const hasTwoWords = (code) => [1, 4, 5, 7].includes(code >> 4) || ((code >> 4) =
 const hex = (number, digits) => number.toString(16).toUpperCase().padStart(digits, "0");
 
 /** Returns a stand-in for the bench that answers `list A N` from some bytes and counts the requested lines. */
-function lister(bytes) {
+function fakeBench(bytes) {
   const asked = { lists: 0, lines: 0 };
   const ask = async (lines) => {
     const [, start, count] = /^list (\d+) (\d+)\n$/.exec(lines).map(Number);
@@ -40,14 +40,14 @@ function lister(bytes) {
 }
 
 function programs() {
-  const random = seeded(4004);
+  const random = createRandom(4004);
   const made = [new Uint8Array(4096), new Uint8Array(4096).fill(0x40)];
   for (let count = 0; count < 8; count++) made.push(Uint8Array.from({ length: 4096 }, () => random(256)));
   return made;
 }
 
 /** Returns the addresses of the instructions of a program that begins at 000. */
-function beginnings(bytes) {
+function instructionAddresses(bytes) {
   const found = [];
   for (let at = 0; at < 4096; at += hasTwoWords(bytes[at]) && at < 4095 ? 2 : 1) found.push(at);
   return found;
@@ -58,10 +58,10 @@ async function stretch(reader, from, anchor, rows) {
 }
 
 test("a line begins at the anchor, wherever it is, and all rows have a line", async () => {
-  const random = seeded(1);
+  const random = createRandom(1);
   for (const bytes of programs()) {
-    const reader = new ListingReader(lister(bytes).ask);
-    const starts = beginnings(bytes);
+    const reader = new ListingReader(fakeBench(bytes).ask);
+    const starts = instructionAddresses(bytes);
     for (let turn = 0; turn < 60; turn++) {
       const rows = 5 + random(45);
       const counter = starts[random(starts.length)];
@@ -76,7 +76,7 @@ test("a line begins at the anchor, wherever it is, and all rows have a line", as
 test("page by page from one end to the other each address is shown, in step", async () => {
   for (const bytes of programs()) {
     const rows = 21;
-    const reader = new ListingReader(lister(bytes).ask);
+    const reader = new ListingReader(fakeBench(bytes).ask);
     let lines = await stretch(reader, 0, 0, rows);
     const shown = new Set();
     for (let page = 0; page < 400; page++) {
@@ -86,7 +86,7 @@ test("page by page from one end to the other each address is shown, in step", as
       lines = await stretch(reader, next, next, rows);
     }
     assert.deepEqual([...shown].filter((address) => address === 0 || address >= 4094).length > 1, true);
-    assert.deepEqual(beginnings(bytes).slice(0, -rows).filter((address) => !shown.has(address)), []);
+    assert.deepEqual(instructionAddresses(bytes).slice(0, -rows).filter((address) => !shown.has(address)), []);
     const last = lines[lines.length - 1];
     assert.ok(last.address + Number(hasTwoWords(bytes[last.address])) >= 4095);
   }
@@ -94,7 +94,7 @@ test("page by page from one end to the other each address is shown, in step", as
 
 test("the end fills the rows with the last lines", async () => {
   for (const bytes of programs()) {
-    const reader = new ListingReader(lister(bytes).ask);
+    const reader = new ListingReader(fakeBench(bytes).ask);
     for (const rows of [1, 7, 40]) {
       const lines = await stretch(reader, 4095, null, rows);
       assert.equal(lines.length, rows);
@@ -105,9 +105,9 @@ test("the end fills the rows with the last lines", async () => {
 });
 
 test("the bench is asked for little more than is shown", async () => {
-  const random = seeded(2);
+  const random = createRandom(2);
   for (const bytes of programs()) {
-    const { ask, asked } = lister(bytes);
+    const { ask, asked } = fakeBench(bytes);
     const reader = new ListingReader(ask);
     for (let turn = 0; turn < 50; turn++) await stretch(reader, random(4096), null, 20);
     assert.deepEqual([asked.lists, asked.lines <= 50 * 60], [50, true]);

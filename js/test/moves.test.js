@@ -5,8 +5,8 @@ import { test } from "node:test";
 import { begin, counterOf } from "./page_session.js";
 import { matrixKey } from "../core/board/key_place.js";
 
-/** Runs until a goal is reached. Resolves to the number of cycles, whether the goal was reached, and how the run ended. */
-async function goOn(calls, goal, most) {
+/** Runs until a goal is reached, for at most `most` cycles. Resolves to the cycles, whether the goal was reached, and why the run ended. */
+async function runToGoal(calls, goal, most) {
   const { cycles, isReached, end } = (await calls.goOn(goal, most)).found;
   return { cycles, isReached, end };
 }
@@ -27,7 +27,7 @@ test("over a JMS: as many cycles as a breakpoint behind it takes, and nothing st
 
 test("over anything else is one instruction, and out ends behind the JMS", async () => {
   const calls = await begin("three lamps");
-  assert.deepEqual(await goOn(calls, { kind: "over" }), { cycles: 2, isReached: true, end: "" });
+  assert.deepEqual(await runToGoal(calls, { kind: "over" }), { cycles: 2, isReached: true, end: "" });
   await calls.serve("run 7\n");
   assert.equal(counterOf(calls), "014");
   assert.equal((await calls.goOn({ kind: "out" })).found.isReached, true);
@@ -40,7 +40,7 @@ test("out of no subroutine: nothing is done, also where a return address is left
     await calls.serve(lines);
     if (lines) await calls.goOn({ kind: "over" });
     const before = calls.ask("regs\nseq\n");
-    assert.deepEqual(await goOn(calls, { kind: "out" }), { cycles: 0, isReached: false, end: "outside" });
+    assert.deepEqual(await runToGoal(calls, { kind: "out" }), { cycles: 0, isReached: false, end: "outside" });
     assert.deepEqual(calls.ask("regs\nseq\n"), before);
   }
 });
@@ -49,7 +49,7 @@ test("to an address, so many instructions, and to a change", async () => {
   const calls = await begin("three lamps");
   await calls.goOn({ kind: "here", address: 0x14 });
   assert.equal(counterOf(calls), "014");
-  assert.deepEqual(await goOn(calls, { kind: "count", count: 3 }), { cycles: 6, isReached: true, end: "" });
+  assert.deepEqual(await runToGoal(calls, { kind: "count", count: 3 }), { cycles: 6, isReached: true, end: "" });
   const before = calls.ask("lamps\n")[0];
   const travelled = await calls.goOn({ kind: "change", place: "lamps" });
   assert.equal(travelled.found.isReached, true);
@@ -65,25 +65,25 @@ test("to an address that is far away, also where all breakpoints are taken", asy
   const { found } = await calls.goOn({ kind: "here", address: 8 }, 1000000);
   assert.deepEqual([found.isReached, counterOf(calls)], [true, "008"]);
   const taken = await begin("empty bench", `${setup}${Array.from({ length: 32 }, (_, at) => `break ${at + 16}\n`).join("")}`);
-  const other = await goOn(taken, { kind: "here", address: 4 }, 1000000);
+  const other = await runToGoal(taken, { kind: "here", address: 4 }, 1000000);
   await calls.goBack({ kind: "stop" });
-  assert.deepEqual(other, await goOn(calls, { kind: "here", address: 4 }, 1000000));
+  assert.deepEqual(other, await runToGoal(calls, { kind: "here", address: 4 }, 1000000));
 });
 
 /** Returns a bench with one ROM and a program. */
-function bench(program) {
+function createBench(program) {
   return begin("empty bench", `wire\n[[rom]]\nchip = 0\nport = "0000"\n.\nasm\n${program}.\n`);
 }
 
-/** Returns the source of nested delay loops. An ISZ takes two cycles, and each loop has 16 turns. */
-function delay(loops) {
+/** Returns the source of nested delay loops. An ISZ takes two cycles, and each loop has 16 iterations. */
+function delayLoops(loops) {
   const all = [0, 1, 2, 3, 4].slice(0, loops);
   const lines = `FIM P0, 0\nFIM P1, 0\nFIM P2, 0\nloop: ${all.map((each) => `ISZ R${each}, loop\n`).join("")}`;
   return { lines, cycles: 6 + all.reduce((cycles) => 16 * (cycles + 2), 0) };
 }
 
 /** Runs time in frames until it stops. Returns the last frame. */
-function runOn(calls, frame) {
+function runUntilStop(calls, frame) {
   for (;;) {
     const travelled = calls.advance(frame);
     if (travelled.stop) return travelled;
@@ -91,16 +91,16 @@ function runOn(calls, frame) {
 }
 
 test("over a delay of 24 seconds, and out of it: time that runs, by frames and at full speed", async () => {
-  const { lines, cycles } = delay(5);
-  const calls = await bench(`JMS wait\nend: JUN end\nwait: ${lines}BBL 0\n`);
+  const { lines, cycles } = delayLoops(5);
+  const calls = await createBench(`JMS wait\nend: JUN end\nwait: ${lines}BBL 0\n`);
   const before = Buffer.from(calls.bench.session.file);
   const near = await calls.goOn({ kind: "over" });
   assert.deepEqual([near.found.end, near.entries.length, Buffer.compare(before, calls.bench.session.file)], ["bound", 0, 0]);
-  const travelled = runOn(calls, 1543);
+  const travelled = runUntilStop(calls, 1543);
   assert.deepEqual([travelled.stop, counterOf(calls)], [{ why: "goal", id: 0, cycles: cycles + 3, returns: true }, "002"]);
   assert.ok(travelled.ran.every(({ line }) => /^run \d+$/.test(line)));
   assert.deepEqual(calls.ask("breaks\nwatches\n"), ["breaks -", "watches -"]);
-  // If the limit is this number of cycles, the goal is reached at once. Time that runs after that has no goal.
+  // With exactly this limit, the goal is still reached. When time runs afterwards, it has no goal.
   assert.equal(calls.advance(1543).stop, null);
   await calls.goBack({ kind: "stop" });
   await calls.serve("reset\nrun 1000\n");
@@ -109,31 +109,31 @@ test("over a delay of 24 seconds, and out of it: time that runs, by frames and a
 });
 
 test("over a subroutine that waits for a key: the key is pressed while time runs", async () => {
-  const calls = await bench("main: JMS getkey\nJUN main\ngetkey: JCN 1, getkey\nBBL 0\n");
+  const calls = await createBench("main: JMS getkey\nJUN main\ngetkey: JCN 1, getkey\nBBL 0\n");
   await calls.serve("test 0\n");
   assert.equal((await calls.goOn({ kind: "over" })).found.end, "bound");
   for (let frame = 0; frame < 40; frame++) assert.equal(calls.advance(1543).stop, null);
   await calls.serve("test 1\n");
-  const { stop } = runOn(calls, 1543);
+  const { stop } = runUntilStop(calls, 1543);
   assert.deepEqual([stop.why, stop.returns, counterOf(calls)], ["goal", true, "002"]);
   assert.ok(stop.cycles > 40 * 1543 && stop.cycles < 41 * 1543);
 });
 
 test("a million instructions, from the middle of one on", async () => {
-  const calls = await bench("end: JUN end\n");
+  const calls = await createBench("end: JUN end\n");
   assert.equal((await calls.goOn({ kind: "count", count: 1000000 })).found.cycles, 2000000);
   await calls.serve("run 1\n");
   assert.equal((await calls.goOn({ kind: "count", count: 3 })).found.cycles, 5);
-  const mixed = await bench("go: NOP\nNOP\nJUN go\n");
+  const mixed = await createBench("go: NOP\nNOP\nJUN go\n");
   assert.equal((await mixed.goOn({ kind: "count", count: 300000 })).found.cycles, 400000);
 });
 
 test("a change that is far away: a register, a whole port, a lamp, a character", async () => {
   const travelled = async (program, place, lines = "") => {
     const calls = await begin("three lamps", `asm\n${program}.\nreset\n${lines}`);
-    return await goOn(calls, { kind: "change", place });
+    return await runToGoal(calls, { kind: "change", place });
   };
-  const { lines: wait, cycles } = delay(4);
+  const { lines: wait, cycles } = delayLoops(4);
   const write = `${wait}SRC P0\nLDM 7\nWMP\nWRM\nend: JUN end\n`;
   for (const [place, after] of [["acc", 2], ["ram0.0", 3], ["ram0.0.2", 3], ["lamp 2", 3], ["lamps", 3], ["ram.0.0", 4]]) {
     assert.deepEqual(await travelled(write, place), { cycles: cycles + after, isReached: true, end: "" }, place);
@@ -143,9 +143,9 @@ test("a change that is far away: a register, a whole port, a lamp, a character",
 
 test("a breakpoint and a watch of the user come first; a goal that never comes does nothing", async () => {
   const calls = await begin("three lamps", "run 7\nbreak 0x016\n");
-  assert.deepEqual(await goOn(calls, { kind: "over" }), { cycles: 4, isReached: false, end: "break" });
+  assert.deepEqual(await runToGoal(calls, { kind: "over" }), { cycles: 4, isReached: false, end: "break" });
   assert.equal(counterOf(calls), "016");
-  assert.deepEqual(await goOn(calls, { kind: "change", place: "chain0.1" }), { cycles: 0, isReached: false, end: "lacks" });
+  assert.deepEqual(await runToGoal(calls, { kind: "change", place: "chain0.1" }), { cycles: 0, isReached: false, end: "lacks" });
   const empty = await begin("empty bench", "wire\n[[rom]]\nchip = 0\nport = \"0000\"\n.\nasm\nx: JUN x\n.\n");
   const before = Buffer.from(empty.bench.session.file);
   const travelled = await empty.goOn({ kind: "change", place: "r4" }, 5000);
@@ -173,7 +173,7 @@ test("a goal among presses of keys comes at the cycle at which it is reached", a
 });
 
 test("a reset ends a move, and time runs on", async () => {
-  const calls = await bench("end: JUN end\n");
+  const calls = await createBench("end: JUN end\n");
   assert.equal((await calls.goOn({ kind: "change", place: "r4" })).found.end, "bound");
   assert.equal(calls.bench.debugger.isMoving, true);
   calls.advance(1543);

@@ -4,19 +4,19 @@ import { test } from "node:test";
 import { noticesToRemove } from "../page/ui/notice.js";
 
 /** Returns the kinds of the notices that are removed from a list of notices, given by their kinds, newest first. */
-const outOf = (...kinds) => noticesToRemove(kinds.map((kind) => ({ kind }))).map(({ kind }) => kind);
+const removedKinds = (...kinds) => noticesToRemove(kinds.map((kind) => ({ kind }))).map(({ kind }) => kind);
 
 test("three notices are shown, the newest ones", () => {
-  assert.deepEqual(outOf(), []);
-  assert.deepEqual(outOf("undo", "undo", "file"), []);
-  assert.deepEqual(outOf("undo", "undo", "left", "file"), ["file"]);
+  assert.deepEqual(removedKinds(), []);
+  assert.deepEqual(removedKinds("undo", "undo", "file"), []);
+  assert.deepEqual(removedKinds("undo", "undo", "left", "file"), ["file"]);
 });
 
 test("what went well makes room before what went wrong", () => {
-  assert.deepEqual(outOf("session", "undo", "refusal", "kept"), ["undo"]);
-  assert.deepEqual(outOf("undo", "refusal", "session", "kept"), ["kept"]);
+  assert.deepEqual(removedKinds("session", "undo", "refusal", "kept"), ["undo"]);
+  assert.deepEqual(removedKinds("undo", "refusal", "session", "kept"), ["kept"]);
 });
 
 test("the newest stays, whatever it is", () => {
-  assert.deepEqual(outOf("undo", "unended", "unended", "unended"), ["unended"]);
+  assert.deepEqual(removedKinds("undo", "unended", "unended", "unended"), ["unended"]);
 });

@@ -4,7 +4,7 @@ import { test } from "node:test";
 import { OpeningGuard } from "../page/session/opening_guard.js";
 
 /** Returns stand-ins for the browser's local storage, clock and timers. The timers fire when the test requests it. */
-function browser() {
+function fakeBrowser() {
   const words = new Map();
   const timers = [];
   const store = {
@@ -19,7 +19,7 @@ function browser() {
 }
 
 test("an opening that came to an end leaves nothing, also where it was refused", async () => {
-  const { load, words, wait, settle } = browser();
+  const { load, words, wait, settle } = fakeBrowser();
   const openings = load();
   await openings.runOpening("one", async () => {
     wait(3000);
@@ -32,7 +32,7 @@ test("an opening that came to an end leaves nothing, also where it was refused",
 });
 
 test("one that did not is known at the next start, and forgotten once it did", async () => {
-  const { load, words, wait, settle } = browser();
+  const { load, words, wait, settle } = fakeBrowser();
   load().runOpening("one", () => new Promise(() => {}));
   await load().runOpening("two", async () => {});
   settle();
@@ -44,7 +44,7 @@ test("one that did not is known at the next start, and forgotten once it did", a
 });
 
 test("a page that is left at once was not hung; one that is left later may have been", () => {
-  const { load, wait } = browser();
+  const { load, wait } = fakeBrowser();
   const openings = load();
   openings.runOpening("one", () => new Promise(() => {}));
   openings.handleLeave();
@@ -57,7 +57,7 @@ test("a page that is left at once was not hung; one that is left later may have 
 });
 
 test("a page that is left while it shows a session was not hung by it, however long the opening took", async () => {
-  const { load, wait } = browser();
+  const { load, wait } = fakeBrowser();
   const openings = load();
   await openings.runOpening("one", async () => wait(3000));
   openings.handleLeave();
@@ -66,7 +66,7 @@ test("a page that is left while it shows a session was not hung by it, however l
 
 test("a page that is left learns so from each of two events, since a browser may pass over one", async () => {
   for (const name of ["beforeunload", "pagehide"]) {
-    const { load, wait } = browser();
+    const { load, wait } = fakeBrowser();
     const openings = load();
     const target = new EventTarget();
     openings.listen(target);
@@ -79,7 +79,7 @@ test("a page that is left learns so from each of two events, since a browser may
 });
 
 test("another tab may just be opening it", () => {
-  const { load, wait } = browser();
+  const { load, wait } = fakeBrowser();
   load().runOpening("one", () => new Promise(() => {}));
   wait(1999);
   assert.equal(load().hasUnfinishedOpening("one"), false);
@@ -88,7 +88,7 @@ test("another tab may just be opening it", () => {
 });
 
 test("a session that is opened twice in a row is settled by its last opening", async () => {
-  const { load, wait, settle } = browser();
+  const { load, wait, settle } = fakeBrowser();
   const openings = load();
   await openings.runOpening("one", async () => {});
   openings.pendingOpenings.set("one", { time: 0, isEnded: false });

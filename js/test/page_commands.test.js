@@ -12,7 +12,7 @@ import * as say from "../words/page_commands.js";
 const NONE_HELD = { ctrlKey: false, metaKey: false, altKey: false, shiftKey: false, defaultPrevented: false };
 const typed = (key, held = {}) => ({ ...NONE_HELD, key, ...held });
 
-/** Returns an object that records the calls that a command makes. */
+/** Returns a stand-in for the objects that commands call. The stand-in records the calls. */
 function recorder() {
   const seen = [];
   const calls = new Proxy({}, { get: (_none, name) => (...words) => {
@@ -135,7 +135,7 @@ test("places: texts, labels, typed addresses and lines, projects, examples", () 
   const names = new Map([["loop", { name: "loop", value: 0x12, isLabel: true }], ["ten", { name: "ten", value: 10, isLabel: false }]]);
   const map = { names, lineOf: () => 7, findValueIgnoringCase: (name) => (names.get(name.toLowerCase()) || {}).value };
   const calls = { map: () => map, examples: () => ["clock"], projects: () => [{ id: "4", name: "mine" }], show: go("show"),
-    line: go("line"), address: go("address"), example: go("example"), project: go("project") };
+    showLine: go("line"), showAddress: go("address"), beginExample: go("example"), openProject: go("project") };
   const first = (wanted) => {
     const [place] = searchEntries(listDestinations(wanted, calls), wanted);
     place.act();

@@ -38,7 +38,7 @@ rom = [{ chip = 0, port = "00ii" }]\nram = [{ bank = 2, chips = 1 }]\nlamp = [{ 
  * Resolves to a panel for a session with these texts. `ask` sends a query to its session, `typed` types characters, and `text` returns the
  * text of the screen's rows.
  */
-async function begun({ board, program }, { lines = "", isPaused = false, hasSource = false } = {}) {
+async function openPanel({ board, program }, { lines = "", isPaused = false, hasSource = false } = {}) {
   const state = engine.begin();
   const ask = async (asked) => engine.serve(state, asked, state).answers;
   const answers = await ask(`wire\n${sentText(board, "#")}.\nasm\n${program}.\n${lines}`);
@@ -55,8 +55,8 @@ async function begun({ board, program }, { lines = "", isPaused = false, hasSour
   let now = 0;
   const typed = async (keys) => {
     for (const key of splitKeys(keys)) {
-      await panel.type(key, now);
-      await panel.snapshot.take(middleRows(SIZE));
+      await panel.handleKey(key, now);
+      await panel.snapshot.refresh(middleRows(SIZE));
     }
   };
   /** Lets time pass, frame by frame. */
@@ -65,7 +65,7 @@ async function begun({ board, program }, { lines = "", isPaused = false, hasSour
       now += 100;
       await panel.keepRealTime(now);
     }
-    await panel.snapshot.take(middleRows(SIZE));
+    await panel.snapshot.refresh(middleRows(SIZE));
   };
   const rows = (size = SIZE) => screen.rows(size).map(({ pieces }) => pieces.map(({ text }) => text).join(""));
   return { panel, screen, ask, typed, pass, rows, text: (size = SIZE) => rows(size).map((row) => row.trimEnd()).join("\n") };
@@ -98,7 +98,7 @@ test("rows of lamps: a die, a matrix, a grid, and others with names", () => {
 });
 
 test("a calculator: what is typed has its time, and the display is large", async () => {
-  const { typed, pass, text, panel } = await begun(CALCULATOR);
+  const { typed, pass, text, panel } = await openPanel(CALCULATOR);
   await typed("12+30=");
   await pass(2 * SECOND);
   assert.match(text(), /^ Desk calculator: s\.mcs {3}\d+ commands {3}running\n {7}###.* display 42\n# {3}# {5}#/);
@@ -108,17 +108,17 @@ test("a calculator: what is typed has its time, and the display is large", async
 });
 
 test("what was typed last is done before the panel ends", async () => {
-  const { typed, panel, ask } = await begun(CALCULATOR, { lines: "run 2000\n" });
+  const { typed, panel, ask } = await openPanel(CALCULATOR, { lines: "run 2000\n" });
   await typed("12+30=");
   await panel.end();
   assert.equal(await keysDown(ask), "-");
   await ask("run 20000\n");
-  await panel.snapshot.take(0);
+  await panel.snapshot.refresh(0);
   assert.equal(panel.snapshot.display, "42");
 });
 
 test("time runs as fast as in the chip, and what a slow host misses is left out", async () => {
-  const { panel, pass } = await begun(COUNTER);
+  const { panel, pass } = await openPanel(COUNTER);
   await pass(SECOND);
   assert.ok(Math.abs(panel.cycles - 92593) <= 1, String(panel.cycles));
   await panel.keepRealTime(100 * SECOND);
@@ -126,8 +126,8 @@ test("time runs as fast as in the chip, and what a slow host misses is left out"
 });
 
 test("a session at a breakpoint is paused; a step is one instruction; breakpoints come and go", async () => {
-  const { typed, text, panel } = await begun(COUNTER, { lines: "poke r3 15\npoke r2 3\nbreak 2\nrun 100\n" });
-  await panel.snapshot.take(middleRows(SIZE));
+  const { typed, text, panel } = await openPanel(COUNTER, { lines: "poke r3 15\npoke r2 3\nbreak 2\nrun 100\n" });
+  await panel.snapshot.refresh(middleRows(SIZE));
   assert.match(text(), /paused at a breakpoint\n/);
   assert.match(text(), />\*002 72 00 ISZ R2, 0x000/);
   await typed("\r");
@@ -143,7 +143,7 @@ test("a session at a breakpoint is paused; a step is one instruction; breakpoint
 });
 
 test("paused, a key goes down and up as it is typed; one that was down before stays down at the end", async () => {
-  const { typed, text, panel, ask } = await begun(COUNTER, { lines: "press 0 1\n", isPaused: true });
+  const { typed, text, panel, ask } = await openPanel(COUNTER, { lines: "press 0 1\n", isPaused: true });
   await typed("a");
   assert.match(text(), /\[a\] {3}\[CE:c\]/);
   await typed("ac");
@@ -161,7 +161,7 @@ test("paused, a key goes down and up as it is typed; one that was down before st
   await typed("\u0004");
   const released = `seq ${Number(count.slice("seq ".length)) + 1}`;
   assert.deepEqual([panel.isEnded, await keysDown(ask), await ask("seq\n")], [true, "-", [released]]);
-  const other = await begun(COUNTER, { lines: "press 0 1\n", isPaused: true });
+  const other = await openPanel(COUNTER, { lines: "press 0 1\n", isPaused: true });
   const before = await other.ask("seq\n");
   await other.typed("\u0003");
   assert.deepEqual([await other.ask("seq\n"), await keysDown(other.ask)], [before, "0.1"]);
@@ -169,13 +169,13 @@ test("paused, a key goes down and up as it is typed; one that was down before st
 
 test("what is refused is reported", async () => {
   const breaks = Array.from({ length: 32 }, (_, at) => `break ${100 + at}\n`).join("");
-  const { typed, text } = await begun(COUNTER, { lines: breaks, isPaused: true });
+  const { typed, text } = await openPanel(COUNTER, { lines: breaks, isPaused: true });
   await typed("\t");
   assert.match(text(), /break 0x000 is rejected: no (\d+): words of \1\n/);
 });
 
 test("a source: its lines in the listing, and the line that comes next above it", async () => {
-  const { typed, text } = await begun(COUNTER, { isPaused: true, hasSource: true });
+  const { typed, text } = await openPanel(COUNTER, { isPaused: true, hasSource: true });
   await typed("\r");
   assert.match(text(), /\ncount, line 1: count: ISZ R3, count ; low\n/);
   assert.match(text(), /> 000 count: ISZ R3, count\n/);
@@ -187,7 +187,7 @@ test("lamps while time runs: levels of brightness; paused, those of an instant",
   const board = `# lamp 0: seldom mostly always never\n[[rom]]\nchip = 0\nport = "0000"\n${
     [0, 1, 2, 3].map((line) => `[[lamp]]\nline = "rom0.${line}"\n`).join("")}`;
   const program = "FIM P0, 0\nSRC P0\nloop: LDM 5\nWRR\nNOP\nLDM 6\nWRR\nFIM P1, 0\nwait: ISZ R2, wait\nJUN loop\n";
-  const { pass, typed, text, screen } = await begun({ board, program });
+  const { pass, typed, text, screen } = await openPanel({ board, program });
   await pass(200);
   assert.match(text(), /\(:\) seldom[^]*\(\*\) mostly[^]*\(\*\) always[^]*\( \) never/);
   const seldom = screen.rows(SIZE).flatMap(({ pieces }) => pieces).find((piece) => piece.text.includes("seldom"));
@@ -197,7 +197,7 @@ test("lamps while time runs: levels of brightness; paused, those of an instant",
 });
 
 test("paper: what was printed by running and by steps, its last lines", async () => {
-  const { typed, pass, rows, panel } = await begun(PRINTING);
+  const { typed, pass, rows, panel } = await openPanel(PRINTING);
   const paper = () => {
     const all = rows().map((row) => row.slice(29, 53).trimEnd());
     return all.slice(all.indexOf("--- printout -----------") + 1, -2).filter(Boolean).join("/");
@@ -217,7 +217,7 @@ test("paper: what was printed by running and by steps, its last lines", async ()
 test("rows fit the terminal, and no text of others controls it", async () => {
   const odd = { ...COUNTER };
   odd.board = COUNTER.board.replace("# title: Own", `# title: O\u001b[2Jwn ${"x".repeat(200)}\n# lamp 0: go\u009b31m`);
-  const { typed, rows, text } = await begun(odd, { isPaused: true });
+  const { typed, rows, text } = await openPanel(odd, { isPaused: true });
   await typed("\u001b[C");
   for (const size of [SIZE, { rows: 31, columns: 97 }]) {
     assert.deepEqual(rows(size).map((row) => [...row].length), Array(size.rows).fill(size.columns));

@@ -1,5 +1,5 @@
-// Tests a key that the user presses again before the page knows of its release. The second press must press the key and must not release
-// it.
+// Tests a second press of a key before the worker has reported the release after the first press. The second press must press the key, not
+// release it.
 
 import assert from "node:assert/strict";
 import test from "node:test";
@@ -14,7 +14,7 @@ const KEY = { key: matrixKey(0, 0), isSwitch: false };
  * Returns a KeyPresser for a key while time is running. `arrive` delivers the requests to the worker, and `look` delivers the worker's
  * report to the page.
  */
-async function typing() {
+async function createPresser() {
   const calls = await begin("calculator");
   const pendingKeys = new PendingKeys();
   const words = [];
@@ -50,37 +50,37 @@ async function typing() {
 }
 
 test("a key is typed again while its release waits for its time", async () => {
-  const { pressing, words, look } = await typing();
+  const { pressing, words, look } = await createPresser();
   pressing.pressOrRelease(KEY, false);
   assert.equal(look(1500), true);
-  pressing.liftFinger(KEY.key);
+  pressing.endPress(KEY.key);
   assert.equal(look(1500), true);
   pressing.pressOrRelease(KEY, false);
-  pressing.liftFinger(KEY.key);
+  pressing.endPress(KEY.key);
   assert.deepEqual(words, ["press", "release", "press", "release"]);
   assert.deepEqual([look(1001), look(2000), look(4000)], [false, true, false]);
 });
 
 test("a key is typed again while its release is on its way", async () => {
-  const { pressing, words, look } = await typing();
+  const { pressing, words, look } = await createPresser();
   pressing.pressOrRelease(KEY, false);
   assert.equal(look(6000), true);
-  pressing.liftFinger(KEY.key);
+  pressing.endPress(KEY.key);
   pressing.pressOrRelease(KEY, false);
   assert.deepEqual(words, ["press", "release", "press"]);
 });
 
 test("a key that stays down is let go by a press, also while that press waits", async () => {
-  const { pressing, words, look } = await typing();
+  const { pressing, words, look } = await createPresser();
   pressing.pressOrRelease(KEY, true);
-  pressing.liftFinger(KEY.key);
+  pressing.endPress(KEY.key);
   pressing.pressOrRelease(KEY, false);
-  pressing.liftFinger(KEY.key);
+  pressing.endPress(KEY.key);
   assert.deepEqual(words, ["press", "release"]);
   assert.equal(look(1), true);
   assert.equal(look(4000), false);
   pressing.pressOrRelease(KEY, true);
-  pressing.liftFinger(KEY.key);
+  pressing.endPress(KEY.key);
   assert.equal(look(8000), true);
   pressing.pressOrRelease(KEY, false);
   assert.deepEqual(words, ["press", "release", "press", "release"]);
@@ -93,5 +93,5 @@ test("what is forgotten of a key leaves it as the bench reports it", () => {
   pendingKeys.send({ word: "forget", key: matrixKey(0, 0) });
   assert.deepEqual([pendingKeys.willBeDown(matrixKey(0, 0), false), pendingKeys.willBeDown(matrixKey(0, 0), true)], [false, true]);
   arrived();
-  assert.equal(pendingKeys.sent.length, 1);
+  assert.equal(pendingKeys.changesInTransit.length, 1);
 });

@@ -8,8 +8,10 @@ import { printoutLines } from "../core/board/printout_lines.js";
 import { BenchCalls } from "../core/engine/bench_calls.js";
 import { pageModule } from "./page_session.js";
 
-const own = (name) => readFileSync(new URL(`../../examples/printing_calculator/${name}`, import.meta.url), "utf8");
-const EXAMPLE = { name: "printing calculator", board: own("board.toml"), program: own("printing_calculator.asm"), lines: "" };
+const exampleFile = (name) => readFileSync(new URL(`../../examples/printing_calculator/${name}`, import.meta.url), "utf8");
+const EXAMPLE = {
+  name: "printing calculator", board: exampleFile("board.toml"), program: exampleFile("printing_calculator.asm"), lines: "",
+};
 const { printer, keys } = new Face(EXAMPLE.board);
 const PLACES = new Map([...keys].map(([place, { text }]) => [text, place]));
 const KEYS = new Map([...keys.values()].map(({ text, key }) => [text, key]));
@@ -108,7 +110,7 @@ test("a reload keeps the strip, tearing off and another printer empty it", async
 });
 
 /** Returns the expected printout of the calculator, calculated with integers of any size. */
-function wanted(names) {
+function expectedPrintout(names) {
   const lines = [];
   let [shown, before, waits, isNew, isDead] = [0n, 0n, "", false, false];
   const words = () => (isDead ? "---------" : String(shown));
@@ -156,6 +158,6 @@ test("seeded chains of keys print what arithmetic says", async () => {
     }
     strip.calls.clearPrintout();
     await press(strip, names.join(" "), true);
-    assert.deepEqual(stripOf(strip), wanted(names), names.join(" "));
+    assert.deepEqual(stripOf(strip), expectedPrintout(names), names.join(" "));
   }
 });

@@ -1,10 +1,10 @@
-// Tests the page's texts about programs: the words of a line, errors, completion, help, and the texts that load only a program into ROM.
+// Tests the page's help for programs: the words of a line, errors, completion, help, and the texts that load only a program into ROM.
 import assert from "node:assert/strict";
 import { readFileSync } from "node:fs";
 import { test } from "node:test";
 import { editDistance, findSimilarWords } from "../core/text/similar_words.js";
 import { formatQuantity } from "../core/bench/numbers.js";
-import { programTexts, describeAssembled } from "../core/text/asm_texts.js";
+import { createProgramTexts, describeAssembled } from "../core/text/asm_texts.js";
 import { findDefinedNames, splitStatement, tokenizeLine, wordAt } from "../core/text/assembly.js";
 import { completeProgram } from "../core/text/completion.js";
 import { readInstructions } from "../core/help/manual.js";
@@ -88,15 +88,15 @@ test("names, values and addresses", () => {
 });
 
 /** Returns a stand-in for a bench that reports these errors and rejects the program with the error number `number`. */
-const asking = (errors, number = 0) => {
+const fakeBench = (errors, number = 0) => {
   const asked = { sent: [], refused: 0 };
   return {
     asked,
-    errors: async (sent) => {
+    findLineErrors: async (sent) => {
       asked.sent.push(sent);
       return errors;
     },
-    refuse: async () => {
+    findRefusal: async () => {
       asked.refused += 1;
       return number ? { number, line: 0 } : null;
     },
@@ -104,7 +104,7 @@ const asking = (errors, number = 0) => {
 };
 
 test("all errors of lines get their words and characters; lines that cannot be sent are sent empty", async () => {
-  const bench = asking([{ line: 1, number: 30 }, { line: 2, number: 32 }]);
+  const bench = fakeBench([{ line: 1, number: 30 }, { line: 2, number: 32 }]);
   const text = "start: LDX 5\n FIM P0, strat\ncaf\u00e9: NOP\n";
   const found = await findProgramFaults(text, instructions, () => "", bench);
   assert.deepEqual(found.faults.map(({ line, from, words }) => [line, from, words.split(";")[0]]),
@@ -114,10 +114,10 @@ test("all errors of lines get their words and characters; lines that cannot be s
 });
 
 test("a program without errors is tried on the board; 100 errors may not be all", async () => {
-  const bench = asking([], 42);
+  const bench = fakeBench([], 42);
   const found = await findProgramFaults("NOP\n", instructions, () => "", bench);
   assert.deepEqual(found, { faults: [], isWhole: true, rest: { number: 42, line: 0 } });
-  const many = asking(Array.from({ length: 100 }, (_, at) => ({ line: at + 1, number: 30 })));
+  const many = fakeBench(Array.from({ length: 100 }, (_, at) => ({ line: at + 1, number: 30 })));
   assert.equal((await findProgramFaults("LDX\n".repeat(101), instructions, () => "", many)).isWhole, false);
 });
 
@@ -166,19 +166,19 @@ test("what a word is", () => {
 });
 
 test("a program comes into ROM alone, by one text where it has room", () => {
-  assert.deepEqual(programTexts("NOP\n", []), ["NOP\n"]);
-  assert.deepEqual(programTexts("NOP\n", [5, 6, 9]), ["NOP\nORG 0x005\nDB 0,0\nORG 0x009\nDB 0\n"]);
+  assert.deepEqual(createProgramTexts("NOP\n", []), ["NOP\n"]);
+  assert.deepEqual(createProgramTexts("NOP\n", [5, 6, 9]), ["NOP\nORG 0x005\nDB 0,0\nORG 0x009\nDB 0\n"]);
   const all = [...Array(4095).keys()].map((at) => at + 1);
-  const [one] = programTexts("NOP\n", all);
+  const [one] = createProgramTexts("NOP\n", all);
   assert.ok(one.length <= MAX_SENT_LENGTH && one.split("\n").every((line) => line.length <= 255));
   assert.equal(one.split("DB").slice(1).join("").split(/[,\n]/).filter((word) => word.trim() === "0").length, 4095);
   const long = `${"; long\n".repeat(2300)}NOP\n`;
-  assert.deepEqual(programTexts(long, all).map((text) => text.length <= MAX_SENT_LENGTH), [true, true]);
-  assert.equal(programTexts(long, all)[1], long);
+  assert.deepEqual(createProgramTexts(long, all).map((text) => text.length <= MAX_SENT_LENGTH), [true, true]);
+  assert.equal(createProgramTexts(long, all)[1], long);
 });
 
 test("what assembling alone leaves, in words", () => {
-  assert.equal(describeAssembled({ size: 3, left: [0x41, 0x42] }, "012"),
+  assert.equal(describeAssembled({ size: 3, remainingAddresses: [0x41, 0x42] }, "012"),
     "3 bytes assembled. 2 bytes from before stay in ROM, from 0x041. The counter stays at 012; nothing was reset.");
   assert.deepEqual(
     [formatQuantity(1, "byte"), formatQuantity(0, "byte"), formatQuantity(1543, "cycle"),
@@ -190,7 +190,7 @@ test("a text with an error in each line of code is hardly a program", () => {
   const at = (...lines) => lines.map((line) => ({ number: 30, line, from: 0, to: 1, words: "" }));
   assert.equal(isProbablyNotProgram("hello there\n\n; a remark\nand more\n", { faults: at(1, 4), isWhole: true, rest: null }), true);
   assert.equal(isProbablyNotProgram("hello there\n NOP\n", { faults: at(1), isWhole: true, rest: null }), false);
-  // At most this number of errors is searched for.
+  // The search for errors stops after a maximum number of errors.
   const long = "prose\n".repeat(500);
   const faults = at(...Array.from({ length: 20 }, (_, line) => line + 1));
   assert.equal(isProbablyNotProgram(long, { faults, isWhole: false, rest: null }), true);

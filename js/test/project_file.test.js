@@ -19,7 +19,7 @@ function read(text) {
 }
 
 test("the checksum is the one of cksum", () => {
-  // The output of the command `cksum` for no bytes.
+  // The checksum that the command `cksum` prints for empty input.
   assert.equal(checksum(encode("")), 4294967295);
   assert.equal(checksum(encode("hello\n")), 3015617425);
   assert.equal(checksum(encode("123456789")), 930766865);

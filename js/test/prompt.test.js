@@ -192,7 +192,7 @@ test("the view: source, registers, lamps, in any size; values that are others st
   assert.deepEqual(await ask("tui enable", "layout src", "view off"), []);
   assert.deepEqual([turned, await ask("view")], [[true, true, false], ["refused: no room"]]);
   const plain = (text) => text;
-  const marks = { head: plain, here: (text) => `[${text}]`, other: (text) => `{${text}}` };
+  const marks = { head: plain, nextInstruction: (text) => `[${text}]`, changedValue: (text) => `{${text}}` };
   const view = new View(prompt);
   assert.deepEqual(viewSize(24, 80), { rows: 14, columns: 79 });
   assert.deepEqual([viewSize(11, 80), viewSize(24, 39), viewSize(undefined, undefined)], [null, null, null]);
@@ -207,7 +207,7 @@ test("the view: source, registers, lamps, in any size; values that are others st
   assert.deepEqual(lines.slice(-3), ["lamps ..* right", "r4 = 0x1", "-".repeat(79)]);
   for (const [rows, columns] of [[12, 40], [24, 60], [50, 200]]) {
     const size = viewSize(rows, columns);
-    const printed = view.lines(size, { head: plain, here: plain, other: plain });
+    const printed = view.lines(size, { head: plain, nextInstruction: plain, changedValue: plain });
     assert.equal(printed.length, size.rows);
     assert.deepEqual(printed.filter((line) => line.length > size.columns), []);
     assert.match(printed.join("\n"), /acc 1/);

@@ -19,7 +19,7 @@ const texts = {
   testText: "",
   propertiesText: "test\nnever lamp 1 on\nreach lamp lit on\nnever lamp lit on\n",
 };
-/** The prover's answer with the value of TEST at each read, for a run in which the lamp is on. */
+/** The prover's answer for a run that turns the lamp on. The 0 is the value of TEST at the only read. */
 const LIGHTS = "may fail 0\n";
 
 /** The prover's answer to a question about common mistakes, unless a test gives another one. */
@@ -30,7 +30,7 @@ const NO_MISTAKE = "holds 9\n";
  * question about properties. `times`: the limit of each question about a stopwatch. `mistakes`: the words of each question about common
  * mistakes. `bySets`: the questions that use sets of states.
  */
-class Asked extends Engine {
+class RecordingEngine extends Engine {
   /**
    * @param {(bound: number, nevers: string[]) => string} answer
    * @param {(words: string[]) => string} answerMistakes
@@ -72,8 +72,8 @@ class Asked extends Engine {
   }
 }
 
-async function judged(answer, { most = 50000, answerMistakes, answerSets, answerTimes, ...others } = {}) {
-  const engine = new Asked(answer, answerMistakes, answerSets, answerTimes);
+async function runProofs(answer, { most = 50000, answerMistakes, answerSets, answerTimes, ...others } = {}) {
+  const engine = new RecordingEngine(answer, answerMistakes, answerSets, answerTimes);
   const seen = [];
   const { proving, faults } = beginProving(engine, { ...texts, ...others }, most, {
     seen: async (states) => {
@@ -94,7 +94,7 @@ test("the bound on the states doubles up to the one that was asked for", () => {
 });
 
 test("each question goes on only while there are more states, and says how many were searched", async () => {
-  const { all, engine, seen } = await judged((bound) => (bound < 40000 ? "too many\n" : "holds 23456\n"),
+  const { all, engine, seen } = await runProofs((bound) => (bound < 40000 ? "too many\n" : "holds 23456\n"),
     { propertiesText: "test\nnever lamp 1 on\n" });
   assert.deepEqual(engine.asked, [[10000, 1], [20000, 1], [40000, 1]]);
   // The question that uses sets of states comes first, the questions about mistakes last.
@@ -104,45 +104,46 @@ test("each question goes on only while there are more states, and says how many 
 });
 
 test("properties are asked together, and alone only if that decides something", async () => {
-  const together = await judged((_, nevers) => (nevers.length === 2 ? "holds 3\n" : LIGHTS));
+  const together = await runProofs((_, nevers) => (nevers.length === 2 ? "holds 3\n" : LIGHTS));
   assert.deepEqual(together.engine.asked, [[10000, 2], [10000, 1]]);
   assert.deepEqual(kinds(together.all), ["proved", "found", "proved"]);
-  const alone = await judged((_, nevers) => (nevers.length === 1 && nevers[0].includes("line1") ? "holds 3\n" : LIGHTS));
+  const alone = await runProofs((_, nevers) => (nevers.length === 1 && nevers[0].includes("line1") ? "holds 3\n" : LIGHTS));
   assert.deepEqual(kinds(alone.all), ["proved", "found", "found"]);
-  const many = await judged((bound) => (bound < 50000 ? "too many\n" : "no 90\n"));
+  const many = await runProofs((bound) => (bound < 50000 ? "too many\n" : "no 90\n"));
   assert.deepEqual(kinds(many.all), ["open", "open", "open"]);
   assert.deepEqual(many.engine.asked.map(([, nevers]) => nevers), [2, 2, 2, 2, 1, 1, 1, 1]);
   assert.match(many.all[0].verdict.words, /memory has room for only 40,000 states/);
-  const single = await judged(() => LIGHTS, { propertiesText: "test\nnever lamp lit on\n" });
+  const single = await runProofs(() => LIGHTS, { propertiesText: "test\nnever lamp lit on\n" });
   assert.deepEqual(single.engine.asked, [[10000, 1]]);
 });
 
 test("every program is asked for seven mistakes: together, and each alone if one can be made", async () => {
   const none = { propertiesText: "" };
-  const { made, engine } = await judged(() => "", none);
+  const { made, engine } = await runProofs(() => "", none);
   assert.deepEqual(engine.mistakes, ["code call return ram rom rdr wrr"]);
   assert.deepEqual(kinds(made), Array.from({ length: 7 }, () => "proved"));
   const verdict = { kind: "proved", states: 9, bySets: false, leftOut: "" };
   assert.deepEqual(made[0], { text: "no code outside the instruction table", line: 0, isGoal: false, verdict });
   // The program jumps into ROM that the board lacks.
   const away = { ...none, programText: "        JUN 256\n" };
-  const one = await judged(() => "", { ...away, answerMistakes: (words) => (words.includes("rom") ? "may fail 0\n" : NO_MISTAKE) });
+  const one = await runProofs(() => "", { ...away, answerMistakes: (words) => (words.includes("rom") ? "may fail 0\n" : NO_MISTAKE) });
   assert.deepEqual(one.engine.mistakes.slice(1), ["code", "call", "return", "ram", "rom", "rdr", "wrr"]);
   assert.deepEqual(kinds(one.made), ["proved", "proved", "proved", "proved", "found", "proved", "proved"]);
   // A report of the prover that the bench does not confirm is not a counterexample.
-  const unconfirmed = await judged(() => "", { ...none, answerMistakes: (words) => (words.includes("wrr") ? "may fail 0\n" : NO_MISTAKE) });
+  const answerMistakes = (words) => (words.includes("wrr") ? "may fail 0\n" : NO_MISTAKE);
+  const unconfirmed = await runProofs(() => "", { ...none, answerMistakes });
   assert.equal(unconfirmed.made[6].verdict.words, "the bench does not confirm the counterexample that was found");
 });
 
 test("sets of states prove that no mistake is made, and what the search does not decide", async () => {
   const words = "code call return ram rom rdr wrr";
   const proved = { kind: "proved", states: 5, bySets: true, leftOut: "" };
-  const all = await judged(() => "too many\n", { answerSets: () => "holds 5\n" });
+  const all = await runProofs(() => "too many\n", { answerSets: () => "holds 5\n" });
   assert.deepEqual(all.engine.mistakes, []);
   assert.deepEqual(all.made.map(({ verdict }) => verdict), Array.from({ length: 7 }, () => proved));
   assert.deepEqual(all.all.map(({ verdict }) => verdict), Array.from({ length: 3 }, () => proved));
   // The combined question is not decided, but one of the single questions is.
-  const some = await judged(() => "", { propertiesText: "", answerMistakes: () => "too many\n",
+  const some = await runProofs(() => "", { propertiesText: "", answerMistakes: () => "too many\n",
     answerSets: (asked) => (asked === "call" ? "holds 5\n" : "gave up\n") });
   assert.deepEqual(some.engine.bySets, [words, ...words.split(" ")]);
   assert.deepEqual(some.engine.mistakes, [words, words, words, words]);
@@ -152,7 +153,7 @@ test("sets of states prove that no mistake is made, and what the search does not
 
 test("a time is asked alone, and never by sets of states", async () => {
   const propertiesText = "test\nnever lamp 1 on\nnever lamp lit on for 9\nevery 1 ms @look\n@look to @put within 5\n";
-  const { all, engine } = await judged(() => "holds 3\n", { propertiesText, most: 20000, answerSets: () => "holds 5\n",
+  const { all, engine } = await runProofs(() => "holds 3\n", { propertiesText, most: 20000, answerSets: () => "holds 5\n",
     answerTimes: (within) => ({ 9: "may fail 0 0 0\n", 93: "holds 7\n", 5: "too many\n" })[within] });
   assert.deepEqual(engine.times, [9, 93, 5, 5]);
   assert.deepEqual(engine.asked, [[10000, 1]]);
@@ -163,7 +164,7 @@ test("a time is asked alone, and never by sets of states", async () => {
 });
 
 test("a counterexample has the lines after which one step breaks the property", async () => {
-  const { all: [{ verdict: { found } }], engine } = await judged(() => LIGHTS, { propertiesText: "test\nnever lamp lit on\n" });
+  const { all: [{ verdict: { found } }], engine } = await runProofs(() => LIGHTS, { propertiesText: "test\nnever lamp lit on\n" });
   assert.ok(found.isTest && found.isAllowed);
   const file = engine.begin();
   const lamps = (lines) => engine.ask(file, `${lines}lamps\n`).answers.slice(-1)[0];
@@ -173,10 +174,10 @@ test("a counterexample has the lines after which one step breaks the property", 
 });
 
 test("a way that is not one, or a prover that says nothing, proves nothing", async () => {
-  const wrong = await judged(() => "may fail 1\n", { propertiesText: "test\nnever lamp 1 on\n" });
+  const wrong = await runProofs(() => "may fail 1\n", { propertiesText: "test\nnever lamp 1 on\n" });
   assert.deepEqual(wrong.all[0].verdict, { kind: "open", words: "the bench does not confirm the counterexample that was found" });
-  await assert.rejects(judged(() => "no 25\n"), /ended without an answer: no 25/);
-  const { faults } = await judged(() => "holds 1\n", { propertiesText: "never lamp purple on\n" });
+  await assert.rejects(runProofs(() => "no 25\n"), /ended without an answer: no 25/);
+  const { faults } = await runProofs(() => "holds 1\n", { propertiesText: "never lamp purple on\n" });
   assert.deepEqual(faults.map(({ line }) => line), [1]);
 });
 
@@ -231,7 +232,7 @@ function fakeWorker(engine) {
  * Returns a prover that uses a stand-in for its worker. The timer with which the bench checks the worker must not keep the test process
  * alive.
  */
-function proverOver(engine) {
+function createProver(engine) {
   const { setInterval } = globalThis;
   globalThis.setInterval = () => 0;
   const prover = new Prover(() => new Bench(() => fakeWorker(engine), new ArrayBuffer(0), []));
@@ -241,9 +242,9 @@ function proverOver(engine) {
 }
 
 test("the page receives each verdict, and the states so far", async () => {
-  const engine = new Asked((bound, nevers) => (nevers.length === 1 ? LIGHTS : bound < 20000 ? "too many\n" : "holds 12345\n"));
+  const engine = new RecordingEngine((bound, nevers) => (nevers.length === 1 ? LIGHTS : bound < 20000 ? "too many\n" : "holds 12345\n"));
   const posted = [];
-  const { faults, isStopped } = await proverOver(engine).prove(texts, 50000, new AbortController().signal,
+  const { faults, isStopped } = await createProver(engine).prove(texts, 50000, new AbortController().signal,
     ({ judged: all, count, states }) => posted.push([all.length, count, states]));
   assert.deepEqual([faults, isStopped], [[], false]);
   assert.deepEqual(posted[0], [0, 10, 0]);
@@ -252,15 +253,15 @@ test("the page receives each verdict, and the states so far", async () => {
 });
 
 test("cancelling ends the worker at once; a worker that is silent is not dead", async () => {
-  const engine = new Asked(() => "holds 3\n");
-  const prover = proverOver(engine);
+  const engine = new RecordingEngine(() => "holds 3\n");
+  const prover = createProver(engine);
   const controller = new AbortController();
   const ended = await prover.prove(texts, 50000, controller.signal, () => controller.abort());
   assert.deepEqual(ended, { faults: [], isStopped: true });
   const { bench } = prover;
   bench.worker = fakeWorker(engine);
   bench.pendingRequests.set(1, { done: () => {}, fail: () => {}, progress: () => {} });
-  for (let look = 0; look < 50; look++) bench.watch();
+  for (let look = 0; look < 50; look++) bench.pingWorker();
   assert.notEqual(bench.worker, null);
 });
 

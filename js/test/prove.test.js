@@ -21,8 +21,8 @@ import { pageModule } from "./page_session.js";
 
 const engine = new Engine(new globalThis.WebAssembly.Module(pageModule));
 
-// Key A switches the lamp `on` on if it is down at 16 successive reads. The program counts these reads in R5 and writes the count to the
-// port of the second RAM chip.
+// If key A is down at 16 successive reads, the program switches the lamp named `on` on. The program counts these reads in R5 and writes the
+// count to the port of the second RAM chip.
 const BOARD = `# row 0: A B C
 # lamp 0: on
 # test: button WALK
@@ -89,7 +89,7 @@ function isMet(state, comparison) {
 }
 
 /** Yields states of the bench in which every place that a condition can read has a random value. */
-function* states() {
+function* randomStates() {
   const random = createRandom(5);
   const upTo = (most) => Math.floor(random() * (most + 1));
   for (let at = 0; at < 25; at++) {
@@ -113,7 +113,7 @@ const questionOf = (text, own = subject) => (
   createQuestion(readCampaign(`press A\n${text}`, own).campaign.properties[0], { from: null }, own));
 
 test("comparisons mean what their condition means", () => {
-  const all = [...states()];
+  const all = [...randomStates()];
   for (const text of CONDITIONS) {
     const { condition, fault } = compileTracedCondition(text, subject.names);
     assert.ok(condition, `${text}: ${fault}`);
@@ -270,7 +270,7 @@ test("answers", () => {
   for (const other of others) assert.equal(readAnswer(other), null);
 });
 
-/** The values that the program reads until the lamp is on: A down, 16 times. */
+/** The values that the program reads until the lamp is on: first 0, then 16 times the value for key A down. */
 const LIGHTS = [0, ...Array(16).fill(3)];
 
 async function counterexample(properties, values, at = 0) {
@@ -324,8 +324,8 @@ test("what takes too long becomes a test that fails, and nothing that is in time
   }
 });
 
-// One instruction makes a condition true and a later one makes it false. The cycles between them are two more than the first instruction
-// takes.
+// Each row: a condition, the instruction that makes it true, the instruction that makes it false, and the number of cycles for which it is
+// true with two more cycles in between.
 const SPANS = [["r5 > 0", "FIM P2, 0x05", "FIM P2, 0", 4], ["r5 > 0", "INC R5", "FIM P2, 0", 3], ["r5 > 0", "FIM P2, 0x0F", "INC R5", 4],
   ["cy = 1", "STC", "CLB", 3]];
 
@@ -363,8 +363,8 @@ test("keys that change together are on the way to what takes too long", async ()
 });
 
 // Programs for the board above. `made` has the common mistakes of each program: the number of cycles before the mistake, by the mistake's
-// word. The cycles follow from the instruction table.
-const MAKES = [
+// name. The numbers of cycles follow from the instruction table.
+const PROGRAMS_WITH_MISTAKES = [
   { program: "FIM P1, 0x80\nSRC P1\nWR2", made: { ram: 3 } }, { program: "LDM 1\nDCL\nRDM", made: { ram: 2 } },
   { program: "LDM 1\nDCL\nFIM P1, 0x40\nSRC P1\nLDM 0\nDCL\nRDM", made: {} },
   { program: "FIM P1, 0x40\nSRC P1\nWMP\nFIM P1, 0xC0\nSRC P1\nSBM", made: { ram: 7 } },
@@ -375,7 +375,7 @@ const MAKES = [
 ];
 
 test("mistakes are seen before the instruction that makes them", () => {
-  for (const { program, made } of MAKES) {
+  for (const { program, made } of PROGRAMS_WITH_MISTAKES) {
     const own = createSubject(engine, BOARD, `${program}\n${program.includes("ORG") ? "" : "end: JUN end\n"}`);
     for (const word of ["ram", "rom", "rdr", "wrr"]) {
       assert.equal(cyclesToMistake(own, own.file, word, 20), made[word] === undefined ? -1 : made[word], `${program}: ${word}`);

@@ -53,7 +53,7 @@ end:    JUN end
 const engine = new Engine(new globalThis.WebAssembly.Module(pageModule));
 
 /** The bench's module with a fixed answer of the prover to questions about key presses. */
-class Answering extends Engine {
+class FixedAnswerEngine extends Engine {
   /** @param {string} answer */
   constructor(answer) {
     super(new globalThis.WebAssembly.Module(pageModule));
@@ -141,11 +141,12 @@ test("a property with such a guard is asked alone, also before a search", () => 
 test("presses that no read sees are no counterexample", async () => {
   // The first read already finds START down. The key was pressed before that read, so no read sees it go down.
   const text = "lamp waiting on only after press START\n";
-  const [open] = await verdictsOn(text, new Answering("may fail 0 8\n"));
+  const [open] = await verdictsOn(text, new FixedAnswerEngine("may fail 0 8\n"));
   assert.deepEqual(open, { kind: "open", words: "it can become true before the program has read each key up and then down" });
-  const [proved] = await verdictsOn(text, new Answering("holds 12\n"));
+  const [proved] = await verdictsOn(text, new FixedAnswerEngine("holds 12\n"));
   assert.deepEqual(proved, { kind: "proved", states: 12, bySets: false, leftOut: "" });
-  const [found] = await verdictsOn("lamp go on only after press START, press START\n", new Answering(`may fail 0 8${" 1".repeat(16)}\n`));
+  const [found] = await verdictsOn("lamp go on only after press START, press START\n",
+    new FixedAnswerEngine(`may fail 0 8${" 1".repeat(16)}\n`));
   assert.equal(found.kind, "found");
   assert.match(found.found.text, /\n {2}press START\n {2}run \d+\n {2}expect not lamp go on\n$/);
   const [pin] = await verdictsOn("lamp foul on only after press PRESS\n");

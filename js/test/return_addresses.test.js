@@ -3,8 +3,8 @@ import { test } from "node:test";
 import { findLiveReturns, callAddress, describeCounter, describeReturn } from "../core/machine/return_addresses.js";
 import { SourceMap } from "../core/machine/source_map.js";
 
-// docs/MANUAL.md: JMS stores the address after its two bytes as the newest return address. After BBL, the address that follows BBL is the
-// oldest one.
+// docs/MANUAL.md: JMS stores the address after its two bytes as the newest return address. After BBL, the oldest return address is the
+// address that follows BBL.
 const TEXT = "go: JMS one\n\tJUN go\none: FIM P0, 0x50\n\tBBL 0\n\tNOP\n";
 const MAP = new SourceMap(["map lines 5 names 2", "line 1 000 2", "line 2 002 2", "line 3 004 2", "line 4 006 1", "line 5 007 1",
   "name go 000", "name one 004"], TEXT);

@@ -31,11 +31,12 @@ test("routines begin with the program and with what is called", () => {
 });
 
 test("what a routine calls, and by what it is called", () => {
-  assert.deepEqual(named(routines.called(routines.routines[0])), ["show 4", "read 5"]);
-  assert.deepEqual(named(routines.called(routines.getByName("read"))), ["show 14"]);
-  assert.deepEqual(named(routines.callers(routines.getByName("show"))), [" 4", "read 14"]);
-  assert.deepEqual(named(routines.callers(routines.getByName("read"))), [" 5", "other 10"], "a call that nothing comes to is in its label");
-  assert.deepEqual(named(routines.callers(routines.getByName("unused"))), []);
+  assert.deepEqual(named(routines.findCalledRoutines(routines.routines[0])), ["show 4", "read 5"]);
+  assert.deepEqual(named(routines.findCalledRoutines(routines.getByName("read"))), ["show 14"]);
+  assert.deepEqual(named(routines.findCallers(routines.getByName("show"))), [" 4", "read 14"]);
+  assert.deepEqual(named(routines.findCallers(routines.getByName("read"))), [" 5", "other 10"],
+    "a call that no jump reaches is in its label");
+  assert.deepEqual(named(routines.findCallers(routines.getByName("unused"))), []);
 });
 
 test("the routine at a line, and how often labels are named", () => {
@@ -44,7 +45,7 @@ test("the routine at a line, and how often labels are named", () => {
   assert.equal(routines.routineAt(10), null);
   assert.equal(routines.getByName("four"), null);
   assert.equal(routines.getByName("none"), null);
-  const uses = routines.uses();
+  const uses = routines.countUses();
   assert.deepEqual([uses.get("show"), uses.get("loop"), uses.get("unused"), uses.has("four")],
     [{ calls: 2, others: 0 }, { calls: 0, others: 1 }, { calls: 0, others: 0 }, false]);
 });
@@ -52,5 +53,5 @@ test("the routine at a line, and how often labels are named", () => {
 test("texts without statements, and of one instruction", () => {
   assert.deepEqual(new Routines([""]).routines, []);
   assert.deepEqual(new Routines(["a: JMS a"]).routines.map(({ name }) => name), ["a"]);
-  assert.deepEqual(named(new Routines(["a: JMS a"]).callers(new Routines(["a: JMS a"]).routines[0])), ["a 0"]);
+  assert.deepEqual(named(new Routines(["a: JMS a"]).findCallers(new Routines(["a: JMS a"]).routines[0])), ["a 0"]);
 });

@@ -7,7 +7,7 @@ import { MAX_MESSAGE, MessageReader, StreamError, frameMessage } from "../core/s
 import { findBoard, isBoard, isProgram } from "../core/server/text_kinds.js";
 import { OpenText } from "../core/server/open_text.js";
 import { encodeTokens } from "../core/server/token_codes.js";
-import { bytesOf, served } from "./server_client.js";
+import { bytesOf, startServer } from "./server_client.js";
 
 const BOARD = readFileSync(new URL("../../examples/lock/board.toml", import.meta.url), "utf8");
 
@@ -41,13 +41,13 @@ test("a size that no message has is an error at once, after the messages before 
     for (const { text } of reader.take(bytes)) texts.push(text);
   }, /^Error: Content-Length: 99999999999 is more than a message can have/);
   assert.deepEqual(texts, ["{}"]);
-  const { connection, messages } = served();
+  const { connection, messages } = startServer();
   assert.throws(() => connection.take(bytes), StreamError);
   assert.match(messages[messages.length - 1].error.message, /^Content-Length: 99999999999 is more/);
 });
 
 test("what comes in one chunk with initialize, and with shutdown, is served in its order", async () => {
-  const { connection, messages, status } = served();
+  const { connection, messages, status } = startServer();
   const textDocument = { uri: "file:///a.asm", languageId: "asm", version: 1, text: "foo\n" };
   const hover = { textDocument, position: { line: 0, character: 0 } };
   const notes = [["initialized", {}], ["textDocument/didOpen", { textDocument }]].map(([method, params]) => ({ method, params }));
@@ -102,7 +102,7 @@ test("the board of a program, by its project file", () => {
 
 test("the faults of a project file, and a program on the board that it names", async () => {
   const files = { "file:///a/b/wires.toml": BOARD, "file:///a/b/x.asm": "NOP\n" };
-  const { begin, open, messages, ask } = served(files);
+  const { begin, open, messages, ask } = startServer(files);
   await begin();
   const uri = "file:///a/b/mcs4.toml";
   const words = async (text) => (await open(uri, text, "toml")).map(({ range, message }) => `${range.start.line}: ${message}`);
@@ -134,7 +134,7 @@ test("faults with what cures them, and that there may be more", () => {
 });
 
 test("the order of the protocol", async () => {
-  const { answer, begin, connection, messages, status } = served();
+  const { answer, begin, connection, messages, status } = startServer();
   assert.equal((await answer("textDocument/hover", {})).error.code, -32002);
   assert.ok((await begin()).capabilities.renameProvider);
   assert.equal((await answer("initialize", {})).error.code, -32600);
@@ -153,7 +153,7 @@ test("the order of the protocol", async () => {
 });
 
 test("all faults of a program, on the board beside it, and quickFixTexts", async () => {
-  const { ask, begin, open } = served({ "file:///a/board.toml": BOARD });
+  const { ask, begin, open } = startServer({ "file:///a/board.toml": BOARD });
   await begin();
   const uri = "file:///a/x.asm";
   const found = await open(uri, "begin: JMP begn\n  LDM 0FH\nzero EQU 4\n  JUN begni\n");
@@ -173,7 +173,7 @@ test("all faults of a program, on the board beside it, and quickFixTexts", async
 });
 
 test("a bad name is one fault, and hides no other", async () => {
-  const { begin, open } = served();
+  const { begin, open } = startServer();
   await begin();
   for (const [at, name] of ["thisnameismuchtoolong", "LDM", "P3", "2x"].entries()) {
     const faults = await open(`file:///bad${at}.asm`, `${name} = 3\n JMP 16\nright = 4\n LDM right\n`);
@@ -183,7 +183,7 @@ test("a bad name is one fault, and hides no other", async () => {
 });
 
 test("a program's words, names and places", async () => {
-  const { answer, ask, at, begin, open } = served();
+  const { answer, ask, at, begin, open } = startServer();
   await begin();
   const uri = "file:///a/x.asm";
   assert.deepEqual(await open(uri, "four = 4\nturn: LDM four ; turn\n JUN turn\n"), []);
@@ -206,7 +206,7 @@ test("a program's words, names and places", async () => {
 });
 
 test("a board's words and places: a lamp's line leads to its chip", async () => {
-  const { ask, at, begin, open } = served();
+  const { ask, at, begin, open } = startServer();
   await begin();
   const uri = "file:///a/board.toml";
   assert.deepEqual(await open(uri, BOARD, "toml"), []);
@@ -225,12 +225,12 @@ test("a board's words and places: a lamp's line leads to its chip", async () => 
 });
 
 test("the rest of a message that does not come is reported", () => {
-  const { connection, messages } = served();
+  const { connection, messages } = startServer();
   assert.equal(connection.reportIncomplete(), "");
   connection.take(bytesOf("Content-Length: 20\r\n\r\n{\"id\":"));
   assert.equal(connection.reportIncomplete(), "only 6 of the 20 bytes that Content-Length announces have arrived");
   assert.deepEqual([messages[0].id, messages[0].error.code], [null, -32600]);
-  const other = served();
+  const other = startServer();
   other.connection.take(bytesOf("Content-Le"));
   assert.match(other.connection.reportIncomplete(), /a part of the head/);
 });

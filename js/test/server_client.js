@@ -10,7 +10,7 @@ const engine = new Engine(new globalThis.WebAssembly.Module(pageModule));
 export const bytesOf = (text) => new TextEncoder().encode(text);
 
 /** Returns a server with a client. `files` are the files that the server can read, and the server calls `pause` between pieces of work. */
-export function served(files = {}, pause = async () => {}) {
+export function startServer(files = {}, pause = async () => {}) {
   const reader = new MessageReader();
   const messages = [];
   let status = null;

@@ -4,7 +4,7 @@ import assert from "node:assert/strict";
 import { test } from "node:test";
 import { readFileSync } from "node:fs";
 import { frameMessage } from "../core/server/framing.js";
-import { served } from "./server_client.js";
+import { startServer } from "./server_client.js";
 
 const LOCK = new URL("../../examples/lock/", import.meta.url);
 const read = (name) => readFileSync(new URL(name, LOCK), "utf8");
@@ -16,15 +16,15 @@ const document = { textDocument: { uri } };
 const range = (...at) => ({ start: { line: at[0], character: at[1] }, end: { line: at[2], character: at[3] } });
 
 /** Returns a server in which a text is open. */
-async function with_(text, params, name = uri) {
-  const server = served(FILES);
+async function serverWithText(text, params, name = uri) {
+  const server = startServer(FILES);
   await server.begin(params);
   await server.open(name, text);
   return server;
 }
 
 /** Returns a text after edits in the form of the language server protocol. */
-function edited(text, edits) {
+function applyEdits(text, edits) {
   const lines = text.split("\n");
   for (const { range: { start, end }, newText } of [...edits].reverse()) {
     assert.equal(start.line, end.line);
@@ -35,11 +35,11 @@ function edited(text, edits) {
 
 test("the layout of a text and of a range, once and once more", async () => {
   const text = "start:JMP start\nLDM 5;five\n\nloop: JUN loop\n";
-  const { ask, answer, open } = await with_(text);
+  const { ask, answer, open } = await serverWithText(text);
   const options = { tabSize: 4, insertSpaces: true };
-  const once = edited(text, await ask("textDocument/formatting", { ...document, options }));
+  const once = applyEdits(text, await ask("textDocument/formatting", { ...document, options }));
   assert.equal(once, "start:JMP start\n        LDM 5           ;five\n\nloop:   JUN loop\n", "the line with an error stays as it is");
-  const part = edited(text, await ask("textDocument/rangeFormatting", { ...document, range: range(1, 0, 2, 0), options }));
+  const part = applyEdits(text, await ask("textDocument/rangeFormatting", { ...document, range: range(1, 0, 2, 0), options }));
   assert.equal(part, "start:JMP start\n        LDM 5           ;five\n\nloop: JUN loop\n");
   await open(uri, once);
   assert.deepEqual(await ask("textDocument/formatting", { ...document, options }), []);
@@ -49,7 +49,7 @@ test("the layout of a text and of a range, once and once more", async () => {
 });
 
 test("hints: where lines are, their cycles, and the values of names", async () => {
-  const { ask, open } = await with_("four = 4\nturn: LDM four ; turn\n JUN turn\n DB 1, 2\n");
+  const { ask, open } = await serverWithText("four = 4\nturn: LDM four ; turn\n JUN turn\n DB 1, 2\n");
   const hints = await ask("textDocument/inlayHint", { ...document, range: range(0, 0, 9, 0) });
   assert.deepEqual(hints.map(({ position, label }) => [position.line, position.character, label]), [
     [1, 14, "= 4"], [1, 21, "0x000, 1 cycle"], [2, 9, "= 0x000"], [2, 9, "0x001, 2 cycles"], [3, 8, "0x003, 2 bytes"]]);
@@ -59,25 +59,25 @@ test("hints: where lines are, their cycles, and the values of names", async () =
 });
 
 test("what folds away", async () => {
-  const { ask } = await with_("; one\n; two\n\nstart: NOP\nloop: NOP\n JUN loop\n\n; end\n");
+  const { ask } = await serverWithText("; one\n; two\n\nstart: NOP\nloop: NOP\n JUN loop\n\n; end\n");
   assert.deepEqual(await ask("textDocument/foldingRange", document), [
     { startLine: 0, endLine: 1, kind: "comment" }, { startLine: 3, endLine: 5 }, { startLine: 4, endLine: 5 }]);
 });
 
 test("names of all texts of the project, also of those that are not open", async () => {
-  const { ask } = await with_(read("lock.asm"));
+  const { ask } = await serverWithText(read("lock.asm"));
   const names = async (query) => (await ask("workspace/symbol", { query })).map(({ name, containerName }) => `${containerName} ${name}`);
   assert.deepEqual(await names("enter"), ["lock.asm enter"]);
   assert.ok((await names("")).some((name) => name.startsWith("lock.test ")));
   assert.ok((await names("ram")).includes("board.toml ram bank 0"));
   assert.deepEqual(await names("zzz"), []);
-  const other = served(FILES);
+  const other = startServer(FILES);
   await other.begin({ workspaceFolders: [{ uri: "file:///p", name: "p" }], rootUri: "file:///p" });
   assert.ok((await other.ask("workspace/symbol", { query: "enter" })).length > 0, "a folder that is open");
 });
 
 test("a call hierarchy", async () => {
-  const { ask, at } = await with_("begin: JMS show\n JMS show\n JUN begin\nshow: JMS key\n BBL 0\nkey: BBL 1\n");
+  const { ask, at } = await serverWithText("begin: JMS show\n JMS show\n JUN begin\nshow: JMS key\n BBL 0\nkey: BBL 1\n");
   const [item] = await ask("textDocument/prepareCallHierarchy", at(uri, 0, 13));
   assert.deepEqual([item.name, item.detail, item.range.end.line], ["show", "show: address 0x006, line 4", 4]);
   const incoming = await ask("callHierarchy/incomingCalls", { item });
@@ -90,9 +90,9 @@ test("a call hierarchy", async () => {
 test("lenses: how often a label is called, with places for clients that can show them", async () => {
   const text = "begin: JMS show\n JUN begin\nshow: BBL 0\nleft: NOP\n";
   const titles = (lenses) => lenses.map(({ range: { start }, command }) => `${start.line} ${command.title} ${command.command}`);
-  const plain = await with_(text);
+  const plain = await serverWithText(text);
   assert.deepEqual(titles(await plain.ask("textDocument/codeLens", document)), ["0 1 reference ", "2 1 call ", "3 0 references "]);
-  const able = await with_(text, { capabilities: { experimental: { commands: { commands: ["editor.action.showReferences"] } } } });
+  const able = await serverWithText(text, { capabilities: { experimental: { commands: { commands: ["editor.action.showReferences"] } } } });
   const lenses = await able.ask("textDocument/codeLens", document);
   assert.deepEqual(titles(lenses).slice(0, 2), ["0 1 reference editor.action.showReferences", "2 1 call editor.action.showReferences"]);
   assert.deepEqual(lenses[1].command.arguments, [uri, { line: 2, character: 0 }, [{ uri, range: range(0, 11, 0, 15) }]]);
@@ -100,14 +100,14 @@ test("lenses: how often a label is called, with places for clients that can show
 
 test("links to the files of a project", async () => {
   const name = `${PROJECT}mcs4.toml`;
-  const { ask } = await with_(FILES[name].replace("lock.props", "gone.props"), {}, name);
+  const { ask } = await serverWithText(FILES[name].replace("lock.props", "gone.props"), {}, name);
   const links = await ask("textDocument/documentLink", { textDocument: { uri: name } });
   assert.deepEqual(links.map(({ target }) => target), ["board.toml", "lock.asm", "lock.test"].map((each) => PROJECT + each));
   assert.equal(links[0].range.start.line, 0);
 });
 
 test("selections grow from a word to the text", async () => {
-  const { ask } = await with_("; a\n\nstart: JCN 4, start ; b\n NOP\n");
+  const { ask } = await serverWithText("; a\n\nstart: JCN 4, start ; b\n NOP\n");
   const positions = [{ line: 2, character: 15 }, { line: 99, character: 9 }];
   const [selection, other] = await ask("textDocument/selectionRange", { ...document, positions });
   const ranges = [];
@@ -120,7 +120,7 @@ test("selections grow from a word to the text", async () => {
 
 test("colours of a range, and what changed of them", async () => {
   const text = "start: LDM 5\n JUN start\n";
-  const { ask, connection } = await with_(text);
+  const { ask, connection } = await serverWithText(text);
   const { resultId, data } = await ask("textDocument/semanticTokens/full", document);
   assert.equal(data.length, 5 * 5);
   assert.deepEqual(await ask("textDocument/semanticTokens/range", { ...document, range: range(1, 0, 1, 9) }),
@@ -135,7 +135,7 @@ test("colours of a range, and what changed of them", async () => {
 });
 
 test("the form of a statement while its operands are typed", async () => {
-  const { ask, at } = await with_("start: JCN 4, start ; b\n NOP \n DB 1, 2, 3\n LDM 5, 6\n");
+  const { ask, at } = await serverWithText("start: JCN 4, start ; b\n NOP \n DB 1, 2, 3\n LDM 5, 6\n");
   const help = async (line, character) => {
     const found = await ask("textDocument/signatureHelp", at(uri, line, character));
     if (!found) return null;
@@ -153,7 +153,7 @@ test("the form of a statement while its operands are typed", async () => {
 });
 
 test("completion with what words are, and none where a blank only indents", async () => {
-  const { ask, at } = await with_("four = 4\nstart: JCN \n FIM \n LDM f\n  \n");
+  const { ask, at } = await serverWithText("four = 4\nstart: JCN \n FIM \n LDM f\n  \n");
   const list = (line, character, triggerCharacter) => {
     const context = { triggerKind: triggerCharacter ? 2 : 1, triggerCharacter };
     return ask("textDocument/completion", { ...at(uri, line, character), context });
@@ -170,7 +170,7 @@ test("completion with what words are, and none where a blank only indents", asyn
 test("help in Markdown for clients that show it: the instruction's row, what a condition asks for, and the comment of a name", async () => {
   const text = "; shows <b>\n; all\nshow: LDM 5 ; now\n JCN 4, show\n JUN show\n";
   const client = { capabilities: { textDocument: { hover: { contentFormat: ["markdown", "plaintext"] } } } };
-  const { ask, at } = await with_(text, client);
+  const { ask, at } = await serverWithText(text, client);
   const value = async (line, character) => (await ask("textDocument/hover", at(uri, line, character))).contents;
   const { kind, value: row } = await value(3, 2);
   assert.equal(kind, "markdown");
@@ -181,7 +181,7 @@ test("help in Markdown for clients that show it: the instruction's row, what a c
 
 test("diagnostics that a client asks for, and the request to ask again", async () => {
   const client = { capabilities: { textDocument: { diagnostic: {} }, workspace: { diagnostics: { refreshSupport: true } } } };
-  const server = served({});
+  const server = startServer({});
   const { capabilities } = await server.begin(client);
   assert.equal(capabilities.diagnosticProvider.interFileDependencies, true);
   const take = (method, params) => server.connection.take(frameMessage({ jsonrpc: "2.0", method, params }));
@@ -193,5 +193,5 @@ test("diagnostics that a client asks for, and the request to ask again", async (
   take("textDocument/didOpen", { textDocument: { uri: `${PROJECT}board.toml`, languageId: "toml", version: 1, text: read("board.toml") } });
   await server.ask("textDocument/diagnostic", document);
   assert.ok(server.messages.some(({ method }) => method === "workspace/diagnostic/refresh"));
-  assert.ok(!("diagnosticProvider" in (await served({}).begin({})).capabilities));
+  assert.ok(!("diagnosticProvider" in (await startServer({}).begin({})).capabilities));
 });

@@ -4,7 +4,7 @@ import assert from "node:assert/strict";
 import { test } from "node:test";
 import { readFileSync } from "node:fs";
 import { frameMessage } from "../core/server/framing.js";
-import { served } from "./server_client.js";
+import { startServer } from "./server_client.js";
 
 const LOCK = new URL("../../examples/lock/", import.meta.url);
 const read = (name) => readFileSync(new URL(name, LOCK), "utf8");
@@ -15,14 +15,14 @@ const properties = `${FOLDER}lock.props`;
 const textsOf = (faults) => faults.map(({ range: { start, end }, severity, message }) => (
   `${start.line}:${start.character}-${end.character} ${severity} ${message}`));
 
-async function begun(files = FILES) {
-  const server = served(files);
+async function startWith(files = FILES) {
+  const server = startServer(files);
   await server.begin();
   return server;
 }
 
 test("the errors of tests have their places", async () => {
-  const { open } = await begun();
+  const { open } = await startWith();
   assert.deepEqual(await open(tests, read("lock.test"), "plaintext"), []);
   const faults = textsOf(await open(tests, "test a\n  press Q\n  until lamp opn on within 1 s\n  nonsense\n"));
   assert.equal(faults[0], "1:2-9 1 the board has no key Q; it has: 1 2 3 4 5 6 7 8 9 * 0 #");
@@ -32,7 +32,7 @@ test("the errors of tests have their places", async () => {
 });
 
 test("the errors of properties have their places", async () => {
-  const { open } = await begun();
+  const { open } = await startWith();
   assert.deepEqual(await open(properties, read("lock.props"), "plaintext"), []);
   const faults = textsOf(await open(properties, "press 1 2\nnever lamp purple on\nat @nowhere lamp open on\n"));
   assert.match(faults[0], /^1:6-10 1 the board has no lamp purple/);
@@ -40,16 +40,16 @@ test("the errors of properties have their places", async () => {
 });
 
 test("without board and program, or with one that is wrong, that is said", async () => {
-  const alone = await begun({});
+  const alone = await startWith({});
   assert.deepEqual(textsOf(await alone.open(tests, "test a\n")), [
     "0:0-0 2 there is no board.toml here, so this text is not checked; mcs4.toml can name a board and a program"]);
-  const wrong = await begun({ ...FILES, [`${FOLDER}lock.asm`]: "NOP\n JMP 3\n" });
+  const wrong = await startWith({ ...FILES, [`${FOLDER}lock.asm`]: "NOP\n JMP 3\n" });
   assert.deepEqual(textsOf(await wrong.open(properties, "never lamp open on\n")), [
     "0:0-0 2 lock.asm has an error in line 2, so this text is not checked"]);
 });
 
 test("they are looked at again as board and program change", async () => {
-  const { open, messages: all } = await begun();
+  const { open, messages: all } = await startWith();
   const isOfTests = ({ method, params }) => method === "textDocument/publishDiagnostics" && params.uri === tests;
   const last = () => all.filter(isOfTests).pop().params.diagnostics;
   assert.deepEqual(await open(tests, "test a\n  until @enter within 1 s\n"), []);
@@ -60,13 +60,13 @@ test("they are looked at again as board and program change", async () => {
 
 test("shared steps of the texts before one in its project", async () => {
   const project = "board = \"board.toml\"\nprogram = \"lock.asm\"\ntests = [\"shared.test\", \"lock.test\"]\n";
-  const { open } = await begun({ ...FILES, [`${FOLDER}mcs4.toml`]: project, [`${FOLDER}shared.test`]: "steps begin\n  run 5 ms\n" });
+  const { open } = await startWith({ ...FILES, [`${FOLDER}mcs4.toml`]: project, [`${FOLDER}shared.test`]: "steps begin\n  run 5 ms\n" });
   assert.deepEqual(await open(tests, "test a\n  do begin\n"), []);
   assert.match((await open(tests, "test a\n  do start\n"))[0].message, /start/);
 });
 
 test("completion by the names of board and program, help, definitions, outline, folds and colours", async () => {
-  const { ask, at, open } = await begun();
+  const { ask, at, open } = await startWith();
   await open(tests, "steps begin\n  run 5 ms\ntest opens\n  do begin\n  press \n  until @e\n  expect lamp \n");
   const list = async (line, character, name = tests) => (
     (await ask("textDocument/completion", at(name, line, character))).map(({ label }) => label));
@@ -88,14 +88,14 @@ test("completion by the names of board and program, help, definitions, outline, 
 });
 
 test("properties lead to the tests that they begin with", async () => {
-  const { ask, open } = await begun({ ...FILES, [tests]: "test a\n  save s\n" });
+  const { ask, open } = await startWith({ ...FILES, [tests]: "test a\n  save s\n" });
   await open(properties, "from s of lock.test\nfrom s of ../lock.test\nfrom s of none.test\nfrom s of /dev/zero\n");
   const links = await ask("textDocument/documentLink", { textDocument: { uri: properties } });
   assert.deepEqual(links.map(({ target, range }) => [target, range.start.line, range.start.character]), [[tests, 0, 10]]);
 });
 
 test("a test that is run by its lens, and the line that failed", async () => {
-  const { answer, ask, open, messages: all } = await begun();
+  const { answer, ask, open, messages: all } = await startWith();
   const text = "test opens\n  run 50 ms\n  save ready\ntest fails\n  from ready\n  expect lamp alarm on\ntest other\n  run 60 s\n";
   await open(tests, text);
   const lenses = await ask("textDocument/codeLens", { textDocument: { uri: tests } });
@@ -125,7 +125,7 @@ test("a test that runs ends where the client cancels it, and no result is shown"
     pauses += 1;
     return new Promise(setImmediate);
   };
-  const { connection, answer, begin, open, messages: all } = served(FILES, pause);
+  const { connection, answer, begin, open, messages: all } = startServer(FILES, pause);
   await begin();
   await open(tests, "test long\n  until r15 9 within 10000 s\ntest short\n  run 5 ms\n");
   const until = async (isSo) => {

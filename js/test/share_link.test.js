@@ -12,7 +12,7 @@ const calculator = {
 };
 
 /** Runs an action as in a browser that lacks the given stream classes. */
-async function without(names, act) {
+async function withoutGlobals(names, act) {
   const kept = names.map((name) => globalThis[name]);
   names.forEach((name) => { globalThis[name] = undefined; });
   try {
@@ -39,16 +39,16 @@ test("the largest example fits well", async () => {
 });
 
 test("a browser that cannot compress makes a longer link, which every one reads", async () => {
-  const link = await without(["CompressionStream"], () => toLink(calculator));
+  const link = await withoutGlobals(["CompressionStream"], () => toLink(calculator));
   assert.match(link, /^0\./);
-  assert.deepEqual(await without(["DecompressionStream"], () => readLink(link)), calculator);
+  assert.deepEqual(await withoutGlobals(["DecompressionStream"], () => readLink(link)), calculator);
   const packed = await toLink(calculator);
-  await assert.rejects(without(["DecompressionStream"], () => readLink(packed)), /no DecompressionStream.*project file/);
+  await assert.rejects(withoutGlobals(["DecompressionStream"], () => readLink(packed)), /no DecompressionStream.*project file/);
 });
 
 test("each cut of a link is refused, and each letter that is another one", async () => {
   const texts = { name: "die", boardText: "# a board\n", programText: "\tNOP\n\tJUN 0\n" };
-  for (const link of [await toLink(texts), await without(["CompressionStream"], () => toLink(texts))]) {
+  for (const link of [await toLink(texts), await withoutGlobals(["CompressionStream"], () => toLink(texts))]) {
     for (let length = 0; length < link.length; length++) await assert.rejects(readLink(link.slice(0, length)), LinkError, `${length}`);
     for (let at = 2; at < link.length - 1; at++) {
       const other = link[at] === "A" ? "B" : "A";

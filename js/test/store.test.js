@@ -4,7 +4,7 @@ import { test } from "node:test";
 import { OpenSession, newRecord } from "../page/session/open_session.js";
 import { MemoryStore, StoreError, Store, describeStoreError } from "../page/session/store.js";
 
-/** A stand-in for the part of IndexedDB that the store uses. It executes one transaction after another, each in its own task. */
+/** A stand-in for the part of IndexedDB that the store uses. The stand-in executes transactions in order, each in its own task. */
 class FakeBase {
   constructor() {
     this.records = new Map();

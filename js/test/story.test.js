@@ -73,7 +73,7 @@ test("an act calls the page, and says why it cannot", async () => {
   assert.match(await runAction({ name: "run to", argument: "nowhere" }, calls), /no label nowhere/);
   assert.match(await runAction({ name: "press", argument: "8" }, calls), /no key 8/);
   assert.match(await runAction({ name: "release", argument: "8" }, calls), /no key 8/);
-  // A key that is up is not released. A key that is already down is not pressed again, but can be released.
+  // While time is paused, `release` has no effect on a key that is up, and `press` has none on a key that is down.
   await runAction({ name: "release", argument: "7" }, calls);
   isDown = true;
   await runAction({ name: "press", argument: "7" }, calls);

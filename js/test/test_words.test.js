@@ -7,7 +7,7 @@ import { completeTest, helpForTest, testForms } from "../core/text/test_words.js
 
 const names = { keys: ["1", "2", "ENTER"], lamps: ["red", "green"], labels: ["start", "stop"] };
 const table = (...rows) => ({ caption: "", head: ["", ""], rows });
-/** Some rows in the form of the manual's tables. */
+/** Sample tables in the form in which the page stores the manual's tables. */
 const manual = [{ title: "The lines of a test", tables: [
   table(["`test NAME ..`", "begins a test"], ["`press KEY ..`, `release KEY ..`", "keys go down, or up"], ["`reset`", "a power cycle"],
     ["`run TIME`", "runs for that long"], ["`expect CONDITION`", "fails if it does not hold"]),

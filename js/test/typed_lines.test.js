@@ -6,11 +6,14 @@ import { begin } from "./page_session.js";
 
 const BOARD = "[[rom]]\nchip = 0\nport = \"0000\"\n";
 const PROGRAM = "loop:   INC R9\n        NOP\n        JUN loop\n";
-// A turn takes 4 cycles. The program reaches the NOP at 001 after 1, 5, 9, .. cycles, with 1, 2, 3, .. in R9.
+// An iteration takes 4 cycles. The program reaches the NOP at 001 after 1, 5, 9, .. cycles, with 1, 2, 3, .. in R9.
 const NOP = 1;
 
-/** @param {object} more further properties of the breakpoint at NOP */
-async function ready(more) {
+/**
+ * Resolves to a session that is ready to run this program, with a breakpoint at NOP.
+ * @param {object} more further properties of the breakpoint
+ */
+async function createSession(more) {
   const calls = await begin("three lamps");
   await calls.serve(`wire\n${BOARD}.\nasm\n${PROGRAM}.\nreset\n`);
   const placed = { id: 7, address: NOP, condition: "", from: 1, note: "", hits: 0, ...more };
@@ -19,48 +22,48 @@ async function ready(more) {
 }
 
 /** Resolves to the lines that the bench served, with their first answers, and to the effects of breakpoints. */
-async function typed(calls, lines) {
+async function serveTypedLines(calls, lines) {
   const { entries, typed: { id, cut, cycles, tally } } = await calls.serveTyped(lines);
   return { lines: entries.map(({ line, answers }) => `${line}: ${answers[0].replace(/^ok \d+ ?/, "")}`), id, cut, cycles, hits: tally.hits,
     notes: tally.notes };
 }
 
 test("a run ends where the condition holds", async () => {
-  const calls = await ready({ condition: "r9 = 3" });
-  const { lines, id, cut, cycles, hits } = await typed(calls, "run 1000\n");
+  const calls = await createSession({ condition: "r9 = 3" });
+  const { lines, id, cut, cycles, hits } = await serveTypedLines(calls, "run 1000\n");
   assert.deepEqual([lines, id, cut, cycles, hits], [["run 9: ran 9 end"], 7, "run 1000", 9, [[7, 1]]]);
   assert.match(calls.ask("regs\n")[0], /pc 001 owed 0 .* r 0000000003/);
-  const next = await typed(calls, "run 1000\n");
+  const next = await serveTypedLines(calls, "run 1000\n");
   assert.deepEqual([next.lines, next.cut], [["run 64: ran 64 end"], "run 1000"]);
 });
 
 test("each run of several lines does, and the lines after it are done", async () => {
-  const calls = await ready({ condition: "r9 = 3" });
-  const { lines, id, cut, cycles, hits } = await typed(calls, "poke r9 1\n\n  run 0x20 \npoke r9 0\nrun 5\nseq\n");
+  const calls = await createSession({ condition: "r9 = 3" });
+  const { lines, id, cut, cycles, hits } = await serveTypedLines(calls, "poke r9 1\n\n  run 0x20 \npoke r9 0\nrun 5\nseq\n");
   assert.deepEqual(lines.slice(0, 4), ["poke r9 1: ", "run 5: ran 5 end", "poke r9 0: ", "run 5: ran 5 end"]);
   assert.match(lines[4], /^seq: seq \d+$/);
   assert.deepEqual([id, cut, cycles, hits], [0, "", 10, [[7, 1]]]);
 });
 
 test("counts go on from line to line, and notes are logged", async () => {
-  const counted = await ready({ from: 3 });
-  assert.deepEqual((await typed(counted, "run 4\nrun 4\n")).lines, ["run 4: ran 4 end", "run 4: ran 4 end"]);
-  assert.deepEqual((await typed(counted, "run 9\n")).lines, ["run 1: ran 1 end"]);
-  const noted = await ready({ note: "R9 is {r9}" });
-  const { lines, notes, id } = await typed(noted, "run 6\nrun 4\n");
+  const counted = await createSession({ from: 3 });
+  assert.deepEqual((await serveTypedLines(counted, "run 4\nrun 4\n")).lines, ["run 4: ran 4 end", "run 4: ran 4 end"]);
+  assert.deepEqual((await serveTypedLines(counted, "run 9\n")).lines, ["run 1: ran 1 end"]);
+  const noted = await createSession({ note: "R9 is {r9}" });
+  const { lines, notes, id } = await serveTypedLines(noted, "run 6\nrun 4\n");
   assert.deepEqual([lines, id], [["run 6: ran 6 end", "run 4: ran 4 end"], 0]);
   assert.deepEqual(notes.map(({ cycles, words }) => [cycles, words]), [[1, "R9 is 1"], [5, "R9 is 2"], [9, "R9 is 3"]]);
 });
 
 test("what is refused, a step, and a text stay as they are; a breakpoint that always stops ends a run before", async () => {
-  const calls = await ready({ condition: "r9 = 3" });
-  const { lines } = await typed(calls, "run 0\nrun x\nrun 5 5\nstep\nbreak 2\nasm\nrun 5\n.\nrun 5\n");
+  const calls = await createSession({ condition: "r9 = 3" });
+  const { lines } = await serveTypedLines(calls, "run 0\nrun x\nrun 5 5\nstep\nbreak 2\nasm\nrun 5\n.\nrun 5\n");
   const wanted = ["run 0: no 44", "run x: no 11", "run 5 5: no 10", "step: ran 1 end", "break 2: ", "asm: no 30 line 1"];
   assert.deepEqual(lines, [...wanted, "run 5: ran 1 break"]);
 });
 
 test("where they are cancelled nothing was done, and nothing was counted", async () => {
-  const calls = await ready({ from: 2 });
+  const calls = await createSession({ from: 2 });
   const before = calls.ask("seq\nstate\n");
   let asked = 0;
   calls.bench.shouldContinue = async () => {
@@ -70,5 +73,5 @@ test("where they are cancelled nothing was done, and nothing was counted", async
   await assert.rejects(calls.serveTyped("run 4\nrun 4\nrun 4\n"), CancelledError);
   assert.deepEqual(calls.ask("seq\nstate\n"), before);
   calls.bench.shouldContinue = async () => true;
-  assert.deepEqual((await typed(calls, "run 1000\n")).lines, ["run 5: ran 5 end"]);
+  assert.deepEqual((await serveTypedLines(calls, "run 1000\n")).lines, ["run 5: ran 5 end"]);
 });

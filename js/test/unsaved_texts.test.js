@@ -19,7 +19,7 @@ const recordOf = (programText, revision) => (
 test("texts that the store lacks are there at each opening until the store has a later revision", () => {
   const store = storage();
   const left = new UnsavedTexts(store);
-  left.noteStored(recordOf("; old", 3));
+  left.markStored(recordOf("; old", 3));
   left.saveOnLeave(recordOf("; typed", 4));
   for (const opening of ["the first", "the second, without a write after the first"]) {
     const record = recordOf("; old", 3);
@@ -28,7 +28,7 @@ test("texts that the store lacks are there at each opening until the store has a
     assert.equal(record.programText, "; typed", opening);
     assert.equal(record.boardText, "# b");
     assert.equal(record.revision, 4, "the next write has a later revision");
-    leftAgain.noteStored(record);
+    leftAgain.markStored(record);
     leftAgain.saveOnLeave(record);
   }
   const written = recordOf("; after", 5);
@@ -59,7 +59,7 @@ test("texts of a write that was completed, or of another session, change nothing
 test("what the store has is not kept twice", () => {
   const store = storage();
   const left = new UnsavedTexts(store);
-  left.noteStored(recordOf("; same", 3));
+  left.markStored(recordOf("; same", 3));
   left.saveOnLeave(recordOf("; same", 4));
   assert.equal(store.items.size, 0);
 });

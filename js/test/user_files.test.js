@@ -28,7 +28,7 @@ const modeOf = (name) => (statSync(name).mode & 0o7777).toString(8);
  * Runs a line of JavaScript with the functions of the module in a separate process that limits the size of files to a number of blocks.
  * Returns the output.
  */
-function alone(line, file, blocks = "unlimited") {
+function runWithSizeLimit(line, file, blocks = "unlimited") {
   const script = `import * as files from "${MODULE}"; ${line}`;
   const shell = "ulimit -f \"$1\"; trap '' XFSZ; exec \"$2\" --input-type=module -e \"$3\" \"$4\"";
   return spawnSync("sh", ["-c", shell, "sh", blocks, process.execPath, script, file], { encoding: "utf8" }).stdout;
@@ -106,7 +106,7 @@ test("where a file does not fit, nothing of it is left", () => {
   const file = join(place, "file");
   writeFileSync(file, "old");
   const line = "try { files.writeUserFile(process.argv[1], 'x'.repeat(100000)); } catch ({ message }) { console.log(message); }";
-  assert.match(alone(line, file, "8"), /: it would exceed the size limit for files\n$/);
+  assert.match(runWithSizeLimit(line, file, "8"), /: it would exceed the size limit for files\n$/);
   assert.deepEqual([readFileSync(file, "utf8"), readdirSync(place)], ["old", ["file"]]);
 });
 
@@ -115,7 +115,7 @@ test("a file that waits to be put into its place is new, and goes with its proce
   const file = join(place, "file");
   writeFileSync(file, "old");
   const line = "console.log(files.prepareReplacement(process.argv[1], 'new').name); process.exit(1);";
-  const names = [1, 2].map(() => alone(line, file));
+  const names = [1, 2].map(() => runWithSizeLimit(line, file));
   assert.notEqual(names[0], names[1]);
   assert.deepEqual(readdirSync(place), ["file"]);
   const own = prepareReplacement(file, "new");
@@ -125,7 +125,7 @@ test("a file that waits to be put into its place is new, and goes with its proce
 });
 
 /** Returns a folder with a program and the file `name`, which is a FIFO, a device or a link to a file outside the folder. */
-function hostile(name, kind) {
+function folderWithSpecialFile(name, kind) {
   const place = mkdtempSync(join(top, `${kind}.`));
   writeFileSync(join(place, "p.asm"), "start:  LDM 1\n        JUN start\n");
   if (kind === "fifo") execFileSync("mkfifo", [join(place, name)]);
@@ -135,7 +135,7 @@ function hostile(name, kind) {
 
 test("the language server answers beside a device or a FIFO", async () => {
   for (const [name, kind] of [["mcs4.toml", "zero"], ["mcs4.toml", "fifo"], ["board.toml", "zero"], ["board.toml", "fifo"]]) {
-    const place = hostile(name, kind);
+    const place = folderWithSpecialFile(name, kind);
     const client = new ServerClient(MCS4);
     await client.begin();
     const uri = `file://${join(place, "p.asm")}`;
@@ -146,13 +146,13 @@ test("the language server answers beside a device or a FIFO", async () => {
 
 test("the debug adapter rejects a device, a FIFO and a link out of the project", async () => {
   for (const kind of ["zero", "fifo"]) {
-    const place = hostile("board.toml", kind);
+    const place = folderWithSpecialFile("board.toml", kind);
     const client = new AdapterClient(MCS4);
     await client.ask("initialize", {});
     assert.match((await client.answer("launch", { program: join(place, "p.asm") })).message, /^cannot read .*board.toml/);
     assert.equal(await client.end(), 0);
   }
-  const place = hostile("", "link");
+  const place = folderWithSpecialFile("", "link");
   mkdirSync(join(place, "in"));
   writeFileSync(join(place, "board.toml"), "[[rom]]\nchip = 0\nport = \"0000\"\n");
   symlinkSync("../board.toml", join(place, "in", "board.toml"));
@@ -169,7 +169,7 @@ test("the debug adapter rejects a device, a FIFO and a link out of the project",
 
 test("the prompt rejects a device and a FIFO", () => {
   for (const kind of ["zero", "fifo"]) {
-    const place = hostile("b.toml", kind);
+    const place = folderWithSpecialFile("b.toml", kind);
     const { status, stderr } = spawnSync(MCS4, ["debug", join(place, "b.toml"), join(place, "p.asm")], { encoding: "utf8", input: "" });
     assert.deepEqual([status, /^debug: cannot read /.test(stderr)], [1, true]);
   }

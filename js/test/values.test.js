@@ -34,7 +34,7 @@ async function open(lines = POKES) {
   const opened = new DebugSession(engine, { board: BOARD, program: PROGRAM });
   assert.deepEqual(opened.rejectedTexts, []);
   const { session } = opened.debugger;
-  for (let step = 0; step < 4; step++) await opened.into();
+  for (let step = 0; step < 4; step++) await opened.stepInto();
   await session.serve(lines, async () => true);
   return { session, map: opened.map };
 }
@@ -112,21 +112,21 @@ test("what a line has changed: an instruction, a call that was stepped over; no 
   const stand = () => changes.addPause(standingOf(session), session.count.total, opened.map);
   stand();
   assert.deepEqual([...changes.lines], []);
-  await opened.into();
+  await opened.stepInto();
   stand();
   assert.deepEqual([...changes.lines], [[1, "acc 9"]]);
   stand();
-  await opened.into();
+  await opened.stepInto();
   await session.serve("poke r9 4\n", async () => true);
   stand();
   assert.deepEqual([...changes.lines], [[1, "acc 9"], [2, "acc A R9 4"]]);
-  await opened.go({ kind: "over" });
+  await opened.runToGoal({ kind: "over" });
   stand();
   assert.equal(changes.lines.get(3), "acc 2 R2 3 R3 4 SRC 34 SRC of bank 0 34 ram.0.0x34 A");
-  await opened.back({ kind: "instruction" });
+  await opened.goBack({ kind: "instruction" });
   stand();
   assert.deepEqual([...changes.lines], []);
-  await opened.into();
+  await opened.stepInto();
   stand();
   assert.deepEqual([...changes.lines], [[8, "acc 2"]]);
   await session.serve("run 3\n", async () => true);

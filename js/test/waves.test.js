@@ -107,8 +107,8 @@ test("what is offered, by words", () => {
 const LEVELS = { "rom0.0": 1, "rom0.1": 1, "rom1.1": 1, "rom1.2": 1, "chain0.0": 1, "chain0.1": 1 };
 
 /**
- * Returns the bench's answers to the queries of a recording. Each instruction is given by the number of cycles before it, its address, and
- * its changes.
+ * Returns the bench's answers to the queries of a recording. `levels` has the initial values of places. Each instruction is a list: the
+ * cycles before it, its address, and the values that it changes.
  */
 function answersOf({ groups }, levels, instructions = []) {
   const now = { ...levels };
@@ -250,7 +250,7 @@ test("a recording becomes longer, and forgets its beginning and its end", () => 
   assert.equal(textOf(parts, parts.lines.map((_, line) => line)), textOf(whole, whole.lines.map((_, line) => line)));
   parts.beginAt(2);
   const data = numberOf(parts.lines, "rom0.1");
-  assert.deepEqual([parts.from, parts.span, parts.valueAt(data, 2), [...parts.changesOf(pc)]], [2, 2, "0", [4]]);
+  assert.deepEqual([parts.from, parts.length, parts.valueAt(data, 2), [...parts.changesOf(pc)]], [2, 2, "0", [4]]);
   assert.deepEqual([parts.counterAt(2), parts.counterAt(3), parts.valueAt(numberOf(parts.lines, "lamp2"), 2)], [0x00c, 0x00c, "1"]);
   parts.endAt(3);
   assert.deepEqual([parts.cycles, [...parts.changesOf(pc)], parts.counterAt(3)], [3, [], 0x00c]);

@@ -1,4 +1,4 @@
-// Tests recordings of running time, on the page's WebAssembly module. They must equal a recording that is made at once.
+// Tests recordings that grow while time is running, on the page's WebAssembly module. They must equal a recording made in one call.
 import assert from "node:assert/strict";
 import { test } from "node:test";
 import { matrixKey } from "../core/board/key_place.js";
@@ -15,7 +15,7 @@ async function beginWith(name, lines = "") {
 const numberOf = (waves, name) => waves.lines.findIndex((line) => line.name === name);
 const wholeText = (waves) => [...vcdParts(waves, waves.lines.map((_, line) => line))].join("");
 
-/** Returns a recording that begins now. `did` receives the answers of calls, which contain the parts of the recording. */
+/** Starts a recording, and returns it. Its function `did` takes the answers of calls, which contain parts of the recording. */
 function record(calls, texts, { most = 1000000, behind = 0, trigger = "", stopsTime = false } = {}) {
   const { recorded, fault } = calls.recordLive(texts, { trigger, behind, stopsTime });
   assert.equal(fault, "");
@@ -62,7 +62,7 @@ test("only the last cycles are kept, and they are what they were", async () => {
   const { live, did } = record(calls, texts, { most: 5000 });
   live.waves.changesOf(numberOf(live.waves, "rom0[3:0]"));
   for (let frame = 0; frame < 30; frame++) did(calls.advance(1543));
-  assert.deepEqual([live.waves.span, live.waves.cycles], [5000, 30 * 1543]);
+  assert.deepEqual([live.waves.length, live.waves.cycles], [5000, 30 * 1543]);
   const whole = new Waves(await calls.record(5000, true, texts));
   assert.equal(wholeText(live.waves), wholeText(whole));
 });
@@ -97,7 +97,7 @@ for (const [trigger, recorded, wanted] of TRIGGERS) {
       assert.equal(shown.stop, null);
       did(shown);
     }
-    assert.equal(live.over, "trigger");
+    assert.equal(live.endReason, "trigger");
     const { waves, triggerMoment: triggered } = live;
     assert.deepEqual(recorded(waves, triggered), wanted);
     assert.equal(waves.cycles, triggered + 1000);
@@ -116,7 +116,7 @@ test("time stops where the cycles behind a trigger are recorded, at an instructi
   }
   did(frame);
   assert.equal(frame.stop.why, "recorded");
-  assert.deepEqual([live.over, live.waves.cycles], ["trigger", live.triggerMoment + 10]);
+  assert.deepEqual([live.endReason, live.waves.cycles], ["trigger", live.triggerMoment + 10]);
   assert.match(calls.ask("regs\n")[0], / owed 0 /);
   const after = calls.advance(1543);
   assert.deepEqual([after.stop, after.cycles, after.waves], [null, 1543, null]);
@@ -129,7 +129,7 @@ test("a key is an edge, too", async () => {
   did(calls.advance(1543, matrixKey(2, 0)));
   did(calls.advance(4000));
   assert.equal(live.waves.valueAt(numberOf(live.waves, "key.1"), live.triggerMoment), "1");
-  assert.deepEqual([live.triggerMoment, live.over], [1543, "trigger"]);
+  assert.deepEqual([live.triggerMoment, live.endReason], [1543, "trigger"]);
 });
 
 test("what ends a recording, in words", async () => {

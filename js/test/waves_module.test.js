@@ -150,7 +150,7 @@ test("a recording that is written piece by piece is the same file, also of a few
           parts.push(text.head());
         }
         parts = [...parts, ...text.changes()];
-        assert.ok(waves.span <= 20000);
+        assert.ok(waves.length <= 20000);
       }
       assert.equal([...parts, text.end()].join(""), [...vcdParts(whole, some)].join(""));
     }

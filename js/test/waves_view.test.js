@@ -74,22 +74,22 @@ test("a click means an edge that is near, else the cycle that is there", () => {
 test("a window goes along with the end of a recording, where that was seen", () => {
   const view = windowOf(1000, 500);
   view.zoom(4, 1000);
-  view.stretch(500, 2000);
+  view.extendRange(500, 2000);
   assert.deepEqual([view.from, view.to, view.cursors], [1750, 2000, [500, 500]]);
   view.goTo(600);
-  view.stretch(700, 2500);
+  view.extendRange(700, 2500);
   assert.deepEqual([view.from, view.span], [700, 250]);
 });
 
 test("a recording that goes on is seen whole as long as it is short, then its last part", () => {
   const view = windowOf(0, 500);
-  view.stretch(0, 3000);
+  view.extendRange(0, 3000);
   assert.deepEqual([view.from, view.to, view.cursors], [0, 3000, [3000, 3000]]);
   view.move(100);
-  view.stretch(0, 50000);
+  view.extendRange(0, 50000);
   assert.deepEqual([view.from, view.to, view.cursors], [30000, 50000, [100, 50000]]);
   view.showAll();
-  view.stretch(10000, 90000);
+  view.extendRange(10000, 90000);
   assert.deepEqual([view.from, view.to, view.cursors], [40000, 90000, [10000, 90000]]);
   view.showAround(20000);
   assert.deepEqual([view.from, view.to, view.cursors[0]], [10000, 30000, 20000]);
@@ -148,16 +148,16 @@ test("how many cycles are wanted", () => {
 
 test("a recording that stands still is seen as a whole, unless a part of it was chosen", () => {
   const view = windowOf(0, 500);
-  view.stretch(0, 154363);
+  view.extendRange(0, 154363);
   assert.equal(view.from > 0, true);
-  view.fit();
+  view.showAllIfUnzoomed();
   assert.deepEqual([view.from, view.span], [0, 154363]);
   view.zoom(100, 154363);
-  view.fit();
+  view.showAllIfUnzoomed();
   assert.equal(view.span, 1543.63);
   view.zoom(1 / 20, 154363);
   view.goTo(1000);
-  view.fit();
+  view.showAllIfUnzoomed();
   assert.equal(view.from, 1000);
 });
 
@@ -167,7 +167,7 @@ test("the flag of a cursor is within the picture", () => {
 
 test("cursors that nobody has moved come to the first edges once a recording ends", () => {
   const view = windowOf(0, 500);
-  view.stretch(0, 1000);
+  view.extendRange(0, 1000);
   assert.deepEqual(view.cursors, [1000, 1000]);
   view.placeCursors(100, 400);
   assert.deepEqual(view.cursors, [100, 400]);

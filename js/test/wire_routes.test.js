@@ -6,7 +6,7 @@ import { isCurveCovered, pathText, routeWire } from "../core/board/wire_routes.j
 import { layOutBoard } from "../core/board/wiring.js";
 
 /** Returns a board with the maximum number of chips, chains, keys and lamps. */
-function largest() {
+function largestBoard() {
   const lines = ["board"];
   for (let chip = 0; chip < 16; chip++) lines.push("[[rom]]", `chip = ${chip}`, `port = "${chip % 2 ? "iiii" : "0000"}"`);
   for (let bank = 0; bank < 8; bank++) lines.push("[[ram]]", `bank = ${bank}`, "chips = 4");
@@ -22,7 +22,7 @@ function largest() {
 const SMALL = readBoard(["board", "[[rom]]", "chip = 1", 'port = "iiii"', "[[chain]]", 'clock = "rom0.0"', 'data = "rom0.1"', "chips = 4",
   "[keys]", "chain = 0", "first = 0", "rows = 4", 'columns = ["rom1.0", "rom1.1"]']);
 
-for (const [name, board] of Object.entries({ "a small board": SMALL, "the largest board": largest() })) {
+for (const [name, board] of Object.entries({ "a small board": SMALL, "the largest board": largestBoard() })) {
   test(`${name}: no wire runs below a part, and each comes to its pin`, () => {
     const { parts, wires } = layOutBoard(board);
     assert.ok(wires.length > 0);
@@ -36,7 +36,7 @@ for (const [name, board] of Object.entries({ "a small board": SMALL, "the larges
 }
 
 /** Returns a generator of pseudo-random numbers that are the same in each run. */
-function chances(seed) {
+function createRandom(seed) {
   let state = seed;
   return (most) => {
     state = (Math.imul(state, 1103515245) + 12345) >>> 0;
@@ -47,7 +47,7 @@ function chances(seed) {
 test("where parts were dragged to and fro, with room between them, hardly a wire runs below a part", () => {
   let [below, wouldBe] = [0, 0];
   for (let seed = 1; seed <= 40; seed++) {
-    const chance = chances(seed);
+    const chance = createRandom(seed);
     const order = layOutBoard(SMALL).parts.map(({ id, height }) => ({ id, height, rank: chance(1000) }))
       .sort((one, other) => one.rank - other.rank);
     const moved = new Map();
@@ -63,7 +63,7 @@ test("where parts were dragged to and fro, with room between them, hardly a wire
       wouldBe += Number(isHidden(routeWire(wire, [], at)));
     });
   }
-  // A wire may cross a part if it would otherwise need two more turns.
+  // A wire may cross a part if a route around the part would need two more bends.
   assert.ok(below <= 3 && wouldBe > 150, `${below} of ${wouldBe}`);
 });
 

@@ -8,13 +8,13 @@ import { FakeEngine } from "./fake_engine.js";
 
 const shouldContinue = async () => true;
 
-function begin() {
+function startWorkerSession() {
   const engine = new FakeEngine();
   return { engine, session: new WorkerSession(engine, engine.begin()) };
 }
 
 test("cycles pass in one call, which looks as well", () => {
-  const { engine, session } = begin();
+  const { engine, session } = startWorkerSession();
   session.queue.press(matrixKey(0, 1));
   const frame = session.advance(5000);
   assert.equal(engine.calls, 1);
@@ -25,7 +25,7 @@ test("cycles pass in one call, which looks as well", () => {
 });
 
 test("a run that stops early: what came after it is not done", () => {
-  const { engine, session } = begin();
+  const { engine, session } = startWorkerSession();
   engine.stopAt = 2;
   const frame = session.advance(300000);
   assert.deepEqual(frame.ran.map(({ answer }) => answer), ["ok 1 ran 100000 end", "ok 2 ran 1 break"]);
@@ -34,7 +34,7 @@ test("a run that stops early: what came after it is not done", () => {
 });
 
 test("a failed call changes nothing, and the keys wait on", () => {
-  const { engine, session } = begin();
+  const { engine, session } = startWorkerSession();
   session.queue.press(matrixKey(0, 1));
   engine.memory = 0;
   assert.throws(() => session.advance(10), /no 90/);
@@ -44,7 +44,7 @@ test("a failed call changes nothing, and the keys wait on", () => {
 });
 
 test("lines are served piece by piece, as if at once", async () => {
-  const { session } = begin();
+  const { session } = startWorkerSession();
   const result = await session.serve("step\n".repeat(3000), shouldContinue);
   assert.equal(session.file[0], 3000 % 256);
   assert.equal(result.first, "ok 1");
@@ -54,7 +54,7 @@ test("lines are served piece by piece, as if at once", async () => {
 });
 
 test("of long work nothing is done where a piece fails, or it is cancelled", async () => {
-  const { engine, session } = begin();
+  const { engine, session } = startWorkerSession();
   await assert.rejects(session.serve(`${"step\n".repeat(3000)}trap\n`, shouldContinue), /unreachable/);
   assert.equal(session.file[0], 0);
   engine.memory = 2;
@@ -69,7 +69,7 @@ test("of long work nothing is done where a piece fails, or it is cancelled", asy
 });
 
 test("what lines may have changed is reported", async () => {
-  const { session } = begin();
+  const { session } = startWorkerSession();
   const of = async (lines) => {
     const { hasChangedRom, wires } = await session.serve(lines, shouldContinue);
     return [hasChangedRom, wires];
@@ -82,33 +82,33 @@ test("what lines may have changed is reported", async () => {
 });
 
 test("full speed: batches are reported together, where the page has taken the last ones", () => {
-  const { engine, session } = begin();
+  const { engine, session } = startWorkerSession();
   const machine = new Debugger(session);
   const fullSpeed = new FullSpeed();
   fullSpeed.start(false);
-  fullSpeed.batch(machine);
+  fullSpeed.runBatch(machine);
   assert.equal(fullSpeed.isReportDue(false), false);
-  fullSpeed.batch(machine);
+  fullSpeed.runBatch(machine);
   assert.equal(fullSpeed.isReportDue(true), true);
-  const result = fullSpeed.take();
+  const result = fullSpeed.takeReport();
   assert.equal(result.ran.length, 1);
   assert.equal(result.ran[0].cycles, result.cycles);
-  assert.equal(fullSpeed.take().cycles, 0);
+  assert.equal(fullSpeed.takeReport().cycles, 0);
   engine.stopAt = session.file[0] + 1;
-  fullSpeed.batch(machine);
+  fullSpeed.runBatch(machine);
   assert.equal(fullSpeed.isOn, false);
   assert.equal(fullSpeed.isReportDue(false), true);
-  assert.match(fullSpeed.take().end, /break$/);
+  assert.match(fullSpeed.takeReport().end, /break$/);
 });
 
 test("a hidden page gets a report once a second, and of keys at once", () => {
-  const { session } = begin();
+  const { session } = startWorkerSession();
   const machine = new Debugger(session);
   const fullSpeed = new FullSpeed();
   fullSpeed.start(true);
-  fullSpeed.batch(machine);
+  fullSpeed.runBatch(machine);
   assert.equal(fullSpeed.isReportDue(true), false);
   session.queue.press(matrixKey(0, 1));
-  fullSpeed.batch(machine);
+  fullSpeed.runBatch(machine);
   assert.equal(fullSpeed.isReportDue(true), true);
 });

@@ -55,7 +55,7 @@ export const keySyntax = (word) => `write ${word} KEY`;
 /** @type {(count: number) => string} */
 export const keysArePending = (count) => `${count} key${count === 1 ? " waits" : "s wait"} until the machine runs (continue)`;
 export const MACHINE_IS_RUNNING = "the machine is running: pause it first";
-/** @type {(form: string) => string} */
+/** @type {(syntax: string) => string} */
 export const placeSyntax = (syntax) => `write ${syntax}`;
 export const UNTIL_SYNTAX = "until LABEL, until ADDRESS or until CONDITION";
 export const CHANGE_SYNTAX = "change PLACE, as in change r4";

@@ -27,7 +27,7 @@ export const NAMES_UNKNOWN = "names are known only while the source is the same 
 
 // --- bench/run_log.js ---
 /** @type {(runs: number, cycles: string) => string} */
-export const manyRuns = (runs, cycles) => `run .. (${runs} lines, ${cycles} cycles); the last one was answered`;
+export const mergedRuns = (runs, cycles) => `run .. (${runs} lines, ${cycles} cycles); the last one was answered`;
 
 // --- bench/rom_image.js ---
 export const NO_BYTE = "it has no byte";

@@ -111,8 +111,8 @@ export const PARTS_AND_WIRES = "The board's parts and wires";
 export const TEST_PIN = "the TEST pin";
 /** @type {(number: number) => string} */
 export const pinOf = (number) => ` (pin ${number})`;
-/** @type {(takers: string) => string} */
-export const wiredTo = (takers) => `wired to ${takers}`;
+/** @type {(connections: string) => string} */
+export const wiredTo = (connections) => `wired to ${connections}`;
 export const NOT_WIRED = "not wired";
 /** @type {(line: string) => string} */
 export const at = (line) => `at ${line}`;

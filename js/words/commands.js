@@ -600,7 +600,7 @@ export const BUILT_IN_COMPLETIONS = {
 };
 export const ENVIRONMENT_HEAD = "Environment:";
 /** @type {(top: string) => string} */
-export const whereManualIs = (top) => `The manual is ${top}/docs/MANUAL.md, the page ${top}/page/fethsaim.html.`;
+export const manualLocation = (top) => `The manual is ${top}/docs/MANUAL.md, the page ${top}/page/fethsaim.html.`;
 
 // --- help ---
 
@@ -613,18 +613,18 @@ export const HELP_OPTION = "Prints this help.";
 // --- wrong arguments ---
 
 /** @type {(lines: string[]) => string} */
-export const usageOf = ([first, ...others]) => [`usage: ${first}`, ...others.map((line) => `       ${line}`)].join("\n");
-/** @type {(word: string, meant: string[]) => string} */
-export const noCommand = (word, meant) => `there is no command ${word}${didYouMean(meant, "mcs4 help lists the commands")}`;
+export const formatUsage = ([first, ...others]) => [`usage: ${first}`, ...others.map((line) => `       ${line}`)].join("\n");
+/** @type {(word: string, similar: string[]) => string} */
+export const noCommand = (word, similar) => `there is no command ${word}${didYouMean(similar, "mcs4 help lists the commands")}`;
 export const MANUAL_SECTIONS = {
   name: "NAME", synopsis: "SYNOPSIS", description: "DESCRIPTION", options: "OPTIONS", commands: "COMMANDS", examples: "EXAMPLES",
   status: "EXIT STATUS", environment: "ENVIRONMENT", files: "FILES", seeAlso: "SEE ALSO",
 };
 export const FILES_OF_MCS4 = ["mcs4.toml", "names the files of the project in its folder"];
-export const MANUAL_IS = "The manual, docs/MANUAL.md in the folder that `mcs4 version` shows.";
+export const MANUAL_REFERENCE = "The manual, docs/MANUAL.md in the folder that `mcs4 version` shows.";
 export const MANUAL_TITLE = "The bench Fethsaim";
-/** @type {(word: string, meant: string[]) => string} */
-export const noOption = (word, meant) => `there is no option ${word}${didYouMean(meant, "")}`;
+/** @type {(word: string, similar: string[]) => string} */
+export const noOption = (word, similar) => `there is no option ${word}${didYouMean(similar, "")}`;
 /** @type {(value: string, option: string) => string} */
 export const valueMissing = (value, option) => `${value} is missing after ${option}`;
 /** @type {(option: string) => string} */
@@ -671,9 +671,9 @@ export const runsOnModule = (fault) => (
   `commands run on the proved module, more slowly, because the native program is not started: ${fault}. This message appears once`);
 /** @type {(session: string, number: number, words: string) => string} */
 export const sessionRefused = (session, number, words) => `the session ${session} was rejected: no ${number}: ${words}`;
-/** @type {(program: string, address: string, is: string, line: number, makes: string) => string} */
-export const otherProgram = (program, address, is, line, makes) => (
-  `the session has another program than ${program}: ${address} has ${is}, and line ${line} makes ${makes}`);
+/** @type {(program: string, address: string, romByte: string, line: number, sourceByte: string) => string} */
+export const otherProgram = (program, address, romByte, line, sourceByte) => (
+  `the session has another program than ${program}: ${address} has ${romByte}, and line ${line} makes ${sourceByte}`);
 /** @type {(cycles: number, why: string) => string} */
 export const sessionStopped = (cycles, why) => `the session stopped after ${cycles} cycles: ${why}`;
 
@@ -729,7 +729,7 @@ export const noSessionToDebug = (name) => `there is no file ${name}; mcs4 debug 
 export const noFolder = (folder) => `there is no folder ${folder}`;
 export const NOT_A_PROJECT = "is not a project";
 /** @type {(folder: string) => string} */
-export const isNoFolder = (folder) => `${folder} exists and is not a folder`;
+export const isNotFolder = (folder) => `${folder} exists and is not a folder`;
 /** @type {(name: string) => string} */
 export const alreadyExists = (name) => `${name} already exists; name another folder, or move it away`;
 
@@ -746,11 +746,11 @@ export const BYTE_RANGE_SYNTAX = "FIRST is 0 to 4095, COUNT is at least 1, and 4
 /** @type {(name: string) => string} */
 export const textNoImage = (name) => (
   `${name} is a text, but not Intel HEX, S-records or BNPF; if its characters are the bytes of an image: rom load --binary`);
-export const IS_IT_BINARY = " (is it a binary file? --binary)";
+export const BINARY_HINT = " (is it a binary file? --binary)";
 export const NO_TERMINAL = "an image cannot be shown at a terminal; write it to a file (> IMAGE), or as --hex";
 export const NO_ANSWERS = "no answers on standard input; it reads what mcs4 has answered, as in: mcs4 rom save FIRST COUNT < ANSWERS";
 /** @type {(line: number, text: string) => string} */
-export const answersRefusal = (line, text) => `line ${line} of the answers is a refusal: ${text}; mcs4 explain says why`;
+export const answerIsRefusal = (line, text) => `line ${line} of the answers is a refusal: ${text}; mcs4 explain says why`;
 /** @type {(address: string) => string} */
 export const noAnswerShows = (address) => `no answer shows the byte at ${address}; mcs4 rom ask makes the questions`;
 
@@ -786,11 +786,11 @@ export const FIRST_AND_LAST = "FIRST is at least 1, and LAST is not before it";
 /** @type {(words: string) => string} */
 export const answersOfOtherScript = (words) => `these are not the answers to this script: ${words}`;
 /** @type {(character: string) => string} */
-export const foreignCharacter = (character) => `: \`${character}\``;
+export const characterHint = (character) => `: \`${character}\``;
 /** @type {(digits: string) => string} */
-export const foreignByte = (digits) => `: the byte ${digits}`;
+export const byteHint = (digits) => `: the byte ${digits}`;
 /** @type {(line: number, number: number, at: number, words: string) => string} */
-export const refusedLine = (line, number, at, words) => `line ${line}: no ${number}${at > 0 ? `, line ${at} of the text` : ""}: ${words}`;
+export const rejectedLine = (line, number, at, words) => `line ${line}: no ${number}${at > 0 ? `, line ${at} of the text` : ""}: ${words}`;
 /** @type {(number: number, words: string) => string} */
 export const sessionWasRefusedBy = (number, words) => `the session was rejected: no ${number}: ${words}`;
 /** @type {(line: number, isLast: boolean) => string} */
@@ -834,7 +834,7 @@ export const NOT_A_BREAKPOINTS_FILE = "does not begin like a file of breakpoints
 
 // --- explore ---
 export const NOT_COUNTEREXAMPLES = "does not begin like a file of counterexamples (# Found by mcs4 explore)";
-export const NO_REPORT = "is not a report of mcs4 explore";
+export const NOT_A_REPORT = "is not a report of mcs4 explore";
 /** @type {(file: string, names: string[]) => string} */
 export const nameOneFile = (file, names) => `${file} names ${names.length} texts of properties; name one of them: ${names.join(" ")}`;
 /** @type {(properties: string, line: number, message: string, state: string) => string} */

@@ -5,9 +5,9 @@ export const NAMED_PLACES = "acc, cy, dcl, r0 to r15, ram.B.S, st.B.H.K, rom1.2,
   + "lamp 3 or lamps";
 
 // --- conditions/keyword_conditions.js ---
-/** @type {(name: string, there: string) => string} */
-export const noLamp = (name, there) => (
-  `the board has no lamp ${name}; ${there ? `it has: ${there}` : "its text names no lamps (`# lamp 0: NAME ..`)"}`);
+/** @type {(name: string, lampNames: string) => string} */
+export const noLamp = (name, lampNames) => (
+  `the board has no lamp ${name}; ${lampNames ? `it has: ${lampNames}` : "its text names no lamps (`# lamp 0: NAME ..`)"}`);
 export const LAMPS_SYNTAX = "write `lamps PATTERN`, or `lamps NAME ..`, or `lamps none`";
 /** @type {(wanted: number, count: number) => string} */
 export const wrongPatternLength = (wanted, count) => `a pattern of ${wanted} lamps; the board has ${count}`;
@@ -40,9 +40,9 @@ export const holds = (place, most, word) => `${place} holds 0 to ${most}, not ${
 
 // --- conditions/condition_language.js ---
 export const NO_CONDITION = "a condition is missing";
-/** @type {(what: string, is: string, want: string, isMany: boolean, isNot: boolean) => string} */
-export const mustBe = (what, is, want, isMany, isNot) => (
-  `${what} ${isMany ? "are" : "is"} ${is || "dark"}, but must ${isNot ? "not " : ""}be ${want}`);
+/** @type {(what: string, actual: string, expected: string, isMany: boolean, isNot: boolean) => string} */
+export const mustBe = (what, actual, expected, isMany, isNot) => (
+  `${what} ${isMany ? "are" : "is"} ${actual || "dark"}, but must ${isNot ? "not " : ""}be ${expected}`);
 /** @type {(count: number, most: number) => string} */
 export const tooManyPlaces = (count, most) => `it reads ${count} places; at most ${most} are allowed`;
 export const AT_SYNTAX = "write `at LABEL`";
@@ -82,9 +82,9 @@ export const SPACED_SYNTAX = "write ram.BANK.SRC or st.BANK.REGISTER.NUMBER";
 export const KEY_SYNTAX = "write `key NAME down` or `key NAME up`";
 
 // --- conditions/values.js ---
-/** @type {(name: string, there: string) => string} */
-export const noKeyOfPanel = (name, there) => (
-  `the board has no key ${name}; ${there ? `it has: ${there}` : "its text names no keys"}`);
+/** @type {(name: string, keyNames: string) => string} */
+export const noKeyOfPanel = (name, keyNames) => (
+  `the board has no key ${name}; ${keyNames ? `it has: ${keyNames}` : "its text names no keys"}`);
 /**
  * Returns the message that the board does not have a place.
  * @param {string} place

@@ -69,7 +69,7 @@ export const characterAt = (chip, register, character) => `chip ${chip}, registe
 export const sourceOfBank = (bank) => `SRC of bank ${bank}`;
 
 // --- debug/common_mistakes.js ---
-/** The name of each kind of common mistake, which labels the check box that pauses time at such a mistake. */
+/** The names of the kinds of common mistakes: labels of the check boxes that make the session pause at such a mistake. */
 export const KINDS = /** @type {Record<import("../core/debug/common_mistakes.js").Kind, string>} */ ({
   calls: "a fourth JMS inside three others",
   return: "a BBL without a call",

@@ -1,4 +1,4 @@
-// Texts of the Wiring tab: the shelf, the fields, the effects of actions, and the reasons why an action is not possible.
+// Texts of the Wiring tab: the shelf of parts, the fields, the effects of actions, and the reasons why an action is not possible.
 
 // --- drawing/drawing_actions.js ---
 export const TEST_IN_USE = "TEST has its button or switch: delete that one first.";
@@ -14,8 +14,8 @@ export const cannotDrive = (name) => (
 /** @type {(name: string, kind: string, target: string) => string} */
 export const needsChipLine = (name, kind, target) => (
   `${name} is a ${kind} of a chain: ${target} needs an output line of a ROM or a RAM chip.`);
-/** @type {(line: string, takers: string) => string} */
-export const lineInUse = (line, takers) => `${line} is wired to ${takers}: wire that to another line first.`;
+/** @type {(line: string, connections: string) => string} */
+export const lineInUse = (line, connections) => `${line} is wired to ${connections}: wire that to another line first.`;
 export const AND = " and ";
 export const ONLY_ONCE = "A board has only one of these.";
 export const COPY_IN_TEXT = "Lamps that belong together can only be copied in the board's text.";

@@ -1,6 +1,6 @@
-// Texts about the examples: how to try each example, and the welcome cards of a first visit.
+// Texts about the examples: a first thing to try in each, and the welcome cards of a first visit.
 
-/** What the user can try in each example, by the example's name. */
+/** A first thing to try in each example, by the example's name. */
 export const TO_DO = {
   "three lamps": "Pause it, then step with F11 and watch a lamp change.",
   "counter": "Press COUNT: the display counts.",

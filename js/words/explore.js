@@ -5,8 +5,8 @@
 export const noTests = (state) => `there are no tests, so none saves the state ${state}`;
 /** @type {(line: number, words: string) => string} */
 export const testsFault = (line, words) => `its tests have an error in line ${line}: ${words}`;
-/** @type {(state: string, there: string) => string} */
-export const noSuchState = (state, there) => `no test saves a state ${state}${there && `; there is: ${there}`}`;
+/** @type {(state: string, states: string) => string} */
+export const noSuchState = (state, states) => `no test saves a state ${state}${states && `; there is: ${states}`}`;
 /** @type {(line: number, text: string, words: string) => string} */
 export const testFails = (line, text, words) => `line ${line} of its tests fails: ${text}: ${words}`;
 
@@ -49,7 +49,7 @@ export const MODEL_TWICE = "an earlier line already has a model";
 export const MODEL_SYNTAX = "write `model COMMAND`: the command gets keys, and prints what the display must show";
 export const DISPLAY_IS_MULTIPLEXED = "the display's digits are multiplexed, but a model needs a display that shows its number at once";
 export const ONLY_AFTER_SYNTAX = "write `CONDITION only after press KEY, press KEY ..`";
-/** @type {(word: string, forms: string) => string} */
+/** @type {(word: string, firstWords: string) => string} */
 export const unknownFirstWord = (word, firstWords) => `no line begins with \`${word}\`; they begin with ${firstWords}`;
 export const NOTHING_CHANGES =
   "nothing may change: the board's text names no keys and no TEST; `test` lets TEST change, `reset` the power";
@@ -90,7 +90,7 @@ export const NO_FOURTH_CALL = "no more than three calls open";
 export const NO_LONE_RETURN = "no BBL without a call";
 
 // --- explore/report.js ---
-/** @type {(place: string, text: string) => string} a model's command that is not run, with the location of its line */
+/** @type {(place: string, text: string) => string} the message about a model line that was not run; `place` is its location */
 export const notRun = (place, text) => `not run: ${text} (${place}): it runs a command of your shell; --allow-model allows it`;
 /** @type {(count: number, lines: string) => string} */
 export const linesAre = (count, lines) => `${count === 1 ? "line" : "lines"} ${lines}`;

@@ -12,10 +12,10 @@ import { formatNumber, hasExpectedResult, formatRemark, formatSteps } from "../c
 const NEEDS_COMMAND = "a page cannot run a command; mcs4 explore --allow-model can";
 
 /**
- * Returns the number of broken properties, and the number of goals not reached.
+ * Returns the number of broken properties (`broken`), and the number of goals not reached (`left`).
  * @param {Report} report
  */
-function countsOf({ properties }) {
+function countFailures({ properties }) {
   return {
     broken: properties.filter(({ isGoal, found }) => !isGoal && found).length,
     left: properties.filter(({ isGoal, found }) => isGoal && !found).length,
@@ -23,7 +23,7 @@ function countsOf({ properties }) {
 }
 
 /**
- * Returns the line with a search's steps, rate, states and seeds. It is the same during the search and after it.
+ * Returns the line with a search's steps, rate, states and seeds. The line has the same form during and after the search.
  * @param {Report} report
  */
 export function searchStatistics({ seeds, steps, seconds, states }) {
@@ -36,7 +36,7 @@ export function searchStatistics({ seeds, steps, seconds, states }) {
  * @param {Report} report
  */
 export function progressSummary(report) {
-  const { broken } = countsOf(report);
+  const { broken } = countFailures(report);
   if (broken === 0) return "Searching for keys that break a property.";
   return `${formatQuantity(broken, "property is", "properties are")} broken so far.`;
 }
@@ -47,7 +47,7 @@ export function progressSummary(report) {
  * @param {boolean} isStopped true if the search was stopped before its time was up
  */
 export function finalSummary(report, isStopped) {
-  const { broken, left } = countsOf(report);
+  const { broken, left } = countFailures(report);
   const summary = broken === 0 ? "Nothing was found that breaks a property."
     : `${formatQuantity(broken, "property is", "properties are")} broken.`;
   const goals = left === 0 ? "" : ` ${formatQuantity(left, "goal was", "goals were")} not reached.`;
@@ -55,11 +55,11 @@ export function finalSummary(report, isStopped) {
 }
 
 /**
- * Returns the tab's mark, or "" if no property is broken.
+ * Returns the mark on the tab of the search, or "" if no property is broken.
  * @param {Report} report
  */
 export function reportTabMark(report) {
-  const { broken } = countsOf(report);
+  const { broken } = countFailures(report);
   return broken > 0 ? `${formatNumber(broken)} broken` : "";
 }
 
@@ -67,16 +67,16 @@ export function reportTabMark(report) {
  * Returns the mark in front of a property. While the search is running, the mark is "open" for a goal that has not been reached, and for a
  * property that has not been checked.
  * @param {PropertyResult} property
- * @param {boolean} goesOn true if the search is running
+ * @param {boolean} isRunning true if the search is running
  */
-export function markOf(property, goesOn) {
+export function markOf(property, isRunning) {
   if (property.isSkipped) return "not run";
-  if (goesOn && !property.found && (property.isGoal || !property.applied)) return "open";
+  if (isRunning && !property.found && (property.isGoal || !property.applied)) return "open";
   return hasExpectedResult(property) ? "ok" : "not ok";
 }
 
 /**
- * Returns the text after a property, or "" if the text would only repeat the amount of the search.
+ * Returns the text after a property, or "" if the text would only repeat the number of steps.
  * @param {PropertyResult} property
  * @param {Report} report
  */
@@ -89,7 +89,7 @@ export function describePropertyResult(property, report) {
 
 /**
  * Returns the program's coverage: the coverage of its instructions and of its branch directions, each with a text, and the lines that never
- * ran.
+ * ran (`left`).
  * @param {Report} report
  */
 export function coverageOf({ covered, instructions }) {

@@ -24,8 +24,8 @@ export const noName = (name) => `no line defines the name ${name}`;
 export const definedTwice = (name, line) => `the name ${name} is also defined in line ${line}`;
 /** @type {(text: string) => string} */
 export const dependsOnItself = (text) => `the value of \`${text}\` depends on itself`;
-/** @type {(text: string, is: number, from: number, to: number) => string} */
-export const outOfRange = (text, is, from, to) => `\`${text}\` is ${is}; it must be ${from} to ${to}`;
+/** @type {(text: string, value: number, from: number, to: number) => string} */
+export const outOfRange = (text, value, from, to) => `\`${text}\` is ${value}; it must be ${from} to ${to}`;
 /** @type {(text: string, number: number) => string} */
 export const oddPair = (text, number) => (
   `a pair begins at an even register, 0 to 14, and \`${text}\` does not; if it is the number of a pair, write ${number}P`);

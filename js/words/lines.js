@@ -3,7 +3,7 @@
 import { didYouMean } from "./text.js";
 
 /**
- * The session lines in groups, each with its form and its effect. Each text is complete on its own.
+ * The session lines in groups, each with its form and its effect. No text depends on another text.
  * @type {{ title: string, lines: [string, string][] }[]}
  */
 export const LINES_BY_GROUPS = [
@@ -48,12 +48,12 @@ export const LINES_BY_GROUPS = [
 const FORM_BY_FIRST_WORD = new Map(LINES_BY_GROUPS.flatMap(({ lines }) => lines.map(([form]) => [form.split(/[ ,]/)[0], form])));
 
 // --- bench/line_forms.js ---
-/** @type {(word: string, like: string[]) => string} */
-export const noLine = (word, like) => `${word} is not a command${didYouMean(like) || "; help shows the commands"}`;
+/** @type {(word: string, similarWords: string[]) => string} */
+export const noLine = (word, similarWords) => `${word} is not a command${didYouMean(similarWords) || "; help shows the commands"}`;
 /** @type {(word: string) => string} */
 export const lineSyntax = (word) => `${word} is written as: ${FORM_BY_FIRST_WORD.get(word)}`;
-/** @type {(word: string, like: string[]) => string} */
-export const noPlace = (word, like) => `${word} is not a place${didYouMean(like) || "; help places shows the places"}`;
+/** @type {(word: string, similarWords: string[]) => string} */
+export const noPlace = (word, similarWords) => `${word} is not a place${didYouMean(similarWords) || "; help places shows the places"}`;
 /** @type {(word: string) => string} */
 export const noSuchPlace = (word) => `there is no place ${word}; help places shows the ranges of the numbers in it`;
 /** @type {(most: number) => string} */
@@ -63,7 +63,7 @@ export const notInRange = (word, first, last) => `${word} is not a number from $
 /** @type {(most: number, length: number) => string} */
 export const tooLong = (most, length) => `the line has ${length} characters; a line has at most ${most}`;
 /** @type {(character: string) => string} */
-export const foreign = (character) => {
+export const invalidCharacter = (character) => {
   const code = /** @type {number} */ (character.codePointAt(0)).toString(16).toUpperCase();
   return `a line has ASCII characters and tabs; this one has ${character > "\x7f" ? character : `the byte ${code.padStart(2, "0")}`}`;
 };

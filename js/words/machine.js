@@ -69,17 +69,17 @@ export const noAddress = (word, forms) => `${word} is not an address: ${forms}. 
 
 // --- machine/heat_levels.js ---
 /** @type {(line: string) => string} */
-export const theLine = (line) => `the line ${line}`;
+export const causeLine = (line) => `the line ${line}`;
 /** @type {(who: string) => string} */
-export const by = (who) => `by ${who}`;
+export const causedBy = (who) => `by ${who}`;
 /** @type {(who: string, time: string) => string} */
-export const byAgo = (who, time) => `by ${who}, ${time} ago`;
+export const causedByAgo = (who, time) => `by ${who}, ${time} ago`;
 export const ONCE = "once";
 /** @type {(count: string) => string} */
 export const manyTimes = (count) => `${count} times`;
-export const LAST = ", last";
+export const LAST_CHANGE = ", last";
 /** @type {(times: string, who: string) => string} */
-export const seenBy = (times, who) => `${times} as seen while running, last seen by ${who}`;
+export const changesSeenRunning = (times, who) => `${times} as seen while running, last seen by ${who}`;
 /** @type {(chips: number, isAll: boolean) => string} */
 export const heatCounted = (chips, isAll) => (
   `Counted while running${chips > 1 ? `, in one of ${chips} chips at a time` : ""}${isAll ? "" : ", at full speed in samples"}.`);
@@ -148,7 +148,7 @@ export const inLine = (line) => `, line ${line}`;
 // --- machine/source_sync.js ---
 export const DOT_ENDS = "a line with only a dot ends the text";
 /** @type {(line: number) => string} */
-export const inThatLine = (line) => ` in line ${line}`;
+export const inSourceLine = (line) => ` in line ${line}`;
 /** @type {(where: string, what: string) => string} */
 export const sourceHasError = (where, what) => `The source has an error${where}: ${what}.`;
 /** @type {(address: string, line: number) => string} */

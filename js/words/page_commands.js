@@ -137,7 +137,7 @@ export const PANELS = {
   ports: "Ports", talk: "Console",
 };
 
-// --- why a command cannot be done now ---
+// --- the reasons why a command cannot run now ---
 /** @type {(command: string, why: string) => string} */
 export const notDone = (command, why) => `${command}: ${why}.`;
 export const NOT_NOW = "not possible now";

@@ -37,9 +37,9 @@ export const noteOfBoard = (line, words) => `line ${line}: ${words}`;
 export const NO_TERMINAL = "standard input and output must be a terminal";
 /** @type {(kind: string) => string} */
 export const isDumb = (kind) => `it draws on the whole screen, and a terminal of the kind '${kind}' (TERM) cannot do that`;
-/** @type {(least: string, columns: number, rows: number) => string} */
-export const tooSmall = (least, columns, rows) => `it needs a terminal of ${least}, and this one has ${columns} by ${rows}`;
+/** @type {(minimum: string, columns: number, rows: number) => string} */
+export const tooSmall = (minimum, columns, rows) => `it needs a terminal of ${minimum}, and this one has ${columns} by ${rows}`;
 /** @type {(columns: number, rows: number) => string} */
 export const columnsByRows = (columns, rows) => `${columns} columns by ${rows} lines`;
-/** @type {(least: string, columns: number, rows: number) => string} */
-export const needsRoom = (least, columns, rows) => `panel: needs ${least}, this is ${columns} by ${rows}`;
+/** @type {(minimum: string, columns: number, rows: number) => string} */
+export const needsRoom = (minimum, columns, rows) => `panel: needs ${minimum}, this is ${columns} by ${rows}`;

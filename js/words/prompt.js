@@ -132,7 +132,7 @@ export const backInSubroutine = (where) => `Back in the subroutine, at ${where}:
 export const backAt = (where) => `Back at ${where}: this instruction has not run yet.`;
 
 // --- prompt/debugger_prompt.js ---
-/** The beginning of the message of a command that had no effect. */
+/** The start of the message for a command that had no effect. */
 export const NOTHING_DONE = "Nothing was done";
 export const PAGE_REMEMBERS = "the page remembers";
 export const SESSION_REMEMBERS = "the session remembers";

@@ -1,4 +1,4 @@
-// Texts that users read about proofs: that properties hold for all inputs, and why something is not decided.
+// Texts about proofs: the verdicts on properties, and the reasons why a property is not decided.
 
 // --- prove/condition_comparisons.js ---
 export const READS_TOO_MUCH = "its condition uses too many places at once";
@@ -22,7 +22,7 @@ export const timeTooLong = (most) => `its time is longer than ${most} cycles`;
 export const STARTS_AFTER_POWER_ON = "a proof begins at power-on, but the text begins elsewhere (from)";
 
 // --- prove/mistakes.js ---
-/** Each property of every program, by the word of its mistake in a question. */
+/** The properties that every program has, each by the word for its mistake in a question to the prover. */
 export const MISTAKES = {
   code: "no code outside the instruction table",
   call: "no fourth nested call",
@@ -115,10 +115,10 @@ export const countBroken = (count) => `${count} can fail`;
 /** @type {(count: string) => string} */
 export const countReached = (count) => `${count} reached`;
 /** @type {(count: string) => string} */
-export const countNever = (count) => `${count} never reached`;
+export const countNeverReached = (count) => `${count} never reached`;
 /** @type {(count: string) => string} */
 export const countOpen = (count) => `${count} not decided`;
 /** @type {(number: number, count: number) => string} */
-export const judging = (number, count) => `Property ${number} of ${count}`;
+export const propertyProgress = (number, count) => `Property ${number} of ${count}`;
 /** @type {(which: string, states: string) => string} */
-export const moreSoFar = (which, states) => `${which}: more than ${states} states so far`;
+export const statesSoFar = (which, states) => `${which}: more than ${states} states so far`;

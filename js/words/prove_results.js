@@ -28,7 +28,7 @@ export function markOf({ isGoal, verdict }) {
 }
 
 /**
- * Returns the text next to the mark.
+ * Returns the text next to a property's mark: the reason, the number of states, or the counterexample's length.
  * @param {PropertyVerdict} judged
  */
 export function describeVerdict({ isGoal, verdict }) {
@@ -42,7 +42,7 @@ export function describeVerdict({ isGoal, verdict }) {
  * Counts the properties by their verdicts.
  * @param {PropertyVerdict[]} judged
  */
-function countsOf(judged) {
+function countVerdicts(judged) {
   /** @type {(kind: PropertyVerdict["verdict"]["kind"], isGoal: boolean) => number} */
   const count = (kind, wanted) => judged.filter(({ isGoal, verdict }) => verdict.kind === kind && isGoal === wanted).length;
   return {
@@ -57,9 +57,9 @@ function countsOf(judged) {
  * @param {boolean} isStopped true if the proof was cancelled
  */
 export function finalSummary(judged, isStopped) {
-  const { proved, broken, reached, never, open } = countsOf(judged);
+  const { proved, broken, reached, never, open } = countVerdicts(judged);
   /** @type {[number, (count: string) => string][]} */
-  const counts = [[proved, say.countProved], [broken, say.countBroken], [reached, say.countReached], [never, say.countNever],
+  const counts = [[proved, say.countProved], [broken, say.countBroken], [reached, say.countReached], [never, say.countNeverReached],
     [open, say.countOpen]];
   const parts = counts.filter(([number]) => number > 0).map(([number, words]) => words(formatNumber(number)));
   return `${isStopped ? say.CANCELLED : ""}${parts.join(", ")}.`;
@@ -70,16 +70,16 @@ export function finalSummary(judged, isStopped) {
  * @param {Progress} progress
  */
 export function progressSummary({ judged, count, states }) {
-  const which = say.judging(Math.min(judged.length + 1, count), count);
-  return states > 0 ? say.moreSoFar(which, formatNumber(states)) : which;
+  const which = say.propertyProgress(Math.min(judged.length + 1, count), count);
+  return states > 0 ? say.statesSoFar(which, formatNumber(states)) : which;
 }
 
 /**
- * Returns the tab's mark, or "" if no verdict is known.
+ * Returns the mark on the tab of the proofs, or "" if no property is proved or broken.
  * @param {PropertyVerdict[]} judged
  */
 export function proofsTabMark(judged) {
-  const { proved, broken } = countsOf(judged);
+  const { proved, broken } = countVerdicts(judged);
   if (broken > 0) return say.countBroken(formatNumber(broken));
   return proved > 0 ? say.countProved(formatNumber(proved)) : "";
 }

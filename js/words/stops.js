@@ -1,4 +1,4 @@
-// Messages about pauses: where time paused, why, and after how many cycles. Also messages about going back and forward.
+// Messages about pauses: where the session paused, why, and after how many cycles. Also messages about moves back and forward in time.
 
 import { hex } from "../core/bench/numbers.js";
 import { formatCycles } from "../core/time/cycles.js";
@@ -29,7 +29,7 @@ export const lineReference = (line) => `line ${line}`;
 /**
  * Returns an address with its name and its source line, for example `00D (show + 3, line 12)`.
  * @param {string} address the address in hexadecimal
- * @param {SourceMap | null} map the program in ROM
+ * @param {SourceMap | null} map the source map of the program in ROM; null if unknown
  */
 export function addressWithName(address, map) {
   const number = parseInt(address, 16);
@@ -39,18 +39,18 @@ export function addressWithName(address, map) {
 }
 
 /**
- * Returns the message after a move back or forward.
+ * Returns the message after a move back or forward in time.
  * @param {BackGoal | { kind: "forward" }} goal
- * @param {Pick<TravelResult, "isDone" | "why" | "place" | "from" | "to" | "line" | "end" | "cycles">} gone
- * @param {string} where the address at which time is paused
+ * @param {Pick<TravelResult, "isDone" | "why" | "place" | "from" | "to" | "line" | "end" | "cycles">} travel the result of the move
+ * @param {string} where the address at which the session is paused
  * @param {{ condition: string }} [breakpoint] the breakpoint at that address
  */
-export function describeTimeTravel(goal, gone, where, breakpoint) {
-  const { isDone, why, from, to, line, end, cycles } = gone;
-  if (!isDone) return `Nothing was done: ${whyNot(goal, why)}.`;
-  const over = cycles === 0 ? "" : `, ${formatCycles(cycles)}`;
-  if (goal.kind === "forward") return `Forward again to ${where}${over}${over && " later"}.`;
-  const before = cycles === 0 ? "" : `${over} earlier`;
+export function describeTimeTravel(goal, travel, where, breakpoint) {
+  const { isDone, why, from, to, line, end, cycles } = travel;
+  if (!isDone) return `Nothing was done: ${travelFailureReason(goal, why)}.`;
+  const distance = cycles === 0 ? "" : `, ${formatCycles(cycles)}`;
+  if (goal.kind === "forward") return `Forward again to ${where}${distance}${distance && " later"}.`;
+  const before = cycles === 0 ? "" : `${distance} earlier`;
   if (goal.kind === "stop") return `Back at the stop at ${where}${before}.`;
   if (goal.kind === "instruction") return `Back at ${where}${before}: this instruction has not run yet.`;
   if (goal.kind === "call") return `Back at ${where}${before}: the subroutine begins here.`;
@@ -63,15 +63,15 @@ export function describeTimeTravel(goal, gone, where, breakpoint) {
   }
   const who = line ? `the line ${line}` : "this instruction";
   if (goal.kind === "when") return `Back at ${where}${before}: ${who} makes ${goal.condition} true.`;
-  return `Back at ${where}${before}: ${who} changes ${gone.place} from ${from} to ${to}.`;
+  return `Back at ${where}${before}: ${who} changes ${travel.place} from ${from} to ${to}.`;
 }
 
 /**
- * Returns the reason why a goal in the past could not be reached.
+ * Returns the reason why a move in time was not possible.
  * @param {BackGoal | { kind: "forward" }} goal
  * @param {string} why
  */
-function whyNot(goal, why) {
+function travelFailureReason(goal, why) {
   if (goal.kind === "forward") return "forward returns to where going back started, until something else is done";
   if (goal.kind === "stop") return "no stop before this one is remembered";
   if (goal.kind === "call") return "the remembered past does not reach back to the call";
@@ -86,7 +86,7 @@ function whyNot(goal, why) {
  * the board does not have the place.
  * @param {string} name the name of the place
  * @param {import("../core/debug/debugger.js").LastChange} change
- * @param {SourceMap | null} map the program in ROM
+ * @param {SourceMap | null} map the source map of the program in ROM; null if unknown
  */
 export function lastChangeText(name, { isFound, why, from, to, line, cycles, address }, map) {
   if (why === "lacks") return "";
@@ -108,7 +108,7 @@ export function describeGoal(goal) {
 }
 
 /**
- * Returns the message while time runs towards a distant goal.
+ * Returns the message while the session runs to a goal.
  * @param {Goal} goal
  */
 export function runningToGoal(goal) {
@@ -121,7 +121,7 @@ export function runningToGoal(goal) {
  * @param {boolean} returns true if the goal was a return from a subroutine
  * @param {string} where
  */
-function reached(goal, returns, where) {
+function describeReachedGoal(goal, returns, where) {
   if (goal.kind === "here") return `Paused at ${where}, as requested`;
   if (goal.kind === "change") return `Paused at ${where}, after ${goal.place} changed`;
   if (goal.kind === "when") return `Paused at ${where}, after ${goal.condition} became true`;
@@ -130,17 +130,17 @@ function reached(goal, returns, where) {
 }
 
 /**
- * Returns the message when time pauses.
+ * Returns the message about a pause.
  * @param {Goal | null} goal null if the run had no goal
  * @param {Pick<Stop, "why" | "cycles" | "returns" | "change">} stop
- * @param {string} where the address at which time is paused
- * @param {string} [when] the condition and hit count of the breakpoint that paused time, in words
+ * @param {string} where the address at which the session is paused
+ * @param {string} [when] the condition and hit count of the breakpoint that caused the pause, in words
  */
 export function pauseMessage(goal, { why, cycles, returns, change }, where, when = "") {
   if (why === "lacks") return `Nothing was done: this board has no ${goal && goal.kind === "change" ? goal.place : "such place"}.`;
   if (why === "outside") return `Nothing was done: ${NO_CALL_WAITS}.`;
   const after = `after ${formatCycles(cycles)}`;
-  if (goal && why === "goal") return `${reached(goal, returns, where)}, ${after}.`;
+  if (goal && why === "goal") return `${describeReachedGoal(goal, returns, where)}, ${after}.`;
   const reason = why === "watch" && change ? `after ${change}` : (REASONS[why] || why) + (why === "break" ? when : "");
   return goal ? `Paused at ${where}, ${reason}, ${after}; ${describeGoal(goal)} was not reached.` : `Paused at ${where}, ${reason}.`;
 }
@@ -148,7 +148,7 @@ export function pauseMessage(goal, { why, cycles, returns, change }, where, when
 /**
  * Returns a breakpoint's condition and hit count in words, for example `, when r9 = 9, at hit 5`.
  * @param {{ condition: string, from: number, hits: number } | undefined} breakpoint
- * @param {string} [fault] the error in the breakpoint, which makes it stop at every hit
+ * @param {string} [fault] the error in the breakpoint; a breakpoint with an error stops at every hit
  */
 export function describeBreakpointCondition(breakpoint, fault = "") {
   if (!breakpoint) return "";
@@ -161,7 +161,7 @@ export function describeBreakpointCondition(breakpoint, fault = "") {
 export const stoppedAt = (where) => `Paused at ${where}.`;
 
 /**
- * Returns the message when the user pauses time before the goal is reached.
+ * Returns the message when the user pauses the session before it reaches its goal.
  * @param {Goal | null} goal
  * @param {number} cycles the number of cycles since the start of the run
  * @param {string} where
@@ -171,12 +171,12 @@ export function describeUserPause(goal, cycles, where) {
 }
 
 /**
- * Returns the message that a page reload or a change of the session has interrupted a run or a search.
+ * Returns the message about a run or a search that a page reload or the opening of another session has interrupted.
  * @param {Goal} goal
- * @param {boolean} ran true if time was running towards the goal, false if the past was being searched for the goal
+ * @param {boolean} wasRun true for a run to the goal, false for a search of the past
  * @param {string} where
  */
-export function describeInterruption(goal, ran, where) {
-  const what = `${describeGoal(goal)} was ${ran ? "not reached" : "searched for, and nothing was done"}`;
+export function describeInterruption(goal, wasRun, where) {
+  const what = `${describeGoal(goal)} was ${wasRun ? "not reached" : "searched for, and nothing was done"}`;
   return `Paused at ${where}: ${what}, because the page was reloaded or another session was shown.`;
 }

@@ -24,7 +24,7 @@ export function testsSummary(outcomes) {
 }
 
 /**
- * Returns the tab's mark.
+ * Returns the mark on the tab of the tests.
  * @param {Outcome[]} outcomes
  */
 export function testsTabMark(outcomes) {

@@ -8,7 +8,7 @@ export const coverageSummary = ([run, all, directionsRun, ways], percent, percen
 // --- testing/coverage_text.js ---
 export const NEVER = "never";
 /** @type {(from: number, to: number) => string} */
-export const fromTo = (from, to) => `${from} to ${to}`;
+export const formatRange = (from, to) => `${from} to ${to}`;
 /** @type {(line: number, isTaken: boolean) => string} */
 export const describeDirection = (line, isTaken) => `${line} (${isTaken ? "always" : "never"} taken)`;
 /** @type {(lines: string, areMany: boolean) => string} */
@@ -43,7 +43,7 @@ export const KEYS_HEAD = ["key", "presses", "answered", "longest to a lamp", "to
 /** @type {(text: string) => string} */
 export const tapMessage = (text) => `message: ${text}`;
 /** @type {(text: string) => string} */
-export const tapPlace = (text) => `at: ${text}`;
+export const tapLocation = (text) => `at: ${text}`;
 /** @type {(text: string) => string} */
 export const tapLine = (text) => `line: ${text}`;
 /** @type {(cycles: number) => string} */
@@ -68,7 +68,7 @@ export const runStopped = (cycles, why) => `the run stopped after ${cycles} cycl
 /** @type {(address: string) => string} */
 export const beforeInvalidOpcode = (address) => `before a code that is not an instruction, at ${address}`;
 /** @type {(place: string, value: number) => string} */
-export const placeValueAnd = (place, value) => `${place} is ${value}, and `;
+export const placeHasValue = (place, value) => `${place} is ${value}, and `;
 /** @type {(what: string, word: string, keys: string) => string} */
 export const valueHasKeys = (what, word, keys) => `${what}${word} has ${keys}`;
 /** @type {(what: string, key: number, digit: string) => string} */
@@ -103,13 +103,13 @@ export const TOO_MANY_LINES = "this repeats more than 1,000,000 lines";
 export const DO_SYNTAX = "write `do STEPS`, the name of shared steps";
 /** @type {(name: string) => string} */
 export const stepsUseThemselves = (name) => `the steps ${name} cannot run themselves`;
-/** @type {(there: string, name: string) => string} */
-export const knownSteps = (there, name) => (there ? `; there are: ${there}` : `; \`steps ${name}\` starts them`);
-/** @type {(name: string, there: string) => string} */
-export const noSteps = (name, there) => `there are no steps ${name} before this line${there}`;
+/** @type {(knownNames: string, name: string) => string} */
+export const knownSteps = (knownNames, name) => (knownNames ? `; there are: ${knownNames}` : `; \`steps ${name}\` starts them`);
+/** @type {(name: string, knownNames: string) => string} */
+export const noSteps = (name, knownNames) => `there are no steps ${name} before this line${knownNames}`;
 /** @type {(word: string) => string} */
 export const takesNoArgument = (word) => `\`${word}\` takes no argument`;
-/** @type {(word: string, forms: string) => string} */
+/** @type {(word: string, firstWords: string) => string} */
 export const unknownFirstWord = (word, firstWords) => `no line of a test begins with \`${word}\`; they begin with ${firstWords}`;
 /** @type {(word: string) => string} */
 export const stateSyntax = (word) => `write \`${word} STATE\`, a word`;
@@ -121,16 +121,16 @@ export const savedBefore = (state, test) => `the state ${state} is already saved
 export const FROM_POSITION = "`from` must be right below `test`";
 /** @type {(states: string) => string} */
 export const knownStates = (states) => `; there is: ${states}`;
-/** @type {(state: string, there: string) => string} */
-export const noSuchState = (state, there) => `no earlier test saves a state ${state}${there}`;
+/** @type {(state: string, hint: string) => string} */
+export const noSuchState = (state, hint) => `no earlier test saves a state ${state}${hint}`;
 export const OWN_STATE = "a test cannot begin with a state that it saves itself";
 /** @type {(word: string, areMany: boolean) => string} */
 export const keysSyntax = (word, areMany) => `write \`${word} ${areMany ? "KEYS" : "KEY .."}\``;
 /** @type {(name: string, word: string) => string} */
 export const nameNorWord = (name, word) => `${name}, nor ${word}`;
-/** @type {(what: string, there: string) => string} */
-export const noKey = (what, there) => (
-  `the board has no key ${what}; ${there ? `it has: ${there}` : "its text names no keys (`# row 0: NAME ..`)"}`);
+/** @type {(what: string, keyNames: string) => string} */
+export const noKey = (what, keyNames) => (
+  `the board has no key ${what}; ${keyNames ? `it has: ${keyNames}` : "its text names no keys (`# row 0: NAME ..`)"}`);
 export const UNTIL_SYNTAX = "write `until CONDITION within TIME`";
 export const WITHIN_SYNTAX = "it ends with `within TIME`, as in: within 500, within 20 ms, within 1.5 s";
 export const CYCLES_NOT_ALLOWED = "`until` cannot ask for cycles; use `run` or `expect`";

@@ -2,7 +2,7 @@
 
 // --- text/similar_words.js ---
 export const OR = " or ";
-/** @type {(words: string[], end?: string) => string} suggestions for a mistyped word, which follow the message that rejects the word */
+/** @type {(words: string[], end?: string) => string} the end of an error message about a mistyped word: similar words, then `end` */
 export const didYouMean = (words, end = "") => (
   words.length > 0 ? `; did you mean ${words.join(OR)}?${end && ` ${end}`}` : end && `; ${end}`);
 
@@ -85,12 +85,12 @@ export const mostColumns = (most) => `a key matrix has at most ${most} columns`;
 export const keyMustBe = (key, values) => `${key} must be ${values}`;
 /** @type {(section: string) => string} */
 export const mustBeTable = (section) => `a ${section} must be a table: [[${section}]]`;
-/** @type {(name: string, kind: string, meant: string) => string} */
-export const noKeyOf = (name, kind, meant) => `${name} is not a key of ${kind}${meant}`;
+/** @type {(name: string, kind: string, suggestion: string) => string} */
+export const noKeyOf = (name, kind, suggestion) => `${name} is not a key of ${kind}${suggestion}`;
 /** @type {(keys: string) => string} */
 export const whichHasKeys = (keys) => `, which has ${keys}`;
-/** @type {(kind: string, meant: string) => string} */
-export const noPart = (kind, meant) => `${kind} is not a part of a board${meant}`;
+/** @type {(kind: string, suggestion: string) => string} */
+export const noPart = (kind, suggestion) => `${kind} is not a part of a board${suggestion}`;
 export const ONE_MATRIX = "a board has one key matrix: [keys]";
 /** @type {(kind: string) => string} */
 export const tableArraySyntax = (kind) => `there can be several: write [[${kind}]]`;
@@ -167,7 +167,7 @@ export const noRomForLine = (chip, address) => (
 export const layoutTooLong = (most, size) => `in columns the program would have ${size} characters; at most ${most} are accepted`;
 
 // --- text/program_words.js ---
-/** The terms of other assemblers, each with its replacement here. */
+/** The terms of other assemblers, each with its replacement in the bench's syntax. */
 export const OTHER_ASSEMBLER_WORDS = new Map(Object.entries({
   JMP: "JUN", GOTO: "JUN", BRA: "JUN", CALL: "JMS", JSR: "JMS", RET: "BBL", RTS: "BBL", MOV: "LD or XCH", LDA: "LD", STA: "XCH", STO: "XCH",
   JZ: "JCN 4", JNZ: "JCN 12", JC: "JCN 2", JNC: "JCN 10", DJNZ: "ISZ", BYTE: "DB", DEFB: "DB", EQU: "NAME = NUMBER", HLT: "JUN to itself",
@@ -228,8 +228,8 @@ export const ORG_ADDRESS = "an address, 0 to 4095";
 export const takesOperands = (name, what, more) => `${name} takes ${what}${more}`;
 /** @type {(word: string) => string} */
 export const extraOperandNote = (word) => `; ${word} is more`;
-/** @type {(name: string, meant: string) => string} */
-export const notDefined = (name, meant) => `${name} is not defined${meant}`;
+/** @type {(name: string, suggestion: string) => string} */
+export const notDefined = (name, suggestion) => `${name} is not defined${suggestion}`;
 /** @type {(name: string, line: number|undefined) => string} */
 export const definedBefore = (name, line) => `${name} is already defined in line ${line}`;
 /** @type {(name: string, head: string) => string} */

@@ -1,4 +1,4 @@
-// Texts about time: cycles, speeds, steps, and moves back and forward.
+// Texts about time: cycles, speeds, steps, and moves back and forward in time.
 
 import { PLACES_ARE } from "./conditions.js";
 
@@ -37,9 +37,9 @@ export const BETWEEN_MARKS = "Between the marks ";
 /** @type {(most: string) => string} */
 export const enterCount = (most) => `Nothing was done: give a number of instructions, 1 to ${most}.`;
 export const ENTER_CHANGE = "Nothing was done: enter a place such as r5, lamp 3 or rom0.2, or a condition such as r5 > 8.";
-/** @type {(fault: string) => string} an error for the status bar, which has a few examples instead of all places */
-export const cannotSearchFor = (fault) => `Nothing was done: ${fault.replace(PLACES_ARE, SUCH_PLACES)}.`;
-const SUCH_PLACES = "enter something such as r5, lamp 3 or rom0.2";
+/** @type {(fault: string) => string} the error for the status bar; gives a few example places instead of the list of all places */
+export const cannotSearchFor = (fault) => `Nothing was done: ${fault.replace(PLACES_ARE, EXAMPLE_PLACES)}.`;
+const EXAMPLE_PLACES = "enter something such as r5, lamp 3 or rom0.2";
 
 // --- time/run_controller.js ---
 /** @type {(rate: string) => string} */

@@ -111,7 +111,7 @@ export const rowsAnswer = (driven, answer) => `${driven}: ${answer}`;
 
 // --- waves/wave_lines.js ---
 /** @type {(chain: number) => string} */
-export const shiftOf = (chain) => `4003 shift-in ${chain}`;
+export const shiftRegisterTitle = (chain) => `4003 shift-in ${chain}`;
 export const KEY_SCAN = "key scan";
 /** @type {(bank: string) => string} */
 export const ramGroup = (bank) => `${RAM_GROUP}bank ${bank}`;
@@ -138,15 +138,15 @@ export const isNumber = (name) => `${name} is a number: search for a change, or 
 /** @type {(value: string, forms: string) => string} */
 export const noNumber = (value, forms) => `${value} is not a number such as 10, 0x0A or 0b1010. Forms: ${forms}.`;
 /** @type {(name: string, width: number, most: number) => string} */
-export const hasBits = (name, width, most) => `${name} has ${width === 1 ? "1 bit" : `${width} bits`}: its value is at most ${most}.`;
+export const valueTooLarge = (name, width, most) => `${name} has ${width === 1 ? "1 bit" : `${width} bits`}: its value is at most ${most}.`;
 
 // --- waves/wave_words.js ---
 /** @type {(span: string) => string} */
-export const aToB = (span) => `A to B: ${span}`;
+export const distanceBetweenCursors = (span) => `A to B: ${span}`;
 export const SECOND_CYCLE = "the second cycle of an instruction";
 /** @type {(line: number, source: string) => string} */
-export const ofSource = (line, source) => `; line ${line} of the source: ${source}`;
-export const NEXT = "next: ";
+export const sourceLineSuffix = (line, source) => `; line ${line} of the source: ${source}`;
+export const NEXT_PREFIX = "next: ";
 /** @type {(name: string, cycle: string, time: string, instruction: string) => string} */
 export const cursorAt = (name, cycle, time, instruction) => `${name}: cycle ${cycle}, ${time}: ${instruction}`;
 /** @type {(name: string, value: string) => string} */

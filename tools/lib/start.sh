@@ -42,8 +42,8 @@ file_stamps() {
     (CDPATH='' cd -- "$top" && read -r _ && LC_ALL=C exec xargs -0 stat -L -c '%a %i %s %Y %.9Z' -- "$cache") < "$1" 2> /dev/null || :
 }
 
-# Sets `program` to the one that an earlier start found, if nothing has changed since. Files that another user could have written are not
-# trusted.
+# Sets `program` to the program that an earlier start has cached, if nothing has changed since. Ignores cache files that another user could have
+# written.
 read_cache() {
     if [ -z "$cache" ] || [ ! -O "$cache" ]; then return 1; fi
     for each in "$names" "$seen"; do
@@ -90,7 +90,7 @@ is_installed() {
     [ -f "$top/installed" ] && [ ! -e "$top/crates.txt" ]
 }
 
-# The beginnings of two messages: one if the program is for other systems, and one if it is for this system but does not run.
+# The beginnings of two messages: for a program for other systems, and for a program that is for this system but does not run.
 is_for="it is for Linux on"
 does_not_run="it does not run on this system"
 
@@ -103,7 +103,7 @@ is_other_system() {
     fault="$is_for x86-64, and this is $(uname -s) on $(uname -m)"
 }
 
-# Succeeds if `fault` says that the program is not for this system, and none can be built here. Commands then run on the proved module.
+# Succeeds if `fault` says that the program is for another system, so that no program can be built here. Commands then run on the proved module.
 is_without_program() {
     case $fault in
     "$is_for"*) ;;
@@ -177,7 +177,7 @@ find_program() {
     fi
 }
 
-# Finds the program if that is possible without comparing sources and without a message: if it is installed, or if an earlier start has cached it.
+# Sets `program` without comparing sources and without a message, which is possible if the program is installed or an earlier start has cached it.
 find_known() {
     program=
     fault=

@@ -179,7 +179,7 @@ sum_of_commands() {
     (cd "$top" && find shipped/commands -type f) | sums_of_files | sum_of_input
 }
 
-# Prints the checksum of the modules from which the files in shipped/commands are generated.
+# Prints the checksum of the sources of shipped/commands, which are all modules in js/core, js/words and js/node.
 sum_of_command_sources() {
     (cd "$top" && find js/core js/words js/node -type f) | sums_of_files | sum_of_input
 }

@@ -11,8 +11,8 @@ from typing import NamedTuple
 
 class Kind(NamedTuple):
     """A file system: the size of its disk in MiB, the command that creates it, that command's Debian package, its type, the mount options besides
-    noatime, the options that make it commit every second, and its kernel modules. `whole_blocks` is true if the file system tolerates no block of
-    4 KiB that is half written. `shows_stale` is true if parts of a file that were not written yet can contain old data of the disk."""
+    noatime, the options that make it commit every second, and its kernel modules. `whole_blocks` is true if the file system needs each block of 4 KiB
+    to be written completely or not at all. `shows_stale` is true if unwritten parts of a file can contain old data of the disk."""
     name: str
     size: int
     make: tuple[str, ...]
@@ -106,10 +106,10 @@ CASES = {case.name: case for case in (
 NEW = ("new-long", "new-full", "new-empty", "new-folder")
 OPENED = ("linked", "copied", "moved", "replaced", "long-copied", "long-moved", "folder-copied", "folder-moved", "carried-copied")
 
-# --- the trials of a run
+# --- the trials of a run of the check
 
-# The numbers of commands that are sent: to the session whose case takes all, to a session that is already durable or is opened again, and to each of
-# the others.
+# The numbers of commands to send: to the session of a case with `takes_all`, to a session that is already durable or is opened again, and to any
+# other session.
 ALL_COMMANDS, MORE_COMMANDS, FEW_COMMANDS = 110, 24, 12
 
 

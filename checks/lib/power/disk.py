@@ -20,7 +20,7 @@ FIXED_NEWSTYLE_NO_ZEROES = 3
 ABORT, INFO, GO = 2, 6, 7
 ACKNOWLEDGED, INFORMED, UNSUPPORTED = 1, 3, (1 << 31) + 1
 EXPORT, BLOCK_SIZE = 0, 3
-# Flags of the disk (it has flags and accepts flushes), and the kinds of requests.
+# NBD transmission flags (flags are valid; the disk accepts flushes), and the types of requests.
 HAS_FLAGS, SEND_FLUSH = 1, 4
 READ, WRITE, LEAVE, FLUSH = 0, 1, 2, 3
 OPTION_HEAD, REQUEST_HEAD = 16, 28
@@ -76,7 +76,7 @@ class Disk:
         self.undo = None
 
     def happened(self, what: str, number: int, place: int = 0, data: bytes = b"") -> None:
-        """Adds an event to the list if there is one."""
+        """Adds an event to the list of events if there is a list."""
         if self.events is not None:
             self.events.append(Event(what, number, place, data))
 

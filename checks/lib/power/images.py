@@ -17,7 +17,7 @@ from typing import Literal
 from power.disk import Disk, Event
 
 SECTOR, BLOCK = 512, 4096
-# After each write and each flush, PARTS random images are drawn for each pending write, but for at most MAX_PENDING of these writes.
+# After each write and each flush, PARTS random images are drawn for each pending write, for at most MAX_PENDING pending writes.
 PARTS, MAX_PENDING = 12, 4
 # The number of events after the first answer that belong to the phase "beginning".
 BEGINNING = 20

@@ -154,7 +154,7 @@ class Machine:
             listener.listen()
             self.selector.register(listener, selectors.EVENT_READ, name)
         self.started = time.monotonic()
-        # QEMU is killed when this process ends, however that happens.
+        # The kernel kills QEMU when this process ends, even if this process is killed.
         words = ["setpriv", "--pdeathsig", "KILL", *self.words(folder, kernel, archive)]
         with open(self.errors, "wb") as errors:
             self.process = subprocess.Popen(words, stdin=subprocess.DEVNULL, stderr=errors)

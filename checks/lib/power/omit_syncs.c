@@ -1,5 +1,5 @@
 /* A library with wrong implementations of the calls that sync a file. The program is started with this library loaded before the C library
-   (LD_PRELOAD). The environment variable WRONG selects one:
+   (LD_PRELOAD). The environment variable WRONG selects one of them:
      no sync             a sync of data does nothing
      no first sync       the sync of a record or of a snapshot does nothing; the sync of its commit byte or selector is done
      no second sync      the sync of the commit byte or selector does nothing

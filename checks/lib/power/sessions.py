@@ -74,7 +74,7 @@ def digest(answers: bytes) -> str:
 
 
 class Sessions:
-    """The state after each number of commands, as the program reports it. It also tells to which of these states a file that is found belongs."""
+    """The state after each number of commands, as the program reports it. Also finds out which of these states a session file has."""
 
     def __init__(self, program: str, folder: pathlib.Path, count: int) -> None:
         self.program, self.folder = program, folder

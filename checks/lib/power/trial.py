@@ -1,4 +1,4 @@
-"""A trial serves a session in the machine, mounts there one image after another that a power cut can leave, and evaluates the results.
+"""A trial serves a session in the machine. Then the machine mounts images that a power cut can leave, one by one, and the trial evaluates them.
 
 Then one of the images becomes the disk, the session is opened there and continues, and the power is cut again: while the file system
 recovers, while the session is opened, and later.
@@ -31,12 +31,12 @@ START_OTHER_WRITER = "(cd /; n=/mnt/noise; while :; do echo noise >> $n/a; mv $n
 # STOP_AND_UNMOUNT ends all processes that use the file system, and unmounts it, with a second attempt because a process can live for a moment longer.
 START_PROGRAM = "{{ {wrong} mcs4 {words} <&3 >&3; reported=$?; [ -e /tmp/end ] || echo ended with status $reported >&3; }} &"
 STOP_AND_UNMOUNT = "cd /; : > /tmp/end; kill $busy; killall mcs4; wait; rm /tmp/end; umount /mnt || { sleep 1; umount /mnt; }"
-# What can be found if the power is cut before the first answer of `new`, on a file system that shows only written data.
+# The allowed results if the power is cut before the first answer of `new`, on a file system that shows only written data.
 ALLOWED_BEFORE_NEW = ("absent", "size 0", "blank", 0)
 # The maximum number of errors to report for each recording, and of images to store in total.
 MAX_REPORTED, MAX_STORED = 2, 6
 
-# What was found on an image: the number of commands in a session, or a description of anything else.
+# The result of examining an image: the number of commands in its session, or a description of anything else.
 Found = int | str
 
 

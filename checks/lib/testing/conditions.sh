@@ -86,7 +86,7 @@ tested() {
         "$(cat "$folder/printed")" "$1"
 }
 tested "conditions and failures"
-# Checks that every awk prints the same. (mawk needs an option to read a pipe line by line.)
+# Checks that the output is the same with every awk. (mawk needs an option to read a pipe line by line.)
 for other in gawk mawk original-awk "busybox awk"; do
     if command -v "${other%% *}" > /dev/null; then
         mkdir -p "$folder/bin"

@@ -20,7 +20,7 @@ never run: line 7
 only one way: line 5 (never taken)
 status 0
 covered
-# The cycles: FIM 2, twice (JMS 2, CLC 1, BBL 1, ISZ 2), then JCN 2 and JUN 2 are 18, and 11 more JUN of 2 cycles make 40.
+# The cycles: FIM (2), twice JMS (2), CLC (1), BBL (1) and ISZ (2), then JCN (2) and JUN (2) are 18. With 11 more JUN of 2 cycles, they are 40.
 sed 's/^        10 /        11 /' < "$folder/covered" > "$folder/covered_by_hand"
 verdict "$(outcome ./mcs4 cover --lcov "$folder/count.info" $three/board.toml "$folder/count.asm" "$folder/count.test")" \
     "$(cat "$folder/covered_by_hand")" "coverage by hand"
@@ -49,7 +49,7 @@ LF:9
 LH:8
 end_of_record" "LCOV's format by hand"
 
-# A jump that is always taken: eight turns of CLC 1, JCN 2 and JUN 2 are 40 cycles.
+# A jump that is always taken: eight iterations of CLC (1 cycle), JCN (2) and JUN (2) are 40 cycles.
 cat > "$folder/always.asm" <<'program'
 turn:   CLC
         JCN 10, next    ; if the carry is 0

@@ -1,4 +1,4 @@
-# Errors in the texts of tests: each is reported with its file and line, and no test is run. Also tests of wrong programs.
+# Errors in the texts of tests: mcs4 test reports each with its file and line, and runs no test. Also tests of programs with errors.
 # shellcheck shell=sh
 
 printf 'test t\n run 5\n' > "$folder/one.test"

@@ -33,7 +33,7 @@ look:   SRC P1
         WMP             ; the key is the lamp: SRC, RDR, SRC and WMP are 4 cycles
         JUN look
 program
-# 100 cycles are 16 turns of 6 cycles and 4 more. Then 2 cycles of JUN and 4 more lead to the lamp, which makes 106.
+# 100 cycles are 16 iterations of 6 cycles, and 4 more. Then JUN takes 2 cycles, and 4 more cycles lead to the lamp: 106 in total.
 printf 'test t\nrun 9\npress a\nrun 100\nrelease a\nrun 100\n' > "$folder/key.test"
 verdict "$(outcome ./mcs4 profile "$folder/key.toml" "$folder/key.asm" "$folder/key.test" | tail -n 3)" \
     "key                 presses  answered        longest to a lamp         to the last lamp

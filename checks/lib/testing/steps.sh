@@ -1,9 +1,9 @@
 # mcs4 test: repeated lines, shared steps, keys that are chosen by values, and the label that was passed last.
 # shellcheck shell=sh
 
-# Each lamp is on for 538 cycles. Counted from the cycle in which a lamp is on, the turns of the waiting loop begin after 4, 6, 8, 10 and 14 cycles,
-# the last turn begins after 520, and the JCN to `first` after 532. `first` begins 4 cycles before a lamp is on. Counted from power-on, `first` is
-# passed after 3 cycles, and `next` after 5.
+# Each lamp is on for 538 cycles. Counted from the cycle in which a lamp turns on, the iterations of the delay loop begin after 4, 6, 8, 10 and 14
+# cycles, the last iteration begins after 520, and the JCN to `first` after 532. `first` begins 4 cycles before a lamp turns on. Counted from
+# power-on, the program passes `first` after 3 cycles, and `next` after 5.
 cat > "$folder/shared.test" <<'end_of_tests'
 steps begin
     until lamps right within 7

@@ -1,5 +1,5 @@
-# Environment variables that happen to have the name of one of a tool's own variables: they must have no effect, and no file of the user may be
-# written or removed because of them.
+# Environment variables that happen to have the same name as a tool's own variable: they must have no effect, and no tool may write or remove a file
+# because of them.
 # shellcheck shell=sh
 
 begins session < $calculator/quotient.txt

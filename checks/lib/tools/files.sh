@@ -20,8 +20,8 @@ else
     echo "not run: a full folder for temporary files (a file system cannot be mounted here)"
 fi
 
-# Runs a command with wrong files: empty, a folder, missing, of 100 MB, a link to itself, and a name that no file can have. Also with a program that
-# rejects the session.
+# Runs a command with wrong files: an empty file, a folder, a missing file, a file of 100 MB, a link to itself, and a name that no file can have. Also
+# with a program that rejects the session.
 : > "$folder/empty"
 ln -s loop "$folder/loop"
 longest=$(printf '%256s' | tr ' ' x)

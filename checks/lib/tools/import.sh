@@ -71,8 +71,8 @@ status 0" "a program that is imported"
 verdict "$(./mcs4 import - < "$folder/intel.src")" "$(cat "$folder/imported")" "a program that is imported from standard input"
 verdict "$(outcome ./mcs4 import "$folder/imported" | sed 's/ *;.*//' | tr -d ' ' | sed '/^$/d')" "$(sed 's/ *;.*//' "$folder/imported" | tr -d ' ' | sed '/^$/d; s/,12,/,12,/')
 status0" "what was imported, imported once more"
-# Compares with bytes that were assembled manually. The programs are in the form of Intel's first manuals: a loop that clears a RAM register, one that
-# adds two numbers of sixteen decimal digits, and the AND of two registers.
+# Compares the output with bytes that were assembled manually. The programs have the style of Intel's first manuals: a loop that clears a RAM
+# register, a loop that adds two numbers of sixteen decimal digits, and the AND of two registers.
 cat > "$folder/clear.src" <<'source'
 / CLEAR RAM REGISTER 0 OF CHIP 0
        FIM 0P, 0       / SRC ADDRESS

@@ -7,7 +7,7 @@ if [ ! -e tools/join_commands.mjs ]; then
 elif ! command -v esbuild > /dev/null; then
     echo "not run: joined files, in checks/tools (Debian's package: esbuild)"
 else
-    # Checks that the script that makes them rejects an option in place of a folder, and an unknown command.
+    # Checks that tools/join_commands.mjs rejects an option in place of a folder, and an unknown command.
     mkdir "$folder/empty"
     for words in "tools/join_commands.mjs" "tools/join_commands.mjs --help" "tools/join_commands.mjs pages none" "js/node/command_pages.mjs" \
         "js/node/command_pages.mjs --help" "js/node/command_pages.mjs pages more" "editors/make.mjs --help" "editors/make.mjs made more"; do

@@ -1,8 +1,8 @@
 # mcs4 listing.
 # shellcheck shell=sh
 
-# Compares with bytes that were assembled manually. The program has lines that end with CRLF, labels alone and at ORG, a name that is used before its
-# definition, and a DB whose listing takes several lines.
+# Compares the listing with bytes that were assembled manually. The program has lines that end with CRLF, labels on their own lines and at ORG, a name
+# that is used before its definition, and a DB whose listing takes several lines.
 cat > "$folder/program.asm" <<'program'
 five = 5                ; a number
 start:  LDM five

@@ -110,7 +110,7 @@ printf 'press A\nnever lamp open on\nreach lamp open on\n' > "$folder/opens.prop
 sed 's/^press A$/press 4\npress 7\npress 1\npress #/' "$folder/opens.props" > "$folder/found.props"
 same_on_module /dev/null prove $lock/board.toml $lock/lock.asm "$folder/found.props" --most 100000
 
-# --- what does not work there
+# --- commands that do not work without a native program
 
 keeps="a session file needs the native program, which is not started: $why. Commands without a session file run here"
 for words in "new $folder/new.mcs" "open $folder/session.mcs"; do

@@ -52,7 +52,7 @@ refuses 2 "resume: SESSION is missing
 usage: mcs4 resume SCRIPT SESSION" ./mcs4 resume "$folder/resume.txt"
 rm "$folder/cut.mcs"
 awk 'BEGIN { for (i = 0; i < 400; i++) print "poke r" i % 16 " " int(i / 16) % 16 "\nrun 100000"; print "regs" }' > "$folder/long.txt"
-# Empties the file here, because the shell that starts the program can do it too late for this check.
+# Empties the file of answers before the program starts. A redirection in the background shell could empty the file too late.
 : > "$folder/answers"
 "$mcs4" new "$folder/cut.mcs" < "$folder/long.txt" > "$folder/answers" &
 child=$!

@@ -1,8 +1,8 @@
 # mcs4 trace.
 # shellcheck shell=sh
 
-# A trace that was worked out manually: a bank is selected; RAM, a status character and a port are written. Also with a lamp, a subroutine, and a code
-# that is not an instruction.
+# A trace that was worked out manually. The program selects a bank, writes RAM, a status character and a port, lights a lamp, calls a subroutine, and
+# reaches a code that is not an instruction.
 cat > "$folder/trace.txt" <<'script'
 wire
 [[rom]]

@@ -1,5 +1,5 @@
-//! A program that proves that, for all inputs, a program on a board never reaches a given condition. It reads a
-//! question from standard input and writes the answer to standard output.
+//! A program that tries to prove that, for all inputs, a program on a board never reaches a given condition. It reads
+//! a question from standard input and writes the answer to standard output.
 #![tactic(auto)]
 
 use mcs_prove::{Answer, answer_to};
@@ -11,7 +11,7 @@ use std::process::ExitCode;
 const FAILURE_STATUS: u8 = 3;
 
 /// Reads the question from standard input. Returns an empty text if standard input cannot be read or is not valid
-/// text.
+/// UTF-8.
 fn question(rt: &HostRuntime) -> String {
     let mut text = String::new(rt.alloc());
     match rt.reader().read_to_string(&mut text) {
@@ -20,8 +20,8 @@ fn question(rt: &HostRuntime) -> String {
     }
 }
 
-/// Reads the question and prints its answer. Returns the exit status of the answer, or `FAILURE_STATUS` if memory runs out.
-/// Fails if the answer cannot be written.
+/// Reads the question and prints the answer. Returns the exit status of the answer, or `FAILURE_STATUS` if memory runs
+/// out. Fails if the answer cannot be written.
 fn answer_question(rt: &HostRuntime) -> io::Result<u8> {
     let Ok(Answer { text, status }) = answer_to(rt.alloc(), question(rt).as_str()) else {
         println!(rt; "no 90")?;

@@ -7,11 +7,11 @@ use Rattle.std.specs.Fmt.{decimal}
 pub length-decimal-step : (n : ℕ) → 10 ≤ n → n < 2 ^ 64 → length (decimal n) ≡ length (decimal (n / 10)) + 1
 length-decimal-step n h k = rw (decimal_step n h k) (grind (arith, common_steps))
 
-pub decimal-onto : (text : List ℕ) (n : ℕ) → 10 ≤ n → n < 2 ^ 64 → (text ++ decimal (n / 10)) ++ (48 + n % 10) ∷ [] ≡ text ++ decimal n
-decimal-onto text n h k = append_assoc text (decimal (n / 10)) ((48 + n % 10) ∷ []) ∙ ap (λ v. text ++ v) (sym (decimal_step n h k))
+pub decimal-from-appended-last-digit : (text : List ℕ) (n : ℕ) → 10 ≤ n → n < 2 ^ 64 → (text ++ decimal (n / 10)) ++ (48 + n % 10) ∷ [] ≡ text ++ decimal n
+decimal-from-appended-last-digit text n h k = append_assoc text (decimal (n / 10)) ((48 + n % 10) ∷ []) ∙ ap (λ v. text ++ v) (sym (decimal_step n h k))
 
-pub length-decimal-twenty : (n : ℕ) → n < 2 ^ 64 → length (decimal n) ≤ 20
-length-decimal-twenty n h =
+pub length-decimal-at-most-twenty : (n : ℕ) → n < 2 ^ 64 → length (decimal n) ≤ 20
+length-decimal-at-most-twenty n h =
     let a : n < 10 ^ 20 = omega arith in
     let c : 0 < 20 = omega arith in
     length-decimal-le 20 n c a h

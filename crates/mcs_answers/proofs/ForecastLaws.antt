@@ -1,4 +1,4 @@
--- Lemmas: two traces in a row make one trace, and counts agree with a trace.
+-- Lemmas: two consecutive traces make one trace, and counts agree with a trace.
 use Rattle.std.proofs.Common.{◌≡◌, ℕ, ◌+◌, ◌-◌, ◌/◌, ◌%◌, true, false, cond, List, [], ◌∷◌, ◌++◌, codes, drop, get_or, length, map, inl, inr, refl, sym, ap, ◌∙◌, arith, eqb, nat_lt}
 use Rattle.std.specs.Fmt.{decimal}
 use Rattle.std.specs.List.{count_by, flat_map}
@@ -16,22 +16,22 @@ use Rattle.mcs_model.specs.Command.{after, machine_of, stops_of}
 use Rattle.mcs_model.specs.QueryText.{address_text, hex_digit}
 use Rattle.mcs_model.specs.Running.{after_run, run_length}
 use Rattle.mcs_probe.specs.declared.probe.Probe.{Probe}
-use Rattle.mcs_probe.specs.Forecast.{BegunInstruction, instructions_begun_in, is_at, later, runs_at}
-use Rattle.mcs_trace.proofs.Parts.{begun-add-up}
+use Rattle.mcs_probe.specs.Forecast.{BegunInstruction, instructions_begun_in, begins_at_address, later, runs_at}
+use Rattle.mcs_trace.proofs.Parts.{begun_instructions-add_up}
 use Rattle.mcs_answers.specs.ForecastLaws.{is_line_at, trace_lines_from}
 use Rattle.mcs_answers.specs.ForecastTexts.{trace_line, trace_lines}
 
-lines-of-map : (probes : List Probe) (m : ℕ) (begun : List BegunInstruction) → flat_map (trace_line probes) (map (later m) begun) ≡ flat_map (λ x. trace_line probes (later m x)) begun
-lines-of-map probes m [] = refl
-lines-of-map probes m (x ∷ begun) = ap (λ (l : List (List ℕ)). trace_line probes (later m x) ++ l) (lines-of-map probes m begun)
+trace-lines-of-mapped-instructions : (probes : List Probe) (m : ℕ) (begun : List BegunInstruction) → flat_map (trace_line probes) (map (later m) begun) ≡ flat_map (λ x. trace_line probes (later m x)) begun
+trace-lines-of-mapped-instructions probes m [] = refl
+trace-lines-of-mapped-instructions probes m (x ∷ begun) = ap (λ (l : List (List ℕ)). trace_line probes (later m x) ++ l) (trace-lines-of-mapped-instructions probes m begun)
 
-pub traces-add : (probes : List Probe) (b : BenchState) (m n : ℕ) → run_length (stops_of b) (m + n) (machine_of b) ≡ m + n → trace_lines probes b (m + n) ≡ trace_lines probes b m ++ trace_lines_from probes m (after b (Run m)) n
-traces-add probes b m n e =
+pub traces-add-up : (probes : List Probe) (b : BenchState) (m n : ℕ) → run_length (stops_of b) (m + n) (machine_of b) ≡ m + n → trace_lines probes b (m + n) ≡ trace_lines probes b m ++ trace_lines_from probes m (after b (Run m)) n
+traces-add-up probes b m n e =
     let first = instructions_begun_in (stops_of b) m (machine_of b) in
     let second = instructions_begun_in (stops_of b) n (after_run (stops_of b) m (machine_of b)) in
-    ap (flat_map (trace_line probes)) (begun-add-up (stops_of b) m n (machine_of b) e)
+    ap (flat_map (trace_line probes)) (begun_instructions-add_up (stops_of b) m n (machine_of b) e)
     ∙ flat_map-append (trace_line probes) first (map (later m) second)
-    ∙ ap (λ (l : List (List ℕ)). trace_lines probes b m ++ l) (lines-of-map probes m second)
+    ∙ ap (λ (l : List (List ℕ)). trace_lines probes b m ++ l) (trace-lines-of-mapped-instructions probes m second)
 
 -- ---- counts
 
@@ -62,27 +62,27 @@ abbrev plain_line : BegunInstruction → List ℕ
 plain_line x = decimal x.cycles ++ codes " " ++ address_text x.before.0.pc
 
 -- The line of an instruction ends with the address of the instruction.
-ends-with : (x : BegunInstruction) → drop (length (plain_line x) - 3) (plain_line x) ≡ address_text x.before.0.pc
-ends-with x = end_rest (plain_line x) (address_text x.before.0.pc) (decimal x.cycles ++ codes " ") refl
+plain-line-ends-with-address : (x : BegunInstruction) → drop (length (plain_line x) - 3) (plain_line x) ≡ address_text x.before.0.pc
+plain-line-ends-with-address x = end_rest (plain_line x) (address_text x.before.0.pc) (decimal x.cycles ++ codes " ") refl
 
-line-at : (at : ℕ) (x : BegunInstruction) → is_line_at at (plain_line x) ≡ is_at at x
-line-at at x =
-    ap (λ (l : List ℕ). bytes_eq l (address_text at)) (ends-with x)
+is_line_at-of-plain-line : (at : ℕ) (x : BegunInstruction) → is_line_at at (plain_line x) ≡ begins_at_address at x
+is_line_at-of-plain-line at x =
+    ap (λ (l : List ℕ). bytes_eq l (address_text at)) (plain-line-ends-with-address x)
     ∙ elim (cases_eq x.before.0.pc at) [
       | inl same ↦ (bytes_eq-Decides (address_text x.before.0.pc) (address_text at)).1 (ap address_text same) ∙ sym (let t : eqb x.before.0.pc at ≡ true = grind (arith, nat_tests) in t)
       | inr other ↦ false_from_ne_true (bytes_eq (address_text x.before.0.pc) (address_text at)) (λ t. other (address-text-injective x.before.0.pc at ((bytes_eq-Decides (address_text x.before.0.pc) (address_text at)).0 t))) ∙ sym (let f : eqb x.before.0.pc at ≡ false = grind (arith, nat_tests) in f)
     ]
 
 -- In a trace without probes, nothing follows the address in a line.
-line-of : (x : BegunInstruction) → trace_line [] x ≡ plain_line x ∷ []
-line-of x = ap (λ (l : List ℕ). l ∷ []) (append-nil (plain_line x))
+trace-line-without-probes : (x : BegunInstruction) → trace_line [] x ≡ plain_line x ∷ []
+trace-line-without-probes x = ap (λ (l : List ℕ). l ∷ []) (append-nil (plain_line x))
 
-pub counts-lines : (at : ℕ) (begun : List BegunInstruction) → runs_at begun at ≡ count_by (is_line_at at) (flat_map (trace_line []) begun)
-counts-lines at [] = refl
-counts-lines at (x ∷ begun) =
+pub runs-equal-counted-lines : (at : ℕ) (begun : List BegunInstruction) → runs_at begun at ≡ count_by (is_line_at at) (flat_map (trace_line []) begun)
+runs-equal-counted-lines at [] = refl
+runs-equal-counted-lines at (x ∷ begun) =
     let rest = flat_map (trace_line []) begun in
-    sum_by-append (λ (y : BegunInstruction). cond (is_at at y) 1 0) (x ∷ []) begun
-    ∙ ap (λ b. 0 + cond b 1 0 + runs_at begun at) (sym (line-at at x))
-    ∙ ap (λ k. 0 + cond (is_line_at at (plain_line x)) 1 0 + k) (counts-lines at begun)
+    sum_by-append (λ (y : BegunInstruction). cond (begins_at_address at y) 1 0) (x ∷ []) begun
+    ∙ ap (λ b. 0 + cond b 1 0 + runs_at begun at) (sym (is_line_at-of-plain-line at x))
+    ∙ ap (λ k. 0 + cond (is_line_at at (plain_line x)) 1 0 + k) (runs-equal-counted-lines at begun)
     ∙ sym (sum_by-append (λ (l : List ℕ). cond (is_line_at at l) 1 0) (plain_line x ∷ []) rest)
-    ∙ ap (λ (ls : List (List ℕ)). count_by (is_line_at at) (ls ++ rest)) (sym (line-of x))
+    ∙ ap (λ (ls : List (List ℕ)). count_by (is_line_at at) (ls ++ rest)) (sym (trace-line-without-probes x))

@@ -19,41 +19,41 @@ joined_with_commas x (y ∷ ys) =
 take_all_but_last : (xs : List ℕ) (c : ℕ) → take (length (xs ++ c ∷ []) - 1) (xs ++ c ∷ []) ≡ xs
 take_all_but_last xs c = grind (arith, common_steps)
 
--- If no item was written, a dash ends the list.
-pub ended_by_dash : (before old new : List ℕ) (items : List (List ℕ)) → length old ≡ length before
+-- If no item was written, appending a dash gives the text of the list.
+pub comma_list_if_dash_appended : (before old new : List ℕ) (items : List (List ℕ)) → length old ≡ length before
     → old ≡ before ++ with_commas items
     → new ≡ old ++ codes "-"
     → new ≡ before ++ comma_list items
-ended_by_dash before old new [] same listed here = here ∙ ap (λ v. v ++ codes "-") (listed ∙ append-nil before)
-ended_by_dash before old new (x ∷ xs) same listed here =
+comma_list_if_dash_appended before old new [] same listed here = here ∙ ap (λ v. v ++ codes "-") (listed ∙ append-nil before)
+comma_list_if_dash_appended before old new (x ∷ xs) same listed here =
     let whole : length old ≡ length before + (length (x ++ 44 ∷ []) + length (with_commas xs)) =
     ap length listed ∙ length-append before (with_commas (x ∷ xs)) ∙ ap (λ n. length before + n) (length-append (x ++ 44 ∷ []) (with_commas xs)) in
     let more : length (x ++ 44 ∷ []) ≡ length x + 1 = length-append x (44 ∷ []) in
     absurd (omega arith)
 
--- If items were written, removing the last comma ends the list.
-pub ended_by_pop : (before old new : List ℕ) (items : List (List ℕ)) → length before + 1 ≤ length old
+-- If items were written, removing the last comma gives the text of the list.
+pub comma_list_if_last_comma_removed : (before old new : List ℕ) (items : List (List ℕ)) → length before + 1 ≤ length old
     → old ≡ before ++ with_commas items
     → new ≡ take (length old - 1) old
     → new ≡ before ++ comma_list items
-ended_by_pop before old new [] more listed here =
+comma_list_if_last_comma_removed before old new [] more listed here =
     let none : length old ≡ length before = ap length (listed ∙ append-nil before) in
     absurd (omega arith)
-ended_by_pop before old new (x ∷ xs) more listed here =
+comma_list_if_last_comma_removed before old new (x ∷ xs) more listed here =
     let text = before ++ join_with_byte 44 (x ∷ xs) in
     let whole : old ≡ text ++ 44 ∷ [] =
     listed ∙ ap (λ v. before ++ v) (sym (joined_with_commas x xs)) ∙ sym (append_assoc before (join_with_byte 44 (x ∷ xs)) (44 ∷ [])) in
     here ∙ ap (λ v. take (length v - 1) v) whole ∙ take_all_but_last text 44
 
--- The items of all lists, with commas, are the items of each list with commas.
-pub commas-flat_map : {A : Type 0} (f : A → List (List ℕ)) (xs : List A) → with_commas (flat_map f xs) ≡ flat_map (λ x. with_commas (f x)) xs
-commas-flat_map f [] = refl
-commas-flat_map f (x ∷ xs) = flat_map-append with_comma (f x) (flat_map f xs) ∙ ap (λ t. with_commas (f x) ++ t) (commas-flat_map f xs)
+-- Commas can be added to the items before or after the lists are joined, with the same result.
+pub with_commas-flat_map : {A : Type 0} (f : A → List (List ℕ)) (xs : List A) → with_commas (flat_map f xs) ≡ flat_map (λ x. with_commas (f x)) xs
+with_commas-flat_map f [] = refl
+with_commas-flat_map f (x ∷ xs) = flat_map-append with_comma (f x) (flat_map f xs) ∙ ap (λ t. with_commas (f x) ++ t) (with_commas-flat_map f xs)
 
-pub commas-map : {A : Type 0} (f : A → List ℕ) (xs : List A) → with_commas (map f xs) ≡ flat_map (λ x. with_comma (f x)) xs
-commas-map f xs = flat_map-map with_comma f xs
+pub with_commas-map : {A : Type 0} (f : A → List ℕ) (xs : List A) → with_commas (map f xs) ≡ flat_map (λ x. with_comma (f x)) xs
+with_commas-map f xs = flat_map-map with_comma f xs
 
--- If numbers 0 to n - 1 are written, writing number n extends the text by that number.
+-- If numbers 0 to `n - 1` are written, writing number `n` extends the text by that number.
 pub append_numbered : (f : ℕ → ℕ) (n : ℕ) (a b c : List ℕ)
     → b ≡ a ++ map f (range_with_len 0 n)
     → c ≡ b ++ f n ∷ []

@@ -1,10 +1,10 @@
--- The text of the registers is its parts, one after another.
+-- If all parts of the registers' text are appended in order, the whole text is appended.
 use Rattle.std.proofs.Common.{◌≡◌, ℕ, List, ◌++◌, codes, map, ◌∙◌, append_assoc}
 use Rattle.mcs_model.specs.declared.regs.Regs.{Regs}
 use Rattle.mcs_model.specs.QueryText.{address_text, digit_text, hex_digit, registers_text}
 use Rattle.mcs_answers.proofs.AppendedTexts.{append_one_piece, append_two_pieces}
 
-pub registers_text_is : (old : List ℕ) (regs : Regs) (test : ℕ) (n1 n2 n3 n4 n5 n6 n7 n8 : List ℕ)
+pub registers_text_from_parts : (old : List ℕ) (regs : Regs) (test : ℕ) (n1 n2 n3 n4 n5 n6 n7 n8 : List ℕ)
     → n1 ≡ old ++ codes "acc " ++ digit_text regs.acc
     → n2 ≡ n1 ++ codes " cy " ++ digit_text regs.cy
     → n3 ≡ n2 ++ codes " pc " ++ address_text regs.pc
@@ -14,7 +14,7 @@ pub registers_text_is : (old : List ℕ) (regs : Regs) (test : ℕ) (n1 n2 n3 n4
     → n7 ≡ n6 ++ codes " r "
     → n8 ≡ n7 ++ map hex_digit regs.r
     → n8 ≡ old ++ registers_text regs test
-registers_text_is old regs test n1 n2 n3 n4 n5 n6 n7 n8 e1 e2 e3 e4 e5 e6 e7 e8 =
+registers_text_from_parts old regs test n1 n2 n3 n4 n5 n6 n7 n8 e1 e2 e3 e4 e5 e6 e7 e8 =
     let p1 = codes "acc " ++ digit_text regs.acc in
     let p2 = p1 ++ codes " cy " ++ digit_text regs.cy in
     let p3 = p2 ++ codes " pc " ++ address_text regs.pc in

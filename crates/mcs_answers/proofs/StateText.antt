@@ -1,4 +1,4 @@
--- The text of the answer to `state` is its parts, one after another.
+-- If all parts of the answer to `state` are written in order, the text is the whole answer.
 use Rattle.std.proofs.Common.{◌≡◌, ℕ, List, [], ◌∷◌, ◌++◌, codes, map, ap, ◌∙◌}
 use Rattle.std.specs.List.{flat_map, range_with_len}
 use Rattle.mcs_model.specs.declared.limits.TheConstants.{BANKS, ROMS}
@@ -7,7 +7,7 @@ use Rattle.mcs_model.specs.Boards.{chain_count}
 use Rattle.mcs_model.specs.QueryText.{address_text, bank_items, chain_item, two_hex_digits, key_items, lamps_text, comma_list, ram_items, registers_text, seq_text, state_text, watch_text}
 use Rattle.mcs_model.specs.QueryText.{rom_items}
 
-pub state_text_is : (s : BenchState) (n1 n2 n3 n4 n5 n6 n7 n8 n9 n10 n11 n12 n13 n14 n15 : List ℕ)
+pub state_text_from_parts : (s : BenchState) (n1 n2 n3 n4 n5 n6 n7 n8 n9 n10 n11 n12 n13 n14 n15 : List ℕ)
     → n1 ≡ codes "state " ++ seq_text s.seq
     → n2 ≡ n1 ++ codes " "
     → n3 ≡ n2 ++ registers_text s.processor s.bus.test
@@ -24,7 +24,7 @@ pub state_text_is : (s : BenchState) (n1 n2 n3 n4 n5 n6 n7 n8 n9 n10 n11 n12 n13
     → n14 ≡ n13 ++ codes " watches " ++ comma_list (map watch_text s.watches)
     → n15 ≡ n14 ++ 10 ∷ []
     → n15 ≡ state_text s ++ 10 ∷ []
-state_text_is s n1 n2 n3 n4 n5 n6 n7 n8 n9 n10 n11 n12 n13 n14 n15 e1 e2 e3 e4 e5 e6 e7 e8 e9 e10 e11 e12 e13 e14 e15 =
+state_text_from_parts s n1 n2 n3 n4 n5 n6 n7 n8 n9 n10 n11 n12 n13 n14 n15 e1 e2 e3 e4 e5 e6 e7 e8 e9 e10 e11 e12 e13 e14 e15 =
     let h1 : n1 ≡ codes "state " ++ seq_text s.seq = e1 in
     let h2 = e2 ∙ ap (λ (v : List ℕ). v ++ codes " ") h1 in
     let h3 = e3 ∙ ap (λ (v : List ℕ). v ++ registers_text s.processor s.bus.test) h2 in

@@ -1,4 +1,4 @@
--- The texts of answers, each line with its line feed. (Our own choice.)
+-- The texts of answers. Each line ends with a line feed.
 use Rattle.std.specs.Prelude.{ℕ, List, [], ◌++◌, codes}
 use Rattle.std.specs.Fmt.{decimal}
 use Rattle.mcs_model.specs.declared.command.Reply.{Reply}
@@ -23,18 +23,19 @@ stop_name Breakpoint = codes "break"
 stop_name Watched = codes "watch"
 stop_name Ended = codes "end"
 
--- The reply to a command, which follows the number of accepted commands in an answer: the number of
--- bytes loaded, or the number of cycles done and the reason to stop.
+-- The text of the reply to a command. In an answer, it follows the number of accepted commands. It
+-- gives the number of bytes loaded, or the number of cycles done and the reason to stop. For
+-- `Done`, it is empty.
 abbrev pub reply_text : Reply → List ℕ
 reply_text Done = []
 reply_text (Loaded bytes) = codes " bytes " ++ decimal bytes
 reply_text (Ran cycles stop) = codes " ran " ++ (decimal cycles ++ (codes " " ++ stop_name stop))
 
--- the answer to an accepted command, from its reply and the state after the command
+-- the answer to an accepted command; the arguments are the reply and the state after the command
 abbrev pub ok_text : Reply → BenchState → List ℕ
 ok_text r s = codes "ok " ++ (decimal s.seq ++ as_line (reply_text r))
 
--- the answer to a rejected line
+-- the answer to a rejected line: `no` and the refusal number
 abbrev pub no_text : ℕ → List ℕ
 no_text number = codes "no " ++ as_line (decimal number)
 
@@ -47,10 +48,10 @@ no_line_text number line =
 abbrev pub query_answer : Query → BenchState → List ℕ
 query_answer q s = as_line (text_of_query q s)
 
--- the answer to `list`
+-- the answer to `list`: a listing of the ROM from address `at`, with at most `lines` lines
 abbrev pub listing_answer : ℕ → ℕ → BenchState → List ℕ
 listing_answer at lines s = listing_text s.bus.rom at lines
 
--- the answer to `board`
+-- the answer to `board`: a line `board`, then the lines of the board text
 abbrev pub board_answer : BenchState → List ℕ
 board_answer s = text_of (query_lines s.bus.board)

@@ -13,23 +13,23 @@ use Rattle.mcs_probe.specs.Forecast.{instructions_begun_in, later, runs_at}
 use Rattle.mcs_answers.specs.ForecastTexts.{forecast_head, trace_line, trace_lines}
 use Rattle.mcs_answers.specs.AnswerTexts.{reply_text}
 
--- Holds if the first line of an answer reports the number of cycles and the reason to stop that the
--- answer to `run n` would report.
+-- Holds if the first line of the answer to `count n` or `trace n` agrees with the answer to
+-- `run n`: both report the same number of cycles and the same reason to stop.
 abbrev pub HeadsReportTheRun : Type 0
 HeadsReportTheRun =
     (word : List ℕ) (b : BenchState) (n : ℕ) (lines : List (List ℕ)) →
     forecast_head word b n lines
     ≡ word ++ reply_text (reply b (Run n)) ++ codes " lines " ++ decimal (length lines)
 
--- the lines of a trace of n cycles that starts after m cycles of a run; cycles are counted from the
--- start of the run
+-- the lines of a trace of `n` cycles that starts after `m` cycles of a run; cycles are counted from
+-- the start of the run
 abbrev pub trace_lines_from : List Probe → ℕ → BenchState → ℕ → List (List ℕ)
 trace_lines_from probes m b n =
     flat_map (λ x. trace_line probes (later m x)) (instructions_begun_in (stops_of b) n (machine_of b))
 
--- Holds if a trace of m + n cycles is a trace of m cycles, followed by a trace of n cycles that
--- starts after `run m`. The second trace counts its cycles from m. The premise is that nothing
--- stops the run of m + n cycles early.
+-- Holds if a trace of `m + n` cycles is a trace of `m` cycles, followed by a trace of `n` cycles
+-- that starts after `run m`. The second trace counts its cycles from `m`. The premise is that
+-- nothing stops the run of `m + n` cycles early.
 abbrev pub TracesAddUp : Type 0
 TracesAddUp =
     (probes : List Probe) (b : BenchState) (m n : ℕ) →
@@ -42,7 +42,8 @@ TracesAddUp =
 abbrev pub is_line_at : ℕ → List ℕ → Bool
 is_line_at at line = bytes_eq (drop (length line - 3) line) (address_text at)
 
--- holds if the count of each address is the number of its lines in a trace without probes
+-- holds if the number of instructions begun at an address is the number of lines with that address
+-- in a trace without probes
 abbrev pub CountsMatchTheTrace : Type 0
 CountsMatchTheTrace =
     (b : BenchState) (n at : ℕ) →

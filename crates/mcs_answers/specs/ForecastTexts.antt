@@ -1,5 +1,4 @@
--- The answers to `count` and `trace`. They report what a run would do, without doing the run. (Our
--- own choice.)
+-- The answers to `count` and `trace`. They report what a run would do, without doing the run.
 use Rattle.std.specs.Prelude.{ℕ, Bool, true, not, List, [], ◌∷◌, ◌++◌, codes, length, nat_lt, if◌then◌else◌}
 use Rattle.std.specs.Fmt.{decimal}
 use Rattle.std.specs.List.{flat_map, range_with_len}
@@ -33,11 +32,11 @@ count_line begun s at =
     ++ (if is_branch s at then codes " " ++ decimal (jumps_at begun at) else [])) ∷ []
     else []
 
--- the addresses below n
+-- the addresses below `n`
 unfoldable pub addresses : ℕ → List ℕ
 addresses n = range_with_len 0 n
 
--- the lines of `count` for a run of n cycles, by ascending address
+-- the lines of `count` for a run of `n` cycles, by ascending address
 abbrev pub count_lines : BenchState → ℕ → List (List ℕ)
 count_lines b n =
     flat_map (count_line (instructions_begun_in (stops_of b) n (machine_of b)) (machine_of b)) (addresses 4096)
@@ -46,8 +45,8 @@ abbrev pub count_answer : ℕ → BenchState → List ℕ
 count_answer n b =
     as_line (forecast_head (codes "count") b n (count_lines b n)) ++ text_of (count_lines b n)
 
--- True if an instruction has a line in a trace. It has one if there are no probes, or if the row
--- after it differs from the row before it.
+-- True if an instruction has a line in a trace. An instruction has a line if there are no probes,
+-- or if the row of probe values after the instruction differs from the row before it.
 abbrev pub is_reported : List Probe → List ℕ → List ℕ → Bool
 is_reported [] before after = true
 is_reported probes before after = not (bytes_eq after before)
@@ -60,7 +59,7 @@ trace_line probes b =
     then (decimal b.cycles ++ codes " " ++ address_text b.before.0.pc ++ row probes b.after) ∷ []
     else []
 
--- the lines of `trace` for a run of n cycles, in order
+-- the lines of `trace` for a run of `n` cycles, in order
 abbrev pub trace_lines : List Probe → BenchState → ℕ → List (List ℕ)
 trace_lines probes b n =
     flat_map (trace_line probes) (instructions_begun_in (stops_of b) n (machine_of b))

@@ -16,12 +16,13 @@ abbrev pub line_if_reported : Bool → ℕ → ℕ → List ℕ → List (List �
 line_if_reported report cycles at row =
     if report then (decimal cycles ++ codes " " ++ address_text at ++ row) ∷ [] else []
 
--- the trace lines of a cycle; the second cycle of an instruction (`owed` is not 0) has none
+-- the trace lines of a cycle: one or none; the second cycle of an instruction (`owed` is not 0) has
+-- none
 abbrev pub cycle_lines : List Probe → ℕ → ℕ → ℕ → List ℕ → List ℕ → List (List ℕ)
 cycle_lines probes owed cycles at before after =
     if owed == 0 then line_if_reported (is_reported probes before after) cycles at after else []
 
--- holds if `t` and `text` are the result and the lines of a trace of n cycles
+-- holds if `t` and `text` are the result and the lines of a trace of `n` cycles
 pub record IsTraceOfRun (probes : List Probe) (n : ℕ) (b : BenchState) (t : TraceResult) (text : List ℕ) : Type 0 where
   pub cycles : t.cycles ≡ run_length (stops_of b) n (machine_of b)
   pub stop : t.stop ≡ run_stop_reason (stops_of b) n (machine_of b)

@@ -65,8 +65,8 @@ pub record IncludesProbeKind (probe_kinds more : ProbeKinds) (probe : Probe) : T
   pub others : (op : Op) → touches more op ≡ false → touches probe_kinds op ≡ false
   pub place : more.registers ≡ false → (op : Op) → touches more op ≡ false → AlwaysStaysSame op probe
 
--- Holds if `probe_kinds` covers the probes of a row. If `probe_kinds` has no registers other than the return
--- addresses, an instruction that touches none of its kinds must leave the row unchanged.
+-- Holds if an instruction that touches no kind in `probe_kinds` leaves the row unchanged. If the
+-- kinds include other registers than the return addresses, the definition always holds.
 abbrev pub CoversProbes : ProbeKinds → List Probe → Type 0
 CoversProbes probe_kinds probes =
     probe_kinds.registers ≡ false → (op : Op) → touches probe_kinds op ≡ false → (regs : Regs) (m : BusState)

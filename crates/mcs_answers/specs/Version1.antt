@@ -1,4 +1,4 @@
--- The answers to `list` and `board` in version 1. (Our own choice.)
+-- The answers to `list` and `board` in version 1.
 use Rattle.std.specs.Prelude.{ℕ, List}
 use Rattle.mcs_version1.specs.BenchState.{BenchState1}
 use Rattle.mcs_source.specs.Text.{listing_text}

@@ -61,8 +61,8 @@ fn put_count_line(
 }
 
 /// Counts the instructions that a run of at most `n` cycles would begin at each address. Writes the first
-/// line of the answer into an empty buffer and returns the other lines in allocated memory. Fails if
-/// allocation fails; the contents of `head` are then unspecified.
+/// line of the answer into the empty buffer `head` and returns the other lines in allocated memory. Fails
+/// if allocation fails; the contents of `head` are then unspecified.
 pub fn put_count(
     alloc: Global,
     head: &mut ArrayVec<u8, ANSWER_BYTES>,

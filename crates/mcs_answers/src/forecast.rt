@@ -1,4 +1,4 @@
-//! The start of the first line of an answer, which `count` and `trace` share.
+//! The start of the first line of an answer. It has the same form in the answers to `count` and `trace`.
 ghost use Rattle.std.specs.Prelude.{◌≡◌, ◌+◌, ◌++◌, ◌≤◌, [], codes, length};
 ghost use Rattle.std.specs.Fmt.{decimal};
 ghost use Rattle.mcs_answers.specs.AnswerTexts.{stop_name};

@@ -14,19 +14,20 @@ pub fn lifted_state_gives_same_answers()
     ensures board { (s : BenchState1) → board_answer (lift s) ≡ board_answer_1 s }
 {}
 
-/// Proves that the first lines of the answers to `count n` and `trace n` report the same number of cycles and
-/// reason to stop as the answer to `run n`.
+/// Proves that `count n` and `trace n` report the same number of cycles and the same reason to stop as `run
+/// n`.
 pub fn heads_report_the_run()
     ensures { HeadsReportTheRun }
 {}
 
-/// Proves that a trace of m + n cycles is a trace of m cycles, followed by a trace of n cycles that starts
-/// after `run m`. This applies if nothing stops the run of m + n cycles early.
+/// Proves that a trace of `m + n` cycles is a trace of `m` cycles, followed by a trace of `n` cycles that
+/// starts after `run m`. This applies if nothing stops the run of `m + n` cycles early.
 pub fn traces_add_up()
     ensures { TracesAddUp }
 {}
 
-/// Proves that the count of each address equals the number of its lines in a trace without probes.
+/// Proves that `count` reports, for each address, the number of lines with that address in a trace without
+/// probes.
 pub fn counts_match_the_trace()
     ensures { CountsMatchTheTrace }
 {}

@@ -105,7 +105,7 @@ pub(crate) fn put_watch(answer: &mut ArrayVec<u8, ANSWER_BYTES>, word: &[u8], wa
     put_byte(answer, b".", (index % 256) as u8);
 }
 
-/// Appends the bank and the SRC byte of each watched RAM character, after a space.
+/// Appends a space, the bank and the SRC byte for each watched RAM character.
 fn put_spaced_watches(answer: &mut ArrayVec<u8, ANSWER_BYTES>, list: &[Addr])
     requires room { array_vec_len answer.old + 5 * length list.now ≤ ANSWER_BYTES }
     ensures text { answer.new.items

@@ -79,7 +79,7 @@ pub(crate) fn put_address_list(answer: &mut ArrayVec<u8, ANSWER_BYTES>, word: &[
     end_list(answer, start);
 }
 
-/// Appends the bank and the SRC byte of each watched RAM character, followed by a comma.
+/// Appends the bank, the SRC byte and a comma for each watched RAM character.
 fn put_watch_items(answer: &mut ArrayVec<u8, ANSWER_BYTES>, list: &[Addr])
     requires { array_vec_len answer.old + 5 * length list.now ≤ ANSWER_BYTES }
     ensures text { answer.new.items
@@ -163,7 +163,7 @@ fn put_rom_item(answer: &mut ArrayVec<u8, ANSWER_BYTES>, bench: &Bench, chip: u8
     }
 }
 
-/// Appends the list of ROM ports.
+/// Appends the list of ROM ports: for each ROM on the board, an item of `put_rom_item`.
 pub(crate) fn put_rom_list(answer: &mut ArrayVec<u8, ANSWER_BYTES>, bench: &Bench)
     requires { array_vec_len answer.old + ROM_LIST_BYTES ≤ ANSWER_BYTES }
     ensures text { answer.new.items ≡ answer.old.items ++ codes " roms "
@@ -193,7 +193,7 @@ fn put_ram_item(answer: &mut ArrayVec<u8, ANSWER_BYTES>, bench: &Bench, bank: u8
     put(answer, b",");
 }
 
-/// Appends the port of each RAM chip in a bank, followed by a comma.
+/// Appends the bank, the number, the port latch and a comma for each RAM chip in a bank.
 fn put_ram_items(answer: &mut ArrayVec<u8, ANSWER_BYTES>, bench: &Bench, bank: u8)
     requires bank { bank < 8 }
     requires room { array_vec_len answer.old + 24 ≤ ANSWER_BYTES }
@@ -207,7 +207,7 @@ fn put_ram_items(answer: &mut ArrayVec<u8, ANSWER_BYTES>, bench: &Bench, bank: u
     }
 }
 
-/// Appends the list of RAM ports.
+/// Appends the list of RAM ports: for each RAM chip on the board, an item of `put_ram_item`.
 pub(crate) fn put_ram_list(answer: &mut ArrayVec<u8, ANSWER_BYTES>, bench: &Bench)
     requires { array_vec_len answer.old + RAM_LIST_BYTES ≤ ANSWER_BYTES }
     ensures text { answer.new.items ≡ answer.old.items ++ codes " rams "

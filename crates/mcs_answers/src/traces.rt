@@ -92,7 +92,7 @@ fn put_row(answer: &mut ArrayVec<u8, ANSWER_BYTES>, probes: &[Probe], bench: &Be
 }
 
 /// Appends the trace line of an instruction: the number of cycles done before it, its address, and the row
-/// after it. Overwrites the buffer `start`.
+/// after it. Uses `start` as a scratch buffer.
 fn add_line(
     text: &mut Vec<u8>,
     start: &mut ArrayVec<u8, ANSWER_BYTES>,
@@ -141,7 +141,7 @@ fn writes_src(op: &Op) -> bool
 
 /// Returns true only if a probe is outside the processor and an instruction cannot change its value.
 #[inline(always)]
-fn keeps_outside_probe(probe: Probe, op: &Op) -> bool
+fn outside_probe_unchanged(probe: Probe, op: &Op) -> bool
     ensures { result ≡ true → (before after : Regs) → StaysSame op.now before after probe }
 {
     match probe {
@@ -191,7 +191,7 @@ fn touches(probe_kinds: &ProbeKinds, op: &Op) -> bool
     }
 }
 
-/// Returns the kinds of probes in a row after a probe is added to it.
+/// Returns the kinds of probes in a row after a probe is added to the row.
 fn with_probe_kind(probe_kinds: ProbeKinds, probe: Probe) -> ProbeKinds
     ensures { IncludesProbeKind probe_kinds result probe }
 {
@@ -258,8 +258,8 @@ fn kinds_of_probes(probes: &[Probe]) -> ProbeKinds
     probe_kinds
 }
 
-/// Returns true only if an instruction cannot change the row, whatever values the registers have. Uses only
-/// the kinds of probes in the row. Returns false if no instruction was begun.
+/// Returns true only if an instruction cannot change the row, whatever values the registers have. Decides
+/// this from the kinds of probes in the row. Returns false if no instruction was begun.
 #[inline(always)]
 fn kinds_stay_same(probes: &[Probe], probe_kinds: &ProbeKinds, op: Option<Op>) -> bool
     requires { CoversProbes probe_kinds.now probes.now }
@@ -277,7 +277,7 @@ fn kinds_stay_same(probes: &[Probe], probe_kinds: &ProbeKinds, op: Option<Op>) -
 }
 
 /// Returns true only if an instruction leaves the value of a probe unchanged. `before` and `after` are the
-/// registers before and after the instruction. Builds no text.
+/// registers before and after the instruction. The function builds no text.
 fn rests(probe: Probe, op: &Op, before: &Regs, after: &Regs) -> bool
     ensures { result ≡ true → StaysSame op.now before.now after.now probe }
 {
@@ -288,12 +288,12 @@ fn rests(probe: Probe, op: &Op, before: &Regs, after: &Regs) -> bool
         Probe::Register(k) => before.register(k) == after.register(k),
         Probe::Dcl => before.dcl == after.dcl,
         Probe::ReturnAddresses => before.ret == after.ret,
-        _ => keeps_outside_probe(probe, op),
+        _ => outside_probe_unchanged(probe, op),
     }
 }
 
 /// Returns true only if an instruction leaves the values of all probes unchanged. `before` and `after` are
-/// the registers before and after it. Returns false if no instruction was begun.
+/// the registers before and after the instruction. Returns false if no instruction was begun.
 fn values_stay_same(probes: &[Probe], op: Option<Op>, before: &Regs, after: &Regs) -> bool
     ensures { result ≡ true → RowStaysSame op before.now after.now probes.now }
 {
@@ -311,7 +311,7 @@ fn values_stay_same(probes: &[Probe], op: Option<Op>, before: &Regs, after: &Reg
 }
 
 /// Returns true only if an instruction leaves the row unchanged. `before` and `after` are the registers
-/// before and after it; if `REGISTERS` is false, they are not compared.
+/// before and after the instruction. If `REGISTERS` is false, the function does not compare these registers.
 #[inline(always)]
 fn row_stays_same<const REGISTERS: bool>(
     probes: &[Probe],
@@ -330,8 +330,8 @@ fn row_stays_same<const REGISTERS: bool>(
     }
 }
 
-/// The result of a traced run: the number of cycles, the reason why it stopped, and the number of trace
-/// lines.
+/// The result of a traced run: the number of cycles, the reason why the run stopped, and the number of
+/// trace lines.
 #[derive(Drop)]
 struct TraceResult {
     cycles: u32,
@@ -340,7 +340,7 @@ struct TraceResult {
 }
 
 /// Returns the result of a traced run. `bench` is the bench after the run, and `mark` is the breakpoint or
-/// watch that stopped it, if any.
+/// watch that stopped the run, if any.
 fn trace_result(bench: &Bench, cycles: u32, mark: Option<Stop>, lines: u32) -> TraceResult
     ensures cycles { result.cycles ≡ cycles }
     ensures stop { result.stop ≡ stop_reason (machine_of bench.now) mark }
@@ -373,8 +373,8 @@ fn first_row(probes: &[Probe], bench: &Bench) -> Rows
     }
 }
 
-/// Appends the trace line of an instruction if the instruction has one, and returns true if it has.
-/// `rows.last` becomes the row after the instruction. Fails if allocation fails.
+/// Appends the trace line of an instruction if the instruction has one, and returns true if it appended a
+/// line. `rows.last` becomes the row after the instruction. Fails if allocation fails.
 fn add_line_if_reported(
     text: &mut Vec<u8>,
     rows: &mut Rows,
@@ -401,8 +401,8 @@ fn add_line_if_reported(
     Ok(false)
 }
 
-/// Appends the trace line of a cycle that began at address `at`, if the cycle has one, and returns the number
-/// of lines appended (0 or 1). A pending second cycle (`owed` is not 0) has no line. `rows.last` becomes the
+/// Appends the trace line of a cycle that began at address `at`, if the cycle has one. Returns the number of
+/// lines appended (0 or 1). A pending second cycle (`owed` is not 0) has no line. `rows.last` becomes the
 /// row after the cycle. Fails if allocation fails. This function is not inlined because a row is seldom
 /// built.
 #[inline(never)]

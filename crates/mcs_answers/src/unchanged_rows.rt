@@ -1,4 +1,4 @@
-//! Compares the last row with the present values of the probes, without building the text of a new row.
+//! Compares the last row with the current values of the probes, without building the text of a new row.
 ghost use Rattle.std.specs.Prelude.{◌≡◌, ◌<◌, ◌∷◌, ◌++◌, IfSome, codes, map, true};
 ghost use Rattle.mcs_model.specs.Command.{machine_of};
 ghost use Rattle.mcs_model.specs.Levels.{level};
@@ -12,7 +12,7 @@ use mcs_bench::Bench;
 use mcs_nibble::{Addr, Bit};
 use mcs_probe::Probe;
 
-/// Returns the text after its first byte if that byte is `byte`. Otherwise returns `None`.
+/// If `text` begins with the byte `byte`, returns the rest of the text. Otherwise returns `None`.
 #[inline(always)]
 fn strip_byte(text: &[u8], byte: u8) -> Option<&[u8]>
     ensures { IfSome result (λ rest. text.now ≡ byte ∷ rest.now) }
@@ -23,8 +23,8 @@ fn strip_byte(text: &[u8], byte: u8) -> Option<&[u8]>
     }
 }
 
-/// Returns the text after a space and a hexadecimal digit if `text` begins with them. Otherwise returns
-/// `None`.
+/// If `text` begins with a space and the hexadecimal digit of `digit`, returns the rest of the text.
+/// Otherwise returns `None`.
 #[inline(always)]
 fn strip_digit(text: &[u8], digit: u8) -> Option<&[u8]>
     requires { digit < 16 }
@@ -42,7 +42,8 @@ fn strip_digit(text: &[u8], digit: u8) -> Option<&[u8]>
     }
 }
 
-/// Returns the text after a byte and an address if `text` begins with them. Otherwise returns `None`.
+/// If `text` begins with the byte `byte` and the address `at`, returns the rest of the text. Otherwise
+/// returns `None`.
 #[inline(always)]
 fn strip_address(text: &[u8], byte: u8, at: Addr) -> Option<&[u8]>
     ensures { IfSome result (λ rest. text.now ≡ byte ∷ address_text at ++ rest.now) }
@@ -64,8 +65,8 @@ fn strip_address(text: &[u8], byte: u8, at: Addr) -> Option<&[u8]>
     }
 }
 
-/// Returns the text after a space and three addresses with commas between them if `text` begins with them.
-/// Otherwise returns `None`.
+/// If `text` begins with a space and the three return addresses, separated by commas, returns the rest of
+/// the text. Otherwise returns `None`.
 fn strip_returns(text: &[u8], ret: [Addr; 3]) -> Option<&[u8]>
     ensures { IfSome result (λ rest. text.now ≡ codes " " ++ comma_list (map address_text ret) ++ rest.now) }
 {
@@ -75,7 +76,7 @@ fn strip_returns(text: &[u8], ret: [Addr; 3]) -> Option<&[u8]>
     strip_address(rest, b',', third)
 }
 
-/// Returns the text after the marks of the board's lamps if `text` begins with them. Otherwise returns
+/// If `text` begins with the marks of the board's lamps, returns the rest of the text. Otherwise returns
 /// `None`.
 fn strip_marks<'a>(text: &'a [u8], bench: &Bench) -> Option<&'a [u8]>
     ensures { IfSome result (λ rest. text.now
@@ -97,8 +98,8 @@ fn strip_marks<'a>(text: &'a [u8], bench: &Bench) -> Option<&'a [u8]>
     Some(rest)
 }
 
-/// Returns the text after a space and the marks of the board's lamps if `text` begins with them. Returns
-/// `None` if it does not, or if the board has no lamps.
+/// If `text` begins with a space and the marks of the board's lamps, returns the rest of the text. Returns
+/// `None` in all other cases, and if the board has no lamps.
 fn strip_lamps<'a>(text: &'a [u8], bench: &Bench) -> Option<&'a [u8]>
     ensures { IfSome result (λ rest. text.now ≡ codes " "
         ++ or_dash (map (λ line. lamp_mark (level bench.now.bus line)) bench.now.bus.board.lamps.items)
@@ -111,8 +112,8 @@ fn strip_lamps<'a>(text: &'a [u8], bench: &Bench) -> Option<&'a [u8]>
     strip_marks(marks, bench)
 }
 
-/// Returns the text after a space and the value of a probe if `text` begins with them. Returns `None` if it
-/// does not, or if the value cannot be compared without building its text.
+/// If `text` begins with a space and the value of a probe, returns the rest of the text. Returns `None` in
+/// all other cases, and if the value cannot be compared without building its text.
 fn strip_probe<'a>(text: &'a [u8], probe: Probe, bench: &Bench) -> Option<&'a [u8]>
     ensures { IfSome result (λ rest. text.now
         ≡ codes " " ++ probe_text (machine_of bench.now) probe ++ rest.now) }
@@ -127,7 +128,7 @@ fn strip_probe<'a>(text: &'a [u8], probe: Probe, bench: &Bench) -> Option<&'a [u
     }
 }
 
-/// Returns true only if `text` is the present row of the probes. A result of false does not mean that the
+/// Returns true only if `text` is the current row of the probes. A result of false does not mean that the
 /// text differs, because some values cannot be compared without building their text.
 pub(crate) fn is_present_row(text: &[u8], probes: &[Probe], bench: &Bench) -> bool
     ensures { result ≡ true → text.now ≡ row probes.now (machine_of bench.now) }

@@ -9,22 +9,23 @@ use Rattle.std.proofs.lemmas.Bool.{cases_eq, eqb-true, cases_lt, lt-ltb, le-leb,
 use Rattle.std.proofs.lemmas.List.Folds.{list_any_at}
 use Rattle.std.proofs.lemmas.Option.{none-some}
 use Rattle.mcs_model.specs.Images.{by_address, from_address, overlaps}
-use Rattle.mcs_asm.specs.ByteCells.{cells_after, pairs_from, HoldsPairs}
+use Rattle.mcs_asm.specs.ByteCells.{cells_after_write, pairs_from, HoldsPairs}
 use Rattle.mcs_asm.specs.View.{HaveOneByteEach}
 
-abbrev pub within : ℕ → ℕ → ℕ × ℕ → Bool
-within at n p = leb at p.0 && ltb p.0 (at + n)
+abbrev pub is_address_in_range : ℕ → ℕ → ℕ × ℕ → Bool
+is_address_in_range at n p = leb at p.0 && ltb p.0 (at + n)
 
--- holds if no pair has the address
-abbrev pub IsFree : List (ℕ × ℕ) → ℕ → Type 0
-IsFree pairs a = (b : ℕ) → Contains pairs (a, b) → ⊥
+-- holds if no pair has the address `a`
+abbrev pub IsAddressFree : List (ℕ × ℕ) → ℕ → Type 0
+IsAddressFree pairs a = (b : ℕ) → Contains pairs (a, b) → ⊥
 
 some_is_injective : (b c : ℕ) → Some b ≡ Some c → b ≡ c
 some_is_injective b c e = ap (λ (o : Option ℕ). elim o [ Some x ↦ x | None ↦ 0 ]) e
 
--- If no pair has an address, the cells still agree with the pairs after a byte is written there.
-one_write_holds_pairs : (cells : List (Option ℕ)) (pairs : List (ℕ × ℕ)) (x b : ℕ) → x < 4096 → HoldsPairs cells pairs → IsFree pairs x → HoldsPairs (set cells x (Some b)) (pairs ++ (x, b) ∷ [])
-one_write_holds_pairs cells pairs x b lt kept free =
+-- If no pair has the address `x`, cells and pairs still agree after the byte `b` at `x` is added to
+-- both.
+cells_hold_pairs_after_one_write : (cells : List (Option ℕ)) (pairs : List (ℕ × ℕ)) (x b : ℕ) → x < 4096 → HoldsPairs cells pairs → IsAddressFree pairs x → HoldsPairs (set cells x (Some b)) (pairs ++ (x, b) ∷ [])
+cells_hold_pairs_after_one_write cells pairs x b lt kept free =
     let within : x < length cells = omega (arith, kept.0) in (
       length-set cells x (Some b) ∙ kept.0,
       λ a c. (
@@ -48,28 +49,28 @@ one_write_holds_pairs cells pairs x b lt kept free =
       ),
     )
 
-pub stays_free_after_write : (pairs : List (ℕ × ℕ)) (x b y : ℕ) → x ≢ y → IsFree pairs y → IsFree (pairs ++ (x, b) ∷ []) y
+pub stays_free_after_write : (pairs : List (ℕ × ℕ)) (x b y : ℕ) → x ≢ y → IsAddressFree pairs y → IsAddressFree (pairs ++ (x, b) ∷ []) y
 stays_free_after_write pairs x b y other free c h = elim (Contains-push_cases pairs (x, b) (y, c) h) [
   | inl old ↦ free c old
   | inr e ↦ other (ap (λ (p : ℕ × ℕ). p.0) e)
 ]
 
--- If no pair has one of the addresses, the cells still agree with the pairs after bytes are written
--- there.
-pub all_writes_hold_pairs : (bytes : List ℕ) (x : ℕ) (cells : List (Option ℕ)) (pairs : List (ℕ × ℕ)) → x + length bytes ≤ 4096 → HoldsPairs cells pairs → ((y : ℕ) → x ≤ y → y < x + length bytes → IsFree pairs y)
-    → HoldsPairs (cells_after x bytes cells) (pairs ++ from_address x bytes)
-all_writes_hold_pairs [] x cells pairs le kept free = subst (λ (ps : List (ℕ × ℕ)). HoldsPairs cells ps) (sym (append-nil pairs)) kept
-all_writes_hold_pairs (b ∷ bytes) x cells pairs le kept free =
+-- If no pair has one of the addresses from `x` on, cells and pairs still agree after the bytes at
+-- these addresses are added to both.
+pub cells_hold_pairs_after_all_writes : (bytes : List ℕ) (x : ℕ) (cells : List (Option ℕ)) (pairs : List (ℕ × ℕ)) → x + length bytes ≤ 4096 → HoldsPairs cells pairs → ((y : ℕ) → x ≤ y → y < x + length bytes → IsAddressFree pairs y)
+    → HoldsPairs (cells_after_write x bytes cells) (pairs ++ from_address x bytes)
+cells_hold_pairs_after_all_writes [] x cells pairs le kept free = subst (λ (ps : List (ℕ × ℕ)). HoldsPairs cells ps) (sym (append-nil pairs)) kept
+cells_hold_pairs_after_all_writes (b ∷ bytes) x cells pairs le kept free =
     let le' : x + 1 + length bytes ≤ 4096 = omega (arith, le) in
-    let here : IsFree pairs x = free x (omega arith) (omega arith) in
-    let one : HoldsPairs (set cells x (Some b)) (pairs ++ (x, b) ∷ []) = one_write_holds_pairs cells pairs x b (omega (arith, le)) kept here in
-    let rest : HoldsPairs (cells_after (x + 1) bytes (set cells x (Some b))) ((pairs ++ (x, b) ∷ []) ++ from_address (x + 1) bytes) =
-    all_writes_hold_pairs bytes (x + 1) (set cells x (Some b)) (pairs ++ (x, b) ∷ []) le' one
+    let here : IsAddressFree pairs x = free x (omega arith) (omega arith) in
+    let one : HoldsPairs (set cells x (Some b)) (pairs ++ (x, b) ∷ []) = cells_hold_pairs_after_one_write cells pairs x b (omega (arith, le)) kept here in
+    let rest : HoldsPairs (cells_after_write (x + 1) bytes (set cells x (Some b))) ((pairs ++ (x, b) ∷ []) ++ from_address (x + 1) bytes) =
+    cells_hold_pairs_after_all_writes bytes (x + 1) (set cells x (Some b)) (pairs ++ (x, b) ∷ []) le' one
     (λ y low high. stays_free_after_write pairs x b y (λ e. omega (arith, e, low)) (free y (omega (arith, low)) (omega (arith, high)))) in
-    subst (λ (ps : List (ℕ × ℕ)). HoldsPairs (cells_after (x + 1) bytes (set cells x (Some b))) ps) (append_assoc pairs ((x, b) ∷ []) (from_address (x + 1) bytes)) rest
+    subst (λ (ps : List (ℕ × ℕ)). HoldsPairs (cells_after_write (x + 1) bytes (set cells x (Some b))) ps) (append_assoc pairs ((x, b) ∷ []) (from_address (x + 1) bytes)) rest
 
--- If bytes at n addresses from x on overlap no pairs, no pair has any of these addresses.
-pub free_if_no_overlap : (pairs : List (ℕ × ℕ)) (x n : ℕ) → overlaps pairs x n ≡ false → (y : ℕ) → x ≤ y → y < x + n → IsFree pairs y
+-- If bytes at the `n` addresses from `x` on overlap no pairs, no pair has any of these addresses.
+pub free_if_no_overlap : (pairs : List (ℕ × ℕ)) (x n : ℕ) → overlaps pairs x n ≡ false → (y : ℕ) → x ≤ y → y < x + n → IsAddressFree pairs y
 free_if_no_overlap pairs x n untaken y low high b has =
     let P : ℕ × ℕ → Bool = λ p. leb x p.0 && ltb p.0 (x + n) in
     let yes : list_any P pairs ≡ true = list_any_at P pairs has.0 (y, b) (has.1) (rw has.2 (rw (le-leb x y low, lt-ltb y (x + n) high) refl)) in
@@ -111,7 +112,7 @@ contained_pair_is_found (q ∷ pairs) a b has e =
       ]
     ]) refl e
 
--- The cell at an address determines the result of `find`: nothing if the cell is empty, else the
+-- The cell at an address determines what `find` returns: `None` if the cell is empty, else the
 -- pair.
 finds_none_if_empty : (pairs : List (ℕ × ℕ)) (a : ℕ) → ((b : ℕ) → (None ≡ Some b) ↔ Contains pairs (a, b)) → find (λ (q : ℕ × ℕ). eqb q.0 a) pairs ≡ None
 finds_none_if_empty pairs a h =
@@ -122,8 +123,8 @@ finds_none_if_empty pairs a h =
           absurd (none-some p.1 ((h p.1).1 (subst (λ (n : ℕ). Contains pairs (n, p.1)) f.1 f.0)))
     ]) refl
 
-there : (pairs : List (ℕ × ℕ)) (a b : ℕ) → ((c : ℕ) → (Some b ≡ Some c) ↔ Contains pairs (a, c)) → find (λ (q : ℕ × ℕ). eqb q.0 a) pairs ≡ Some (a, b)
-there pairs a b h =
+finds_pair_of_full_cell : (pairs : List (ℕ × ℕ)) (a b : ℕ) → ((c : ℕ) → (Some b ≡ Some c) ↔ Contains pairs (a, c)) → find (λ (q : ℕ × ℕ). eqb q.0 a) pairs ≡ Some (a, b)
+finds_pair_of_full_cell pairs a b h =
     (elim (find (λ (q : ℕ × ℕ). eqb q.0 a) pairs) as (λ (o : Option (ℕ × ℕ)). find (λ (q : ℕ × ℕ). eqb q.0 a) pairs ≡ o → o ≡ Some (a, b)) [
       | None ↦ λ e. absurd (contained_pair_is_found pairs a b ((h b).0 refl) e)
       | Some p ↦ λ e.
@@ -142,11 +143,11 @@ pairs_in_address_order pairs (None ∷ cells) at h =
     let more = pairs_in_address_order pairs cells (at + 1) (λ k b. subst (λ (n : ℕ). (get_or cells k None ≡ Some b) ↔ Contains pairs (n, b)) (omega arith) (h (suc k) b)) in
     rw here more
 pairs_in_address_order pairs (Some v ∷ cells) at h =
-    let here : find (λ (q : ℕ × ℕ). eqb q.0 at) pairs ≡ Some (at, v) = there pairs at v (λ b. subst (λ (n : ℕ). (Some v ≡ Some b) ↔ Contains pairs (n, b)) (omega arith) (h 0 b)) in
+    let here : find (λ (q : ℕ × ℕ). eqb q.0 at) pairs ≡ Some (at, v) = finds_pair_of_full_cell pairs at v (λ b. subst (λ (n : ℕ). (Some v ≡ Some b) ↔ Contains pairs (n, b)) (omega arith) (h 0 b)) in
     let more = pairs_in_address_order pairs cells (at + 1) (λ k b. subst (λ (n : ℕ). (get_or cells k None ≡ Some b) ↔ Contains pairs (n, b)) (omega arith) (h (suc k) b)) in
     rw here (ap (λ (l : List (ℕ × ℕ)). (at, v) ∷ l) more)
 
--- the image read from the cells is the pairs by ascending address
+-- the image that is read from the cells has the pairs in ascending order of addresses
 pub image_is_by_address : (cells : List (Option ℕ)) (pairs : List (ℕ × ℕ)) → HoldsPairs cells pairs → pairs_from 0 cells ≡ by_address pairs
 unfolding by_address
 image_is_by_address cells pairs kept =
@@ -163,14 +164,14 @@ has_one_byte_each cells pairs kept = record {
   once = λ a b c h k. some_is_injective b c (sym ((kept.1 a b).1 h) ∙ (kept.1 a c).1 k);
 }
 
-replicate_none : (n a b : ℕ) → get_or (replicate {A = Option ℕ} n None) a None ≡ Some b → ⊥
-replicate_none n a b e = elim (cases_lt a n) [
+no_byte_in_replicated_none : (n a b : ℕ) → get_or (replicate {A = Option ℕ} n None) a None ≡ Some b → ⊥
+no_byte_in_replicated_none n a b e = elim (cases_lt a n) [
   | inl lt ↦ none-some b (sym (get_or-replicate n a None None lt) ∙ e)
   | inr le ↦ none-some b (sym (get_or_past (replicate n None) a None (omega (arith, le, length-replicate {A = Option ℕ} n None))) ∙ e)
 ]
 
 pub empty_cells_hold_no_pairs : HoldsPairs (replicate 4096 None) []
-empty_cells_hold_no_pairs = (length-replicate {A = Option ℕ} 4096 None, λ a b. ((λ e. absurd (replicate_none 4096 a b e)), (λ has. absurd (omega (arith, has.1)))))
+empty_cells_hold_no_pairs = (length-replicate {A = Option ℕ} 4096 None, λ a b. ((λ e. absurd (no_byte_in_replicated_none 4096 a b e)), (λ has. absurd (omega (arith, has.1)))))
 
 -- ---- The overlap test on the cells gives the same result as the overlap test on the pairs.
 
@@ -183,12 +184,12 @@ first_taken_cell (None ∷ cells) (suc n) e =
     let r = first_taken_cell cells n e in
     (suc r.0, r.1, omega (arith, r.2), r.3)
 
-any_taken_if_one_is : (cells : List (Option ℕ)) (n k b : ℕ) → k < n → get_or cells k None ≡ Some b → list_any is_some (take n cells) ≡ true
-any_taken_if_one_is [] n k b lt e = absurd (none-some b e)
-any_taken_if_one_is (c ∷ cells) zero k b lt e = absurd (omega (arith, lt))
-any_taken_if_one_is (Some v ∷ cells) (suc n) k b lt e = refl
-any_taken_if_one_is (None ∷ cells) (suc n) zero b lt e = absurd (none-some b e)
-any_taken_if_one_is (None ∷ cells) (suc n) (suc k) b lt e = any_taken_if_one_is cells n k b (omega (arith, lt)) e
+any_cell_taken_if_one_is : (cells : List (Option ℕ)) (n k b : ℕ) → k < n → get_or cells k None ≡ Some b → list_any is_some (take n cells) ≡ true
+any_cell_taken_if_one_is [] n k b lt e = absurd (none-some b e)
+any_cell_taken_if_one_is (c ∷ cells) zero k b lt e = absurd (omega (arith, lt))
+any_cell_taken_if_one_is (Some v ∷ cells) (suc n) k b lt e = refl
+any_cell_taken_if_one_is (None ∷ cells) (suc n) zero b lt e = absurd (none-some b e)
+any_cell_taken_if_one_is (None ∷ cells) (suc n) (suc k) b lt e = any_cell_taken_if_one_is cells n k b (omega (arith, lt)) e
 
 pair_that_satisfies : (p : ℕ × ℕ → Bool) (pairs : List (ℕ × ℕ)) → list_any p pairs ≡ true → (x : ℕ × ℕ) × Contains pairs x × (p x ≡ true)
 pair_that_satisfies p [] e = absurd (false≢true e)
@@ -208,17 +209,17 @@ pub taken_equals_overlaps : (cells : List (Option ℕ)) (pairs : List (ℕ × �
 taken_equals_overlaps cells pairs at n kept = equal_if_equivalent (list_any is_some (take n (drop at cells))) (overlaps pairs at n)
     (λ e.
     let r = first_taken_cell (drop at cells) n e in
-    let there : get_or cells (at + r.0) None ≡ Some r.1 = sym (get_or-drop at cells r.0 None) ∙ r.3 in
-    let has = (kept.1 (at + r.0) r.1).0 there in
-    list_any_at (within at n) pairs has.0 (at + r.0, r.1) has.1 (rw has.2 (rw (le-leb at (at + r.0) (omega arith), lt-ltb (at + r.0) (at + n) (omega (arith, r.2))) refl)))
+    let full : get_or cells (at + r.0) None ≡ Some r.1 = sym (get_or-drop at cells r.0 None) ∙ r.3 in
+    let has = (kept.1 (at + r.0) r.1).0 full in
+    list_any_at (is_address_in_range at n) pairs has.0 (at + r.0, r.1) has.1 (rw has.2 (rw (le-leb at (at + r.0) (omega arith), lt-ltb (at + r.0) (at + n) (omega (arith, r.2))) refl)))
     (λ e.
-    let r = pair_that_satisfies (within at n) pairs e in
+    let r = pair_that_satisfies (is_address_in_range at n) pairs e in
     let parts = and_parts (leb at r.0.0) (ltb r.0.0 (at + n)) r.2 in
     let low : at ≤ r.0.0 = leb-true at r.0.0 parts.0 in
     let high : r.0.0 < at + n = ltb-true r.0.0 (at + n) parts.1 in
     let k : ℕ = r.0.0 - at in
-    let there : get_or cells r.0.0 None ≡ Some r.0.1 = (kept.1 r.0.0 r.0.1).1 r.1 in
+    let full : get_or cells r.0.0 None ≡ Some r.0.1 = (kept.1 r.0.0 r.0.1).1 r.1 in
     let back : at + k ≡ r.0.0 = omega (arith, low) in
-    any_taken_if_one_is (drop at cells) n k r.0.1 (omega (arith, low, high)) (get_or-drop at cells k None ∙ rw back there))
+    any_cell_taken_if_one_is (drop at cells) n k r.0.1 (omega (arith, low, high)) (get_or-drop at cells k None ∙ rw back full))
 
 pub ruleset new_rules = (replicate_more, length-replicate)

@@ -11,7 +11,7 @@ use Rattle.mcs_asm.specs.declared.fault.AsmFault.{AsmFault}
 use Rattle.mcs_source.specs.declared.survey.Span.{Span}
 use Rattle.mcs_source.specs.Survey.{Survey, spans_before, survey_of_text}
 use Rattle.mcs_asm.specs.ByteCells.{HoldsPairs}
-use Rattle.mcs_asm.specs.View.{FailsAs}
+use Rattle.mcs_asm.specs.View.{IsErrorAtLine}
 
 -- ---- the first pass
 
@@ -23,7 +23,7 @@ pub record FirstPassState : Type 0 where
 abbrev pub first_pass_start : FirstPassState
 first_pass_start = record { at = 0; names = [] }
 
--- the state of the first pass after the lines before line i
+-- the state of the first pass after the lines before line `i`
 abbrev pub first_pass_before : List (Option SourceLine) → ℕ → FirstPassState
 first_pass_before lines i = record { at = address_of lines i; names = names_before lines i }
 
@@ -37,12 +37,12 @@ names_with_line (Some (Define w n)) at names = names ++ (w, n) ∷ []
 names_with_line None at names = names
 
 -- the state of the first pass after one more line
-abbrev pub first_pass_next : FirstPassState → Option SourceLine → FirstPassState
-first_pass_next b line = record { at = next_at line b.at; names = names_with_line line b.at b.names }
+abbrev pub first_pass_after_line : FirstPassState → Option SourceLine → FirstPassState
+first_pass_after_line b line = record { at = next_at line b.at; names = names_with_line line b.at b.names }
 
 -- the state of the first pass after one more line, or the first-pass error of that line
 abbrev pub first_pass_with_line : FirstPassState → Option SourceLine → Result FirstPassState SourceFault
-first_pass_with_line b line = unless_fault (first_pass_line_fault b.at b.names line) (Ok (first_pass_next b line))
+first_pass_with_line b line = unless_fault (first_pass_line_fault b.at b.names line) (Ok (first_pass_after_line b line))
 
 -- ---- the second pass
 
@@ -52,12 +52,12 @@ pub record SecondPassState : Type 0 where
   pub at : ℕ
   pub pairs : List (ℕ × ℕ)
 
--- the state of the second pass after the lines before line i, given the values of all names
+-- the state of the second pass after the lines before line `i`, given the values of all names
 abbrev pub second_pass_before : List (Option SourceLine) → Names → ℕ → SecondPassState
 second_pass_before lines names i = record { at = address_of lines i; pairs = pairs_before lines names i }
 
--- the state of the second pass after a line with the given bytes; an overlap error if they overlap
--- earlier bytes; or the given error
+-- the state of the second pass after a line with the given bytes; an overlap error if these bytes
+-- overlap earlier bytes; or the given error
 abbrev pub second_pass_with_bytes : SecondPassState → ℕ → Result (List ℕ) SourceFault → Result SecondPassState SourceFault
 second_pass_with_bytes s next (Err f) = Err f
 second_pass_with_bytes s next (Ok bytes) =
@@ -68,29 +68,29 @@ abbrev pub second_pass_with_line : Names → SecondPassState → Option SourceLi
 second_pass_with_line names s line = second_pass_with_bytes s (next_at line s.at) (line_bytes s.at names line)
 
 -- Holds for a line that parses and, at address `at`, does not pass the end of the ROM. The number
--- in its `ORG` or `=` must also be below 4096.
-abbrev pub HasNoFault : ℕ → Option SourceLine → Type 0
-HasNoFault at None = ⊥
-HasNoFault at (Some line) = (has_bad_number line ≡ false) × (passes_end line at ≡ false)
+-- in an `ORG` or `NAME = NUMBER` must also be below 4096.
+abbrev pub HasValidNumberAndAddress : ℕ → Option SourceLine → Type 0
+HasValidNumberAndAddress at None = ⊥
+HasValidNumberAndAddress at (Some line) = (has_bad_number line ≡ false) × (passes_end line at ≡ false)
 
 -- ---- The results for a line and for a pass. If allocation fails, nothing is stated about the
 -- text.
 
--- Holds if `first` is this error with this line number. If allocation failed, holds if the line
--- number is 0.
+-- Holds if `first` is the given error with the line number `line`. If allocation failed, holds if
+-- `line` is 0.
 abbrev pub IsFirstError : FaultKind → ℕ → Option (ℕ × SourceFault) → Type 0
 IsFirstError NoMemory line first = line ≡ 0
 IsFirstError (Refused f) line first = first ≡ Some (line, f)
 
--- Holds if the result agrees with `wanted`: either `wanted` is success with the value `new`, or
--- both are the same error. Also holds if allocation failed.
-abbrev pub MatchesNew : {A B : Type 0} → Result B FaultKind → A → Result A SourceFault → Type 0
-MatchesNew (Ok u) new wanted = wanted ≡ Ok new
-MatchesNew (Err NoMemory) new wanted = Unit {0}
-MatchesNew (Err (Refused f)) new wanted = wanted ≡ Err f
+-- Holds if the result and the new value `new` agree with `wanted`: both succeed and the value in
+-- `wanted` is `new`, or both are the same error. Also holds if allocation failed.
+abbrev pub MatchesNewValue : {A B : Type 0} → Result B FaultKind → A → Result A SourceFault → Type 0
+MatchesNewValue (Ok u) new wanted = wanted ≡ Ok new
+MatchesNewValue (Err NoMemory) new wanted = Unit {0}
+MatchesNewValue (Err (Refused f)) new wanted = wanted ≡ Err f
 
--- Holds if the result is the state after all lines, none of which has a first-pass error, or the
--- first first-pass error.
+-- Holds if no line has a first-pass error and the result is the state after all lines, or if the
+-- result is the earliest first-pass error.
 abbrev pub IsFirstPassResult : Result FirstPassState AsmFault → List (Option SourceLine) → Type 0
 IsFirstPassResult (Ok b) lines = (earliest_first_pass_fault lines ≡ None) × (b ≡ first_pass_before lines (length lines))
 IsFirstPassResult (Err f) lines = IsFirstError f.kind f.line (earliest_first_pass_fault lines)
@@ -98,17 +98,18 @@ IsFirstPassResult (Err f) lines = IsFirstError f.kind f.line (earliest_first_pas
 -- Holds if the result agrees with `wanted`. On success, `at` must be the next address in `wanted`,
 -- and the cells must contain its pairs. An error must be the error in `wanted`. Also holds if
 -- allocation failed.
-abbrev pub MatchesAdded : Result (Unit {0}) FaultKind → ℕ → List (Option ℕ)
+abbrev pub MatchesStateWithAddedBytes : Result (Unit {0}) FaultKind → ℕ → List (Option ℕ)
     → Result SecondPassState SourceFault → Type 0
-MatchesAdded (Ok u) at cells wanted = (s : SecondPassState) × (wanted ≡ Ok s) × (s.at ≡ at) × HoldsPairs cells s.pairs
-MatchesAdded (Err NoMemory) at cells wanted = Unit {0}
-MatchesAdded (Err (Refused f)) at cells wanted = wanted ≡ Err f
+MatchesStateWithAddedBytes (Ok u) at cells wanted =
+    (s : SecondPassState) × (wanted ≡ Ok s) × (s.at ≡ at) × HoldsPairs cells s.pairs
+MatchesStateWithAddedBytes (Err NoMemory) at cells wanted = Unit {0}
+MatchesStateWithAddedBytes (Err (Refused f)) at cells wanted = wanted ≡ Err f
 
 -- the address of a line and the number of bytes that the line emits, 0 if it has an error
 abbrev pub span_at : ℕ → Result (List ℕ) SourceFault → Span
 span_at at r = record { at = at; size = length (bytes_or_none r) }
 
--- Holds if the result is the survey of all lines and cells with their bytes, or the first
+-- Holds if the result is the survey of all lines and cells with their bytes, or the earliest
 -- second-pass error.
 abbrev pub IsSecondPassResult : Result (Survey × List (Option ℕ)) AsmFault → List (Option SourceLine)
     → Names → Type 0
@@ -126,7 +127,7 @@ abbrev pub IsResultOfBothPasses : Result (Survey × List (Option ℕ)) AsmFault 
 IsResultOfBothPasses (Ok found) text =
     (survey_of_text text ≡ Ok found.0)
     × ((pairs : List (ℕ × ℕ)) × (assembly_of_text text ≡ Ok pairs) × HoldsPairs found.1 pairs)
-IsResultOfBothPasses (Err f) text = FailsAs f.kind f.line (assembly_of_text text)
+IsResultOfBothPasses (Err f) text = IsErrorAtLine f.kind f.line (assembly_of_text text)
 
 -- ---- the number of a line
 
@@ -135,8 +136,8 @@ abbrev pub IsLineNumber : FaultKind → ℕ → ℕ → Type 0
 IsLineNumber NoMemory index line = line ≡ 0
 IsLineNumber (Refused f) index line = line ≡ index + 1
 
--- Holds if the final result equals the result `line_result` of line `index`, except that an error also
--- gets its line number.
+-- Holds if the final result equals `line_result`, the result of line `index`, except that an error
+-- also has its line number.
 abbrev pub HasLineNumberAdded : ℕ → Result (Unit {0}) FaultKind → Result (Unit {0}) AsmFault → Type 0
 HasLineNumberAdded index line_result (Ok u) = line_result ≡ Ok u
 HasLineNumberAdded index line_result (Err f) = (line_result ≡ Err f.kind) × IsLineNumber f.kind index f.line

@@ -1,4 +1,4 @@
--- The refusal numbers of the assembler's errors. (Our own choice.)
+-- The refusal numbers of the assembler's errors. (Defined by Fethsaim, not by Intel.)
 use Rattle.std.specs.Prelude.{ℕ}
 use Rattle.mcs_model.specs.declared.refusal_numbers.TheConstants.{NO_MEMORY}
 use Rattle.mcs_source.specs.RefusalNumbers.{source_fault_number}

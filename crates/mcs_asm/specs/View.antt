@@ -33,30 +33,31 @@ use Rattle.mcs_source.specs.Survey.{Survey}
 -- ---- The promises of `assemble` and `survey`. If allocation fails, nothing is stated about the
 -- text.
 
--- Holds if `wanted` is this error with this line number. If allocation failed, holds if the line
--- number is 0.
-abbrev pub FailsAs : FaultKind → ℕ → {A : Type 0} → Result A (ℕ × SourceFault) → Type 0
-FailsAs NoMemory line wanted = line ≡ 0
-FailsAs (Refused f) line wanted = wanted ≡ Err (line, f)
+-- Holds if `wanted` is the given error with the line number `line`. If allocation failed, holds if
+-- `line` is 0.
+abbrev pub IsErrorAtLine : FaultKind → ℕ → {A : Type 0} → Result A (ℕ × SourceFault) → Type 0
+IsErrorAtLine NoMemory line wanted = line ≡ 0
+IsErrorAtLine (Refused f) line wanted = wanted ≡ Err (line, f)
 
 -- Holds if each address is below 4096, and no address has two different bytes.
 pub record HaveOneByteEach (pairs : List (ℕ × ℕ)) : Type 0 where
   pub within : (at byte : ℕ) → Contains pairs (at, byte) → at < 4096
   pub once : (at one other : ℕ) → Contains pairs (at, one) → Contains pairs (at, other) → one ≡ other
 
--- Holds if the result agrees with `wanted`: either it is the wanted pairs by ascending address,
--- with one byte for each address, or it is the wanted error.
+-- Holds if the result agrees with `wanted`: either the result is the image with the pairs of
+-- `wanted`, by ascending address, or both are the same error. No address has two different bytes in
+-- the pairs.
 abbrev pub Assembles : Result (List (ℕ × ℕ)) AsmFault → Result (List (ℕ × ℕ)) (ℕ × SourceFault)
     → Type 0
 Assembles (Ok image) wanted =
     (pairs : List (ℕ × ℕ)) × (wanted ≡ Ok pairs) × (image ≡ by_address pairs)
     × HaveOneByteEach pairs
-Assembles (Err f) wanted = FailsAs f.kind f.line wanted
+Assembles (Err f) wanted = IsErrorAtLine f.kind f.line wanted
 
 -- Holds if the result is the wanted survey or the wanted error.
 abbrev pub Surveys : Result Survey AsmFault → Result Survey (ℕ × SourceFault) → Type 0
 Surveys (Ok s) wanted = wanted ≡ Ok s
-Surveys (Err f) wanted = FailsAs f.kind f.line wanted
+Surveys (Err f) wanted = IsErrorAtLine f.kind f.line wanted
 
 -- ---- The values in the code, converted to values of the specification. From here on, only
 -- contracts of private functions cite the definitions.
@@ -88,8 +89,8 @@ abbrev pub line_view : SourceLine → lines.SourceLine
 line_view (line.Code label s) = lines.Code (option_copied label) (option_map statement_view s)
 line_view (line.Define w n) = lines.Define w.now n
 
--- `HasNoLabel` holds if the tokens parse as a line without a label. `HasNoDefinition` holds if a line
--- without a label parses as one that is not a definition `NAME = NUMBER`.
+-- `HasNoLabel` holds if `line_of` parses the tokens as a line without a label. `HasNoDefinition`
+-- holds if `unlabelled` parses them as an optional statement, not as a definition `NAME = NUMBER`.
 abbrev pub HasNoLabel : List spec.Token → Type 0
 HasNoLabel ts = lines.line_of ts ≡ lines.unlabelled ts
 
@@ -106,12 +107,13 @@ MatchesView view (Ok x) wanted = wanted ≡ Ok (view x)
 MatchesView view (Err NoMemory) wanted = Unit {0}
 MatchesView view (Err (Refused f)) wanted = wanted ≡ Err f
 
--- Holds if the result is an instruction that is encoded as the wanted bytes, or the wanted error.
+-- Holds if the result is an instruction whose encoding is the wanted bytes, or the result is the
+-- wanted error.
 abbrev pub MatchesEncoding : Result Op SourceFault → Result (List ℕ) SourceFault → Type 0
 MatchesEncoding (Ok o) wanted = wanted ≡ Ok (spelling o)
 MatchesEncoding (Err f) wanted = wanted ≡ Err f
 
--- Holds if the result is an instruction that is encoded as the wanted bytes, nothing if no bytes
+-- Holds if the result is an instruction whose encoding is the wanted bytes, or `None` and no bytes
 -- are wanted, or the wanted error.
 abbrev pub MatchesOptionalEncoding : Result (Option Op) SourceFault → Result (List ℕ) SourceFault → Type 0
 MatchesOptionalEncoding (Ok None) wanted = wanted ≡ Ok []

@@ -7,7 +7,7 @@ ghost use Rattle.mcs_source.specs.Lines.{line_of};
 ghost use Rattle.mcs_source.specs.Assembly.{read, earliest_first_pass_fault, all_names, first_pass_line_fault, line_bytes, next_at, assembly_of_text};
 ghost use Rattle.mcs_asm.specs.ByteCells.{HoldsPairs};
 ghost use Rattle.mcs_asm.specs.Errors.{ReportsError, first_pass_skipping_errors, unless_error, error_at, first_pass_errors, second_pass_errors, reported_errors, errors_of, errors_of_text, first_listed_error, assembly_error, error_row, errors_header, errors_text};
-ghost use Rattle.mcs_asm.specs.Passes.{HasNoFault, first_pass_next};
+ghost use Rattle.mcs_asm.specs.Passes.{HasValidNumberAndAddress, first_pass_after_line};
 ghost use Rattle.mcs_asm.specs.View.{line_view};
 
 use crate::byte_cells::ByteCells;
@@ -69,8 +69,8 @@ fn push_error_if_any(
     }
 }
 
-/// Returns the first-pass error of the next line. If the line has none, adds its name and sets the
-/// address of the line after it. Fails if allocation fails.
+/// Returns the first-pass error of the next line. If the line has no error, adds the name that the
+/// line defines, and sets the address of the next statement. Fails if allocation fails.
 fn add_line_or_error<'a>(
     alloc: Global,
     names: &mut Names<'a>,
@@ -78,7 +78,7 @@ fn add_line_or_error<'a>(
 ) -> Result<Option<SourceFault>, AllocError>
     ensures { IfOk result (λ error.
         (error ≡ first_pass_line_fault names.old.at names.old.names (line_of (tokens line.now)))
-        × (names.new ≡ unless_error error names.old (first_pass_next names.old (line_of (tokens line.now))))) }
+        × (names.new ≡ unless_error error names.old (first_pass_after_line names.old (line_of (tokens line.now))))) }
 {
     match add_line(alloc, names, line) {
         Ok(()) => Ok(None),
@@ -106,9 +106,9 @@ fn collect_first_pass_errors<'a>(
 }
 
 impl SecondPassState {
-    /// Adds the bytes of a line, or returns an overlap error if an earlier line fills one of the
-    /// addresses. In both cases, sets the address of the next statement to `next`. Fails if
-    /// allocation fails.
+    /// Adds the bytes of a line, or returns an overlap error if an earlier line has filled the
+    /// address of one of these bytes. In both cases, sets the address of the next statement to
+    /// `next`. Fails if allocation fails.
     fn emit_bytes_or_error(
         &mut self,
         bytes: &[u8],
@@ -131,15 +131,15 @@ impl SecondPassState {
     }
 
     /// Adds the bytes of a parsed line, or returns its second-pass error. The line must not pass
-    /// the end of the ROM, and the number in an `ORG` or `=` must be below 4096. Fails if
-    /// allocation fails.
+    /// the end of the ROM, and the number in an `ORG` or `NAME = NUMBER` must be below 4096. Fails
+    /// if allocation fails.
     fn emit_parsed_line_or_error<'a>(
         &mut self,
         alloc: Global,
         names: &Names<'a>,
         line: &SourceLine<'a>,
     ) -> Result<Option<SourceFault>, AllocError>
-        requires { HasNoFault self.old.at (Some (line_view line.now)) }
+        requires { HasValidNumberAndAddress self.old.at (Some (line_view line.now)) }
         ensures error { (pairs : List (ℕ × ℕ)) → HoldsPairs self.old.cells pairs
             → ReportsError result self.old.at pairs
             (line_bytes self.old.at names.now.names (Some (line_view line.now))) self.new.cells }
@@ -157,15 +157,15 @@ impl SecondPassState {
     }
 
     /// Parses the next line, and adds its bytes or returns its second-pass error. The line must be
-    /// valid and must not pass the end of the ROM. The number in an `ORG` or `=` must be below
-    /// 4096. Fails if allocation fails.
+    /// valid and must not pass the end of the ROM. The number in an `ORG` or `NAME = NUMBER` must
+    /// be below 4096. Fails if allocation fails.
     fn emit_line_or_error<'a>(
         &mut self,
         alloc: Global,
         names: &Names<'a>,
         line: &'a [u8],
     ) -> Result<Option<SourceFault>, AllocError>
-        requires { HasNoFault self.old.at (line_of (tokens line.now)) }
+        requires { HasValidNumberAndAddress self.old.at (line_of (tokens line.now)) }
         ensures error { (pairs : List (ℕ × ℕ)) → HoldsPairs self.old.cells pairs
             → ReportsError result self.old.at pairs
             (line_bytes self.old.at names.now.names (line_of (tokens line.now))) self.new.cells }
@@ -222,9 +222,9 @@ fn errors_of_lines<'a>(alloc: Global, lines: &[&'a [u8]]) -> Result<Vec<LineErro
     }
 }
 
-/// Returns the first error of each line of a source text, at most [`MAX_REPORTED_ERRORS`] errors. If the
-/// first pass finds errors (30, 31, 33, 36 or 37), only these are returned. Otherwise, the errors
-/// of the second pass (32 to 35) are returned.
+/// Returns the first error of each line of a source text, at most [`MAX_REPORTED_ERRORS`] errors. If the first pass
+/// finds errors (refusal 30, 31, 33, 36 or 37), returns only these. Otherwise, returns the errors of the second pass
+/// (refusal 32 to 35).
 ///
 /// When later lines are checked, a line with a first-pass error counts as empty, and a line with a
 /// second-pass error emits no bytes. Fails if allocation fails.

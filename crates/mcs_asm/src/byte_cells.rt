@@ -1,15 +1,15 @@
-//! The bytes of an image that the assembler is building.
+//! The bytes of an image, by address, while the assembler builds the image.
 ghost use Rattle.std.specs.Prelude.{◌≡◌, ℕ, ◌<◌, ◌≤◌, ◌+◌, IfOk, length, take, drop, is_some, None};
 ghost use Rattle.std.specs.List.{list_any};
 ghost use lib.ListN.{replicate};
-ghost use Rattle.mcs_asm.specs.ByteCells.{cells_after, pairs_from};
+ghost use Rattle.mcs_asm.specs.ByteCells.{cells_after_write, pairs_from};
 
 use mcs_model::image::Image;
 use mcs_nibble::Addr;
 use std::alloc::{AllocError, Global};
 use std::marker::Model;
 
-/// For each of the 4096 addresses, the byte stored there, or nothing.
+/// A cell for each of the 4096 addresses; a cell contains a byte or is empty.
 #[derive(Drop)]
 pub struct ByteCells {
     bytes: Vec<Option<u8>>,
@@ -26,7 +26,7 @@ impl Model for ByteCells {
 }
 
 impl ByteCells {
-    /// Returns cells without a byte at any address. Fails if allocation fails.
+    /// Returns 4096 empty cells. Fails if allocation fails.
     #[tactic(auto, using(crate::proofs::CellPairs::new_rules))]
     pub fn new(alloc: Global) -> Result<ByteCells, AllocError>
         ensures { IfOk result (λ c. c ≡ replicate 4096 None) }
@@ -49,7 +49,7 @@ impl ByteCells {
     /// Stores bytes at consecutive addresses from `at` on.
     pub fn write(&mut self, at: usize, bytes: &[u8])
         requires { at + length bytes.now ≤ 4096 }
-        ensures { self.new ≡ cells_after at bytes.now self.old }
+        ensures { self.new ≡ cells_after_write at bytes.now self.old }
     {
         for i in 0..bytes.len() {
             self.bytes[at + i] = Some(bytes[i]);

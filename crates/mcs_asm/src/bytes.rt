@@ -107,7 +107,7 @@ fn target(value: u64) -> Result<Addr, SourceFault>
 }
 
 /// Returns the low byte of the target of a JCN or ISZ at address `at`. Fails if the target is not
-/// on the page of the address after the instruction.
+/// on the page of the address after the instruction's two words.
 fn low_byte_on_page(at: u16, target: Addr) -> Result<u8, SourceFault>
     requires { at ≤ 4096 }
     ensures { result ≡ if_on_page (is_on_reachable_page at target) (Ok (target % 256)) }
@@ -190,7 +190,8 @@ fn isz<'a>(at: u16, names: &Names<'a>, register: RegNo, t: &Operand<'a>) -> Resu
 }
 
 /// Returns the instruction of a statement at address `at`, or `None` for an `ORG`. The statement
-/// must not be a `DB`. Fails with error 32, 33 or 34 if an operand is invalid.
+/// must not be a `DB`. Fails if an operand is an undefined name (error 32), is out of range (33),
+/// or is an address on a page that the instruction cannot reach (34).
 fn op<'a>(at: u16, names: &Names<'a>, statement: &Statement<'a>) -> Result<Option<Op>, SourceFault>
     requires start { at ≤ 4096 }
     requires statement { IsNotData (statement_view statement.now) }
@@ -228,8 +229,9 @@ fn word_list(alloc: Global, words: Words) -> Result<Vec<u8>, AllocError>
     Ok(bytes)
 }
 
-/// Returns the bytes that a statement at address `at` emits. Fails with error 32, 33 or 34 if an
-/// operand is invalid, or if allocation fails.
+/// Returns the bytes that a statement at address `at` emits. Fails if an operand is an undefined
+/// name (error 32), is out of range (33), or is an address on a page that the instruction cannot
+/// reach (34). Also fails if allocation fails.
 fn statement_bytes<'a>(
     alloc: Global,
     at: u16,
@@ -249,8 +251,9 @@ fn statement_bytes<'a>(
     }
 }
 
-/// Returns the bytes that a line at address `at` emits. Fails with error 32, 33 or 34 if an operand
-/// is invalid, or if allocation fails.
+/// Returns the bytes that a line at address `at` emits. Fails if an operand is an undefined name
+/// (error 32), is out of range (33), or is an address on a page that the instruction cannot reach
+/// (34). Also fails if allocation fails.
 pub fn line_bytes<'a>(
     alloc: Global,
     at: u16,

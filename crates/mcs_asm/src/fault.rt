@@ -10,10 +10,10 @@ use thiserror::Error;
 /// The reason why assembly fails.
 #[derive(Clone, Copy, Debug, PartialEq, Eq, Error)]
 pub enum FaultKind {
-    /// Allocation failed (no 90).
+    /// Allocation failed (refusal 90).
     #[error("out of memory")]
     NoMemory,
-    /// A line has an error.
+    /// A line of the source text has this error.
     #[error("{0}")]
     Refused(SourceFault),
 }

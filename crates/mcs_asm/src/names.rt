@@ -8,7 +8,7 @@ ghost use Rattle.std.specs.Cmp.Lexicographic.{slice_cmp};
 ghost use Rattle.std.specs.BTreeMap.{get_by};
 ghost use Rattle.mcs_asm.specs.View.{statement_view, line_view, operand_view};
 ghost use Rattle.mcs_source.specs.Assembly.{size, statement_size, is_defined, is_defined_name, defined_name, is_bad_origin, has_bad_number, next_statement, next_at, passes_end, first_pass_line_fault, value_in};
-ghost use Rattle.mcs_asm.specs.Passes.{first_pass_start, first_pass_next};
+ghost use Rattle.mcs_asm.specs.Passes.{first_pass_start, first_pass_after_line};
 
 use crate::fault::SourceFault;
 use crate::statements::{Operand, SourceLine, Statement};
@@ -113,8 +113,9 @@ impl<'a> Names<'a> {
         self.at
     }
 
-    /// Returns the error that the first pass finds in a parsed line, or `None`. If several apply,
-    /// it is the first of 33, 31, 37 and 36.
+    /// Returns the error that the first pass finds in a parsed line, or `None`. If several errors
+    /// apply, returns the first in this order: a number out of range (33), a name that is already
+    /// defined (31), too many names (37), an address past the end of the ROM (36).
     pub fn fault(&self, line: &SourceLine<'a>) -> Option<SourceFault>
         ensures { result ≡ first_pass_line_fault self.now.at self.now.names (Some (line_view line.now)) }
     {
@@ -136,7 +137,7 @@ impl<'a> Names<'a> {
     /// line must have no first-pass error. If allocation fails, nothing changes.
     pub fn add(&mut self, line: &SourceLine<'a>) -> Result<(), AllocError>
         requires { first_pass_line_fault self.old.at self.old.names (Some (line_view line.now)) ≡ None }
-        ensures added { OnOk result (self.new ≡ first_pass_next self.old (Some (line_view line.now))) }
+        ensures added { OnOk result (self.new ≡ first_pass_after_line self.old (Some (line_view line.now))) }
         ensures unchanged { OnErr result (self.new ≡ self.old) }
     {
         match line {
@@ -205,7 +206,8 @@ fn is_bad_origin(statement: &Option<Statement<'_>>) -> bool
     }
 }
 
-/// Returns true if the number in an `ORG` or a `NAME = NUMBER` is above 4095.
+/// Returns true if a line has an `ORG` or is a definition `NAME = NUMBER`, and the number is above
+/// 4095.
 fn has_bad_number(line: &SourceLine<'_>) -> bool
     ensures { result ≡ has_bad_number (line_view line.now) }
 {
@@ -241,8 +243,8 @@ fn next_statement(statement: &Option<Statement<'_>>, at: u16) -> u16
     }
 }
 
-/// Returns the address after a line at address `at`. The number in an `ORG` or `=` must be below
-/// 4096, and the line must not pass the end of the ROM.
+/// Returns the address after a line at address `at`. The number in an `ORG` or `NAME = NUMBER` must
+/// be below 4096, and the line must not pass the end of the ROM.
 pub fn next_at(line: &SourceLine<'_>, at: u16) -> u16
     requires start { at ≤ 4096 }
     requires number { has_bad_number (line_view line.now) ≡ false }

@@ -6,7 +6,7 @@ ghost use Rattle.mcs_source.specs.Lines.{line_of};
 ghost use Rattle.mcs_source.specs.Assembly.{read, earliest_first_pass_fault, all_names, assembly_of_text, line_bytes};
 ghost use Rattle.mcs_source.specs.Survey.{survey_of_text};
 ghost use Rattle.mcs_asm.specs.View.{Assembles, Surveys};
-ghost use Rattle.mcs_asm.specs.Passes.{first_pass_with_line, second_pass_with_bytes, second_pass_with_line, HasNoFault, MatchesNew, IsFirstPassResult, IsSecondPassResult, IsResultOfBothPasses, IsLineNumber, HasLineNumberAdded, MatchesAdded, span_at};
+ghost use Rattle.mcs_asm.specs.Passes.{first_pass_with_line, second_pass_with_bytes, second_pass_with_line, HasValidNumberAndAddress, MatchesNewValue, IsFirstPassResult, IsSecondPassResult, IsResultOfBothPasses, IsLineNumber, HasLineNumberAdded, MatchesStateWithAddedBytes, span_at};
 ghost use Rattle.mcs_asm.specs.ByteCells.{HoldsPairs};
 
 use crate::byte_cells::ByteCells;
@@ -27,7 +27,7 @@ pub(crate) fn add_line<'a>(
     names: &mut Names<'a>,
     line: &'a [u8],
 ) -> Result<(), FaultKind>
-    ensures added { MatchesNew result names.new (first_pass_with_line names.old (line_of (tokens line.now))) }
+    ensures added { MatchesNewValue result names.new (first_pass_with_line names.old (line_of (tokens line.now))) }
     ensures unchanged { OnErr result (names.new ≡ names.old) }
 {
     let Some(line) = read_line(alloc, line)? else {
@@ -53,7 +53,7 @@ fn fault_with_line_number(index: usize, kind: FaultKind) -> AsmFault
     }
 }
 
-/// Returns the given result. Adds the line number if it is an error: `index` plus 1, or 0 if
+/// Returns `line_result`. If it is an error, adds the line number: `index` plus 1, or 0 if
 /// allocation failed.
 fn add_line_number(index: usize, line_result: Result<(), FaultKind>) -> Result<(), AsmFault>
     requires { index < 2 ^ 63 }
@@ -65,8 +65,10 @@ fn add_line_number(index: usize, line_result: Result<(), FaultKind>) -> Result<(
     }
 }
 
-/// Runs the first pass. Returns the names of all lines and the address after the last line, or the
-/// first error that this pass finds (30, 31, 33, 36 or 37).
+/// Runs the first pass. Returns the names that the lines define and the address after the last
+/// line, or the first error that this pass finds. The possible errors are: a bad statement (30), a
+/// name that is already defined (31), a number out of range (33), an address past the end of the
+/// ROM (36), or too many names (37).
 fn first_pass<'a>(alloc: Global, lines: &[&'a [u8]]) -> Result<Names<'a>, AsmFault>
     ensures { IsFirstPassResult result (read (map (λ l. l.now) lines.now)) }
 {
@@ -99,14 +101,14 @@ pub(crate) struct SecondPassState {
 
 impl SecondPassState {
     /// Adds the bytes and the span of a line, and sets the address of the next statement to `next`.
-    /// Fails with an overlap error if an earlier line fills one of the addresses, or if allocation
-    /// fails. The bytes are then unchanged.
-    #[tactic(auto, using(crate::proofs::SpelledLists::overlap_is_rejected, crate::proofs::SpelledLists::no_overlap_is_added))]
+    /// Fails with an overlap error if an earlier line has filled the address of one of these bytes.
+    /// Also fails if allocation fails. In both cases, the cells do not change.
+    #[tactic(auto, using(crate::proofs::SpelledLists::overlap_is_rejected, crate::proofs::SpelledLists::bytes_without_overlap_are_added))]
     pub(crate) fn add(&mut self, bytes: &[u8], next: u16) -> Result<(), FaultKind>
         requires room { self.old.at + length bytes.now ≤ 4096 }
         requires next { next ≤ 4096 }
         ensures bytes { (pairs : List (ℕ × ℕ)) → HoldsPairs self.old.cells pairs
-            → MatchesAdded result self.new.at self.new.cells
+            → MatchesStateWithAddedBytes result self.new.at self.new.cells
             (second_pass_with_bytes (record { at = self.old.at; pairs = pairs }) next (Ok bytes.now)) }
         ensures span { OnOk result (self.new.spans.items
             ≡ self.old.spans.items ++ span_at self.old.at (Ok bytes.now) ∷ []) }
@@ -123,17 +125,18 @@ impl SecondPassState {
         Ok(())
     }
 
-    /// Adds the bytes and the span of the next line, or returns its error. The line must parse and
-    /// must not pass the end of the ROM. The number in an `ORG` or `=` must be below 4096.
+    /// Adds the bytes and the span of the next line, or returns the second-pass error of the line.
+    /// The line must parse and must not pass the end of the ROM. The number in an `ORG` or
+    /// `NAME = NUMBER` must be below 4096. Fails if allocation fails.
     fn emit_line<'a>(
         &mut self,
         alloc: Global,
         names: &Names<'a>,
         line: &'a [u8],
     ) -> Result<(), FaultKind>
-        requires { HasNoFault self.old.at (line_of (tokens line.now)) }
+        requires { HasValidNumberAndAddress self.old.at (line_of (tokens line.now)) }
         ensures bytes { (pairs : List (ℕ × ℕ)) → HoldsPairs self.old.cells pairs
-            → MatchesAdded result self.new.at self.new.cells (second_pass_with_line names.now.names
+            → MatchesStateWithAddedBytes result self.new.at self.new.cells (second_pass_with_line names.now.names
             (record { at = self.old.at; pairs = pairs }) (line_of (tokens line.now))) }
         ensures span { OnOk result (self.new.spans.items ≡ self.old.spans.items
             ++ span_at self.old.at
@@ -149,7 +152,8 @@ impl SecondPassState {
 }
 
 /// Runs the second pass over lines without first-pass errors. Returns the survey and the bytes of
-/// all lines, or the first error that this pass finds (32 to 35).
+/// all lines, or the first error that this pass finds. The possible errors are: an undefined name
+/// (32), a value out of range (33), an address on the wrong page (34), or an overlap (35).
 fn second_pass<'a>(
     alloc: Global,
     names: Names<'a>,
@@ -170,8 +174,8 @@ fn second_pass<'a>(
     Ok((Survey::new(pass_state.spans, names), pass_state.cells))
 }
 
-/// Runs both passes. Returns the survey of a source text and the bytes that it emits, or its first
-/// error.
+/// Runs both passes over a source text. Returns the survey and the bytes of the text, or the first
+/// error in the text.
 fn both_passes<'a>(alloc: Global, source: &'a str) -> Result<(Survey<'a>, ByteCells), AsmFault>
     ensures { IsResultOfBothPasses result source.now }
 {

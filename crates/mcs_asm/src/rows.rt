@@ -45,7 +45,8 @@ fn push_address_or_end(out: &mut String, at: u16) -> Result<(), AllocError>
     }
 }
 
-/// Appends the row of a source line: its number, its address and the number of bytes that it emits.
+/// Appends the row of a source line: the line number, the address of the line, and the number of
+/// bytes that the line emits.
 fn push_line(out: &mut String, number: usize, span: Span) -> Result<(), AllocError>
     ensures { OnOk result (string_bytes out.new
         ≡ string_bytes out.old ++ as_line (line_row number span)) }

@@ -15,7 +15,8 @@ use mcs_nibble::{PairNo, RegNo};
 use mcs_source::mnemonic::Mnemonic;
 use std::alloc::{AllocError, Global};
 
-/// An operand as written in the source. A number above 4,294,967,296 counts as 4,294,967,296.
+/// An operand as written in the source. The parser replaces a number above 4,294,967,296 by
+/// 4,294,967,296.
 #[derive(Clone, Copy)]
 pub enum Operand<'a> {
     Number(u64),
@@ -137,8 +138,9 @@ fn statement_without_operands<'a>(op: Op, tokens: &mut Tokens<'a>) -> Option<Sta
     }
 }
 
-/// Reads the next operand of a list. Also returns true if a comma follows it. Returns `None` if the
-/// operand is invalid, or if a token other than a comma follows it.
+/// Reads the next operand of a list. Returns the operand, and true if a comma follows it or false
+/// if no token follows it. Returns `None` if the operand is invalid, or if another token follows
+/// it.
 fn list_item<'a>(tokens: &mut Tokens<'a>) -> Option<(Operand<'a>, bool)>
     ensures { option_map (λ x. (operand_view x.0, tokens_if_comma x.1 tokens.new)) result
         ≡ list_item tokens.old }
@@ -154,8 +156,8 @@ fn list_item<'a>(tokens: &mut Tokens<'a>) -> Option<(Operand<'a>, bool)>
     }
 }
 
-/// Reads all remaining tokens as one or more operands, separated by commas. Returns `None` if they
-/// have another form. Fails if allocation fails.
+/// Reads all remaining tokens as one or more operands, separated by commas. Returns `None` if the
+/// tokens have another form. Fails if allocation fails.
 fn operands<'a>(
     alloc: Global,
     tokens: &mut Tokens<'a>,
@@ -175,7 +177,8 @@ fn operands<'a>(
     }
 }
 
-/// Reads the operands of JCN, a condition and a jump address. Returns `None` if they are invalid.
+/// Reads the operands of JCN: a condition and a jump address. Returns `None` if the tokens have
+/// another form.
 fn read_jcn<'a>(tokens: &mut Tokens<'a>) -> Option<Statement<'a>>
     ensures { option_map statement_view result ≡ statement_after_mnemonic Jcn tokens.old }
 {
@@ -184,7 +187,7 @@ fn read_jcn<'a>(tokens: &mut Tokens<'a>) -> Option<Statement<'a>>
     Some(Statement::Jcn(condition, target))
 }
 
-/// Reads the operands of FIM, a pair and a value. Returns `None` if they are invalid.
+/// Reads the operands of FIM: a pair and a value. Returns `None` if the tokens have another form.
 fn read_fim<'a>(tokens: &mut Tokens<'a>) -> Option<Statement<'a>>
     ensures { option_map statement_view result ≡ statement_after_mnemonic Fim tokens.old }
 {
@@ -193,7 +196,8 @@ fn read_fim<'a>(tokens: &mut Tokens<'a>) -> Option<Statement<'a>>
     Some(Statement::Fim(pair, value))
 }
 
-/// Reads the operands of ISZ, a register and a jump address. Returns `None` if they are invalid.
+/// Reads the operands of ISZ: a register and a jump address. Returns `None` if the tokens have
+/// another form.
 fn read_isz<'a>(tokens: &mut Tokens<'a>) -> Option<Statement<'a>>
     ensures { option_map statement_view result ≡ statement_after_mnemonic Isz tokens.old }
 {
@@ -202,7 +206,7 @@ fn read_isz<'a>(tokens: &mut Tokens<'a>) -> Option<Statement<'a>>
     Some(Statement::Isz(register, target))
 }
 
-/// Reads the operand of `ORG`, a number. Returns `None` if it is invalid.
+/// Reads the operand of `ORG`: a number. Returns `None` if the tokens have another form.
 fn read_org<'a>(tokens: &mut Tokens<'a>) -> Option<Statement<'a>>
     ensures { option_map statement_view result ≡ statement_after_mnemonic Org tokens.old }
 {
@@ -217,8 +221,8 @@ fn whole_statement<'a>(op: Option<Op>) -> Option<Statement<'a>>
     Some(Statement::Whole(op))
 }
 
-/// Reads the operands of a mnemonic other than `DB` and returns the statement, or `None` if they
-/// are invalid.
+/// Reads the operands of a mnemonic other than `DB`. Returns the statement, or `None` if the
+/// operands do not have the form that the mnemonic requires.
 fn statement_except_db<'a>(mnemonic: Mnemonic, tokens: &mut Tokens<'a>) -> Option<Statement<'a>>
     requires { IsNotDb mnemonic }
     ensures { option_map statement_view result ≡ statement_after_mnemonic mnemonic tokens.old }
@@ -245,8 +249,8 @@ fn statement_except_db<'a>(mnemonic: Mnemonic, tokens: &mut Tokens<'a>) -> Optio
     }
 }
 
-/// Reads the operands of a mnemonic and returns the statement, or `None` if they are invalid. Fails
-/// if allocation fails.
+/// Reads the operands of a mnemonic. Returns the statement, or `None` if the operands do not have
+/// the form that the mnemonic requires. Fails if allocation fails.
 fn statement_of_mnemonic<'a>(
     alloc: Global,
     mnemonic: Mnemonic,
@@ -261,7 +265,7 @@ fn statement_of_mnemonic<'a>(
 }
 
 /// Reads all remaining tokens as a mnemonic and its operands. Returns the statement, or `None` if
-/// they are invalid. Fails if allocation fails.
+/// the tokens do not form a statement. Fails if allocation fails.
 #[tactic(auto, unfolding(mcs_source::specs::Lines::statement_of))]
 fn read_statement<'a>(
     alloc: Global,
@@ -279,7 +283,8 @@ fn read_statement<'a>(
 }
 
 /// Reads all remaining tokens as an optional statement, and returns the line with this statement
-/// and the given label. Returns `None` if the tokens are invalid. Fails if allocation fails.
+/// and the given label. Returns `None` if there are tokens, but they do not form a statement. Fails
+/// if allocation fails.
 fn read_after_label<'a>(
     alloc: Global,
     label: Option<&'a [u8]>,

@@ -14,9 +14,9 @@ fn line_len(bytes: &[u8]) -> usize
     bytes.iter().take_while(|b| **b != b'\n').count()
 }
 
-/// Returns the first line, without its line ending, and the bytes after it, or `None` if there are
-/// no bytes.
-#[tactic(auto, using(crate::proofs::LineLists::no_lines, crate::proofs::LineLists::only_line_first, crate::proofs::LineLists::first_of_more_lines))]
+/// Returns the first line, without its line ending, and the bytes of the lines after it. Returns
+/// `None` if there are no bytes.
+#[tactic(auto, using(crate::proofs::LineLists::no_lines_of_empty_text, crate::proofs::LineLists::lines_of_only_line, crate::proofs::LineLists::lines_of_first_line_and_others))]
 fn first_line(bytes: &[u8]) -> Option<(&[u8], &[u8])>
     ensures { MatchOption result (lines_of bytes.now ≡ [])
         (λ x. (lines_of bytes.now ≡ x.0.now ∷ lines_of x.1.now)

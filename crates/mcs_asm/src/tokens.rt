@@ -8,7 +8,7 @@ ghost use Rattle.mcs_asm.specs.View.{token_view};
 use mcs_model::text_lines::is_blank;
 use std::marker::Model;
 
-/// A token of a source line. `Other` is a byte that makes the line invalid.
+/// A token of a source line. `Other` is any other byte; a line that contains such a byte does not parse.
 #[derive(Clone, Copy)]
 pub enum Token<'a> {
     Word(&'a [u8]),
@@ -63,8 +63,8 @@ fn symbol<'a>(b: u8) -> Token<'a>
     }
 }
 
-/// Returns the first token and the bytes after it. The bytes must not begin with a word, a space or
-/// a tab. Returns `None` if there are no bytes, or if they begin a comment.
+/// Returns the first token of `bytes` and the bytes after it. `bytes` must not begin with a word, a
+/// space or a tab. Returns `None` if `bytes` is empty or begins with a comment.
 #[tactic(auto, using(crate::proofs::Lexing::symbol_rules))]
 fn first_symbol(bytes: &[u8]) -> Option<(Token<'_>, &[u8])>
     requires no_word { prefix_len is_word_byte bytes.now ≡ 0 }
@@ -82,7 +82,7 @@ fn first_symbol(bytes: &[u8]) -> Option<(Token<'_>, &[u8])>
 }
 
 /// Returns the first token of a line and the bytes after it, or `None` if there is no token.
-#[tactic(auto, using(crate::proofs::Lexing::word_first))]
+#[tactic(auto, using(crate::proofs::Lexing::tokens_of_leading_word))]
 fn first_token(line: &[u8]) -> Option<(Token<'_>, &[u8])>
     ensures { MatchOption result (tokens line.now ≡ [])
         (λ x. tokens line.now ≡ token_view x.0 ∷ tokens x.1.now) }

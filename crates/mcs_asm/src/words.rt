@@ -37,7 +37,8 @@ macro_rules! return_if_equal {
     };
 }
 
-/// Expands to a test of the word if the row is in the wanted group, and to nothing if it is not.
+/// Expands to a comparison of the word with the name in a row, if the row is in the group
+/// `$wanted`. Otherwise expands to nothing.
 ///
 /// The instruction table is split into six groups for the proofs: one proof about 45 names takes
 /// far longer than six proofs about eight names each.
@@ -63,7 +64,7 @@ macro_rules! test_row_in_group {
     ($wanted:ident $group:ident $word:ident $name:ident $kind:ident $text:literal) => {};
 }
 
-/// Expands to a lookup of the word in the rows of a group, in table order.
+/// Expands to code that looks the word up in the rows of the group `$wanted`, in table order.
 macro_rules! group_rows {
     (($wanted:ident, $word:ident) $($codes:pat, $name:ident $kind:ident $words:literal $cycles:literal $group:ident $text:literal;)*) => {{
         $(test_row_in_group!($wanted $group $word $name $kind $text);)*
@@ -188,8 +189,8 @@ pub fn pair_named(word: &[u8]) -> Option<PairNo>
     }
 }
 
-/// Returns true if a word is reserved: a mnemonic, `WPM`, or the name of a register or a pair, in
-/// upper or lower case.
+/// Returns true if a word is reserved, in upper or lower case: a mnemonic, `ORG`, `DB`, `WPM`, or
+/// the name of a register or a pair.
 #[tactic(auto, unfolding(mcs_source::specs::Lines::is_reserved))]
 fn is_reserved(word: &[u8]) -> bool
     ensures { result ≡ is_reserved word.now }

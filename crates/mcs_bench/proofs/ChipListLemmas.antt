@@ -16,111 +16,111 @@ use Rattle.mcs_model.specs.Validity.{IsInRange, AbsentPartsAreZero}
 use Rattle.mcs_bench.specs.declared.chip_list.ChipList.{ChipList}
 use Rattle.mcs_bench.specs.declared.chip_list.ChipList.TheVariants.{RomBytes, RamCharacters, StatusCharacters, RamPorts, BankSrcBytes}
 use Rattle.mcs_bench.specs.ChipLists.{chip_list_in, with_chip_list, chip_list_length, is_chip_absent, with_chip_value, IsZeroWhereAbsent}
-use Rattle.mcs_bench.proofs.Filling.{IsFilled, filled-none, filled-set, filled-kept, filled-all}
+use Rattle.mcs_bench.proofs.Filling.{IsFilled, filled-at-start, filled-after-set, filled-if-element-kept, filled-list-is-goal}
 
 -- ---- setting one element of a list
 
-ran : {A : Type 0} (a b : ℕ) (x y : A) → cond (nat_lt a b) x y ≡ cond (nat_le b a) y x
-ran a b x y =
+cond-lt-as-cond-le : {A : Type 0} (a b : ℕ) (x y : A) → cond (nat_lt a b) x y ≡ cond (nat_le b a) y x
+cond-lt-as-cond-le a b x y =
     elim (cases_lt a b) [
       | inl l ↦ (let lt : nat_lt a b ≡ true = grind (arith, nat_tests) in let le : nat_le b a ≡ false = grind (arith, nat_tests) in rw (lt, le) refl)
       | inr g ↦ (let lt : nat_lt a b ≡ false = grind (arith, nat_tests) in let le : nat_le b a ≡ true = grind (arith, nat_tests) in rw (lt, le) refl)
     ]
 
-if-none : {X A : Type 0} (o : Option X) (x y : A) → cond (is_some o) x y ≡ cond (is_none o) y x
-if-none (Some _) x y = refl
-if-none None x y = refl
+cond-is_some-as-is_none : {X A : Type 0} (o : Option X) (x y : A) → cond (is_some o) x y ≡ cond (is_none o) y x
+cond-is_some-as-is_none (Some _) x y = refl
+cond-is_some-as-is_none None x y = refl
 
-pub set-rom : (s : BusState) (i at n : ℕ) → at ≡ i → with_rom_byte s at n ≡ with_chip_value s RomBytes i n
+pub with_rom_byte-is-with_chip_value : (s : BusState) (i at n : ℕ) → at ≡ i → with_rom_byte s at n ≡ with_chip_value s RomBytes i n
 unfolding with_rom_byte
-set-rom s i at n e = rw e (if-none (rom_masks s.board (i / 256)) (record s { rom = slice_set s.rom i n }) s)
+with_rom_byte-is-with_chip_value s i at n e = rw e (cond-is_some-as-is_none (rom_masks s.board (i / 256)) (record s { rom = slice_set s.rom i n }) s)
 
-pub set-ram : (s : BusState) (i bank src m n : ℕ) → bank ≡ i / 256 → src ≡ i % 256 → m ≡ n → with_ram s bank src m ≡ with_chip_value s RamCharacters i n
+pub with_ram-is-with_chip_value : (s : BusState) (i bank src m n : ℕ) → bank ≡ i / 256 → src ≡ i % 256 → m ≡ n → with_ram s bank src m ≡ with_chip_value s RamCharacters i n
 unfolding with_ram
-set-ram s i bank src m n b c e =
+with_ram-is-with_chip_value s i bank src m n b c e =
     let place : i / 256 * 256 + i % 256 ≡ i = omega arith in
-    rw (b, c, e, place) (ran (i % 256 / 64) (slice_index s.board.banks (i / 256)) (record s { ram = slice_set s.ram i n }) s)
+    rw (b, c, e, place) (cond-lt-as-cond-le (i % 256 / 64) (slice_index s.board.banks (i / 256)) (record s { ram = slice_set s.ram i n }) s)
 
-pub set-status : (s : BusState) (i bank high k m n : ℕ) → bank ≡ i / 64 → high ≡ i % 64 / 4 → k ≡ i % 4 → m ≡ n → with_status s bank high k m ≡ with_chip_value s StatusCharacters i n
+pub with_status-is-with_chip_value : (s : BusState) (i bank high k m n : ℕ) → bank ≡ i / 64 → high ≡ i % 64 / 4 → k ≡ i % 4 → m ≡ n → with_status s bank high k m ≡ with_chip_value s StatusCharacters i n
 unfolding with_status
-set-status s i bank high k m n b h c e =
+with_status-is-with_chip_value s i bank high k m n b h c e =
     let place : i / 64 * 64 + (i % 64 / 4 * 4 + i % 4) ≡ i = omega arith in
     let chip : i % 64 / 4 / 4 ≡ i % 64 / 16 = omega arith in
-    rw (b, h, c, e, place, chip) (ran (i % 64 / 16) (slice_index s.board.banks (i / 64)) (record s { status = slice_set s.status i n }) s)
+    rw (b, h, c, e, place, chip) (cond-lt-as-cond-le (i % 64 / 16) (slice_index s.board.banks (i / 64)) (record s { status = slice_set s.status i n }) s)
 
-pub set-port : (s : BusState) (i bank chip m n : ℕ) → bank ≡ i / 4 → chip ≡ i % 4 → m ≡ n → with_ram_latch s bank chip m ≡ with_chip_value s RamPorts i n
+pub with_ram_latch-is-with_chip_value : (s : BusState) (i bank chip m n : ℕ) → bank ≡ i / 4 → chip ≡ i % 4 → m ≡ n → with_ram_latch s bank chip m ≡ with_chip_value s RamPorts i n
 unfolding with_ram_latch
-set-port s i bank chip m n b c e =
+with_ram_latch-is-with_chip_value s i bank chip m n b c e =
     let place : i / 4 * 4 + i % 4 ≡ i = omega arith in
-    rw (b, c, e, place) (ran (i % 4) (slice_index s.board.banks (i / 4)) (record s { ram_ports = slice_set s.ram_ports i n }) s)
+    rw (b, c, e, place) (cond-lt-as-cond-le (i % 4) (slice_index s.board.banks (i / 4)) (record s { ram_ports = slice_set s.ram_ports i n }) s)
 
-pub set-src : (s : BusState) (i bank n : ℕ) → bank ≡ i → with_ram_src s bank n ≡ with_chip_value s BankSrcBytes i n
+pub with_ram_src-is-with_chip_value : (s : BusState) (i bank n : ℕ) → bank ≡ i → with_ram_src s bank n ≡ with_chip_value s BankSrcBytes i n
 unfolding with_ram_src
-set-src s i bank n b = rw b (ran 0 (slice_index s.board.banks i) (record s { ram_src = slice_set s.ram_src i n }) s)
+with_ram_src-is-with_chip_value s i bank n b = rw b (cond-lt-as-cond-le 0 (slice_index s.board.banks i) (record s { ram_src = slice_set s.ram_src i n }) s)
 
 -- ---- replacing a list of a state
 
-pub list-of : (s : BusState) (h : ChipList) (xs : List ℕ) → chip_list_in (with_chip_list s h xs) h ≡ xs
-list-of s RomBytes xs = refl
-list-of s RamCharacters xs = refl
-list-of s StatusCharacters xs = refl
-list-of s RamPorts xs = refl
-list-of s BankSrcBytes xs = refl
+pub chip_list_in-with_chip_list : (s : BusState) (h : ChipList) (xs : List ℕ) → chip_list_in (with_chip_list s h xs) h ≡ xs
+chip_list_in-with_chip_list s RomBytes xs = refl
+chip_list_in-with_chip_list s RamCharacters xs = refl
+chip_list_in-with_chip_list s StatusCharacters xs = refl
+chip_list_in-with_chip_list s RamPorts xs = refl
+chip_list_in-with_chip_list s BankSrcBytes xs = refl
 
-pub list-again : (s : BusState) (h : ChipList) (xs ys : List ℕ) → with_chip_list (with_chip_list s h xs) h ys ≡ with_chip_list s h ys
-list-again s RomBytes xs ys = refl
-list-again s RamCharacters xs ys = refl
-list-again s StatusCharacters xs ys = refl
-list-again s RamPorts xs ys = refl
-list-again s BankSrcBytes xs ys = refl
+pub with_chip_list-twice : (s : BusState) (h : ChipList) (xs ys : List ℕ) → with_chip_list (with_chip_list s h xs) h ys ≡ with_chip_list s h ys
+with_chip_list-twice s RomBytes xs ys = refl
+with_chip_list-twice s RamCharacters xs ys = refl
+with_chip_list-twice s StatusCharacters xs ys = refl
+with_chip_list-twice s RamPorts xs ys = refl
+with_chip_list-twice s BankSrcBytes xs ys = refl
 
-pub list-same : (s : BusState) (h : ChipList) → with_chip_list s h (chip_list_in s h) ≡ s
-list-same s RomBytes = refl
-list-same s RamCharacters = refl
-list-same s StatusCharacters = refl
-list-same s RamPorts = refl
-list-same s BankSrcBytes = refl
+pub with_chip_list-of-own-list : (s : BusState) (h : ChipList) → with_chip_list s h (chip_list_in s h) ≡ s
+with_chip_list-of-own-list s RomBytes = refl
+with_chip_list-of-own-list s RamCharacters = refl
+with_chip_list-of-own-list s StatusCharacters = refl
+with_chip_list-of-own-list s RamPorts = refl
+with_chip_list-of-own-list s BankSrcBytes = refl
 
-pub list-board : (s : BusState) (h : ChipList) (xs : List ℕ) → (with_chip_list s h xs).board ≡ s.board
-list-board s RomBytes xs = refl
-list-board s RamCharacters xs = refl
-list-board s StatusCharacters xs = refl
-list-board s RamPorts xs = refl
-list-board s BankSrcBytes xs = refl
+pub board-of-with_chip_list : (s : BusState) (h : ChipList) (xs : List ℕ) → (with_chip_list s h xs).board ≡ s.board
+board-of-with_chip_list s RomBytes xs = refl
+board-of-with_chip_list s RamCharacters xs = refl
+board-of-with_chip_list s StatusCharacters xs = refl
+board-of-with_chip_list s RamPorts xs = refl
+board-of-with_chip_list s BankSrcBytes xs = refl
 
 -- ---- the lists of a valid state
 
-pub count-of : (s : BusState) → IsInRange s → (h : ChipList) → length (chip_list_in s h) ≡ chip_list_length h
-count-of s v RomBytes = v.rom.has_count
-count-of s v RamCharacters = v.ram.has_count
-count-of s v StatusCharacters = v.status.has_count
-count-of s v RamPorts = v.ram_ports.has_count
-count-of s v BankSrcBytes = v.ram_src.has_count
+pub chip-list-length-if-in-range : (s : BusState) → IsInRange s → (h : ChipList) → length (chip_list_in s h) ≡ chip_list_length h
+chip-list-length-if-in-range s v RomBytes = v.rom.has_count
+chip-list-length-if-in-range s v RamCharacters = v.ram.has_count
+chip-list-length-if-in-range s v StatusCharacters = v.status.has_count
+chip-list-length-if-in-range s v RamPorts = v.ram_ports.has_count
+chip-list-length-if-in-range s v BankSrcBytes = v.ram_src.has_count
 
-none-from : {X : Type 0} (o : Option X) → is_none o ≡ true → o ≡ None
-none-from (Some _) e = absurd (cc)
-none-from None e = refl
+none-if-is_none : {X : Type 0} (o : Option X) → is_none o ≡ true → o ≡ None
+none-if-is_none (Some _) e = absurd (cc)
+none-if-is_none None e = refl
 
 -- in each list of a valid state, the elements of absent chips are 0
-pub absent-of : (s : BusState) → AbsentPartsAreZero s → (h : ChipList) → IsZeroWhereAbsent s h
-absent-of s v RomBytes i l e = v.rom i (none-from (rom_masks s.board (i / 256)) e)
-absent-of s v RamCharacters i l e =
+pub zero-where-absent-if-valid : (s : BusState) → AbsentPartsAreZero s → (h : ChipList) → IsZeroWhereAbsent s h
+zero-where-absent-if-valid s v RomBytes i l e = v.rom i (none-if-is_none (rom_masks s.board (i / 256)) e)
+zero-where-absent-if-valid s v RamCharacters i l e =
     let place : i / 256 * 256 + i % 256 ≡ i = omega arith in
     rw place at (v.ram (i / 256) (i % 256) (omega arith) (leb-true _ _ e))
-absent-of s v StatusCharacters i below e =
+zero-where-absent-if-valid s v StatusCharacters i below e =
     let place : i / 64 * 64 + (i % 64 / 4 * 4 + i % 4) ≡ i = omega arith in
     let chip : i % 64 / 4 / 4 ≡ i % 64 / 16 = omega arith in
     rw place at (v.status (i / 64) (i % 64 / 4) (i % 4) (omega arith) (omega arith) (let l = leb-true _ _ e in omega arith))
-absent-of s v RamPorts i l e =
+zero-where-absent-if-valid s v RamPorts i l e =
     let place : i / 4 * 4 + i % 4 ≡ i = omega arith in
     rw place at (v.ram_ports (i / 4) (i % 4) (omega arith) (leb-true _ _ e))
-absent-of s v BankSrcBytes i below e = v.ram_src i (let l = leb-true _ _ e in omega arith)
+zero-where-absent-if-valid s v BankSrcBytes i below e = v.ram_src i (let l = leb-true _ _ e in omega arith)
 
 index-past-end : (xs : List ℕ) (i : ℕ) → length xs ≤ i → slice_index xs i ≡ 0
 index-past-end xs i l = get_or_past xs i 0 l
 
-pub absent-from : (s : BusState) → IsInRange s → ((h : ChipList) → IsZeroWhereAbsent s h) → ((chip : ℕ) → MatchOption (rom_masks s.board chip) (slice_index s.rom_ports chip ≡ 0) (λ mask. latch_value mask (slice_index s.rom_ports chip) ≡ slice_index s.rom_ports chip)) → AbsentPartsAreZero s
-absent-from s v zero ports = record {
+pub absent-parts-zero-if-lists-zero : (s : BusState) → IsInRange s → ((h : ChipList) → IsZeroWhereAbsent s h) → ((chip : ℕ) → MatchOption (rom_masks s.board chip) (slice_index s.rom_ports chip ≡ 0) (λ mask. latch_value mask (slice_index s.rom_ports chip) ≡ slice_index s.rom_ports chip)) → AbsentPartsAreZero s
+absent-parts-zero-if-lists-zero s v zero ports = record {
   rom = λ at none.
       elim (cases_lt at 4096) [
         | inl l ↦ zero RomBytes at l (ap is_none none)
@@ -149,7 +149,7 @@ absent-from s v zero ports = record {
       ];
 }
 
--- a list of any kind has 0 for absent chips if each of the five lists has
+-- a list of any kind has 0 for absent chips, if each of the five lists has 0 for absent chips
 pub each-list-is-zero : (s : BusState) → IsZeroWhereAbsent s RomBytes → IsZeroWhereAbsent s RamCharacters → IsZeroWhereAbsent s StatusCharacters → IsZeroWhereAbsent s RamPorts → IsZeroWhereAbsent s BankSrcBytes → (h : ChipList) → IsZeroWhereAbsent s h
 each-list-is-zero s a b c d e RomBytes = a
 each-list-is-zero s a b c d e RamCharacters = b
@@ -159,65 +159,67 @@ each-list-is-zero s a b c d e BankSrcBytes = e
 
 -- ---- filling a list
 
--- Holds if s is `start` except for one list. The first i elements of that list are those of `goal`, and the others
--- are unchanged.
+-- Holds if `s` is `start` except for the list `h`. The first `i` elements of that list are those of
+-- `goal`, and the others are unchanged.
 pub record Fills (start s : BusState) (h : ChipList) (goal : List ℕ) (i : ℕ) : Type 0 where
   pub others : s ≡ with_chip_list start h (chip_list_in s h)
   pub filled : IsFilled (chip_list_in start h) goal i (chip_list_in s h)
 
-pub fills-none : (start : BusState) (h : ChipList) (goal : List ℕ) → length (chip_list_in start h) ≡ length goal → Fills start start h goal 0
-fills-none start h goal l = record { others = sym (list-same start h); filled = filled-none (chip_list_in start h) goal l }
+pub chip-list-filled-at-start : (start : BusState) (h : ChipList) (goal : List ℕ) → length (chip_list_in start h) ≡ length goal → Fills start start h goal 0
+chip-list-filled-at-start start h goal l = record { others = sym (with_chip_list-of-own-list start h); filled = filled-at-start (chip_list_in start h) goal l }
 
-set-next : (start s t : BusState) (h : ChipList) (goal : List ℕ) (i n : ℕ) → i < length goal → n ≡ get_or goal i 0 → Fills start s h goal i → t ≡ with_chip_list s h (slice_set (chip_list_in s h) i n) → Fills start t h goal (i + 1)
-set-next start s t h goal i n l is f to =
+chip-list-filled-after-set : (start s t : BusState) (h : ChipList) (goal : List ℕ) (i n : ℕ) → i < length goal → n ≡ get_or goal i 0 → Fills start s h goal i → t ≡ with_chip_list s h (slice_set (chip_list_in s h) i n) → Fills start t h goal (i + 1)
+chip-list-filled-after-set start s t h goal i n l is f to =
     let ys = slice_set (chip_list_in s h) i n in
-    let now : chip_list_in t h ≡ ys = ap (λ (u : BusState). chip_list_in u h) to ∙ list-of s h ys in
+    let now : chip_list_in t h ≡ ys = ap (λ (u : BusState). chip_list_in u h) to ∙ chip_list_in-with_chip_list s h ys in
     record {
-      others = to ∙ ap (λ (u : BusState). with_chip_list u h ys) f.others ∙ list-again start h (chip_list_in s h) ys ∙ ap (with_chip_list start h) (sym now);
-      filled = subst (IsFilled (chip_list_in start h) goal (i + 1)) (sym now) (filled-set (chip_list_in start h) goal (chip_list_in s h) i i n l refl is f.filled);
+      others = to ∙ ap (λ (u : BusState). with_chip_list u h ys) f.others ∙ with_chip_list-twice start h (chip_list_in s h) ys ∙ ap (with_chip_list start h) (sym now);
+      filled = subst (IsFilled (chip_list_in start h) goal (i + 1)) (sym now) (filled-after-set (chip_list_in start h) goal (chip_list_in s h) i i n l refl is f.filled);
     }
 
-kept-next : (start s t : BusState) (h : ChipList) (goal : List ℕ) (i : ℕ) → get_or (chip_list_in start h) i 0 ≡ get_or goal i 0 → Fills start s h goal i → t ≡ s → Fills start t h goal (i + 1)
-kept-next start s t h goal i same f to = subst (λ (u : BusState). Fills start u h goal (i + 1)) (sym to) (record { others = f.others; filled = filled-kept (chip_list_in start h) goal (chip_list_in s h) i same f.filled })
+chip-list-filled-if-element-kept : (start s t : BusState) (h : ChipList) (goal : List ℕ) (i : ℕ) → get_or (chip_list_in start h) i 0 ≡ get_or goal i 0 → Fills start s h goal i → t ≡ s → Fills start t h goal (i + 1)
+chip-list-filled-if-element-kept start s t h goal i same f to = subst (λ (u : BusState). Fills start u h goal (i + 1)) (sym to) (record { others = f.others; filled = filled-if-element-kept (chip_list_in start h) goal (chip_list_in s h) i same f.filled })
 
-pub fills-next : (start s t : BusState) (h : ChipList) (goal : List ℕ) (i n : ℕ) → i < length goal → n ≡ get_or goal i 0 → (is_chip_absent start.board h i ≡ true → get_or (chip_list_in start h) i 0 ≡ get_or goal i 0) → Fills start s h goal i → t ≡ with_chip_value s h i n → Fills start t h goal (i + 1)
-fills-next start s t h goal i n l is gone f to =
-    let board : s.board ≡ start.board = ap (λ (u : BusState). u.board) f.others ∙ list-board start h (chip_list_in s h) in
+pub chip-list-filled-with-next : (start s t : BusState) (h : ChipList) (goal : List ℕ) (i n : ℕ) → i < length goal → n ≡ get_or goal i 0 → (is_chip_absent start.board h i ≡ true → get_or (chip_list_in start h) i 0 ≡ get_or goal i 0) → Fills start s h goal i → t ≡ with_chip_value s h i n → Fills start t h goal (i + 1)
+chip-list-filled-with-next start s t h goal i n l is gone f to =
+    let board : s.board ≡ start.board = ap (λ (u : BusState). u.board) f.others ∙ board-of-with_chip_list start h (chip_list_in s h) in
     elim (is_chip_absent s.board h i) as (λ v. is_chip_absent s.board h i ≡ v → t ≡ cond v s (with_chip_list s h (slice_set (chip_list_in s h) i n)) → Fills start t h goal (i + 1)) [
-      | true ↦ λ e to. kept-next start s t h goal i (gone (subst (λ (b : BoardParts). is_chip_absent b h i ≡ true) board e)) f to
-      | false ↦ λ e to. set-next start s t h goal i n l is f to
+      | true ↦ λ e to. chip-list-filled-if-element-kept start s t h goal i (gone (subst (λ (b : BoardParts). is_chip_absent b h i ≡ true) board e)) f to
+      | false ↦ λ e to. chip-list-filled-after-set start s t h goal i n l is f to
     ] refl to
 
-pub fills-all : (start s : BusState) (h : ChipList) (goal : List ℕ) (i : ℕ) → length goal ≤ i → Fills start s h goal i → s ≡ with_chip_list start h goal
-fills-all start s h goal i l f = f.others ∙ ap (with_chip_list start h) (filled-all (chip_list_in start h) goal (chip_list_in s h) i l f.filled)
+pub chip-list-filled-completely : (start s : BusState) (h : ChipList) (goal : List ℕ) (i : ℕ) → length goal ≤ i → Fills start s h goal i → s ≡ with_chip_list start h goal
+chip-list-filled-completely start s h goal i l f = f.others ∙ ap (with_chip_list start h) (filled-list-is-goal (chip_list_in start h) goal (chip_list_in s h) i l f.filled)
 
 -- ---- filling the port latches of the ROMs
 
+-- Holds if `s` is `start` except for the port latches of the ROMs. The first `i` latches are those
+-- of `goal`, and the others are unchanged.
 pub record FillsPorts (start s : BusState) (goal : List ℕ) (i : ℕ) : Type 0 where
   pub others : s ≡ record start { rom_ports = s.rom_ports }
   pub filled : IsFilled start.rom_ports goal i s.rom_ports
 
--- holds if a ROM's port latch can hold n; the latch of an absent ROM can hold only 0
+-- holds if a ROM's port latch can hold `n`; the latch of an absent ROM can hold only 0
 abbrev pub latch_can_hold : Option (List LineMask) → ℕ → Type 0
 latch_can_hold masks n = MatchOption masks (n ≡ 0) (λ mask. latch_value mask n ≡ n)
 
-port-next : (masks : Option (List LineMask)) (start s t : BusState) (goal : List ℕ) (i n : ℕ) → i < length goal → n ≡ get_or goal i 0 → latch_can_hold masks (get_or goal i 0) → latch_can_hold masks (get_or start.rom_ports i 0) → FillsPorts start s goal i → t ≡ elim masks [ Some mask ↦ with_rom_ports_at s i (latch_value mask n) | None ↦ s ] → FillsPorts start t goal (i + 1)
-port-next (Some mask) start s t goal i n l is new old f to =
+ports-filled-with-next-for-masks : (masks : Option (List LineMask)) (start s t : BusState) (goal : List ℕ) (i n : ℕ) → i < length goal → n ≡ get_or goal i 0 → latch_can_hold masks (get_or goal i 0) → latch_can_hold masks (get_or start.rom_ports i 0) → FillsPorts start s goal i → t ≡ elim masks [ Some mask ↦ with_rom_ports_at s i (latch_value mask n) | None ↦ s ] → FillsPorts start t goal (i + 1)
+ports-filled-with-next-for-masks (Some mask) start s t goal i n l is new old f to =
     let now : t.rom_ports ≡ slice_set s.rom_ports i (latch_value mask n) = ap (λ (u : BusState). u.rom_ports) to in
     record {
       others = to ∙ ap (λ (u : BusState). record u { rom_ports = slice_set s.rom_ports i (latch_value mask n) }) f.others ∙ ap (λ xs. record start { rom_ports = xs }) (sym now);
-      filled = subst (IsFilled start.rom_ports goal (i + 1)) (sym now) (filled-set start.rom_ports goal s.rom_ports i i (latch_value mask n) l refl (ap (latch_value mask) is ∙ new) f.filled);
+      filled = subst (IsFilled start.rom_ports goal (i + 1)) (sym now) (filled-after-set start.rom_ports goal s.rom_ports i i (latch_value mask n) l refl (ap (latch_value mask) is ∙ new) f.filled);
     }
-port-next None start s t goal i n l is new old f to =
-    subst (λ (u : BusState). FillsPorts start u goal (i + 1)) (sym to) (record { others = f.others; filled = filled-kept start.rom_ports goal s.rom_ports i (old ∙ sym new) f.filled })
+ports-filled-with-next-for-masks None start s t goal i n l is new old f to =
+    subst (λ (u : BusState). FillsPorts start u goal (i + 1)) (sym to) (record { others = f.others; filled = filled-if-element-kept start.rom_ports goal s.rom_ports i (old ∙ sym new) f.filled })
 
-pub ports-next : (start s t : BusState) (goal : List ℕ) (i n : ℕ) → i < length goal → n ≡ get_or goal i 0 → latch_can_hold (rom_masks start.board i) (get_or goal i 0) → latch_can_hold (rom_masks start.board i) (get_or start.rom_ports i 0) → FillsPorts start s goal i → t ≡ with_rom_latch s i n → FillsPorts start t goal (i + 1)
+pub ports-filled-with-next : (start s t : BusState) (goal : List ℕ) (i n : ℕ) → i < length goal → n ≡ get_or goal i 0 → latch_can_hold (rom_masks start.board i) (get_or goal i 0) → latch_can_hold (rom_masks start.board i) (get_or start.rom_ports i 0) → FillsPorts start s goal i → t ≡ with_rom_latch s i n → FillsPorts start t goal (i + 1)
 unfolding with_rom_latch
-ports-next start s t goal i n l is new old f to =
+ports-filled-with-next start s t goal i n l is new old f to =
     let board : start.board ≡ s.board = sym (ap (λ (u : BusState). u.board) f.others) in
     let hold = λ (x : ℕ) (h : latch_can_hold (rom_masks start.board i) x). subst (λ (b : BoardParts). latch_can_hold (rom_masks b i) x) board h in
-    port-next (rom_masks s.board i) start s t goal i n l is (hold (get_or goal i 0) new) (hold (get_or start.rom_ports i 0) old) f to
+    ports-filled-with-next-for-masks (rom_masks s.board i) start s t goal i n l is (hold (get_or goal i 0) new) (hold (get_or start.rom_ports i 0) old) f to
 
-pub no-mask : (masks : Option (List LineMask)) (n : ℕ) → n ≡ 0 → latch_can_hold masks n
-no-mask (Some mask) n e = ap (latch_value mask) e ∙ latch_value-zero mask ∙ sym e
-no-mask None n e = e
+pub latch-can-hold-zero : (masks : Option (List LineMask)) (n : ℕ) → n ≡ 0 → latch_can_hold masks n
+latch-can-hold-zero (Some mask) n e = ap (latch_value mask) e ∙ latch_value-zero mask ∙ sym e
+latch-can-hold-zero None n e = e

@@ -1,4 +1,4 @@
--- A state is that of a new bench if each of its parts is.
+-- A state equals a new bench's state if each part of the state does.
 use Rattle.std.proofs.Common.{◌≡◌, ℕ, List, [], replicate, refl}
 use Rattle.arrayvec.specs.ArrayVec.{ArrayVec}
 use Rattle.mcs_model.specs.declared.board.BoardParts.{BoardParts}

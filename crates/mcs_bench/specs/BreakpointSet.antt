@@ -1,12 +1,12 @@
--- The flags that a bench keeps with its breakpoints. With them, a run checks an address in constant time. (Our own
--- choice.)
+-- The flags that a bench keeps with its breakpoints. With these flags, a run checks an address in
+-- constant time. (Defined by Fethsaim, not by Intel.)
 use Rattle.mcs_model.specs.declared.limits.TheConstants.{WATCHES}
 use Rattle.std.specs.Prelude.{◌≡◌, ℕ, ◌<◌, ◌≤◌, All, Bool, false, List, length, slice_index_or}
 use Rattle.std.specs.List.Sorted.{IsStrictlyIncreasing}
 use Rattle.mcs_model.specs.Listed.{is_listed}
 
--- Holds if the breakpoints are strictly increasing and `flags` has one flag for each of the 4,096 addresses. A flag
--- is true exactly if its address is a breakpoint.
+-- Holds if the breakpoints are strictly increasing and `flags` has one flag for each of the 4,096
+-- addresses. A flag is true exactly if its address is a breakpoint.
 pub record HasFlags (flags : List Bool) (breakpoints : List ℕ) : Type 0 where
   pub rising : IsStrictlyIncreasing breakpoints
   pub whole : length flags ≡ 4096

@@ -1,4 +1,5 @@
--- Lists of the values in a board's chips, and the chip that each index belongs to. (Our own choice.)
+-- Lists of the values in a board's chips, and the presence of the chip that holds each element.
+-- (Defined by Fethsaim, not by Intel.)
 use Rattle.std.specs.Prelude.{◌≡◌, ℕ, ◌<◌, ◌/◌, ◌%◌, Bool, true, List, is_none, nat_le, slice_index, slice_set, if◌then◌else◌}
 use Rattle.mcs_model.specs.declared.board.BoardParts.{BoardParts}
 use Rattle.mcs_model.specs.Boards.{rom_masks, has_key, key_index}
@@ -14,7 +15,7 @@ chip_list_in s StatusCharacters = s.status
 chip_list_in s RamPorts = s.ram_ports
 chip_list_in s BankSrcBytes = s.ram_src
 
--- the state after its list of the given kind is replaced
+-- the state after its list of the given kind is replaced by `xs`
 abbrev pub with_chip_list : BusState → ChipList → List ℕ → BusState
 with_chip_list s RomBytes xs = record s { rom = xs }
 with_chip_list s RamCharacters xs = record s { ram = xs }
@@ -22,7 +23,8 @@ with_chip_list s StatusCharacters xs = record s { status = xs }
 with_chip_list s RamPorts xs = record s { ram_ports = xs }
 with_chip_list s BankSrcBytes xs = record s { ram_src = xs }
 
--- The length of a list. The next definition, `chip_value_limit`, is the limit that each of its elements is below.
+-- The length of a list. Every element of the list is below the number that the next definition,
+-- `chip_value_limit`, gives.
 abbrev pub chip_list_length : ChipList → ℕ
 chip_list_length RomBytes = 4096
 chip_list_length RamCharacters = 2048
@@ -35,7 +37,7 @@ chip_value_limit RomBytes = 256
 chip_value_limit BankSrcBytes = 256
 chip_value_limit _ = 16
 
--- true if the board lacks the chip that holds element i of a list
+-- true if the board lacks the chip that holds element `i` of a list
 abbrev pub is_chip_absent : BoardParts → ChipList → ℕ → Bool
 is_chip_absent b RomBytes i = is_none (rom_masks b (i / 256))
 is_chip_absent b RamCharacters i = nat_le (slice_index b.banks (i / 256)) (i % 256 / 64)
@@ -48,14 +50,16 @@ abbrev pub IsZeroWhereAbsent : BusState → ChipList → Type 0
 IsZeroWhereAbsent s h =
     (i : ℕ) → i < chip_list_length h → is_chip_absent s.board h i ≡ true → slice_index (chip_list_in s h) i ≡ 0
 
--- The state after element i of a list is set to n. If the chip of that element is absent, the state is unchanged.
+-- The state after element `i` of the list `h` is set to `n`. If the chip of that element is absent,
+-- the state is unchanged.
 abbrev pub with_chip_value : BusState → ChipList → ℕ → ℕ → BusState
 with_chip_value s h i n =
     if is_chip_absent s.board h i
     then s
     else with_chip_list s h (slice_set (chip_list_in s h) i n)
 
--- holds if the board has a key at row `i / columns` and column `i % columns`, and its index is i
+-- holds if the board has a key at row `i / columns` and column `i % columns`, and the index of this
+-- key is `i`
 pub record IsKeyAt (b : BoardParts) (columns i : ℕ) : Type 0 where
   pub some : 0 < columns
   pub there : has_key b (i / columns) (i % columns) ≡ true

@@ -13,16 +13,19 @@ use Rattle.mcs_bench.specs.declared.running.InstructionResult.{InstructionResult
 use Rattle.mcs_model.specs.Running.{Machine, StopConditions, is_outside_table, after_cycles, at_break, has_changed, stop_reason_after, run_length, after_run, run_stop_reason, step_length, after_step, step_stop_reason}
 use Rattle.mcs_cpu4004.specs.IsInstructionRun.{IsInstructionRun}
 
--- the debug stop after a cycle: a breakpoint if `at_breakpoint`, else a changed watch if `changed_watch`, else none
+-- the debug stop after a cycle: a breakpoint if `at_breakpoint`, else a changed watch if
+-- `changed_watch`, else none
 abbrev pub debug_stop_of : Bool → Bool → Option Stop
 debug_stop_of at_breakpoint changed_watch = if at_breakpoint then Some Breakpoint else if changed_watch then Some Watched else None
 
--- the debug stop at the machine t, if any, after the k-th cycle of a run, which led from s to t
+-- the debug stop at the machine `t`, if any, after cycle `k` of a run. That cycle led from `s` to
+-- `t`.
 abbrev pub debug_stop_at : StopConditions → ℕ → Machine → Machine → Option Stop
 debug_stop_at stops k s t = debug_stop_of (at_break stops.breaks k t) (has_changed stops.watches s t)
 
--- Holds if a run of at most n cycles from s reaches t after k cycles and stops there, with no earlier reason to stop.
--- `mark` is the debug stop at t. If it is `None`, all n cycles are done or no cycle can follow.
+-- Holds if a run of at most `n` cycles from `s` reaches `t` after `k` cycles and stops there, with
+-- no earlier reason to stop. `mark` is the debug stop at `t`, if any. If `mark` is `None`, all `n`
+-- cycles are done or no cycle is possible at `t`.
 pub record RunStopsAt (stops : StopConditions) (n : ℕ) (s t : Machine) (k : ℕ) (mark : Option Stop) : Type 0 where
   pub machine : t ≡ after_cycles k s
   pub within : k ≤ n
@@ -30,16 +33,17 @@ pub record RunStopsAt (stops : StopConditions) (n : ℕ) (s t : Machine) (k : �
   pub found : debug_stop_at stops k (after_cycles (k - 1) s) t ≡ mark
   pub unmarked : mark ≡ None → is_outside_table t ≡ false → k ≡ n
 
--- Holds if a run of at most n cycles from s reaches t after k cycles, with no earlier reason to stop. There is no
--- debug stop at t: neither a breakpoint nor a change of a watched RAM character.
+-- Holds if a run of at most `n` cycles from `s` reaches `t` after `k` cycles, with no earlier
+-- reason to stop. There is no debug stop at `t`: neither a breakpoint nor a change of a watched RAM
+-- character.
 pub record RunContinuesAt (stops : StopConditions) (n k : ℕ) (s t : Machine) : Type 0 where
   pub at : t ≡ after_cycles k s
   pub within : k ≤ n
   pub before : (j : ℕ) → j < k → stop_reason_after stops n s j ≡ None
   pub unmarked : debug_stop_at stops k (after_cycles (k - 1) s) t ≡ None
 
--- Holds if a run of at most n cycles from s reaches t after k cycles, with no earlier reason to stop. `mark` is the
--- debug stop at t, if any.
+-- Holds if a run of at most `n` cycles from `s` reaches `t` after `k` cycles, with no earlier
+-- reason to stop. `mark` is the debug stop at `t`, if any.
 abbrev pub RunReaches : StopConditions → ℕ → Machine → Machine → ℕ → Option Stop → Type 0
 RunReaches stops n s t k mark = MatchOption mark (RunContinuesAt stops n k s t) (λ why. RunStopsAt stops n s t k (Some why))
 
@@ -48,41 +52,41 @@ abbrev pub selected_index : Machine → ℕ
 selected_index t = ram_index t.0.dcl (src_of t.1 t.0.dcl)
 
 -- true if WRM would change the value of the selected RAM character
-abbrev pub changes_selected : Machine → Bool
-changes_selected t =
+abbrev pub wrm_changes_selected_character : Machine → Bool
+wrm_changes_selected_character t =
     not (slice_index t.1.ram (selected_index t)
     == slice_index (after_ram t.1 t.0.dcl t.0.acc).ram (selected_index t))
 
--- holds if b says whether the instruction at the program counter changes the value of the selected RAM character and
--- that RAM character is watched
+-- holds if `b` is true exactly when the instruction at the program counter changes the value of the
+-- selected RAM character and that RAM character is watched
 abbrev pub PredictsWatchChange : List ℕ → Machine → Bool → Type 0
 PredictsWatchChange watches t b =
     (((watches ≡ []) ⊎ (instruction_at t.0 t.1 ≢ Some Wrm)) × (b ≡ false))
     ⊎ ((instruction_at t.0 t.1 ≡ Some Wrm) ×
-    (b ≡ (is_listed watches (selected_index t) && changes_selected t)))
+    (b ≡ (is_listed watches (selected_index t) && wrm_changes_selected_character t)))
 
--- Holds if none of the d cycles from t, except the last, changes a watched RAM character. `changed_watch` says whether the
--- last cycle changes one.
+-- Holds if none of the `d` cycles from `t`, except the last, changes a watched RAM character.
+-- `changed_watch` is true exactly if the last cycle changes one.
 pub record WatchChanges (watches : List ℕ) (t : Machine) (d : ℕ) (changed_watch : Bool) : Type 0 where
   pub before : (j : ℕ) → 0 < j → j < d → has_changed watches (after_cycles (j - 1) t) (after_cycles j t) ≡ false
   pub last : 0 < d → has_changed watches (after_cycles (d - 1) t) (after_cycles d t) ≡ changed_watch
 
--- holds if a run of at most n cycles from s takes k cycles, reaches t and stops for the reason
--- `why`
+-- holds if a run of at most `n` cycles from `s` takes `k` cycles, reaches `t` and stops for the
+-- reason `why`
 pub record IsRunResult (stops : StopConditions) (n : ℕ) (s t : Machine) (k : ℕ) (why : Stop) : Type 0 where
   pub cycles : k ≡ run_length stops n s
   pub machine : t ≡ after_run stops n s
   pub stop : why ≡ run_stop_reason stops n s
 
--- the reason that a run stops at the machine t: an opcode outside the instruction table, else the
--- given mark, else the end of the run
+-- the reason that a run stops at the machine `t`: `Outside` if no cycle is possible, else `mark`,
+-- else `Ended`
 abbrev pub stop_reason : Machine → Option Stop → Stop
 stop_reason t mark = if is_outside_table t then Outside else unwrap_or mark Ended
 
--- holds if, with `left` cycles left in a run, one instruction or a pending second cycle leads from s to t with the
--- result w
+-- holds if one instruction or a pending second cycle leads from `s` to `t` with the result `w`. The
+-- run has `left` cycles left at `s`.
 pub record IsInstructionResult (stops : StopConditions) (left : ℕ) (s t : Machine) (w : InstructionResult) : Type 0 where
-  -- t is the machine after `w.cycles` cycles
+  -- `t` is the machine after `w.cycles` cycles
   pub ran : IsInstructionRun left s t w.cycles
   pub some : 0 < w.cycles
   -- no watched RAM character changes before the last of these cycles
@@ -91,14 +95,14 @@ pub record IsInstructionResult (stops : StopConditions) (left : ℕ) (s t : Mach
   pub mark : w.mark ≡ debug_stop_at stops w.cycles (after_cycles (w.cycles - 1) s) t
   pub op : w.op ≡ (if s.0.owed == 1 then None else instruction_at s.0 s.1)
 
--- holds if a step from s takes k cycles, reaches t and stops for the reason `why`
+-- holds if a step from `s` takes `k` cycles, reaches `t` and stops for the reason `why`
 pub record IsStepResult (s t : Machine) (k : ℕ) (why : Stop) : Type 0 where
   pub cycles : k ≡ step_length s
   pub machine : t ≡ after_step s
   pub stop : why ≡ step_stop_reason s
 
--- if no breakpoint is set and nothing is watched, two runs reach the same state as one run of their
--- total cycles
+-- if no breakpoint is set and no RAM character is watched, two runs reach the same state as one run
+-- of their total cycles
 abbrev pub RunsAddUp : Type 0
 RunsAddUp =
     (s : BenchState) (a b : ℕ) → s.breakpoints ≡ [] → s.watches ≡ [] →

@@ -1,4 +1,5 @@
--- The flat state (`BenchState`) of a `Flat`, which has the same state as plain numbers. (Our own choice.)
+-- The flat state (`BenchState`) that a `Flat` holds as plain numbers. (Defined by Fethsaim, not by
+-- Intel.)
 use Rattle.std.specs.Prelude.{ℕ, List, map}
 use Rattle.arrayvec.specs.ArrayVec.{ArrayVec}
 use Rattle.mcs_model.specs.BenchState.{BenchState}

@@ -1,4 +1,4 @@
-//! The `Bench` type, and how a bench is created and copied.
+//! The `Bench` type, and functions that create and copy a bench.
 ghost use Rattle.std.specs.Prelude.{◌≡◌, IfOk};
 ghost use Rattle.mcs_model.specs.BenchState.{new_bench_state};
 

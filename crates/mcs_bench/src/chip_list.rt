@@ -14,7 +14,7 @@ pub enum ChipList {
     RomBytes,
     /// The RAM characters, at index bank * 256 + SRC byte.
     RamCharacters,
-    /// The status characters. Character k, 0 to 3, is at index (bank * 16 + upper nibble of the SRC byte) * 4 + k.
+    /// The status characters. Character `k`, 0 to 3, is at index (bank * 16 + upper nibble of the SRC byte) * 4 + k.
     StatusCharacters,
     /// The port latches of the RAM chips, at index bank * 4 + chip.
     RamPorts,

@@ -36,7 +36,7 @@ fn lacks_rom(board: &Board, at: Addr) -> bool
     board.mask(at.page().get()).is_none()
 }
 
-/// Returns whether an image has a byte at an address whose ROM the board lacks.
+/// Returns whether any address of an image is in a ROM that the board lacks.
 fn image_lacks_rom(board: &Board, image: &Image) -> bool
     ensures { result ≡ list_any (λ p. lacks_rom board.now p.0) image.now }
 {
@@ -55,7 +55,7 @@ fn load(rig: &mut BenchRig, image: &Image) -> Reply
 }
 
 impl Bench {
-    /// Returns the reason that a poke of `place` is rejected, or `None` if it is accepted.
+    /// Returns the reason that the bench rejects a poke of `place`, or `None` if the bench accepts the poke.
     fn place_refusal(&self, place: Place) -> Option<BenchFault>
         ensures { result ≡ place_refusal self.now.bus place }
     {
@@ -149,7 +149,7 @@ impl Bench {
         self.cpu.set_dcl(bank.get());
     }
 
-    /// Writes the value in `place` to its location. Does nothing if the chip of that location is absent.
+    /// Writes the value of `place` to the location of `place`. Does nothing if the chip of that location is absent.
     fn write_place(&mut self, place: Place)
         ensures { self.new ≡ with_place self.old place }
     {

@@ -1,4 +1,4 @@
-//! A bench's state as plain numbers, which can be out of range.
+//! A bench's state as plain numbers. These numbers can be out of range.
 ghost use Rattle.std.specs.Prelude.{◌≡◌, ◌<◌, ℕ, IfOk, length, replicate, slice_index, slice_set};
 ghost use Rattle.mcs_model.specs.BenchState.{new_bench_state};
 ghost use Rattle.mcs_bench.specs.States.{state_of};
@@ -9,7 +9,7 @@ use mcs_model::limits::{BREAKPOINTS, CHAIN_SOCKETS, CHAINS, KEYS, WATCHES};
 use std::alloc::{AllocError, Global};
 use std::marker::Model;
 
-/// A list of bytes whose length is fixed. In contracts, it is a list of numbers.
+/// A byte list of fixed length. In contracts, it is a list of numbers.
 #[derive(Drop)]
 pub struct Cells {
     bytes: Vec<u8>,
@@ -64,7 +64,7 @@ impl Cells {
     }
 }
 
-/// A bench's state as plain numbers, which need not be valid. `check` returns whether a bench can be in that state.
+/// A bench's state as plain numbers. The state need not be valid: `check` returns whether a bench can be in that state.
 #[derive(Drop)]
 pub struct Flat {
     /// The number of accepted commands.
@@ -75,7 +75,7 @@ pub struct Flat {
     pub rom: Cells,
     /// The RAM characters, at index bank * 256 + SRC byte: 2,048 nibbles, 0 for absent chips.
     pub ram: Cells,
-    /// The status characters: 512 nibbles, 0 for absent chips. Character k, 0 to 3, is at index (bank * 16 + upper
+    /// The status characters: 512 nibbles, 0 for absent chips. Character `k`, 0 to 3, is at index (bank * 16 + upper
     /// nibble of the SRC byte) * 4 + k.
     pub status: Cells,
     /// The port latches of the RAM chips, at index bank * 4 + chip: 32 nibbles, 0 for absent chips.
@@ -109,7 +109,7 @@ pub struct Flat {
     pub test: u8,
     /// The breakpoint addresses in ascending order.
     pub breakpoints: ArrayVec<u16, BREAKPOINTS>,
-    /// The indices of the watched RAM characters, bank * 256 + SRC byte, in ascending order.
+    /// The indices of the watched RAM characters (bank * 256 + SRC byte) in ascending order.
     pub watches: ArrayVec<u16, WATCHES>,
 }
 

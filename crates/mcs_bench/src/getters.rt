@@ -79,7 +79,7 @@ impl Bench {
         Ok(rom)
     }
 
-    /// Returns the RAM character that an SRC byte selects in a bank, 0 to 7, or 0 if the chip is absent.
+    /// Returns the RAM character that an SRC byte selects in a bank, or 0 if the chip is absent. `bank` is 0 to 7.
     pub fn ram(&self, bank: u8, src: u8) -> Nibble
         requires { bank < 8 }
         ensures { result ≡ slice_index self.now.bus.ram (ram_index bank src) }
@@ -87,8 +87,8 @@ impl Bench {
         self.rig.ram(bank, src)
     }
 
-    /// Returns status character `k`, 0 to 3, of a bank, 0 to 7, or 0 if the chip is absent. `high`, the upper nibble of
-    /// an SRC byte, selects the chip and its register.
+    /// Returns status character `k` of a bank, or 0 if the chip is absent. `high`, the upper nibble of an SRC byte,
+    /// selects the chip and its register. `bank` is 0 to 7, and `k` is 0 to 3.
     pub fn status(&self, bank: u8, high: Nibble, k: u8) -> Nibble
         requires bank { bank < 8 }
         requires k { k < 4 }
@@ -97,7 +97,8 @@ impl Bench {
         self.rig.status(bank, high, k)
     }
 
-    /// Returns the port latch of a RAM chip, 0 to 3, in a bank, 0 to 7. It is 0 if the chip is absent.
+    /// Returns the port latch of a RAM chip in a bank, or 0 if the chip is absent. `bank` is 0 to 7, and `chip` is 0
+    /// to 3.
     pub fn ram_port(&self, bank: u8, chip: u8) -> Nibble
         requires bank { bank < 8 }
         requires chip { chip < 4 }
@@ -106,7 +107,8 @@ impl Bench {
         self.rig.ram_latch(bank, chip)
     }
 
-    /// Returns the port latch of a ROM, 0 to 15. Its bits for input lines are 0. It is 0 if the ROM is absent.
+    /// Returns the port latch of a ROM. The latch bits of input lines are 0. The latch of an absent ROM is 0. `chip` is
+    /// 0 to 15.
     pub fn rom_port(&self, chip: u8) -> Nibble
         requires { chip < 16 }
         ensures { result ≡ slice_index self.now.bus.rom_ports chip }
@@ -114,7 +116,7 @@ impl Bench {
         self.rig.rom_latch(chip)
     }
 
-    /// Returns the value that reading a ROM's port would give now, or 0 if the ROM is absent.
+    /// Returns the value that a read of a ROM's port would give now, or 0 if the ROM is absent.
     pub fn read_port(&self, chip: Nibble) -> Nibble
         ensures { result ≡ port_at self.now.bus chip }
     {
@@ -128,7 +130,7 @@ impl Bench {
         self.rig.rom_src()
     }
 
-    /// Returns the SRC byte latched in a bank, 0 to 7, or 0 if the bank has no chips.
+    /// Returns the SRC byte latched in a bank, or 0 if the bank has no chips. `bank` is 0 to 7.
     pub fn ram_src(&self, bank: u8) -> u8
         requires { bank < 8 }
         ensures { result ≡ slice_index self.now.bus.ram_src bank }
@@ -153,7 +155,7 @@ impl Bench {
         }
     }
 
-    /// Returns bit `i` of chain `chain`, or 0 if the board does not have that bit. Both numbers start at 0.
+    /// Returns bit `i` of chain `chain`, or 0 if the board does not have that bit. `chain` and `i` are counted from 0.
     pub fn chain_bit(&self, chain: u8, i: u8) -> Bit
         ensures { result ≡ chain_bit self.now.bus chain i }
     {
@@ -204,7 +206,7 @@ impl Bench {
         self.breaks.list()
     }
 
-    /// Returns the indices of the watched RAM characters, bank * 256 + SRC byte, in ascending order.
+    /// Returns the indices of the watched RAM characters (bank * 256 + SRC byte) in ascending order.
     pub fn watches(&self) -> &[Addr]
         ensures same { result.now ≡ self.now.watches }
         ensures valid { AreWatches result.now }

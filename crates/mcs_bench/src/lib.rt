@@ -1,7 +1,7 @@
 //! The bench: a processor and the rig that it drives, with breakpoints, watches and the number of accepted commands.
 //!
 //! `Bench` executes commands. In contracts, a bench is its flat state, `BenchState` of `mcs_model`. `Flat` is a state
-//! as plain numbers, which need not be valid. `Flat::check` returns whether a bench can be in that state.
+//! as plain numbers. That state need not be valid: `Flat::check` returns whether a bench can be in it.
 //! `Bench::restore` creates a bench from a valid `Flat`.
 #![tactic(auto)]
 

@@ -98,8 +98,8 @@ fn fill_chains(rig: &mut BenchRig, chains: &[ArrayVec<u8, CHAIN_SOCKETS>])
     }
 }
 
-/// Returns the number of columns in a board's key matrix, or 1 if it has no keys. A key's index divided by this
-/// number gives the key's row; the remainder is its column.
+/// Returns the number of columns in a board's key matrix, or 1 if the board has no keys. A key's index divided by this
+/// number gives the key's row; the remainder is the key's column.
 fn key_column_count(board: &Board) -> usize
     ensures { (i : ℕ) → i < key_count board.now → IsKeyAt board.now result i }
 {
@@ -150,7 +150,8 @@ fn watches(list: &[u16]) -> Watches
     watches
 }
 
-/// Gives a rig the board of a flat state, then sets all values in its chips, its keys and the TEST level.
+/// Gives a rig the board of a flat state. Then sets all chip values, the key states and the TEST level to those of the
+/// flat state.
 fn restore_rig(rig: &mut BenchRig, flat: &Flat)
     requires { IsValidBus (state_of flat.now).bus }
     ensures { rig.new ≡ (state_of flat.now).bus }

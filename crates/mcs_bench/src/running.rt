@@ -22,8 +22,8 @@ fn is_outside_table(cpu: &Cpu, rig: &BenchRig) -> bool
     cpu.is_outside_table(rig)
 }
 
-/// Returns the reason to stop a run after a cycle, if the program counter is then `at`. The reason is a breakpoint at
-/// `at` if no second cycle is pending, else a changed watch if `changed` is true, else `None`.
+/// Returns the debug stop after a cycle that leads to the address `at`. The stop is `Breakpoint` if `at` is a
+/// breakpoint and no second cycle is pending, else `Watched` if `changed` is true. Otherwise returns `None`.
 #[inline(always)]
 fn debug_stop_at(cpu: &Cpu, at: Addr, breaks: &BreakpointSet, changed: bool) -> Option<Stop>
     ensures mark { result ≡ debug_stop_of (cpu.now.owed == 0 && is_listed breaks.now at) changed }
@@ -102,7 +102,8 @@ fn op_changes_any_watch(cpu: &Cpu, rig: &BenchRig, watches: &Watches, op: &Op, a
     op_changes_watch(cpu, rig, watches, op, at)
 }
 
-/// Returns the reason that a run stops: an opcode outside the instruction table, else `mark`, else the end of the run.
+/// Returns the reason that a run stops in the current state: `Outside` if the processor cannot continue
+/// (`is_outside_table`), else `mark`, else `Ended`.
 pub(crate) fn stop_reason(cpu: &Cpu, rig: &BenchRig, mark: Option<Stop>) -> Stop
     ensures { result ≡ stop_reason (cpu.now, rig.now) mark }
 {
@@ -115,7 +116,7 @@ pub(crate) fn stop_reason(cpu: &Cpu, rig: &BenchRig, mark: Option<Stop>) -> Stop
     }
 }
 
-/// The result of one instruction of a run, or of the pending second cycle of one.
+/// The result of one instruction of a run, or of only a pending second cycle.
 #[derive(Clone, Copy)]
 pub struct InstructionResult {
     /// The number of cycles done, at least 1.
@@ -144,7 +145,7 @@ fn run_second_cycle(cpu: &mut Cpu, breaks: &BreakpointSet) -> InstructionResult
 }
 
 /// Executes the pending second cycle if there is one, else the instruction at the program counter, for at most `left`
-/// cycles. Returns `None` and changes nothing if no cycle can follow (`is_outside_table`).
+/// cycles. Returns `None` and changes nothing if the processor cannot continue (`is_outside_table`).
 #[inline(always)]
 pub(crate) fn continue_run(
     cpu: &mut Cpu,
@@ -181,7 +182,7 @@ pub(crate) fn continue_run(
 
 /// Runs for at most `n` cycles. Stops at a breakpoint, or before an instruction that can end the run for another
 /// reason. Returns the number of cycles done, the address reached, and the breakpoint stop, if any. The caller must
-/// set the program counter to that address.
+/// set the program counter to the address reached. `WATCHED` may be false only if no RAM character is watched.
 #[inline(always)]
 fn fast_loop<const WATCHED: bool>(
     cpu: &mut Cpu,
@@ -222,8 +223,8 @@ fn fast_loop<const WATCHED: bool>(
     (n - left, at, None)
 }
 
-/// Runs `fast_loop` and then sets the program counter. If no RAM character is watched, uses the variant that does not
-/// check for changes.
+/// Runs `fast_loop` and then sets the program counter. If no RAM character is watched, uses the variant of `fast_loop`
+/// that does not check for changes. Returns the number of cycles done and the breakpoint stop, if any.
 fn run_fast(
     cpu: &mut Cpu,
     rig: &mut BenchRig,
@@ -272,7 +273,7 @@ pub(crate) fn run(
     (done, stop_reason(cpu, rig, mark))
 }
 
-/// Executes one instruction cycle and returns true. Returns false and changes nothing if no cycle can follow
+/// Executes one instruction cycle and returns true. Returns false and changes nothing if the processor cannot continue
 /// (`is_outside_table`).
 #[inline(never)]
 fn run_cycle(cpu: &mut Cpu, rig: &mut BenchRig) -> bool

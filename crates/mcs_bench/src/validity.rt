@@ -70,8 +70,8 @@ fn is_strictly_increasing(numbers: &[u16]) -> bool
     true
 }
 
-/// Returns whether `chains` fits the board: one list for each chain of the board, with the chain's number of bits,
-/// each 0 or 1.
+/// Returns whether `chains` fits the board. There must be one list for each chain of the board. Each list must have
+/// the chain's number of bits, each 0 or 1.
 fn chains_fit_board(board: &Board, chains: &[ArrayVec<u8, CHAIN_SOCKETS>]) -> bool
     ensures { IsTrue result
         ↔ ((length chains.now ≡ chain_count board.now) ×
@@ -89,8 +89,8 @@ fn chains_fit_board(board: &Board, chains: &[ArrayVec<u8, CHAIN_SOCKETS>]) -> bo
     true
 }
 
-/// Returns whether the port latch of a ROM, 0 to 15, can hold the nibble `n`. Bits of input lines must be 0, and so
-/// must the whole latch of an absent ROM.
+/// Returns whether the port latch of ROM `chip` can hold the nibble `n`. Bits of input lines must be 0, and so must
+/// the whole latch of an absent ROM.
 fn latch_can_hold(board: &Board, chip: u8, n: u8) -> bool
     requires { n < 16 }
     ensures { IsTrue result

@@ -9,7 +9,7 @@ use mcs_model::limits::WATCHES;
 use mcs_nibble::Addr;
 use std::marker::Model;
 
-/// The indices of the watched RAM characters, bank * 256 + SRC byte, in ascending order. With a flag for each index,
+/// The indices of the watched RAM characters (bank * 256 + SRC byte) in ascending order. With a flag for each index,
 /// a run checks a RAM character in constant time.
 #[derive(Drop)]
 pub(crate) struct Watches {

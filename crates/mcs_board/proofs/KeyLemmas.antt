@@ -1,4 +1,4 @@
--- Relations between a rig's keys and its flat state.
+-- Relations between the keys of a rig and the flat state of the rig.
 use Rattle.std.proofs.Common.{◌≡◌, ℕ, ◌+◌, ◌<◌, ◌≤◌, zero, suc, Bool, true, false, List, [], Option, Some, None, length, get_or, refl, sym, ap, ◌∙◌, arith, eqb}
 use Rattle.mcs_nibble.specs.declared.lines.LineMask.{LineMask}
 use Rattle.mcs_nibble.specs.declared.lines.LineMask.TheVariants.{Input, Zero, One}
@@ -11,16 +11,16 @@ use Rattle.mcs_model.specs.Boards.{board_fault_of, rom_masks, chain_count, chain
 use Rattle.mcs_model.specs.Bus.{BusState}
 use Rattle.mcs_model.specs.Levels.{is_pulled, is_pulled_by, bit_when, port_at}
 use Rattle.mcs_board.specs.RigState.{RigParts, state_of_rig}
-use Rattle.mcs_board.proofs.BoardLemmas.{key_chain-exists, key_rows-fit}
-use Rattle.mcs_board.proofs.ClockLemmas.{get_chain-state}
+use Rattle.mcs_board.proofs.BoardLemmas.{key_chain-exists, key_rows-fit_in_chain}
+use Rattle.mcs_board.proofs.ClockLemmas.{wired_chains-at_index}
 
-pub matrix-some : (b : BoardParts) (m : KeyMatrix) → b.keys ≡ Some m → matrix_of_board b ≡ m
-matrix-some b m e = ap (λ (o : Option KeyMatrix). elim o [ Some k ↦ k | None ↦ empty_matrix ]) e
+pub matrix_of_board-with_keys : (b : BoardParts) (m : KeyMatrix) → b.keys ≡ Some m → matrix_of_board b ≡ m
+matrix_of_board-with_keys b m e = ap (λ (o : Option KeyMatrix). elim o [ Some k ↦ k | None ↦ empty_matrix ]) e
 
 -- The chain that drives the key rows has a bit for each row.
 pub rows-fit : (b : BoardParts) (chains : List (List ℕ)) (m : KeyMatrix) → board_fault_of b ≡ None → b.keys ≡ Some m → ((i : ℕ) → i < chain_count b → length (get_or chains i []) ≡ chain_bits b i) → m.first + m.rows ≤ length (get_or chains m.chain [])
 rows-fit b chains m v is bits =
-    let fit = key_rows-fit b m v is in
+    let fit = key_rows-fit_in_chain b m v is in
     let len = bits m.chain (key_chain-exists b m v is) in
     omega arith
 
@@ -32,29 +32,29 @@ pub is_pulled-no_keys : (s : BusState) (chip k : ℕ) → s.board.keys ≡ None 
 unfolding is_pulled
 is_pulled-no_keys s chip k is = rw (is, is_pulled) refl
 
--- The lines that a rig's keys pull to 1 are those that are pulled in its flat state.
-pub is_pulled-rig : (p : RigParts) (m : KeyMatrix) (chip k : ℕ) → board_fault_of p.board ≡ None → p.board.keys ≡ Some m → is_pulled_by (get_or p.chains m.chain []) p.keys m chip k ≡ is_pulled (state_of_rig p) chip k
-is_pulled-rig p m chip k v is =
-    ap (λ row. is_pulled_by row p.keys m chip k) (sym (get_chain-state p.board p.chains m.chain (key_chain-exists p.board m v is)))
+-- A rig's keys pull a line to 1 exactly if the line is pulled in the rig's flat state.
+pub is_pulled-in_rig : (p : RigParts) (m : KeyMatrix) (chip k : ℕ) → board_fault_of p.board ≡ None → p.board.keys ≡ Some m → is_pulled_by (get_or p.chains m.chain []) p.keys m chip k ≡ is_pulled (state_of_rig p) chip k
+is_pulled-in_rig p m chip k v is =
+    ap (λ row. is_pulled_by row p.keys m chip k) (sym (wired_chains-at_index p.board p.chains m.chain (key_chain-exists p.board m v is)))
     ∙ is_pulled-with_keys (state_of_rig p) m chip k is
 
 pub nibble_of-equal : (f g : ℕ → ℕ) → ((k : ℕ) → f k ≡ g k) → nibble_of f ≡ nibble_of g
 nibble_of-equal f g h = rw (h 0, h 1, h 2, h 3) refl
 
-pub bit-small : (b : Bool) → bit_when b < 2
-bit-small true = omega arith
-bit-small false = omega arith
+pub bit_when-below_2 : (b : Bool) → bit_when b < 2
+bit_when-below_2 true = omega arith
+bit_when-below_2 false = omega arith
 
-pub bit-is_one : (b : Bool) → eqb (bit_when b) 1 ≡ b
-bit-is_one true = refl
-bit-is_one false = refl
+pub bit_when-equals_1 : (b : Bool) → eqb (bit_when b) 1 ≡ b
+bit_when-equals_1 true = refl
+bit_when-equals_1 false = refl
 
-pub bit-nibble : (f : ℕ → ℕ) (k : ℕ) → k < 4 → ((j : ℕ) → f j < 2) → bit_of (nibble_of f) k ≡ f k
-bit-nibble f zero l h = let a = h 0 in omega arith
-bit-nibble f (suc zero) l h = let a = h 0 in let b = h 1 in omega arith
-bit-nibble f (suc (suc zero)) l h = let a = h 0 in let b = h 1 in let d = h 2 in omega arith
-bit-nibble f (suc (suc (suc zero))) l h = let a = h 0 in let b = h 1 in let d = h 2 in let e = h 3 in omega arith
-bit-nibble f (suc (suc (suc (suc k)))) l h = absurd (omega arith)
+pub bit_of-packed_nibble : (f : ℕ → ℕ) (k : ℕ) → k < 4 → ((j : ℕ) → f j < 2) → bit_of (nibble_of f) k ≡ f k
+bit_of-packed_nibble f zero l h = let a = h 0 in omega arith
+bit_of-packed_nibble f (suc zero) l h = let a = h 0 in let b = h 1 in omega arith
+bit_of-packed_nibble f (suc (suc zero)) l h = let a = h 0 in let b = h 1 in let d = h 2 in omega arith
+bit_of-packed_nibble f (suc (suc (suc zero))) l h = let a = h 0 in let b = h 1 in let d = h 2 in let e = h 3 in omega arith
+bit_of-packed_nibble f (suc (suc (suc (suc k)))) l h = absurd (omega arith)
 
 line_value-equal : (l : LineMask) (a b : ℕ) → a ≡ b → elim l as (λ _. ℕ) [ Input ↦ a | Zero ↦ 0 | One ↦ 1 ] ≡ elim l as (λ _. ℕ) [ Input ↦ b | Zero ↦ 0 | One ↦ 1 ]
 line_value-equal Input a b e = e
@@ -62,20 +62,20 @@ line_value-equal Zero a b e = refl
 line_value-equal One a b e = refl
 
 -- A port reads the same value if the levels of its input lines are first packed into a nibble.
-pub read_lines-nibble : (f : ℕ → ℕ) (mask : List LineMask) → ((j : ℕ) → f j < 2) → read_lines (bit_of (nibble_of f)) mask ≡ read_lines f mask
+pub read_lines-of_packed_levels : (f : ℕ → ℕ) (mask : List LineMask) → ((j : ℕ) → f j < 2) → read_lines (bit_of (nibble_of f)) mask ≡ read_lines f mask
 unfolding read_lines
-read_lines-nibble f mask h =
+read_lines-of_packed_levels f mask h =
     rw (
-      line_value-equal (mask_at mask 0) (bit_of (nibble_of f) 0) (f 0) (bit-nibble f 0 (omega arith) h),
-      line_value-equal (mask_at mask 1) (bit_of (nibble_of f) 1) (f 1) (bit-nibble f 1 (omega arith) h),
-      line_value-equal (mask_at mask 2) (bit_of (nibble_of f) 2) (f 2) (bit-nibble f 2 (omega arith) h),
-      line_value-equal (mask_at mask 3) (bit_of (nibble_of f) 3) (f 3) (bit-nibble f 3 (omega arith) h),
+      line_value-equal (mask_at mask 0) (bit_of (nibble_of f) 0) (f 0) (bit_of-packed_nibble f 0 (omega arith) h),
+      line_value-equal (mask_at mask 1) (bit_of (nibble_of f) 1) (f 1) (bit_of-packed_nibble f 1 (omega arith) h),
+      line_value-equal (mask_at mask 2) (bit_of (nibble_of f) 2) (f 2) (bit_of-packed_nibble f 2 (omega arith) h),
+      line_value-equal (mask_at mask 3) (bit_of (nibble_of f) 3) (f 3) (bit_of-packed_nibble f 3 (omega arith) h),
     ) refl
 
-pub port_at-present : (s : BusState) (chip : ℕ) (mask : List LineMask) → rom_masks s.board chip ≡ Some mask → read_lines (λ k. bit_when (is_pulled s chip k)) mask ≡ port_at s chip
+pub port_at-of_present_rom : (s : BusState) (chip : ℕ) (mask : List LineMask) → rom_masks s.board chip ≡ Some mask → read_lines (λ k. bit_when (is_pulled s chip k)) mask ≡ port_at s chip
 unfolding port_at
-port_at-present s chip mask is = rw (is, port_at) refl
+port_at-of_present_rom s chip mask is = rw (is, port_at) refl
 
-pub port_at-absent : (s : BusState) (chip : ℕ) → rom_masks s.board chip ≡ None → 0 ≡ port_at s chip
+pub port_at-of_absent_rom : (s : BusState) (chip : ℕ) → rom_masks s.board chip ≡ None → 0 ≡ port_at s chip
 unfolding port_at
-port_at-absent s chip is = rw (is, port_at) refl
+port_at-of_absent_rom s chip is = rw (is, port_at) refl

@@ -1,4 +1,4 @@
--- The contents of a rig, as a record of its fields: the value that `state_of_rig` turns into a flat
+-- The contents of a rig, as a record of its fields. `state_of_rig` converts this record to a flat
 -- state.
 use Rattle.std.specs.Prelude.{ℕ}
 use Rattle.mcs_board.specs.declared.rig.Rig.TheInside.{Inside}

@@ -1,5 +1,6 @@
--- The flat state of a rig (`BusState`), from its chips. Source: our own choice. A ROM's number is
--- its page. A bank's number is the value of the command register that selects it.
+-- The flat state of a rig (`BusState`), from its chips. (Defined by Fethsaim, not by Intel.) A
+-- ROM's number is its page. A bank's number is the value of the command register that selects the
+-- bank.
 use Rattle.std.specs.Prelude.{◌≡◌, ℕ, ◌/◌, ◌<◌, ◌≤◌, List, [], Option, Some, None, slice_index, slice_index_or, length}
 use Rattle.mcs_nibble.specs.Tables.{table_of, column, flat_rows}
 use Rattle.mcs_nibble.specs.declared.lines.LineMask.{LineMask}

@@ -1,5 +1,5 @@
-//! A rig's RAM banks: functions that wire them to a board, clear them, and get or set each value. A setter changes
-//! only its own value and clocks no shift register.
+//! A rig's RAM banks: functions that wire the banks to a board, clear the banks, and get or set each value. A setter
+//! changes only the value that it sets, and clocks no shift register.
 ghost use Rattle.std.specs.Prelude.{◌≡◌, ℕ, ◌+◌, ◌*◌, ◌<◌, ◌≤◌, ◌↔◌, IsTrue, length, replicate, IfOk, slice_index, slice_index_or};
 ghost use Rattle.mcs_ram4002.specs.RamBank.{IsInBank, IsValidBank, blank_bank};
 ghost use Rattle.mcs_model.specs.Bus.{ram_index, ram_port_index, status_index, with_ram, with_status};
@@ -99,7 +99,7 @@ impl<const ROMS: usize, const BANKS: usize, const CHAINS: usize, const MAX: usiz
     CHAINS,
     MAX,
 > {
-    /// Writes to bank `bank` (0 to 7). Has no effect if the chip is absent.
+    /// Performs the write `write` in bank `bank` (0 to 7). Has no effect if the chip is absent.
     #[inline(always)]
     fn store(&mut self, bank: u8, write: BankWrite)
         requires bank { bank < 8 }
@@ -196,7 +196,7 @@ impl<const ROMS: usize, const BANKS: usize, const CHAINS: usize, const MAX: usiz
         }
     }
 
-    /// Sets the SRC byte latched in bank `bank` (0 to 7). It stays 0 if the bank has no chips.
+    /// Sets the SRC byte latched in bank `bank` (0 to 7). The byte stays 0 if the bank has no chips.
     pub fn set_ram_src(&mut self, bank: u8, byte: u8)
         requires { bank < 8 }
         ensures { self.new ≡ with_ram_src self.old bank byte }

@@ -21,9 +21,9 @@ pub fn every_board_fits_the_bench(board: &Board)
     let _parts = board.parts();
 }
 
-/// Executes one instruction cycle of a processor on a rig, as `cycle_of` defines for their flat states. If `cycle_of`
-/// defines no cycle, returns `Cycle::Outside` and changes neither the processor nor the rig. Returns `Cycle::Idle` if
-/// and only if a second cycle was pending before.
+/// Executes one instruction cycle of a processor on a rig, as `cycle_of` defines it. If `cycle_of` gives none, returns
+/// `Cycle::Outside` and changes neither the processor nor the rig. Returns `Cycle::Idle` if and only if a second cycle
+/// was pending before the call.
 #[inline(always)]
 pub fn cycle(cpu: &mut Cpu, rig: &mut BenchRig) -> Cycle
     ensures outside { (result ≡ Cycle.Outside) ↔ IsNone (cycle_of cpu.old rig.old) }
@@ -33,7 +33,7 @@ pub fn cycle(cpu: &mut Cpu, rig: &mut BenchRig) -> Cycle
     cpu.cycle(rig)
 }
 
-/// Decodes the instruction at an address. Returns `None` if its opcode is not in the instruction table.
+/// Decodes the instruction at an address. Returns `None` if the opcode at this address is outside the opcode table.
 #[inline(always)]
 pub fn instruction(cpu: &Cpu, rig: &BenchRig, at: Addr) -> Option<Op>
     ensures { result ≡ instruction_at (record cpu.now { pc = at }) rig.now }
@@ -41,9 +41,9 @@ pub fn instruction(cpu: &Cpu, rig: &BenchRig, at: Addr) -> Option<Op>
     cpu.instruction(rig, at)
 }
 
-/// Executes `op`, the instruction at address `at`, for at most `max_cycles` cycles. Returns the address at which execution
-/// continues and the number of cycles done, at least 1. Requires that `max_cycles` is not 0 and that no second cycle is
-/// pending. The program counter itself does not change.
+/// Executes `op`, the instruction at address `at`, for at most `max_cycles` cycles. Returns the address at which
+/// execution continues and the number of cycles done, at least 1. Requires that `max_cycles` is not 0 and that no
+/// second cycle is pending. The processor's program counter does not change.
 #[inline(always)]
 pub fn run_instruction(
     cpu: &mut Cpu,

@@ -1,5 +1,5 @@
-//! A rig's shift-register chains: functions that wire them to a board, clear them, and get or set one bit. Setting a
-//! bit shifts nothing.
+//! A rig's shift-register chains: functions that wire the chains to a board, clear the chains, and get or set one bit.
+//! Setting a bit shifts nothing.
 ghost use Rattle.std.specs.Prelude.{◌≡◌, ℕ, ◌<◌, ◌≤◌, ◌↔◌, All, IsTrue, length, replicate, [], IfOk, slice_index_or};
 ghost use Rattle.mcs_model.specs.Boards.{chain_bits, chain_count};
 ghost use Rattle.mcs_model.specs.Levels.{chain_bit};
@@ -11,7 +11,7 @@ use mcs_nibble::Bit;
 use mcs_shift4003::Chain;
 use std::alloc::{AllocError, Global};
 
-/// Returns `count` chains of 0 bits. Fails if memory cannot be allocated.
+/// Returns `count` chains without bits. Fails if memory cannot be allocated.
 pub(crate) fn empty_chains<const MAX: usize>(
     alloc: Global,
     count: usize,

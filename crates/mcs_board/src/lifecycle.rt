@@ -2,7 +2,7 @@
 
 ghost use Rattle.std.specs.Prelude.{◌≡◌, ◌↔◌, IfOk, IsTrue};
 ghost use Rattle.mcs_model.specs.Bus.{zero_bus};
-ghost use Rattle.mcs_model.specs.ChipWrites.{after_reset, after_wire};
+ghost use Rattle.mcs_model.specs.ChipWrites.{after_reset, after_board_change};
 ghost use Rattle.mcs_model.specs.Validity.{IsValidBus};
 ghost use Rattle.mcs_board.specs.Fitting.{FitsSockets};
 
@@ -61,7 +61,7 @@ impl<const ROMS: usize, const BANKS: usize, const CHAINS: usize, const MAX: usiz
     /// # Errors
     ///
     /// Fails if memory for the chip sockets and the ROM bytes cannot be allocated. Also fails if a chain of `MAX`
-    /// bits would not fit in any memory, but then no rig exists that could be copied.
+    /// bits would not fit in any memory, but `new` creates no such rig.
     pub fn copy(&self, alloc: Global) -> Result<Self, AllocError>
         ensures { IfOk result (λ rig. rig ≡ self.now) }
     {
@@ -79,12 +79,12 @@ impl<const ROMS: usize, const BANKS: usize, const CHAINS: usize, const MAX: usiz
         })
     }
 
-    /// Wires the rig to another board, which must fit its sockets. Releases all keys, clears everything that `reset`
-    /// clears, and sets the bytes of ROMs that the board lacks to 0. The other ROM bytes and the TEST level do not
-    /// change.
+    /// Wires the rig to another board. The board must fit the rig's sockets. Releases all keys, clears everything that
+    /// `reset` clears, and sets the bytes of ROMs that the board lacks to 0. The other ROM bytes and the TEST level do
+    /// not change.
     pub fn wire(&mut self, board: &Board)
         requires { FitsSockets board.now ROMS BANKS CHAINS MAX }
-        ensures { self.new ≡ after_wire self.old board.now }
+        ensures { self.new ≡ after_board_change self.old board.now }
     {
         rewire_roms(&mut self.roms, board);
         clear_absent_roms(&mut self.program, board);
@@ -113,7 +113,7 @@ impl<const ROMS: usize, const BANKS: usize, const CHAINS: usize, const MAX: usiz
         clear_chains(&mut self.chains);
     }
 
-    /// Returns whether a board fits the rig's sockets. `wire` requires this.
+    /// Returns whether a board fits the rig's sockets. `wire` accepts only boards that fit.
     pub fn fits(board: &Board) -> bool
         ensures { IsTrue result ↔ FitsSockets board.now ROMS BANKS CHAINS MAX }
     {

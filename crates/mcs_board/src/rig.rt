@@ -11,7 +11,7 @@ use mcs_shift4003::Chain;
 use std::marker::Model;
 
 /// A board and the chips on it: at most `ROMS` ROMs, `BANKS` banks of RAM chips, and `CHAINS` shift-register chains
-/// of at most `MAX` bits. In contracts its value is a flat `BusState`.
+/// of at most `MAX` bits. In contracts, a rig is its flat state (`BusState`).
 #[derive(Drop)]
 pub struct Rig<const ROMS: usize, const BANKS: usize, const CHAINS: usize, const MAX: usize> {
     pub(crate) roms: Vec<Option<RomPort>>,
@@ -45,7 +45,7 @@ impl<const ROMS: usize, const BANKS: usize, const CHAINS: usize, const MAX: usiz
     CHAINS,
     MAX,
 > {
-    /// Returns the parts of the rig's board, which is valid.
+    /// Returns the parts of the rig's board. The board is valid.
     pub(crate) fn parts(&self) -> &BoardParts
         ensures same { result.now ≡ self.now.board }
         ensures valid { board_fault_of self.now.board ≡ None }

@@ -1,5 +1,5 @@
-//! A rig's ROMs: functions that wire them to a board, clear them, and get or set each value. A setter changes only
-//! its own value and clocks no shift register.
+//! A rig's ROMs: functions that wire the ROMs to a board, clear the ROMs, and get or set each value. A setter changes
+//! only the value that it sets, and clocks no shift register.
 ghost use Rattle.std.specs.Prelude.{◌≡◌, ℕ, ◌<◌, ◌≤◌, ◌↔◌, IsTrue, All, length, replicate, None, IfOk, IfSome, slice_index, slice_index_or};
 ghost use Rattle.mcs_rom4001.specs.Roms.{IsValidPort};
 ghost use Rattle.mcs_model.specs.Boards.{rom_masks};

@@ -3,7 +3,7 @@ use Rattle.std.proofs.Common.{◌≡◌, ◌<◌, ℕ, zero, suc, Bool, true, fa
 use Rattle.mcs_drive.specs.TrackedMachine.{Observer, TrackedMachine, cycled, after_cycles, next_reads_input}
 use Rattle.mcs_check.specs.Keys.{KeepsBoardAndInputs}
 use Rattle.mcs_check.specs.ReadPoints.{Reaches}
-use Rattle.mcs_check.proofs.Keeping.{cycle-keeps, keeps-itself, keeps-on}
+use Rattle.mcs_check.proofs.Keeping.{cycle-keeps, keeps-refl, keeps-trans}
 
 -- a run from s to t in which no cycle reads an input, and the property holds before each cycle
 pub record RunSoFar (w : Observer) (p : TrackedMachine → Bool) (s t : TrackedMachine) : Type 0 where
@@ -33,8 +33,8 @@ module _ (w : Observer) where
   }
 
   cycles-keep : (n : ℕ) (s : TrackedMachine) → KeepsBoardAndInputs s.1 (after_cycles w n s).1
-  cycles-keep zero s = keeps-itself s.1
-  cycles-keep (suc n) s = keeps-on s.1 (after_cycles w n s).1 (cycled w (after_cycles w n s)).1 (cycles-keep n s) (cycle-keeps w (after_cycles w n s))
+  cycles-keep zero s = keeps-refl s.1
+  cycles-keep (suc n) s = keeps-trans s.1 (after_cycles w n s).1 (cycled w (after_cycles w n s)).1 (cycles-keep n s) (cycle-keeps w (after_cycles w n s))
 
   pub walked-keeps : (p : TrackedMachine → Bool) (s t : TrackedMachine) → RunSoFar w p s t → KeepsBoardAndInputs s.1 t.1
   walked-keeps p s t run = (let k = cycles-keep run.cycles s in let e = ap (λ (m : TrackedMachine). m.1) run.at in record {

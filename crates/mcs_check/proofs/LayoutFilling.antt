@@ -14,14 +14,14 @@ use Rattle.mcs_check.specs.declared.cells.CellList.TheVariants.{RamCharacters, S
 use Rattle.mcs_check.specs.Cells.{key_byte_of, max_cell_count, is_narrow, board_has_cell, ContainsBytesOf, ContainsCellsOf, IsComplete}
 
 -- after one more byte is appended, the layout still contains all bytes of `others`
-append-keeps : (others before after : List KeyByte) (byte : KeyByte) → after ≡ before ++ byte ∷ [] → ContainsBytesOf others before → ContainsBytesOf others after
-append-keeps others before after byte e keeps = λ c k. subst (λ (cs : List KeyByte). Contains cs c) (sym e) (Contains-append_left before (byte ∷ []) c (keeps c k))
+contains_bytes-after_append : (others before after : List KeyByte) (byte : KeyByte) → after ≡ before ++ byte ∷ [] → ContainsBytesOf others before → ContainsBytesOf others after
+contains_bytes-after_append others before after byte e keeps = λ c k. subst (λ (cs : List KeyByte). Contains cs c) (sym e) (Contains-append_left before (byte ∷ []) c (keeps c k))
 
-append-contains-last : (before after : List KeyByte) (byte : KeyByte) → after ≡ before ++ byte ∷ [] → Contains after byte
-append-contains-last before after byte e = subst (λ (cs : List KeyByte). Contains cs byte) (sym e) (Contains-append_right before (byte ∷ []) byte (0, omega arith, refl))
+contains-appended_byte : (before after : List KeyByte) (byte : KeyByte) → after ≡ before ++ byte ∷ [] → Contains after byte
+contains-appended_byte before after byte e = subst (λ (cs : List KeyByte). Contains cs byte) (sym e) (Contains-append_right before (byte ∷ []) byte (0, omega arith, refl))
 
--- holds if a layout contains all bytes of `others`, and those of the first n cells of a list that exist on
--- the board
+-- holds if a layout contains all bytes of `others`. It must also contain the byte of each cell that
+-- exists on the board, among the first n cells of a list.
 pub record IsFilledTo (b : BoardParts) (list : CellList) (n : ℕ) (others layout : List KeyByte) : Type 0 where
   pub keeps : ContainsBytesOf others layout
   pub has : (k : ℕ) → k < n → board_has_cell b list k ≡ true → Contains layout (key_byte_of list k)
@@ -31,17 +31,17 @@ pub record IsFilledTo (b : BoardParts) (list : CellList) (n : ℕ) (others layou
 key_byte_of-wide : (list : CellList) (i : ℕ) → is_narrow list ≡ false → key_byte_of list i ≡ One (record { list = list; index = i })
 key_byte_of-wide list i wide = ap (λ (n : Bool). cond n (Pair list (i / 2)) (One (record { list = list; index = i }))) wide
 
-pub laid-added : (b : BoardParts) (list : CellList) (i : ℕ) (others before after : List KeyByte) → is_narrow list ≡ false → after ≡ before ++ One (record { list = list; index = i }) ∷ [] → IsFilledTo b list i others before → IsFilledTo b list (i + 1) others after
-laid-added b list i others before after wide e h =
+pub is_filled-after_cell_added : (b : BoardParts) (list : CellList) (i : ℕ) (others before after : List KeyByte) → is_narrow list ≡ false → after ≡ before ++ One (record { list = list; index = i }) ∷ [] → IsFilledTo b list i others before → IsFilledTo b list (i + 1) others after
+is_filled-after_cell_added b list i others before after wide e h =
     let byte : KeyByte = One (record { list = list; index = i }) in
-    let last : Contains after (key_byte_of list i) = subst (Contains after) (sym (key_byte_of-wide list i wide)) (append-contains-last before after byte e) in
+    let last : Contains after (key_byte_of list i) = subst (Contains after) (sym (key_byte_of-wide list i wide)) (contains-appended_byte before after byte e) in
     record {
-      keeps = append-keeps others before after byte e h.keeps;
+      keeps = contains_bytes-after_append others before after byte e h.keeps;
       has = below_more (λ k. board_has_cell b list k ≡ true → Contains after (key_byte_of list k)) i (λ k l there. subst (λ (cs : List KeyByte). Contains cs (key_byte_of list k)) (sym e) (Contains-append_left before (byte ∷ []) (key_byte_of list k) (h.has k l there))) (λ there. last);
     }
 
-pub laid-skipped : (b : BoardParts) (list : CellList) (i : ℕ) (others layout : List KeyByte) → board_has_cell b list i ≡ false → IsFilledTo b list i others layout → IsFilledTo b list (i + 1) others layout
-laid-skipped b list i others layout gone h = record {
+pub is_filled-after_cell_skipped : (b : BoardParts) (list : CellList) (i : ℕ) (others layout : List KeyByte) → board_has_cell b list i ≡ false → IsFilledTo b list i others layout → IsFilledTo b list (i + 1) others layout
+is_filled-after_cell_skipped b list i others layout gone h = record {
   keeps = h.keeps;
   has = below_more (λ k. board_has_cell b list k ≡ true → Contains layout (key_byte_of list k)) i h.has (λ there. absurd (cc));
 }
@@ -51,20 +51,20 @@ laid-skipped b list i others layout gone h = record {
 key_byte_of-narrow : (list : CellList) (i h : ℕ) → is_narrow list ≡ true → i / 2 ≡ h → key_byte_of list i ≡ Pair list h
 key_byte_of-narrow list i h narrow half = ap (λ (n : Bool). cond n (Pair list (i / 2)) (One (record { list = list; index = i }))) narrow ∙ ap (Pair list) half
 
-pub pair-added : (b : BoardParts) (list : CellList) (h : ℕ) (others before after : List KeyByte) → is_narrow list ≡ true → after ≡ before ++ Pair list h ∷ [] → IsFilledTo b list (2 * h) others before → IsFilledTo b list (2 * (h + 1)) others after
-pair-added b list h others before after narrow e laid =
+pub is_filled-after_pair_added : (b : BoardParts) (list : CellList) (h : ℕ) (others before after : List KeyByte) → is_narrow list ≡ true → after ≡ before ++ Pair list h ∷ [] → IsFilledTo b list (2 * h) others before → IsFilledTo b list (2 * (h + 1)) others after
+is_filled-after_pair_added b list h others before after narrow e laid =
     let byte : KeyByte = Pair list h in
-    let here : (i : ℕ) → i / 2 ≡ h → Contains after (key_byte_of list i) = λ i half. subst (Contains after) (sym (key_byte_of-narrow list i h narrow half)) (append-contains-last before after byte e) in
+    let here : (i : ℕ) → i / 2 ≡ h → Contains after (key_byte_of list i) = λ i half. subst (Contains after) (sym (key_byte_of-narrow list i h narrow half)) (contains-appended_byte before after byte e) in
     record {
-      keeps = append-keeps others before after byte e laid.keeps;
+      keeps = contains_bytes-after_append others before after byte e laid.keeps;
       has = λ i few there. elim (cases_lt i (2 * h)) [
         | inl less ↦ subst (λ (cs : List KeyByte). Contains cs (key_byte_of list i)) (sym e) (Contains-append_left before (byte ∷ []) (key_byte_of list i) (laid.has i less there))
         | inr past ↦ here i (omega arith)
       ];
     }
 
-pub pair-skipped : (b : BoardParts) (list : CellList) (h : ℕ) (others layout : List KeyByte) → (board_has_cell b list (2 * h) || board_has_cell b list (2 * h + 1)) ≡ false → IsFilledTo b list (2 * h) others layout → IsFilledTo b list (2 * (h + 1)) others layout
-pair-skipped b list h others layout gone laid =
+pub is_filled-after_pair_skipped : (b : BoardParts) (list : CellList) (h : ℕ) (others layout : List KeyByte) → (board_has_cell b list (2 * h) || board_has_cell b list (2 * h + 1)) ≡ false → IsFilledTo b list (2 * h) others layout → IsFilledTo b list (2 * (h + 1)) others layout
+is_filled-after_pair_skipped b list h others layout gone laid =
     let parts = or_parts (board_has_cell b list (2 * h)) (board_has_cell b list (2 * h + 1)) gone in
     record {
       keeps = laid.keeps;
@@ -77,33 +77,33 @@ pair-skipped b list h others layout gone laid =
       ];
     }
 
--- each list has an even number of cells, so its pairs contain all of its cells
-pub even-count : (list : CellList) → max_cell_count list ≡ 2 * (max_cell_count list / 2)
-even-count RamCharacters = refl
-even-count StatusCharacters = refl
-even-count RamPorts = refl
-even-count RomPorts = refl
-even-count BankSrcBytes = refl
-even-count Registers = refl
-even-count Counters = refl
-even-count (Chain n) = refl
+-- each list has an even number of cells, so the pairs of a list contain all cells of the list
+pub max_cell_count-is_even : (list : CellList) → max_cell_count list ≡ 2 * (max_cell_count list / 2)
+max_cell_count-is_even RamCharacters = refl
+max_cell_count-is_even StatusCharacters = refl
+max_cell_count-is_even RamPorts = refl
+max_cell_count-is_even RomPorts = refl
+max_cell_count-is_even BankSrcBytes = refl
+max_cell_count-is_even Registers = refl
+max_cell_count-is_even Counters = refl
+max_cell_count-is_even (Chain n) = refl
 
 -- ---- several lists
 
-pub has-more : (b : BoardParts) (list : CellList) (others layout : List KeyByte) → ContainsBytesOf others layout → ContainsCellsOf b others list → ContainsCellsOf b layout list
-has-more b list others layout more h = λ i few there. more _ (h i few there)
+pub contains_cells-if_contains_bytes : (b : BoardParts) (list : CellList) (others layout : List KeyByte) → ContainsBytesOf others layout → ContainsCellsOf b others list → ContainsCellsOf b layout list
+contains_cells-if_contains_bytes b list others layout more h = λ i few there. more _ (h i few there)
 
-no-bits : (b : BoardParts) (m i : ℕ) → HasDeclaredLengths b → 4 ≤ m → nat_lt i (chain_bits b m) ≡ true → ⊥
-no-bits b m i sized past there =
+no_chain_bits-from_chain_4_on : (b : BoardParts) (m i : ℕ) → HasDeclaredLengths b → 4 ≤ m → nat_lt i (chain_bits b m) ≡ true → ⊥
+no_chain_bits-from_chain_4_on b m i sized past there =
     let none : slice_index_or b.chains.items m no_chain ≡ no_chain = get_or_past b.chains.items m no_chain (let few = sized.chains in omega arith) in
     let bits : chain_bits b m ≡ 0 = ap (λ (c : ChainPart). 10 * c.chips) none in
     (let few = ltb-true i (chain_bits b m) there in omega arith)
 
-pub all-chains : (b : BoardParts) (layout : List KeyByte) → HasDeclaredLengths b → ((m : ℕ) → m < 4 → ContainsCellsOf b layout (Chain m)) → (m : ℕ) → ContainsCellsOf b layout (Chain m)
-all-chains b layout sized h m =
+pub contains_cells-of_all_chains : (b : BoardParts) (layout : List KeyByte) → HasDeclaredLengths b → ((m : ℕ) → m < 4 → ContainsCellsOf b layout (Chain m)) → (m : ℕ) → ContainsCellsOf b layout (Chain m)
+contains_cells-of_all_chains b layout sized h m =
     elim (cases_lt m 4) [
       | inl few ↦ h m few
-      | inr past ↦ λ i few there. absurd (no-bits b m i sized past there)
+      | inr past ↦ λ i few there. absurd (no_chain_bits-from_chain_4_on b m i sized past there)
     ]
 
 pub complete : (b : BoardParts) (layout : List KeyByte) → ((m : ℕ) → ContainsCellsOf b layout (Chain m)) → ContainsCellsOf b layout Counters → ContainsCellsOf b layout Registers → ContainsCellsOf b layout BankSrcBytes → ContainsCellsOf b layout RomPorts → ContainsCellsOf b layout RamPorts → ContainsCellsOf b layout StatusCharacters → ContainsCellsOf b layout RamCharacters → IsComplete b layout

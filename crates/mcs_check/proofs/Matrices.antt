@@ -1,4 +1,4 @@
--- The size of a key matrix on a sound board, and the bits of a value.
+-- The size of a key matrix on a valid board, and the bits of a value.
 use Rattle.std.proofs.Common.{◌≡◌, ◌<◌, ◌≤◌, ◌+◌, ◌^◌, ◌%◌, ℕ, Bool, true, not, Some, None, Option, ap, subst, arith, nat_lt, nat_le, length, ◌&&◌, lit<, false}
 use Rattle.std.proofs.Math.Nat.{div-eq_of_lt, pow-le-pow_right}
 use Rattle.std.proofs.lemmas.Bool.{and_parts, leb-true, ltb-true, not-false}
@@ -8,12 +8,12 @@ use Rattle.mcs_model.specs.declared.board.KeyMatrix.{KeyMatrix}
 use Rattle.mcs_model.specs.Boards.{board_fault_of, is_matrix_size}
 use Rattle.mcs_model.proofs.ValidBoardLemmas.{sound}
 
-pub matrix-size : (b : BoardParts) (m : KeyMatrix) → board_fault_of b ≡ None → b.keys ≡ Some m → is_matrix_size m ≡ true
-matrix-size b m v e =
+pub is_matrix_size-on_valid_board : (b : BoardParts) (m : KeyMatrix) → board_fault_of b ≡ None → b.keys ≡ Some m → is_matrix_size m ≡ true
+is_matrix_size-on_valid_board b m v e =
     not-false (is_matrix_size m)
     (subst (λ (o : Option KeyMatrix). elim o as (λ _. Bool) [ Some m ↦ not (is_matrix_size m) | None ↦ false ] ≡ false) e (sound b v).values.matrix)
 
--- the chain bits of the rows of a key matrix have numbers below 256
+-- the chain bits that drive the rows of a key matrix have indexes below 256
 pub rows-fit : (m : KeyMatrix) → is_matrix_size m ≡ true → m.first + m.rows < 256
 rows-fit m is =
     let p4 = and_parts (nat_lt m.chain 4 && nat_lt m.first 80 && nat_lt 0 m.rows && nat_le m.rows 10) (nat_lt 0 (length m.columns.items)) is in

@@ -18,12 +18,12 @@ and-true : (a : Bool) → (a && true) ≡ a
 and-true true = refl
 and-true false = refl
 
-are_met-more : (s : TrackedMachine) (cs : List Condition) (c : Condition) → are_met s (cs ++ c ∷ []) ≡ (are_met s cs && is_met s c)
-are_met-more s [] c = and-true (is_met s c)
-are_met-more s (x ∷ cs) c = ap (λ b. is_met s x && b) (are_met-more s cs c) ∙ sym (and-assoc (is_met s x) (are_met s cs) (is_met s c))
+are_met-append_condition : (s : TrackedMachine) (cs : List Condition) (c : Condition) → are_met s (cs ++ c ∷ []) ≡ (are_met s cs && is_met s c)
+are_met-append_condition s [] c = and-true (is_met s c)
+are_met-append_condition s (x ∷ cs) c = ap (λ b. is_met s x && b) (are_met-append_condition s cs c) ∙ sym (and-assoc (is_met s x) (are_met s cs) (is_met s c))
 
-sees-fewer : (n : ℕ) (s : TrackedMachine) → 0 < n → is_met s (Compare (fewer_marks_seen n)) ≡ nat_lt s.2.seen n
-sees-fewer n s some =
+is_met-fewer_marks_seen : (n : ℕ) (s : TrackedMachine) → 0 < n → is_met s (Compare (fewer_marks_seen n)) ≡ nat_lt s.2.seen n
+is_met-fewer_marks_seen n s some =
     let least = le-leb 0 s.2.seen (omega arith) in
     elim (cases_lt s.2.seen n) [
       | inl few ↦ rw (least, le-leb s.2.seen (n - 1) (omega arith), lt-ltb s.2.seen n few) refl
@@ -32,42 +32,45 @@ sees-fewer n s some =
 
 -- ---- the lists
 
--- the requirement with one more list in `opens`. k is true if none of the earlier lists is met, m if the new
--- list is met, and f if fewer marks were seen than required.
-one-more-open-list : (a k m f : Bool) → ((a && not (not k && f)) && (not (m && f) && true)) ≡ (a && not (not (k && (not m && true)) && f))
-one-more-open-list false k m f = refl
-one-more-open-list true true true true = refl
-one-more-open-list true true true false = refl
-one-more-open-list true true false f = refl
-one-more-open-list true false true true = refl
-one-more-open-list true false true false = refl
-one-more-open-list true false false true = refl
-one-more-open-list true false false false = refl
+-- the requirement with one more list in `opens`:
+-- `a`: no list that must never be met is met
+-- `k`: no earlier list in `opens` is met
+-- `m`: the new list is met
+-- `f`: fewer marks were seen than required
+requirement-with_next_open_list : (a k m f : Bool) → ((a && not (not k && f)) && (not (m && f) && true)) ≡ (a && not (not (k && (not m && true)) && f))
+requirement-with_next_open_list false k m f = refl
+requirement-with_next_open_list true true true true = refl
+requirement-with_next_open_list true true true false = refl
+requirement-with_next_open_list true true false f = refl
+requirement-with_next_open_list true false true true = refl
+requirement-with_next_open_list true false true false = refl
+requirement-with_next_open_list true false false true = refl
+requirement-with_next_open_list true false false false = refl
 
 pub opened-none : (never_lists : List (List Condition)) (n : ℕ) (s : TrackedMachine) → meets_none never_lists s ≡ opens_after_marks never_lists [] n s
 opened-none never_lists n s = sym (and-true (meets_none never_lists s))
 
-pub opened-more : (never_lists opens before after : List (List Condition)) (made : List Condition) (i n : ℕ) (s : TrackedMachine) → i < length opens → 0 < n →
+pub opens_after_marks-with_next_open_list : (never_lists opens before after : List (List Condition)) (made : List Condition) (i n : ℕ) (s : TrackedMachine) → i < length opens → 0 < n →
     made ≡ get_or opens i [] ++ Compare (fewer_marks_seen n) ∷ [] → after ≡ before ++ made ∷ [] →
     meets_none before s ≡ opens_after_marks never_lists (take i opens) n s → meets_none after s ≡ opens_after_marks never_lists (take (i + 1) opens) n s
-opened-more never_lists opens before after made i n s within some is added h =
+opens_after_marks-with_next_open_list never_lists opens before after made i n s within some is added h =
     let next = get_or opens i [] in
     let few = nat_lt s.2.seen n in
     let taken : take (i + 1) opens ≡ take i opens ++ next ∷ [] = ap (λ (k : ℕ). take k opens) (add-one i) ∙ take-suc opens i [] within in
     let met : are_met s made ≡ (are_met s next && few) =
-    ap (are_met s) is ∙ are_met-more s next (Compare (fewer_marks_seen n)) ∙ ap (λ b. are_met s next && b) (sees-fewer n s some) in
+    ap (are_met s) is ∙ are_met-append_condition s next (Compare (fewer_marks_seen n)) ∙ ap (λ b. are_met s next && b) (is_met-fewer_marks_seen n s some) in
     ap (λ (xs : List (List Condition)). meets_none xs s) added ∙ meets_none-append before (made ∷ []) s
     ∙ ap (λ b. b && (not (are_met s made) && true)) h
     ∙ ap (λ b. opens_after_marks never_lists (take i opens) n s && (not b && true)) met
-    ∙ one-more-open-list (meets_none never_lists s) (meets_none (take i opens) s) (are_met s next) few
+    ∙ requirement-with_next_open_list (meets_none never_lists s) (meets_none (take i opens) s) (are_met s next) few
     ∙ ap (λ b. meets_none never_lists s && not (not b && few)) (sym (meets_none-append (take i opens) (next ∷ []) s))
     ∙ ap (λ (xs : List (List Condition)). opens_after_marks never_lists xs n s) (sym taken)
 
-unmarked : (a k f : Bool) → f ≡ false → a ≡ (a && not (k && f))
-unmarked true true f e = rw e refl
-unmarked true false f e = refl
-unmarked false k f e = refl
+and-not_and_false : (a k f : Bool) → f ≡ false → a ≡ (a && not (k && f))
+and-not_and_false true true f e = rw e refl
+and-not_and_false true false f e = refl
+and-not_and_false false k f e = refl
 
 -- if no marks are required, only the lists in `never_lists` must not be met
-pub opened-unmarked : (never_lists opens : List (List Condition)) (n : ℕ) (s : TrackedMachine) → n ≡ 0 → meets_none never_lists s ≡ opens_after_marks never_lists opens n s
-opened-unmarked never_lists opens n s none = unmarked (meets_none never_lists s) (not (meets_none opens s)) (nat_lt s.2.seen n) (le-ltb s.2.seen n (omega arith))
+pub opens_after_marks-without_marks : (never_lists opens : List (List Condition)) (n : ℕ) (s : TrackedMachine) → n ≡ 0 → meets_none never_lists s ≡ opens_after_marks never_lists opens n s
+opens_after_marks-without_marks never_lists opens n s none = and-not_and_false (meets_none never_lists s) (not (meets_none opens s)) (nat_lt s.2.seen n) (le-ltb s.2.seen n (omega arith))

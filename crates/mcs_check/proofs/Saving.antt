@@ -11,20 +11,21 @@ use Rattle.mcs_check.specs.Cells.{key_byte_value, key_of}
 abbrev pub IsSaved : TrackedMachine → List KeyByte → List ℕ → ℕ → Type 0
 IsSaved t layout key i = (k : ℕ) (d : KeyByte) → k < i → get_or key k 0 ≡ key_byte_value t (get_or layout k d)
 
--- one more byte of the key is written
-pub saved-more : (t : TrackedMachine) (layout : List KeyByte) (key : List ℕ) (i v : ℕ) (e : KeyByte) → i < length layout → length key ≡ length layout → v ≡ key_byte_value t (get_or layout i e) → IsSaved t layout key i → IsSaved t layout (slice_set key i v) (i + 1)
-saved-more t layout key i v e within len is h =
+-- if the first i bytes of `key` are correct, the first i + 1 bytes are correct after byte i is
+-- written
+pub is_saved-after_next_byte_written : (t : TrackedMachine) (layout : List KeyByte) (key : List ℕ) (i v : ℕ) (e : KeyByte) → i < length layout → length key ≡ length layout → v ≡ key_byte_value t (get_or layout i e) → IsSaved t layout key i → IsSaved t layout (slice_set key i v) (i + 1)
+is_saved-after_next_byte_written t layout key i v e within len is h =
     let here : (d : KeyByte) → get_or (slice_set key i v) i 0 ≡ key_byte_value t (get_or layout i d) =
     λ d. get_or-set_same key i v 0 (omega arith) ∙ is ∙ ap (key_byte_value t) (get_or_default layout i e d within) in
     λ k d. below_more (λ k. get_or (slice_set key i v) k 0 ≡ key_byte_value t (get_or layout k d)) i
     (λ k l. get_or-set_other key i k v 0 (omega arith) ∙ h k d l) (here d) k
 
--- one more byte of the key is already correct
-pub same-more : (t : TrackedMachine) (layout : List KeyByte) (key : List ℕ) (i : ℕ) (e : KeyByte) → i < length layout → get_or key i 0 ≡ key_byte_value t (get_or layout i e) → IsSaved t layout key i → IsSaved t layout key (i + 1)
-same-more t layout key i e within is h =
+-- if the first i bytes of `key` and byte i are correct, the first i + 1 bytes are correct
+pub is_saved-if_next_byte_correct : (t : TrackedMachine) (layout : List KeyByte) (key : List ℕ) (i : ℕ) (e : KeyByte) → i < length layout → get_or key i 0 ≡ key_byte_value t (get_or layout i e) → IsSaved t layout key i → IsSaved t layout key (i + 1)
+is_saved-if_next_byte_correct t layout key i e within is h =
     λ k d. below_more (λ k. get_or key k 0 ≡ key_byte_value t (get_or layout k d)) i (λ k l. h k d l) (is ∙ ap (key_byte_value t) (get_or_default layout i e d within)) k
 
-pub saved-all : (t : TrackedMachine) (layout : List KeyByte) (key : List ℕ) → length key ≡ length layout → IsSaved t layout key (length layout) → key ≡ key_of layout t
-saved-all t layout key len h =
+pub key_of_machine-if_all_saved : (t : TrackedMachine) (layout : List KeyByte) (key : List ℕ) → length key ≡ length layout → IsSaved t layout key (length layout) → key ≡ key_of layout t
+key_of_machine-if_all_saved t layout key len h =
     let d : KeyByte = One (record { list = Counters; index = 0 }) in
     ext_get_or 0 key (key_of layout t) (len ∙ sym (length-map layout (key_byte_value t))) (λ k l. h k d (omega arith) ∙ sym (get_or-map (key_byte_value t) layout k d 0 (omega arith)))

@@ -1,4 +1,4 @@
--- A closed search proves a property of a machine for all inputs.
+-- If the keys that a search found are a closure, the property holds for all inputs.
 use Rattle.std.proofs.Common.{ℕ, List, Bool, refl}
 use Rattle.std.specs.List.{Contains, All}
 use Rattle.std.proofs.lemmas.List.Elements.{All-contains}
@@ -26,7 +26,8 @@ module _ (w : Observer) where
       let run = to.1 a at.is in
       (run.0, record { key = to.0; found = to.2; is = run.1 }, run.2 l fit refl)
 
-  -- a closed search proves the property of every machine that its start key identifies
+  -- if the keys that a search found are a closure, the property holds for every machine that the
+  -- start key identifies
   pub searched-holds : (p : TrackedMachine → Bool) (is_state : List ℕ → Type 0) (is_key_of : List ℕ → TrackedMachine → Type 0) (start : List ℕ) (n : ℕ) →
       IgnoresLevels p → ((key : List ℕ) (a : TrackedMachine) → is_key_of key a → MayHaveKey p a) →
       Closure (machine_rules w p is_state is_key_of) start n → (a : TrackedMachine) → is_key_of start a → Holds w p a

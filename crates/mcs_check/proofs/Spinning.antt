@@ -19,12 +19,12 @@ use Rattle.mcs_check.specs.declared.conditions.Condition.{Condition}
 use Rattle.mcs_check.specs.declared.scope.Scope.{Scope}
 use Rattle.mcs_check.specs.Conditions.{meets_none}
 use Rattle.mcs_check.specs.Mistaken.{op_makes_mistake}
-use Rattle.mcs_check.specs.Scopes.{all_mistakes, cycle_changes, makes_mistake_in_scope, has_all_lists, has_register}
+use Rattle.mcs_check.specs.Scopes.{all_mistakes, cycle_may_change_scope, makes_mistake_in_scope, has_all_lists, has_register}
 use Rattle.mcs_check.specs.ReadPoints.{HasSpun, IsObserverIdle, Spins}
 use Rattle.mcs_check.proofs.Going.{RunSoFar, walked-more}
-use Rattle.mcs_check.proofs.Scoping.{AgreesInScope, meets_none_without_mistakes, keeps-same, kept-apart, known-keeps, set-rests}
+use Rattle.mcs_check.proofs.Scoping.{AgreesInScope, meets_none_without_mistakes, keeps-same, meets_none_without_mistakes-if_meets_none, meets_none-if_no_mistake, register_unchanged-by_set_outside_scope}
 
--- the machine with v in register r, before a pass (below: before the second cycle of a pass)
+-- the machine with v in register r before a pass (below: between the two cycles of a pass)
 abbrev pub before_pass : ℕ → ℕ → TrackedMachine → TrackedMachine
 before_pass r v s = (with_register s.0 r v, s.1, s.2)
 
@@ -32,17 +32,18 @@ abbrev pub within_pass : ℕ → ℕ → TrackedMachine → TrackedMachine
 within_pass r v s = (record s.0 { r = slice_set s.0.r r v; owed = 1 }, s.1, s.2)
 
 module _ (w : Observer) where
-  -- holds if the register of an ISZ that jumps to itself is not in the scope, and the ISZ makes no mistake
+  -- holds if the register of an ISZ that jumps to itself is not in the scope, and the ISZ makes no
+  -- mistake
   record SpinsOutsideScope (c : Scope) (r : ℕ) (s : TrackedMachine) : Type 0 where
     spins : Spins w r s
     unseen : has_register c r ≡ false
     sound : makes_mistake_in_scope c s ≡ false
 
-  left-alone : (c : Scope) (r : ℕ) (s : TrackedMachine) → Spins w r s → cycle_changes c (next_op s.0 s.1) ≡ false → makes_mistake_in_scope c s ≡ false → SpinsOutsideScope c r s
+  left-alone : (c : Scope) (r : ℕ) (s : TrackedMachine) → Spins w r s → cycle_may_change_scope c (next_op s.0 s.1) ≡ false → makes_mistake_in_scope c s ≡ false → SpinsOutsideScope c r s
   left-alone c r s spins rest sound =
       let free : eqb s.0.owed 1 ≡ false = ap (λ (n : ℕ). eqb n 1) spins.free in
       let next : next_op s.0 s.1 ≡ Some (Isz r spins.word) = cond-false (eqb s.0.owed 1) None (instruction_at s.0 s.1) free ∙ spins.next in
-      record { spins = spins; unseen = ap (cycle_changes c) (sym next) ∙ rest; sound = sound }
+      record { spins = spins; unseen = ap (cycle_may_change_scope c) (sym next) ∙ rest; sound = sound }
 
   -- ---- the two cycles of a pass
 
@@ -68,7 +69,8 @@ module _ (w : Observer) where
   still-sees : (s : TrackedMachine) → IsObserverIdle w s.2 → seen_after w s ≡ s.2.seen
   still-sees s still = still-marks w.marks s.2.seen (condition_holds_at w s) (shows (next_op s.0 s.1) s.1 (port_of s.1)) still.unseen (still.closed (without_levels s)) still.unmarked
 
-  -- a cycle that leaves the number of open calls unchanged leaves all counts unchanged if the observer is still
+  -- if the observer is idle, a cycle that leaves the number of open calls unchanged leaves all
+  -- counts unchanged
   counts-rest : (s : TrackedMachine) → IsObserverIdle w s.2 → open_calls_after s.0 s.1 s.2.calls ≡ s.2.calls → counts_after w s ≡ s.2
   counts-rest s still calls =
       ap (λ (n : ℕ). record s.2 { calls = n; elapsed = elapsed_after w s; seen = seen_after w s }) calls
@@ -111,10 +113,10 @@ module _ (w : Observer) where
   pass-quiet s r v spins = and_right (not (eqb s.0.owed 1)) (reads_input (instruction_at s.0 s.1)) (ap reads_input spins.next)
 
   pass-same : (c : Scope) (s : TrackedMachine) (r v : ℕ) → has_register c r ≡ false → AgreesInScope c s (before_pass r v s)
-  pass-same c s r v unseen = record { seen = refl; registers = λ i seen. set-rests c s.0.r r i v unseen seen; chips = λ seen. refl }
+  pass-same c s r v unseen = record { seen = refl; registers = λ i seen. register_unchanged-by_set_outside_scope c s.0.r r i v unseen seen; chips = λ seen. refl }
 
   middle-same : (c : Scope) (s : TrackedMachine) (r v : ℕ) → has_register c r ≡ false → AgreesInScope c s (within_pass r v s)
-  middle-same c s r v unseen = record { seen = refl; registers = λ i seen. set-rests c s.0.r r i v unseen seen; chips = λ seen. refl }
+  middle-same c s r v unseen = record { seen = refl; registers = λ i seen. register_unchanged-by_set_outside_scope c s.0.r r i v unseen seen; chips = λ seen. refl }
 
   makes_mistake_in_scope-when : (c : Scope) (s : TrackedMachine) (r v u : ℕ) (b : Bool) (o : Option Op) → o ≡ Some (Isz r u) →
       (c.mistakes && (b && elim o as (λ _. Bool) [ Some op ↦ op_makes_mistake all_mistakes op (before_pass r v s) | None ↦ true ]))
@@ -135,14 +137,14 @@ module _ (w : Observer) where
   passes c never_lists start s r has left within apart zero v e walked = subst (λ (n : ℕ). RunSoFar w (meets_none never_lists) start (before_pass r n s)) (omega arith) walked
   passes c never_lists start s r has left within apart (suc k) v e walked =
       let property_holds-at : meets_none never_lists (before_pass r v s) ≡ true =
-      known-keeps c never_lists (before_pass r v s) has (sym (keeps-same c s (before_pass r v s) (pass-same c s r v left.unseen) never_lists has) ∙ apart) (pass-makes_mistake_in_scope c s r v left) in
+      meets_none-if_no_mistake c never_lists (before_pass r v s) has (sym (keeps-same c s (before_pass r v s) (pass-same c s r v left.unseen) never_lists has) ∙ apart) (pass-makes_mistake_in_scope c s r v left) in
       let property_holds-in : meets_none never_lists (within_pass r (v + 1) s) ≡ true =
-      known-keeps c never_lists (within_pass r (v + 1) s) has (sym (keeps-same c s (within_pass r (v + 1) s) (middle-same c s r (v + 1) left.unseen) never_lists has) ∙ apart) (middle-makes_mistake_in_scope c s r (v + 1)) in
+      meets_none-if_no_mistake c never_lists (within_pass r (v + 1) s) has (sym (keeps-same c s (within_pass r (v + 1) s) (middle-same c s r (v + 1) left.unseen) never_lists has) ∙ apart) (middle-makes_mistake_in_scope c s r (v + 1)) in
       let half = walked-more w (meets_none never_lists) start (before_pass r v s) (within_pass r (v + 1) s) walked property_holds-at (pass-quiet s r v left.spins) (sym (pass-begins s r v left.spins within (omega arith))) in
       let whole = walked-more w (meets_none never_lists) start (within_pass r (v + 1) s) (before_pass r (v + 1) s) half property_holds-in refl (sym (second-cycle s r (v + 1) left.spins.still left.spins.free)) in
       passes c never_lists start s r has left within apart k (v + 1) (omega arith) whole
 
-  pub spun-walked : (c : Scope) (never_lists : List (List Condition)) (start s t : TrackedMachine) → has_all_lists c never_lists ≡ true → cycle_changes c (next_op s.0 s.1) ≡ false → makes_mistake_in_scope c s ≡ false → meets_none never_lists s ≡ true →
+  pub spun-walked : (c : Scope) (never_lists : List (List Condition)) (start s t : TrackedMachine) → has_all_lists c never_lists ≡ true → cycle_may_change_scope c (next_op s.0 s.1) ≡ false → makes_mistake_in_scope c s ≡ false → meets_none never_lists s ≡ true →
       HasSpun w s t → RunSoFar w (meets_none never_lists) start s → RunSoFar w (meets_none never_lists) start t
   spun-walked c never_lists start s t has rest sound property_holds spun walked =
       let r = spun.register in
@@ -153,12 +155,12 @@ module _ (w : Observer) where
       elim (cases_lt r (length s.0.r)) [
         | inl within ↦
             goes (before_pass r 15 s) t (sym spun.at)
-            (passes c never_lists start s r has left within (kept-apart never_lists s property_holds) (15 - v) v (let few = spun.spins.few in omega arith) (goes s (before_pass r v s) (sym at_start) walked))
+            (passes c never_lists start s r has left within (meets_none_without_mistakes-if_meets_none never_lists s property_holds) (15 - v) v (let few = spun.spins.few in omega arith) (goes s (before_pass r v s) (sym at_start) walked))
         | inr past ↦ goes s t (sym (spun.at ∙ ap (λ (xs : List ℕ). (record s.0 { r = xs }, s.1, s.2)) (set_past s.0.r r 15 past))) walked
       ]
 
-  pub spun-apart : (c : Scope) (never_lists : List (List Condition)) (s t : TrackedMachine) → has_all_lists c never_lists ≡ true → cycle_changes c (next_op s.0 s.1) ≡ false → makes_mistake_in_scope c s ≡ false → meets_none never_lists s ≡ true →
+  pub spun-apart : (c : Scope) (never_lists : List (List Condition)) (s t : TrackedMachine) → has_all_lists c never_lists ≡ true → cycle_may_change_scope c (next_op s.0 s.1) ≡ false → makes_mistake_in_scope c s ≡ false → meets_none never_lists s ≡ true →
       HasSpun w s t → meets_none_without_mistakes never_lists t ≡ true
   spun-apart c never_lists s t has rest sound property_holds spun =
       let left = left-alone c spun.register s spun.spins rest sound in
-      ap (meets_none_without_mistakes never_lists) spun.at ∙ sym (keeps-same c s (before_pass spun.register 15 s) (pass-same c s spun.register 15 left.unseen) never_lists has) ∙ kept-apart never_lists s property_holds
+      ap (meets_none_without_mistakes never_lists) spun.at ∙ sym (keeps-same c s (before_pass spun.register 15 s) (pass-same c s spun.register 15 left.unseen) never_lists has) ∙ meets_none_without_mistakes-if_meets_none never_lists s property_holds

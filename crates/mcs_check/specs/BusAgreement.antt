@@ -5,8 +5,8 @@ use Rattle.mcs_model.specs.Boards.{rom_masks}
 use Rattle.mcs_model.specs.Bus.{BusState, chips_of, ram_index, status_index, ram_port_index}
 use Rattle.mcs_model.specs.Validity.{IsValidBus}
 
--- holds if two buses have the same board, the same ROM bytes and the same input levels, and every cell of
--- a present chip has the same value in both
+-- holds if two buses have the same board, the same ROM bytes and the same input levels, and every
+-- cell of a chip on this board has the same value in both buses
 pub record AgreesInChips (s t : BusState) : Type 0 where
   pub board : s.board ≡ t.board
   pub rom : s.rom ≡ t.rom
@@ -24,7 +24,7 @@ pub record AgreesInChips (s t : BusState) : Type 0 where
   pub keys : s.keys ≡ t.keys
   pub test : s.test ≡ t.test
 
--- two valid buses are equal if they agree in every present chip. The cells in a key therefore determine
--- all other cells.
+-- two valid buses are equal if they agree in every chip that their board has. A key therefore needs
+-- no cells of absent chips.
 abbrev pub AgreeingBusesAreEqual : Type 0
 AgreeingBusesAreEqual = (s t : BusState) → IsValidBus s → IsValidBus t → AgreesInChips s t → s ≡ t

@@ -1,6 +1,6 @@
--- The cells of a machine: the values that can differ between two machines with the same board and the
--- same program. A layout lists the bytes of a key. Each byte holds the value of one cell, or the values
--- of two neighbouring cells. (Our own choice.)
+-- The cells of a machine: the values that can differ between two machines with the same board and
+-- the same program. A layout lists the bytes of a key. Each byte holds the value of one cell, or
+-- the values of two neighbouring cells.
 use Rattle.std.specs.Prelude.{◌≡◌, ◌<◌, ◌+◌, ◌*◌, ◌/◌, ◌%◌, ℕ, List, [], ◌∷◌, Bool, true, false, is_some, map, nat_lt, slice_index, slice_index_or, if◌then◌else◌}
 use Rattle.std.specs.List.{Contains}
 use Rattle.mcs_model.specs.declared.board.BoardParts.{BoardParts}
@@ -13,9 +13,10 @@ use Rattle.mcs_check.specs.declared.cells.KeyByte.{KeyByte}
 use Rattle.mcs_check.specs.declared.cells.KeyByte.TheVariants.{One, Pair}
 use Rattle.mcs_check.specs.declared.cells.CellList.TheVariants.{RamCharacters, StatusCharacters, RamPorts, RomPorts, BankSrcBytes, Registers, Counters, Chain}
 
--- the counters of a machine. First come the registers other than the index registers, then the SRC byte
--- that the ROMs store, the number of open calls, the stopwatch's cycles and the number of marks seen. An
--- address takes two bytes and the cycles take three bytes, most significant byte first.
+-- the counters of a machine. First come the registers other than the index registers, then the SRC
+-- byte that the ROMs store, the number of open calls, the stopwatch's cycles and the number of
+-- marks seen. An address takes two bytes and the cycles take three bytes, most significant byte
+-- first.
 abbrev pub counters_of : Regs → ℕ → Counts → List ℕ
 counters_of s src t =
     s.acc ∷ s.cy ∷ s.dcl ∷ s.owed ∷ s.pc / 256 ∷ s.pc % 256
@@ -61,13 +62,14 @@ board_has_cell b (Chain n) i = nat_lt i (chain_bits b n)
 abbrev pub value_at : TrackedMachine → Cell → ℕ
 value_at t c = slice_index (values_in_list t c.list) (c.index % max_cell_count c.list)
 
--- true if each cell of a list has a value below 16. One byte of a key then holds two of these cells.
+-- true if every cell of a list has a value below 16. One byte of a key then holds two of these
+-- cells.
 abbrev pub is_narrow : CellList → Bool
 is_narrow BankSrcBytes = false
 is_narrow Counters = false
 is_narrow _ = true
 
--- the first cell (below: the second cell) of pair h in a list, with h reduced modulo 1024
+-- the first cell (below: the second cell) of pair `h` in a list, with `h` reduced modulo 1024
 abbrev pub first_cell_of : CellList → ℕ → Cell
 first_cell_of list h = record { list = list; index = 2 * (h % 1024) }
 
@@ -91,7 +93,7 @@ key_byte_of list i = if is_narrow list then Pair list (i / 2) else One (record {
 abbrev pub ContainsBytesOf : List KeyByte → List KeyByte → Type 0
 ContainsBytesOf others layout = (c : KeyByte) → Contains others c → Contains layout c
 
--- holds if a layout contains every cell of a list that exists on the board
+-- holds if a layout contains those cells of a list that exist on the board
 abbrev pub ContainsCellsOf : BoardParts → List KeyByte → CellList → Type 0
 ContainsCellsOf b layout list =
     (i : ℕ) → i < max_cell_count list → board_has_cell b list i ≡ true → Contains layout (key_byte_of list i)

@@ -7,14 +7,18 @@ use Rattle.mcs_drive.specs.TrackedMachine.{Observer, TrackedMachine, with_levels
 use Rattle.mcs_drive.specs.RunsBetweenReads.{LeadsTo}
 use Rattle.mcs_search.specs.Rules.{Rules}
 
--- holds if a key may identify the machine: the machine's board is sound, and property p holds for it
+-- holds if a key may identify the machine: its board is valid, and property p holds for the machine
 pub record MayHaveKey (p : TrackedMachine → Bool) (a : TrackedMachine) : Type 0 where
   pub sound : board_fault_of a.1.board ≡ None
   pub property_holds : p a ≡ true
 
--- the rules of a search whose keys identify machines. A choice is the value that a machine reads. A
--- choice leads from a key to a next key if the first key's machine runs to the next key's machine at all
--- input levels that give this value, and p holds at every step.
+-- the rules of a search whose keys identify machines. A choice is the value that a machine reads in
+-- its next cycle.
+-- `covers`: the choices include every value that a machine identified by `key` can read
+-- `leads`: each machine identified by `key` runs to a machine identified by `next`, at all input
+-- levels at which the first machine reads the choice, and p holds at every step
+-- `fails`: for each machine identified by `key`, there are input levels l such that p fails after
+-- some number of cycles at l
 abbrev pub machine_rules : Observer → (TrackedMachine → Bool) → (List ℕ → Type 0) → (List ℕ → TrackedMachine → Type 0) → Rules
 machine_rules w p is_state is_key_of = record {
   is_state = is_state;

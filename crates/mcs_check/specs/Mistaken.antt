@@ -1,6 +1,7 @@
--- Common programming mistakes. A program makes a mistake in the cycle that begins an instruction. (MCS-4
--- Users Manual: the instruction table, the three return addresses, the ports of the 4001 and the 4002.
--- The choice of mistakes is our own. Effect and Bus of mcs_model define the effect of each mistake.)
+-- Common programming mistakes. A program makes a mistake in the cycle that begins an instruction.
+-- (The list of mistakes is defined by Fethsaim, not by Intel. From the MCS-4 Users Manual: the
+-- instruction table, the three return addresses, the ports of the 4001 and the 4002. Effect and Bus
+-- of mcs_model define the effect of each mistake.)
 use Rattle.std.specs.Prelude.{◌+◌, ◌/◌, ◌%◌, ℕ, Bool, true, false, not, ◌&&◌, ◌||◌, ◌==◌, Some, None, is_none, nat_lt}
 use Rattle.mcs_model.specs.declared.board.BoardParts.{BoardParts}
 use Rattle.mcs_model.specs.declared.op.Op.{Op}
@@ -42,13 +43,13 @@ uses_ram Rd2 = true
 uses_ram Rd3 = true
 uses_ram _ = false
 
--- true if the board lacks the selected RAM chip. The SRC byte that the designated bank stores selects
--- this chip.
+-- true if the board lacks the selected RAM chip. DCL selects the bank, and the SRC byte that this
+-- bank stores selects the chip.
 abbrev pub lacks_selected_ram : Regs → BusState → Bool
 lacks_selected_ram s m = not (has_chip m s.dcl (src_of m s.dcl))
 
--- the address of the last word that an instruction reads from ROM: its second word, or the byte that FIN
--- loads. If the instruction reads no other word, it is the instruction's own address.
+-- the address of the last word that an instruction reads from ROM: the address of its second word,
+-- or of the byte that FIN loads. If there is no such word, it is the address of the instruction.
 abbrev pub last_address_read : Op → Regs → ℕ
 last_address_read (Jcn c b) s = (s.pc + 1) % 4096
 last_address_read (Fim k b) s = (s.pc + 1) % 4096
@@ -82,21 +83,21 @@ abbrev pub is_wrr : Op → Bool
 is_wrr Wrr = true
 is_wrr _ = false
 
--- true if an instruction makes a call mistake that `kinds` includes: a fourth nested call, or a BBL while
--- no call is open
+-- true if an instruction makes a call mistake that `kinds` includes: a fourth nested call, or a BBL
+-- while no call is open
 abbrev pub makes_call_mistake : Mistakes → Op → TrackedMachine → Bool
 makes_call_mistake kinds op s =
     (kinds.fourth_call && is_fourth_call op s.2.calls) || (kinds.unmatched_return && is_unmatched_return op s.2.calls)
 
--- true if an instruction makes a chip mistake that `kinds` includes: it uses an absent RAM chip or an
--- absent ROM
+-- true if an instruction makes a chip mistake that `kinds` includes: it uses an absent RAM chip or
+-- an absent ROM
 abbrev pub makes_chip_mistake : Mistakes → Op → TrackedMachine → Bool
 makes_chip_mistake kinds op s =
     (kinds.absent_ram && uses_ram op && lacks_selected_ram s.0 s.1)
     || (kinds.absent_rom && reads_absent_rom op s.0 s.1.board)
 
--- true if an instruction makes a port mistake that `kinds` includes: an RDR without input lines, or a WRR
--- without output lines
+-- true if an instruction makes a port mistake that `kinds` includes: an RDR without input lines, or
+-- a WRR without output lines
 abbrev pub makes_port_mistake : Mistakes → Op → TrackedMachine → Bool
 makes_port_mistake kinds op s =
     (kinds.port_without_inputs && is_rdr op && not (has_input s.1.board (s.1.rom_src / 16)))
@@ -106,8 +107,8 @@ makes_port_mistake kinds op s =
 abbrev pub op_makes_mistake : Mistakes → Op → TrackedMachine → Bool
 op_makes_mistake kinds op s = makes_call_mistake kinds op s || makes_chip_mistake kinds op s || makes_port_mistake kinds op s
 
--- true if the next cycle makes a mistake that `kinds` includes. Either it begins an instruction that
--- makes the mistake, or the opcode at the program counter is outside the instruction table.
+-- true if the next cycle makes a mistake that `kinds` includes. Either it begins an instruction
+-- that makes the mistake, or the opcode at the program counter is outside the instruction table.
 abbrev pub cycle_makes_mistake : Mistakes → TrackedMachine → Bool
 cycle_makes_mistake kinds s =
     not (s.0.owed == 1)

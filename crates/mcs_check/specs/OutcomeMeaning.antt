@@ -4,8 +4,9 @@ use Rattle.mcs_drive.specs.TrackedMachine.{Observer, TrackedMachine, Holds}
 use Rattle.mcs_check.specs.declared.checking.Outcome.{Outcome}
 use Rattle.mcs_check.specs.declared.checking.Outcome.TheVariants as outcome
 
--- if the outcome is Holds, the property holds at every moment, for all levels of the keys and TEST. The
--- property may refer to the stopwatch. All other outcomes promise nothing.
+-- the promise of an outcome. `Holds` promises that the property p holds at every moment, for all
+-- levels of the keys and TEST. The property may refer to the counts of the machine. All other
+-- outcomes promise nothing.
 abbrev pub IsProved : Observer → (TrackedMachine → Bool) → TrackedMachine → Outcome → Type 0
 IsProved w p s (outcome.Holds n) = Holds w p s
 IsProved w p s (outcome.MayFail values) = Unit {0}

@@ -44,33 +44,33 @@ Reads s Test = Begins ReadsTestPin s
 abbrev pub CannotRead : ℕ → TrackedMachine → Type 0
 CannotRead value s = (l : Levels) → FitsBoard s.1.board l → answer l s ≡ value → ⊥
 
--- true if every bit that is set in nibble n is also set in nibble most
+-- true if every bit that is set in nibble `n` is also set in nibble `most`
 abbrev pub is_bit_subset : ℕ → ℕ → Bool
 is_bit_subset n most =
     nat_le (bit_of n 0) (bit_of most 0) && nat_le (bit_of n 1) (bit_of most 1)
     && nat_le (bit_of n 2) (bit_of most 2) && nat_le (bit_of n 3) (bit_of most 3)
 
 -- the value that the selected ROM's port reads while no key is pressed; 0 if the ROM is absent
-abbrev pub port_unpressed : BusState → ℕ
-port_unpressed m =
+abbrev pub unpressed_port_value : BusState → ℕ
+unpressed_port_value m =
     elim (rom_masks m.board (m.rom_src / 16)) [ Some mask ↦ read_lines (λ k. 0) mask | None ↦ 0 ]
 
--- holds if one cycle takes s to t at all input levels at which s reads this value. The input levels of t
--- are ignored.
+-- holds if one cycle takes s to t at all input levels at which s reads this value. The input levels
+-- of t are ignored.
 abbrev pub HasRead : Observer → ℕ → TrackedMachine → TrackedMachine → Type 0
 HasRead w value s t =
     (l : Levels) → FitsBoard s.1.board l → answer l s ≡ value → without_levels (cycled w (with_levels l s)) ≡ without_levels t
 
--- holds if a run leads from s to t, no cycle of the run reads an input, and property p holds before and
--- after each cycle
+-- holds if a run leads from s to t, no cycle of the run reads an input, and property p holds before
+-- and after each cycle
 pub record Reaches (w : Observer) (p : TrackedMachine → Bool) (s t : TrackedMachine) : Type 0 where
   pub cycles : ℕ
   pub quiet : (i : ℕ) → i < cycles → next_reads_input (after_cycles w i s) ≡ false
   pub property_holds : (i : ℕ) → i ≤ cycles → p (after_cycles w i s) ≡ true
   pub at : t ≡ after_cycles w cycles s
 
--- holds if an observer's stopwatch and its count of marks never change. The stopwatch is at 0 and never
--- begins, the condition never holds, and the observer has no marks and has seen none.
+-- holds if an observer's stopwatch and count of marks never change. The stopwatch is at 0 and never
+-- begins. The observer's condition never holds, and the observer has no marks and has seen none.
 pub record IsObserverIdle (w : Observer) (n : Counts) : Type 0 where
   pub stopwatch_at_zero : n.elapsed ≡ 0
   pub never : (t : TrackedMachine) → w.begins t ≡ false
@@ -82,8 +82,8 @@ pub record IsObserverIdle (w : Observer) (n : Counts) : Type 0 where
 abbrev pub with_seen : ℕ → TrackedMachine → TrackedMachine
 with_seen n s = (s.0, s.1, record s.2 { seen = n })
 
--- holds if the next cycle begins an ISZ of register r that jumps to itself, the ISZ will jump, and the
--- observer is still (`IsObserverIdle`)
+-- holds if the next cycle begins an ISZ of register r that jumps to itself, the ISZ will jump, and
+-- the observer is idle (`IsObserverIdle`)
 pub record Spins (w : Observer) (r : ℕ) (s : TrackedMachine) : Type 0 where
   pub still : IsObserverIdle w s.2
   pub free : s.0.owed ≡ 0

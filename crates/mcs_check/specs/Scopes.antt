@@ -1,5 +1,5 @@
--- The scope of conditions: the parts of a machine that the conditions depend on. A cycle that changes
--- nothing in the scope does not change whether a comparison is met. (Our own choice.)
+-- The scope of conditions: the parts of a machine that the conditions depend on. A cycle that
+-- changes nothing in the scope does not change whether a comparison is met.
 use Rattle.std.specs.Prelude.{ℕ, ◌+◌, ◌*◌, ◌%◌, ◌==◌, List, [], ◌∷◌, Bool, true, false, ◌&&◌, ◌||◌, Option, Some, None, slice_index_or}
 use Rattle.mcs_model.specs.declared.op.Op.{Op}
 use Rattle.mcs_model.specs.declared.op.Op.TheVariants.{Fim, Src, Fin, Inc, Isz, Xch, Wrm, Wmp, Wrr, Wr0, Wr1, Wr2, Wr3}
@@ -16,8 +16,8 @@ use Rattle.mcs_check.specs.Mistaken.{cycle_makes_mistake}
 abbrev pub has_register : Scope → ℕ → Bool
 has_register c r = slice_index_or c.registers r false
 
--- true if cell i of a list is in a scope. Of the counters, the number of marks seen is in every scope,
--- and the others are in none.
+-- true if cell i of a list is in a scope. A cell of a chip is in a scope that includes the chips.
+-- Of the counters, the number of marks seen is in every scope, and the others are in no scope.
 abbrev pub has_cell : Scope → CellList → ℕ → Bool
 has_cell c Registers i = has_register c (i % 16)
 has_cell c Counters i = i % 18 == 17
@@ -55,11 +55,11 @@ changes c Wr2 = c.chips
 changes c Wr3 = c.chips
 changes c _ = false
 
--- true if a cycle that begins this instruction may change a register or a chip in a scope. A cycle that
--- begins no instruction (None) cannot.
-abbrev pub cycle_changes : Scope → Option Op → Bool
-cycle_changes c (Some op) = changes c op
-cycle_changes c None = false
+-- true if a cycle that begins this instruction may change a register or a chip in a scope. A cycle
+-- that begins no instruction (None) cannot.
+abbrev pub cycle_may_change_scope : Scope → Option Op → Bool
+cycle_may_change_scope c (Some op) = changes c op
+cycle_may_change_scope c None = false
 
 -- all kinds of mistake
 abbrev pub all_mistakes : Mistakes
@@ -73,6 +73,6 @@ all_mistakes = record {
   port_without_outputs = true;
 }
 
--- true if a scope includes mistakes and the next cycle makes one
+-- true if a scope includes mistakes and the next cycle makes a mistake of any kind
 abbrev pub makes_mistake_in_scope : Scope → TrackedMachine → Bool
 makes_mistake_in_scope c s = c.mistakes && cycle_makes_mistake all_mistakes s

@@ -1,5 +1,5 @@
-//! The cells of a machine, and a board's layout. The layout lists the bytes of a key, which together hold every cell
-//! of a machine on the board.
+//! The cells of a machine, and a board's layout. The layout lists the bytes of a key. Together these bytes hold every
+//! cell of a machine with this board.
 ghost use Rattle.std.specs.Prelude.{◌≡◌, ◌<◌, ◌+◌, ◌*◌, ◌%◌, ◌||◌, true, false, IfOk, OnOk};
 ghost use Rattle.mcs_check.specs.Cells.{max_cell_count, first_cell_of, is_narrow, board_has_cell, second_cell_of, ContainsBytesOf, ContainsCellsOf, IsComplete};
 
@@ -23,8 +23,9 @@ pub enum CellList {
     BankSrcBytes,
     /// The index registers.
     Registers,
-    /// All other registers (an address as two bytes), the SRC byte that the ROMs store, the number of open calls,
-    /// the stopwatch's cycles as three bytes, and the number of marks seen. The most significant byte comes first.
+    /// All registers except the index registers (an address as two bytes), the SRC byte that the ROMs store, the number
+    /// of open calls, the stopwatch's cycles as three bytes, and the number of marks seen. The most significant byte
+    /// comes first.
     Counters,
     /// The bits of the shift-register chain with this number.
     Chain(u8),
@@ -79,8 +80,8 @@ impl CellList {
 pub enum KeyByte {
     /// The value of a cell.
     One(Cell),
-    /// The values of two neighbouring cells, each below 16. The fields are their list and the number of the pair,
-    /// counted from 0. The first cell is the upper nibble.
+    /// The values of two neighbouring cells, each below 16. The fields are the list of the two cells and the number of
+    /// their pair, counted from 0. The first cell is the upper nibble.
     Pair(CellList, u16),
 }
 
@@ -119,7 +120,7 @@ impl Cell {
     }
 }
 
-/// Returns whether a board has the chip that contains cell `i` of a list. Registers and counters are always present.
+/// Returns whether a board has the chip that contains cell `i` of a list. Every board has the processor.
 fn board_has_cell(board: &Board, list: CellList, i: u16) -> bool
     requires { i < max_cell_count list }
     ensures { result ≡ board_has_cell board.now list i }
@@ -143,7 +144,7 @@ fn board_has_pair(board: &Board, list: CellList, pair: u16) -> bool
     board_has_cell(board, list, 2 * pair) || board_has_cell(board, list, 2 * pair + 1)
 }
 
-/// Appends to the layout every cell of a list that exists on the board, one cell per byte. Fails if memory runs out.
+/// Appends to the layout those cells of a list that exist on the board, one cell per byte. Fails if memory runs out.
 fn add_cells(layout: &mut Vec<KeyByte>, board: &Board, list: CellList) -> Result<(), AllocError>
     requires { is_narrow list ≡ false }
     ensures keeps { OnOk result (ContainsBytesOf layout.old.items layout.new.items) }
@@ -157,7 +158,7 @@ fn add_cells(layout: &mut Vec<KeyByte>, board: &Board, list: CellList) -> Result
     Ok(())
 }
 
-/// Appends to the layout every cell of a list that exists on the board, two cells per byte. Fails if memory runs out.
+/// Appends to the layout those cells of a list that exist on the board, two cells per byte. Fails if memory runs out.
 fn add_pairs(layout: &mut Vec<KeyByte>, board: &Board, list: CellList) -> Result<(), AllocError>
     requires { is_narrow list ≡ true }
     ensures keeps { OnOk result (ContainsBytesOf layout.old.items layout.new.items) }
@@ -171,7 +172,7 @@ fn add_pairs(layout: &mut Vec<KeyByte>, board: &Board, list: CellList) -> Result
     Ok(())
 }
 
-/// Appends to the layout every cell of a list that exists on the board. Fails if memory runs out.
+/// Appends to the layout those cells of a list that exist on the board. Fails if memory runs out.
 fn add_list(layout: &mut Vec<KeyByte>, board: &Board, list: CellList) -> Result<(), AllocError>
     ensures keeps { OnOk result (ContainsBytesOf layout.old.items layout.new.items) }
     ensures has { OnOk result (ContainsCellsOf board.now layout.new.items list) }

@@ -14,10 +14,11 @@ use std::alloc::{AllocError, Global};
 /// The result of a search through all inputs.
 #[derive(Debug, Drop)]
 pub enum Outcome {
-    /// The conditions are never met, for any inputs. The field is the number of states found.
+    /// The property holds for all inputs. The field is the number of states found.
     Holds(usize),
-    /// The conditions may be met after the machine has read these values, one value per read. If there are no values,
-    /// the conditions are met at once. Nothing is proved about the values.
+    /// The property may fail after search steps with these values, one value per step. The value is what the first
+    /// cycle of the step reads, and has no meaning if that cycle reads no input. If there are no values, the property
+    /// fails before the first cycle. Nothing is proved about the values.
     MayFail(Vec<u8>),
     /// The search found more states than the caller's limit allows.
     TooMany,
@@ -35,7 +36,7 @@ fn states_that_fit(memory: usize, key_len: usize) -> usize {
     memory / key_len.saturating_add(STATE_BYTES)
 }
 
-/// Searches all runs of a machine, for all levels of its keys and its TEST pin, and checks the conditions after each
+/// Searches all runs of a machine, for all levels of its keys and its TEST pin, and checks the property after each
 /// cycle. The search stores at most `most` states and uses about `memory` bytes. It splits each run of cycles without
 /// reads into steps of `pause` cycles. Fails if memory for the layout or for the first state cannot be allocated.
 pub fn check_all(

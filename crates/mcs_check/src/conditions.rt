@@ -107,7 +107,8 @@ fn are_met(replica: &SearchMachine, conditions: &[Condition]) -> bool
     true
 }
 
-/// A conjunction of conditions. It is met if all its conditions are met at the same moment. Contracts see the list.
+/// A conjunction of conditions. It is met if all its conditions are met at the same moment. In contracts, a
+/// `Conjunction` is the list of its conditions.
 #[derive(Drop)]
 pub struct Conjunction {
     conditions: Vec<Condition>,

@@ -1,8 +1,9 @@
-//! Checks properties of a machine for all inputs, by a search over keys.
+//! Checks properties of a machine for all inputs, by a search through its states.
 //!
-//! A key is a list of bytes that identifies one machine of a board. `SearchMachine` loads a machine from a key, saves it
-//! into a key, and runs it from one read of an input to the next. Contracts see a replica as a machine of `mcs_model`
-//! with three counts: its open calls, the cycles on a stopwatch, and the number of marks seen.
+//! A key is a list of bytes that identifies one state of a machine with a given board and given ROM bytes.
+//! `SearchMachine` loads a machine from a key, saves the machine into a key, and runs the machine from one read of an
+//! input to the next. In contracts, a `SearchMachine` is a machine of `mcs_model` with three counts: its open calls,
+//! the cycles on a stopwatch, and the number of marks seen.
 #![tactic(auto)]
 
 mod cells;

@@ -1,4 +1,4 @@
-//! The transition system that a search runs on. Each state identifies a machine of one board.
+//! The transition system that a search explores. Each key identifies a machine with the same board and ROM bytes.
 ghost use Rattle.std.specs.Prelude.{◌≡◌};
 
 use crate::cells::KeyByte;
@@ -9,12 +9,13 @@ use mcs_search::System;
 use std::alloc::AllocError;
 use std::marker::Model;
 
-/// The machines of one board, and the conditions to check in their runs. The replica holds one machine at a time.
+/// The machines with one board and one program, and the property to check in their runs. `replica` holds one of these
+/// machines at a time. `most` is the number of cycles after which a search step ends if the program reads no input.
 #[derive(Drop)]
 pub struct MachineSearch {
     pub(crate) replica: SearchMachine,
     pub(crate) layout: Vec<KeyByte>,
-    /// The key of the machine that the replica held last.
+    /// The key that `replica` last loaded or saved. All bytes are 0 before the first load.
     pub(crate) last: Vec<u8>,
     pub(crate) property: Property,
     pub(crate) most: u32,

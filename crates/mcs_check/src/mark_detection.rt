@@ -6,7 +6,7 @@ ghost use Rattle.mcs_model.specs.Boards.{is_matrix_size};
 ghost use Rattle.mcs_model.specs.Levels.{is_rom_line};
 ghost use Rattle.mcs_model.specs.declared.op.Op.TheVariants.{Rdr};
 ghost use Rattle.mcs_drive.specs.Marks.{can_other_key_pull, column_line, is_row_driven, line_shows, port_shows};
-ghost use Rattle.mcs_drive.specs.TrackedMachine.{seen_count_after, condition_holds_at, seen_mark_count, shows_next_mark};
+ghost use Rattle.mcs_drive.specs.TrackedMachine.{seen_count_after, seen_mark_count, shows_next_mark};
 ghost use Rattle.mcs_check.specs.Conditions.{observer_of_property};
 ghost use Rattle.mcs_check.specs.ReadPoints.{Begins};
 
@@ -169,12 +169,12 @@ impl SearchMachine {
         }
     }
 
-    /// Returns the count of marks seen after the next cycle. `shown` is true if that cycle shows the next mark. If a
-    /// conjunction in `opens` is met, the count is the number of marks plus 1.
-    pub(crate) fn seen_after(&self, property: &Property, shown: bool) -> u8
-        ensures { result ≡ seen_count_after (length property.now.marks) self.now.2.seen (condition_holds_at (observer_of_property property.now) self.now) shown }
+    /// Returns the count of marks seen after the next cycle. `is_open` is true if a conjunction in `opens` is met. The
+    /// count is then the number of marks plus 1. `shown` is true if the next cycle shows the next mark.
+    pub(crate) fn seen_after(&self, property: &Property, is_open: bool, shown: bool) -> u8
+        ensures { result ≡ seen_count_after (length property.now.marks) self.now.2.seen is_open shown }
     {
-        if property.opens(self) {
+        if is_open {
             return property.mark_count() + 1;
         }
         let seen = self.seen_mark_count(property);

@@ -1,4 +1,4 @@
-//! The marks that a run must see, and the requirement that it sees all of them before it meets some conjunctions.
+//! Lists of marks, and the requirement that all marks are seen before a run meets certain conjunctions.
 ghost use Rattle.std.specs.Prelude.{◌≡◌, ◌<◌, ◌≤◌, ◌&&◌, ◌↔◌, [], ◌∷◌, ◌++◌, length, nat_lt, not, slice_get, true, IsSome, IfSome, IfOk, OnOk};
 ghost use Rattle.mcs_drive.specs.TrackedMachine.{TrackedMachine};
 ghost use Rattle.mcs_check.specs.Conditions.{meets_none, fewer_marks_seen};
@@ -13,7 +13,7 @@ use std::marker::Model;
 /// The maximum number of marks.
 const MAX_MARKS: usize = 200;
 
-/// A list of at most 200 marks, which a run must see in this order. Contracts see the list.
+/// A list of at most 200 marks, in the order in which a run must see them. In contracts, a `Marks` is this list.
 #[derive(Drop)]
 pub struct Marks {
     marks: Vec<Mark>,
@@ -110,8 +110,8 @@ fn with_condition(
     Ok(Conjunction::of(all))
 }
 
-/// Appends conjunctions to `never_lists` that are met if a conjunction in `opens` is met before all marks were seen. Fails
-/// if memory runs out.
+/// Appends conjunctions to `never_lists`. At least one of them is met if and only if a conjunction in `opens` is met
+/// before all marks were seen. Fails if memory runs out.
 pub fn add_mark_requirement(
     alloc: Global,
     never_lists: &mut Vec<Conjunction>,

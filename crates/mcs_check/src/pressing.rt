@@ -1,4 +1,4 @@
-//! Presses all keys of a machine, as a search requires.
+//! Presses all keys of a machine's key matrix, as a search requires.
 ghost use Rattle.std.specs.Prelude.{◌≡◌, ◌<◌, ℕ, replicate};
 ghost use Rattle.mcs_model.specs.Boards.{key_count};
 ghost use Rattle.mcs_check.specs.AllPressed.{IsKeyAt, with_all_pressed};
@@ -8,8 +8,8 @@ use mcs_board::BenchRig;
 use mcs_model::board::Board;
 use mcs_nibble::Bit;
 
-/// Returns the number of columns in a board's key matrix, or 1 if it has none. Key `i` is in row `i / columns` and
-/// column `i % columns`.
+/// Returns the number of columns in a board's key matrix, or 1 if the board has no key matrix. With this number as
+/// `columns`, key `i` is in row `i / columns` and column `i % columns`.
 fn columns_of(board: &Board) -> usize
     ensures { (i : ℕ) → i < key_count board.now → IsKeyAt board.now result i }
 {

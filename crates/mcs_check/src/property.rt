@@ -1,6 +1,7 @@
 //! The conditions that a run checks, and the stopwatch and marks that it observes.
-ghost use Rattle.std.specs.Prelude.{◌≡◌, ◌≤◌, [], length, not, slice_get, true};
-ghost use Rattle.mcs_check.specs.Conditions.{meets_none};
+ghost use Rattle.std.specs.Prelude.{◌≡◌, ◌≤◌, ◌&&◌, [], length, not, slice_get, true};
+ghost use Rattle.mcs_drive.specs.TrackedMachine.{condition_holds_at};
+ghost use Rattle.mcs_check.specs.Conditions.{meets_none, observer_of_property};
 ghost use Rattle.mcs_check.specs.Scopes.{has_all_lists};
 
 use crate::conditions::{Conjunction, meets_none};
@@ -31,9 +32,9 @@ impl Model for Property {
 }
 
 impl Property {
-    /// Creates a property from its conjunctions and marks. A run must never meet `never_lists`. `begins` and `ends` begin
-    /// and end a stopwatch. A run must not meet `opens` before all marks were seen: `add_mark_requirement` adds this to
-    /// `never_lists`.
+    /// Creates a property from its conjunctions and marks. A run must never meet `never_lists`. `begins` and `ends`
+    /// begin and end a stopwatch. A run must not meet `opens` before all marks were seen. `add_mark_requirement` adds
+    /// this requirement to `never_lists`.
     pub fn of(
         never_lists: Vec<Conjunction>,
         begins: Vec<Conjunction>,
@@ -97,6 +98,13 @@ impl Property {
         scope.has_all_lists(&self.never_lists)
     }
 
+    /// Returns whether a scope covers all conditions in `opens` and includes no mistakes.
+    pub(crate) fn is_opening_covered_by(&self, scope: &Scope) -> bool
+        ensures { result ≡ (not scope.now.mistakes && has_all_lists scope.now self.now.opens) }
+    {
+        !scope.mistakes && scope.has_all_lists(&self.opens)
+    }
+
     /// Returns true only if no conjunction begins the stopwatch.
     pub(crate) fn never_begins(&self) -> bool
         ensures { result ≡ true → self.now.begins ≡ [] }
@@ -112,23 +120,23 @@ impl Property {
         self.opens.is_empty() && self.marks.is_empty()
     }
 
-    /// Returns whether the stopwatch begins in the machine's present state.
+    /// Returns whether the stopwatch begins in the machine's current state.
     pub(crate) fn begins(&self, replica: &SearchMachine) -> bool
         ensures { result ≡ not (meets_none self.now.begins replica.now) }
     {
         !meets_none(replica, &self.begins)
     }
 
-    /// Returns whether the stopwatch ends in the machine's present state.
+    /// Returns whether the stopwatch ends in the machine's current state.
     pub(crate) fn ends(&self, replica: &SearchMachine) -> bool
         ensures { result ≡ not (meets_none self.now.ends replica.now) }
     {
         !meets_none(replica, &self.ends)
     }
 
-    /// Returns whether a conjunction in `opens` is met in the machine's present state.
+    /// Returns whether a conjunction in `opens` is met in the machine's current state.
     pub(crate) fn opens(&self, replica: &SearchMachine) -> bool
-        ensures { result ≡ not (meets_none self.now.opens replica.now) }
+        ensures { result ≡ condition_holds_at (observer_of_property self.now) replica.now }
     {
         !meets_none(replica, &self.opens)
     }

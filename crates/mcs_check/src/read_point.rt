@@ -6,11 +6,11 @@ ghost use Rattle.mcs_model.specs.Levels.{port_of};
 ghost use Rattle.mcs_model.specs.Registers.{register_of};
 ghost use Rattle.mcs_model.specs.declared.op.Op.TheVariants.{Rdr};
 ghost use Rattle.mcs_drive.specs.InputReads.{reads_input};
-ghost use Rattle.mcs_drive.specs.TrackedMachine.{calls_after, cycled, next_reads_input, next_op, open_calls_after, shows_next_mark};
+ghost use Rattle.mcs_drive.specs.TrackedMachine.{calls_after, cycled, next_reads_input, next_op, open_calls_after, shows_next_mark, condition_holds_at};
 ghost use Rattle.mcs_check.specs.Conditions.{meets_none, observer_of_property};
 ghost use Rattle.mcs_check.specs.Keys.{KeepsBoardAndInputs};
-ghost use Rattle.mcs_check.specs.Scopes.{cycle_changes, makes_mistake_in_scope};
-ghost use Rattle.mcs_check.specs.ReadPoints.{Begins, ReadsTestPin, Reads, CannotRead, HasRead, HasSpun, Reaches, Spins, is_bit_subset, port_unpressed, with_seen};
+ghost use Rattle.mcs_check.specs.Scopes.{cycle_may_change_scope, makes_mistake_in_scope};
+ghost use Rattle.mcs_check.specs.ReadPoints.{Begins, ReadsTestPin, Reads, CannotRead, HasRead, HasSpun, Reaches, Spins, is_bit_subset, unpressed_port_value, with_seen};
 
 use crate::cells::KeyByte;
 use crate::common_mistakes::Mistakes;
@@ -57,7 +57,7 @@ fn calls_after_op(op: &Op, calls: u8) -> u8
 /// The maximum number of cycles before the last pass of an ISZ that jumps to itself: 15 passes of 2 cycles.
 const MAX_CYCLES_BEFORE_LAST_PASS: u32 = 30;
 
-/// Facts about the next cycle that are known before it runs. Some depend on the scope of the conditions.
+/// Facts about the next cycle that are known before this cycle runs. Some facts depend on the scope of the conditions.
 #[derive(Clone, Copy)]
 struct NextCycleFacts {
     /// True if the cycle may read an input.
@@ -100,9 +100,10 @@ fn begins_spin_pass(regs: &Regs, r: RegNo, word: u8) -> bool
     regs.owed == 0 && jumps_to_itself(regs.pc, word) && regs.register(r).get() < 15
 }
 
-/// Returns whether the passes of an ISZ that jumps to itself may run in one step. At least `MAX_CYCLES_BEFORE_LAST_PASS` cycles must
-/// be left, and the ISZ must not be at the address at which the run compares keys (`is_sought`). The scope must cover
-/// all conditions, and the next cycle must change nothing in the scope and make no mistake.
+/// Returns whether the passes of an ISZ that jumps to itself may run in one step. At least
+/// `MAX_CYCLES_BEFORE_LAST_PASS` cycles must be left, and the ISZ must not be at the address at which the run compares
+/// keys (`is_sought`). The scope must cover all conditions, and the next cycle must change nothing in the scope and
+/// make no mistake.
 fn may_spin(
     left: u32,
     is_sought: bool,
@@ -174,7 +175,7 @@ impl SearchMachine {
     fn next_cycle_facts(&self, property: &Property, scope: &Scope) -> NextCycleFacts
         ensures quiet { result.may_read ≡ false → next_reads_input self.now ≡ false }
         ensures makes_mistake_in_scope { result.makes_mistake_in_scope ≡ makes_mistake_in_scope scope.now self.now }
-        ensures changes { result.changes ≡ cycle_changes scope.now (next_op self.now.0 self.now.1) }
+        ensures changes { result.changes ≡ cycle_may_change_scope scope.now (next_op self.now.0 self.now.1) }
         ensures calls { result.calls ≡ open_calls_after self.now.0 self.now.1 self.now.2.calls }
         ensures spins { IfSome result.spins (λ r. Spins (observer_of_property property.now) r self.now) }
     {
@@ -211,6 +212,7 @@ impl SearchMachine {
     }
 
     /// Runs one cycle. `calls` is the number of open calls after the cycle, and `seen` the number of marks seen.
+    #[inline(always)]
     fn cycle(&mut self, property: &Property, calls: u8, seen: u8)
         requires { calls ≡ open_calls_after self.old.0 self.old.1 self.old.2.calls }
         ensures { self.new ≡ with_seen seen (cycled (observer_of_property property.now) self.old) }
@@ -222,13 +224,16 @@ impl SearchMachine {
         self.seen = seen;
     }
 
-    /// Runs one cycle that shows no mark. `calls` is the number of open calls after the cycle.
-    fn cycle_without_mark(&mut self, property: &Property, calls: u8)
+    /// Runs one cycle that shows no mark. `calls` is the number of open calls after the cycle. `is_open` is true if a
+    /// conjunction in `opens` is met.
+    #[inline(always)]
+    fn cycle_without_mark(&mut self, property: &Property, calls: u8, is_open: bool)
         requires calls { calls ≡ open_calls_after self.old.0 self.old.1 self.old.2.calls }
+        requires open { is_open ≡ condition_holds_at (observer_of_property property.now) self.old }
         requires unseen { (value : ℕ) → shows_next_mark (observer_of_property property.now) self.old value ≡ false }
         ensures { self.new ≡ cycled (observer_of_property property.now) self.old }
     {
-        let seen = self.seen_after(property, false);
+        let seen = self.seen_after(property, is_open, false);
         self.cycle(property, calls, seen);
     }
 
@@ -243,16 +248,19 @@ impl SearchMachine {
     }
 
     /// Runs one cycle that reads no input. If `may_spin` is true and the cycle begins an ISZ that will jump to
-    /// itself, runs all passes of this ISZ except the last instead. Returns the number of cycles that ran.
+    /// itself, runs all passes of this ISZ except the last instead. `is_open` is true if a conjunction in `opens` is
+    /// met. Returns the number of cycles that ran.
     fn run_step(
         &mut self,
         property: &Property,
         next_cycle_facts: &NextCycleFacts,
         may_spin: bool,
+        is_open: bool,
     ) -> u32
         requires calls { next_cycle_facts.now.calls ≡ open_calls_after self.old.0 self.old.1 self.old.2.calls }
         requires spins { IfSome next_cycle_facts.now.spins (λ r. Spins (observer_of_property property.now) r self.old) }
         requires quiet { next_reads_input self.old ≡ false }
+        requires open { is_open ≡ condition_holds_at (observer_of_property property.now) self.old }
         ensures { (self.new ≡ cycled (observer_of_property property.now) self.old) ⊎ ((may_spin ≡ true) × HasSpun (observer_of_property property.now) self.old self.new) }
     {
         if may_spin {
@@ -260,7 +268,7 @@ impl SearchMachine {
                 return self.spin(property, r);
             }
         }
-        self.cycle_without_mark(property, next_cycle_facts.calls);
+        self.cycle_without_mark(property, next_cycle_facts.calls, is_open);
         1
     }
 
@@ -274,7 +282,7 @@ impl SearchMachine {
 
     /// Returns the value that the selected ROM's port reads while no key is pressed, or 0 if the ROM is absent.
     fn unpressed_port(&self) -> Nibble
-        ensures { result ≡ port_unpressed self.now.1 }
+        ensures { result ≡ unpressed_port_value self.now.1 }
     {
         match self.rig.board().mask(self.rig.rom_src() / 16) {
             Some(mask) => read_port_of(&mask, Nibble::ZERO),
@@ -282,9 +290,10 @@ impl SearchMachine {
         }
     }
 
-    /// Returns the value that the selected port reads with no key pressed, and the value that it reads at present.
+    /// Returns the value that the selected port reads with no key pressed, and the value that this port reads in the
+    /// current state.
     pub(crate) fn port_bounds(&self) -> (Nibble, Nibble)
-        ensures least { result.0 ≡ port_unpressed self.now.1 }
+        ensures least { result.0 ≡ unpressed_port_value self.now.1 }
         ensures most { result.1 ≡ port_of self.now.1 }
     {
         let most = self.rig.read_port(Nibble::high_of(self.rig.rom_src()));
@@ -303,7 +312,7 @@ impl SearchMachine {
     ) -> bool
         requires reads { Reads self.now source }
         requires keys { self.now.1.keys ≡ replicate (key_count self.now.1.board) 1 }
-        requires least { least ≡ port_unpressed self.now.1 }
+        requires least { least ≡ unpressed_port_value self.now.1 }
         requires most { most ≡ port_of self.now.1 }
         requires value { value < 16 }
         ensures { result ≡ false → CannotRead value self.now }
@@ -323,7 +332,7 @@ impl SearchMachine {
         ensures keeps { KeepsBoardAndInputs self.old.1 self.new.1 }
     {
         let shown = self.shows_next_mark(property, value);
-        let seen = self.seen_after(property, shown);
+        let seen = self.seen_after(property, property.opens(self), shown);
         let calls = self.open_calls_after();
         self.cycle(property, calls, seen);
         self.cpu.set_acc(Nibble::low_of(value));
@@ -340,7 +349,8 @@ impl SearchMachine {
         let level = self.rig.test_level();
         self.rig.set_test(Bit::low_of(value));
         let calls = self.open_calls_after();
-        self.cycle_without_mark(property, calls);
+        let is_open = property.opens(self);
+        self.cycle_without_mark(property, calls, is_open);
         self.rig.set_test(level);
     }
 
@@ -352,7 +362,8 @@ impl SearchMachine {
     {
         self.show_state_is_valid();
         let calls = self.open_calls_after();
-        self.cycle_without_mark(property, calls);
+        let is_open = property.opens(self);
+        self.cycle_without_mark(property, calls, is_open);
     }
 
     /// Runs the next cycle as if it read this value. Returns false, without running the cycle, if the value is out of
@@ -406,6 +417,19 @@ impl SearchMachine {
         is_known && !changed && !makes_mistake_in_scope || property.keeps(self)
     }
 
+    /// Returns whether a conjunction in `opens` is met. This is `was_open`, the answer before the last step, if the
+    /// scope covers all conditions in `opens` (`is_known`) and the last step changed nothing in the scope.
+    fn is_open(&self, property: &Property, is_known: bool, changed: bool, was_open: bool) -> bool
+        requires { is_known ≡ true → changed ≡ false → was_open ≡ condition_holds_at (observer_of_property property.now) self.now }
+        ensures { result ≡ condition_holds_at (observer_of_property property.now) self.now }
+    {
+        if is_known && !changed {
+            was_open
+        } else {
+            property.opens(self)
+        }
+    }
+
     /// Returns whether the last step may have changed something in a scope. `changes` is true if the step may have
     /// changed a register or a chip in the scope. `seen` is the number of marks seen before the step.
     fn has_changed(&self, changes: bool, seen: u8) -> bool
@@ -430,7 +454,9 @@ impl SearchMachine {
     {
         let scope = property.scope();
         let has_all_lists = property.is_covered_by(&scope);
+        let has_opening = property.is_opening_covered_by(&scope);
         let mut changed = true;
+        let mut is_open = false;
         let mut left = most;
         for _ in 0..most {
             if left == 0 {
@@ -454,8 +480,9 @@ impl SearchMachine {
             }
             let is_sought = self.program_counter().get() == at.get();
             let may = may_spin(left, is_sought, has_all_lists, &next_cycle_facts);
+            is_open = self.is_open(property, has_opening, changed, is_open);
             let seen = self.seen;
-            left = left.saturating_sub(self.run_step(property, &next_cycle_facts, may));
+            left = left.saturating_sub(self.run_step(property, &next_cycle_facts, may, is_open));
             changed = self.has_changed(next_cycle_facts.changes, seen);
         }
         property.keeps(self)

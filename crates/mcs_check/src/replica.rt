@@ -17,7 +17,7 @@ use mcs_nibble::{Addr, Bit, Nibble};
 use std::marker::Model;
 
 /// A processor on a rig, with the number of open calls, the cycles on a stopwatch and the number of marks seen.
-/// Contracts see a machine with its counts.
+/// In contracts, a `SearchMachine` is a machine with these three counts.
 #[derive(Drop)]
 pub struct SearchMachine {
     pub(crate) cpu: Cpu,
@@ -90,7 +90,7 @@ fn registers_are_valid(cpu: &Cpu)
 }
 
 impl SearchMachine {
-    /// Creates a replica from a processor and a rig, with no open calls, the stopwatch at 0 and no marks seen.
+    /// Creates a machine from a processor and a rig, with no open calls, the stopwatch at 0 and no marks seen.
     pub fn of(cpu: Cpu, rig: BenchRig) -> SearchMachine
         ensures { result ≡ with_zero_counts (cpu, rig) }
     {
@@ -110,7 +110,7 @@ impl SearchMachine {
         self.rig.board()
     }
 
-    /// Returns cell `i` of the list `Counters`.
+    /// Returns the value of cell `i` of the list `Counters`.
     fn counter_at(&self, i: u16) -> u8
         requires { i < 18 }
         ensures { result ≡ slice_index (values_in_list self.now Counters) i }
@@ -361,8 +361,8 @@ impl SearchMachine {
         self.matches_key(layout, key)
     }
 
-    /// Sets the cells of a layout from a key, as `load` does. This is faster if `last` is the machine's present key.
-    /// Copies `key` into `last` if their lengths are equal.
+    /// Sets the cells of a layout from `key`, as `load` does, and returns the same result as `load`. This is faster if
+    /// `last` is the machine's current key. Copies `key` into `last` if their lengths are equal.
     pub(crate) fn reload(&mut self, layout: &[KeyByte], last: &mut [u8], key: &[u8]) -> bool
         requires { length key.now ≡ length layout.now }
         ensures keeps { KeepsBoardAndInputs self.old.1 self.new.1 }

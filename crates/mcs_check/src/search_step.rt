@@ -1,4 +1,4 @@
-//! One step of the search, from the machine that a key identifies to the next machine.
+//! One step of the search: it runs the machine that a key identifies to its next read, and saves the new key.
 ghost use Rattle.std.specs.Prelude.{◌≡◌, ◌<◌, ◌⊎◌, ℕ, length, true, replicate, IfSome, OnOk};
 ghost use Rattle.std.specs.List.{Contains};
 ghost use Rattle.mcs_model.specs.Boards.{key_count};
@@ -43,9 +43,9 @@ fn push_readable_values(replica: &SearchMachine, into: &mut Vec<u8>) -> Result<(
     Ok(())
 }
 
-/// Loads the machine that `key` identifies, and lists in `into` the values that it can read in its next cycle. Lists
-/// all 16 values if the key cannot be loaded. `last` is the replica's previous key, which `key` replaces. Fails if
-/// memory runs out.
+/// Loads the machine that `key` identifies, and lists in `into` the values that this machine can read in its next
+/// cycle. Lists all 16 values if `key` cannot be loaded. `last` is the key that `replica` last loaded or saved; `key`
+/// replaces it. Fails if memory runs out.
 pub(crate) fn list_readable_values(
     replica: &mut SearchMachine,
     layout: &[KeyByte],
@@ -70,7 +70,7 @@ pub(crate) fn list_readable_values(
     Ok(())
 }
 
-/// Copies a key into `last` if it has the same length.
+/// Copies `key` into `last` if their lengths are equal.
 fn copy_key(last: &mut [u8], key: &[u8]) {
     if last.len() == key.len() {
         last.copy_from_slice(key);
@@ -78,9 +78,9 @@ fn copy_key(last: &mut [u8], key: &[u8]) {
 }
 
 /// Loads the machine that `key` identifies and runs it until its next read (see `run_to_read_point`). The first cycle
-/// reads `value`. Saves the machine's new key into `into` if the property holds. Returns whether the property holds
-/// at every step, or `None` if the key cannot be loaded or the first cycle cannot read `value`. `last` is the
-/// replica's previous key, which its new key replaces.
+/// reads `value`. Returns whether the property holds at every step, or `None` if `key` cannot be loaded or the first
+/// cycle cannot read `value`. Saves the machine's new key into `into` if the property holds. `last` is the key that
+/// `replica` last loaded or saved; the function updates `last`.
 pub(crate) fn run_to_next_key(
     replica: &mut SearchMachine,
     layout: &[KeyByte],

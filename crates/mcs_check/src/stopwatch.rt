@@ -1,7 +1,7 @@
 //! The number of cycles that a stopwatch shows, and a limit on this number.
 ghost use Rattle.std.specs.Prelude.{◌≡◌, ◌==◌, ◌<◌, ◌/◌, ◌%◌, ◌∷◌, ◌&&◌, ◌↔◌, [], false, true, nat_le, IsSome, IfSome, OnOk};
 ghost use Rattle.mcs_drive.specs.TrackedMachine.{TrackedMachine, elapsed_after, stopwatch_after};
-ghost use Rattle.mcs_check.specs.Conditions.{compare_elapsed_byte, meets_none, observer_of_property};
+ghost use Rattle.mcs_check.specs.Conditions.{elapsed_byte_comparison, meets_none, observer_of_property};
 ghost use Rattle.mcs_check.specs.declared.conditions.Condition.TheVariants.{Compare};
 ghost use Rattle.mcs_check.specs.ReadPoints.{IsObserverIdle};
 
@@ -15,7 +15,7 @@ use std::marker::Model;
 /// The largest number of cycles that a stopwatch shows: 2^24 - 1.
 const STOPWATCH_MAX: u32 = 16_777_215;
 
-/// A number of cycles that a stopwatch can show, at most 2^24 - 1. Contracts see the number.
+/// A number of cycles that a stopwatch can show, at most 2^24 - 1. In contracts, a `StopwatchCycles` is this number.
 #[derive(Clone, Copy, Debug)]
 pub struct StopwatchCycles {
     cycles: u32,
@@ -37,7 +37,8 @@ impl StopwatchCycles {
     /// Zero cycles.
     pub(crate) const ZERO: StopwatchCycles = StopwatchCycles { cycles: 0 };
 
-    /// Returns this number of cycles, or `None` if it is above 2^24 - 1, the most that a stopwatch can show.
+    /// Converts a number of cycles. Returns `None` if `cycles` is above 2^24 - 1, the largest number that a stopwatch
+    /// can show.
     pub fn of(cycles: u32) -> Option<StopwatchCycles>
         ensures in_range { IsSome result ↔ (cycles < 16777216) }
         ensures value { IfSome result (λ n. n ≡ cycles) }
@@ -102,7 +103,7 @@ impl StopwatchCycles {
 /// Returns the condition that byte `i` of the stopwatch's cycles is greater than `n`. Byte 0 is the most significant.
 fn byte_is_above(i: u16, n: u8) -> Condition
     requires { i < 3 }
-    ensures { result ≡ Compare (compare_elapsed_byte i 0 n false) }
+    ensures { result ≡ Compare (elapsed_byte_comparison i 0 n false) }
 {
     Condition::Compare(Comparison {
         cell: Cell {
@@ -119,7 +120,7 @@ fn byte_is_above(i: u16, n: u8) -> Condition
 /// Returns the condition that byte `i` of the stopwatch's cycles equals `n`. Byte 0 is the most significant.
 fn byte_equals(i: u16, n: u8) -> Condition
     requires { i < 3 }
-    ensures { result ≡ Compare (compare_elapsed_byte i n n true) }
+    ensures { result ≡ Compare (elapsed_byte_comparison i n n true) }
 {
     Condition::Compare(Comparison {
         cell: Cell {
@@ -133,8 +134,8 @@ fn byte_equals(i: u16, n: u8) -> Condition
     })
 }
 
-/// Appends conjunctions to `never_lists` that are met if the stopwatch shows more than `limit` cycles. Fails if memory
-/// runs out.
+/// Appends conjunctions to `never_lists`. At least one of them is met if and only if the stopwatch shows more than
+/// `limit` cycles. Fails if memory runs out.
 pub fn add_limit(
     alloc: Global,
     never_lists: &mut Vec<Conjunction>,
@@ -173,7 +174,7 @@ impl SearchMachine {
         self.is_stopped(property) && self.seen == 0 && property.has_no_marks()
     }
 
-    /// Returns the cycles that the stopwatch shows after the machine's next cycle.
+    /// Returns the number of cycles that the stopwatch shows after the machine's next cycle.
     pub(crate) fn elapsed_after(&self, property: &Property) -> StopwatchCycles
         ensures { result ≡ elapsed_after (observer_of_property property.now) self.now }
     {

@@ -1,11 +1,11 @@
-//! The list of the instructions, and the macros that expand its rows in the functions of this crate.
+//! The list of the 45 instructions, and the macros that expand the rows of this list in the functions of this crate.
 
 /// Passes `$head` and the rows of the opcode table to the macro `$with`.
 ///
-/// A row contains, in this order: patterns for the upper and the lower nibble of its opcodes, the instruction, and
-/// the kind of its operands. The number of words and the number of instruction cycles follow. The last two entries
-/// are the instruction's name as text, after the group in which the name is looked up. If a row has several opcodes,
-/// the first pattern for the lower nibble is the lowest one.
+/// A row contains, in this order: patterns for the upper and the lower nibble of its opcodes, the instruction, and the
+/// kind of its operands. The number of words and the number of instruction cycles follow. The last two entries are the
+/// group in which a name is looked up, and the instruction's name as text. If a row has several opcodes, the pattern
+/// for the lower nibble begins with the lowest of these nibbles.
 #[macro_export]
 macro_rules! instructions {
     ($with:ident! $head:tt) => {

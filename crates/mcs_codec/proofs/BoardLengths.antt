@@ -1,4 +1,5 @@
--- Bounds on the lists of a valid board, in a form that fits lists that are read element by element.
+-- Bounds on the lists of a valid board. The bounds are stated by recursion on the lists: the proofs
+-- about readings need this form.
 use Rattle.std.proofs.Common.{◌≡◌, ℕ, zero, suc, ◌*◌, ◌≤◌, false, List, [], ◌∷◌, length, get_or, Option, Some, None, refl, subst, arith}
 use Rattle.std.specs.Prelude.{◌&&◌, not, nat_lt, nat_le}
 use Rattle.std.specs.List.{list_any, AllByRecursion}
@@ -13,88 +14,88 @@ use Rattle.mcs_model.specs.declared.limits.TheConstants.{CHAINS, CHAIN_CHIPS, CH
 use Rattle.mcs_model.specs.Validity.{IsValidBoard}
 use Rattle.mcs_model.proofs.ValidBoardLemmas.{sound}
 
-abbrev pub IsMask : Option (List LineMask) → Type 0
-IsMask (Some mask) = length mask ≡ 4
-IsMask None = Unit {0}
+abbrev pub HasFourLines : Option (List LineMask) → Type 0
+HasFourLines (Some mask) = length mask ≡ 4
+HasFourLines None = Unit {0}
 
-abbrev pub IsKeys : Option KeyMatrix → Type 0
-IsKeys (Some m) = length m.columns.items ≤ 8
-IsKeys None = Unit {0}
+abbrev pub HasAtMostEightColumns : Option KeyMatrix → Type 0
+HasAtMostEightColumns (Some m) = length m.columns.items ≤ 8
+HasAtMostEightColumns None = Unit {0}
 
 -- holds if each list in a board's parts has a valid length
 pub record HasLengths (b : BoardParts) : Type 0 where
   pub roms : length b.roms ≡ 16
-  pub masks : AllByRecursion IsMask b.roms
+  pub masks : AllByRecursion HasFourLines b.roms
   pub banks : length b.banks ≡ 8
   pub chains : length b.chains.items ≤ CHAINS
-  pub keys : IsKeys b.keys
+  pub keys : HasAtMostEightColumns b.keys
   pub lamps : length b.lamps.items ≤ 64
 
 -- ---- bounds on a board without errors
 
-few_chips : (chains : List ChainPart) → list_any (λ c. not (is_chain_size c)) chains ≡ false → AllByRecursion (λ c. c.chips ≤ CHAIN_CHIPS) chains
-few_chips [] h = tt
-few_chips (c ∷ chains) h =
+chips_within_limit_by_recursion : (chains : List ChainPart) → list_any (λ c. not (is_chain_size c)) chains ≡ false → AllByRecursion (λ c. c.chips ≤ CHAIN_CHIPS) chains
+chips_within_limit_by_recursion [] h = tt
+chips_within_limit_by_recursion (c ∷ chains) h =
     let first = or_parts (not (is_chain_size c)) (list_any (λ x. not (is_chain_size x)) chains) h in
     let sized = and_parts (nat_lt 0 c.chips) (nat_le c.chips CHAIN_CHIPS) (not-false (is_chain_size c) first.0) in
-    (leb-true _ _ sized.1, few_chips chains first.1)
+    (leb-true _ _ sized.1, chips_within_limit_by_recursion chains first.1)
 
-few_keys : (k : Option KeyMatrix) → IsKeys k → elim k [ Some m ↦ not (is_matrix_size m) | None ↦ false ] ≡ false → elim k [ Some m ↦ m.rows * length m.columns.items | None ↦ 0 ] ≤ KEYS
-few_keys None h e = omega arith
-few_keys (Some m) h e =
+matrix_keys_within_limit : (k : Option KeyMatrix) → HasAtMostEightColumns k → elim k [ Some m ↦ not (is_matrix_size m) | None ↦ false ] ≡ false → elim k [ Some m ↦ m.rows * length m.columns.items | None ↦ 0 ] ≤ KEYS
+matrix_keys_within_limit None h e = omega arith
+matrix_keys_within_limit (Some m) h e =
     let all = not-false (is_matrix_size m) e in
     let rows = (and_parts (nat_lt m.chain CHAINS && nat_lt m.first CHAIN_BITS && nat_lt 0 m.rows) (nat_le m.rows KEY_ROWS) (and_parts (nat_lt m.chain CHAINS && nat_lt m.first CHAIN_BITS && nat_lt 0 m.rows && nat_le m.rows KEY_ROWS) (nat_lt 0 (length m.columns.items)) all).0).1 in
     mul-le m.rows (length m.columns.items) 10 8 (leb-true _ _ rows) h
 
-pub chips_of : (b : BoardParts) → board_fault_of b ≡ None → AllByRecursion (λ c. c.chips ≤ CHAIN_CHIPS) b.chains.items
-chips_of b h = few_chips b.chains.items (sound b h).values.chains
+pub board_chips_within_limit : (b : BoardParts) → board_fault_of b ≡ None → AllByRecursion (λ c. c.chips ≤ CHAIN_CHIPS) b.chains.items
+board_chips_within_limit b h = chips_within_limit_by_recursion b.chains.items (sound b h).values.chains
 
-chips_at : (chains : List ChainPart) (i : ℕ) → AllByRecursion (λ c. c.chips ≤ CHAIN_CHIPS) chains → (get_or chains i no_chain).chips ≤ CHAIN_CHIPS
-chips_at [] i h = omega arith
-chips_at (c ∷ chains) zero h = h.0
-chips_at (c ∷ chains) (suc i) h = chips_at chains i h.1
+chain_chips_within_limit : (chains : List ChainPart) (i : ℕ) → AllByRecursion (λ c. c.chips ≤ CHAIN_CHIPS) chains → (get_or chains i no_chain).chips ≤ CHAIN_CHIPS
+chain_chips_within_limit [] i h = omega arith
+chain_chips_within_limit (c ∷ chains) zero h = h.0
+chain_chips_within_limit (c ∷ chains) (suc i) h = chain_chips_within_limit chains i h.1
 
 -- no chain has more than `CHAIN_BITS` bits
-pub few_bits : (b : BoardParts) (i : ℕ) → board_fault_of b ≡ None → chain_bits b i ≤ CHAIN_BITS
-few_bits b i h = omega (arith, chips_at b.chains.items i (chips_of b h))
+pub chain_bits_within_limit : (b : BoardParts) (i : ℕ) → board_fault_of b ≡ None → chain_bits b i ≤ CHAIN_BITS
+chain_bits_within_limit b i h = omega (arith, chain_chips_within_limit b.chains.items i (board_chips_within_limit b h))
 
-pub keys_of : (b : BoardParts) → IsKeys b.keys → board_fault_of b ≡ None → key_count b ≤ KEYS
-keys_of b k h = few_keys b.keys k (sound b h).values.matrix
+pub board_keys_within_limit : (b : BoardParts) → HasAtMostEightColumns b.keys → board_fault_of b ≡ None → key_count b ≤ KEYS
+board_keys_within_limit b k h = matrix_keys_within_limit b.keys k (sound b h).values.matrix
 
 -- ---- the same lengths, stated by index and by recursion
 
-masks_all : (roms : List (Option (List LineMask))) → ((chip : ℕ) (mask : List LineMask) → get_or roms chip None ≡ Some mask → length mask ≡ 4) → AllByRecursion IsMask roms
-masks_all [] h = tt
-masks_all (None ∷ roms) h = (tt, masks_all roms (λ i m e. h (suc i) m e))
-masks_all (Some mask ∷ roms) h = (h 0 mask refl, masks_all roms (λ i m e. h (suc i) m e))
+all_masks_have_four_lines : (roms : List (Option (List LineMask))) → ((chip : ℕ) (mask : List LineMask) → get_or roms chip None ≡ Some mask → length mask ≡ 4) → AllByRecursion HasFourLines roms
+all_masks_have_four_lines [] h = tt
+all_masks_have_four_lines (None ∷ roms) h = (tt, all_masks_have_four_lines roms (λ i m e. h (suc i) m e))
+all_masks_have_four_lines (Some mask ∷ roms) h = (h 0 mask refl, all_masks_have_four_lines roms (λ i m e. h (suc i) m e))
 
-mask_each : (roms : List (Option (List LineMask))) → AllByRecursion IsMask roms → (chip : ℕ) (mask : List LineMask) → get_or roms chip None ≡ Some mask → length mask ≡ 4
-mask_each [] h chip mask e = absurd cc
-mask_each (r ∷ roms) h zero mask e = let is : r ≡ Some mask = e in subst IsMask is h.0
-mask_each (r ∷ roms) h (suc i) mask e = mask_each roms h.1 i mask e
+mask_has_four_lines : (roms : List (Option (List LineMask))) → AllByRecursion HasFourLines roms → (chip : ℕ) (mask : List LineMask) → get_or roms chip None ≡ Some mask → length mask ≡ 4
+mask_has_four_lines [] h chip mask e = absurd cc
+mask_has_four_lines (r ∷ roms) h zero mask e = let is : r ≡ Some mask = e in subst HasFourLines is h.0
+mask_has_four_lines (r ∷ roms) h (suc i) mask e = mask_has_four_lines roms h.1 i mask e
 
-keys_all : (k : Option KeyMatrix) → ((m : KeyMatrix) → k ≡ Some m → length m.columns.items ≤ 8) → IsKeys k
-keys_all None h = tt
-keys_all (Some m) h = h m refl
+has_at_most_eight_columns : (k : Option KeyMatrix) → ((m : KeyMatrix) → k ≡ Some m → length m.columns.items ≤ 8) → HasAtMostEightColumns k
+has_at_most_eight_columns None h = tt
+has_at_most_eight_columns (Some m) h = h m refl
 
-pub lengths_of : (b : BoardParts) → IsValidBoard b → HasLengths b
-lengths_of b h = record {
+pub valid_board_has_lengths : (b : BoardParts) → IsValidBoard b → HasLengths b
+valid_board_has_lengths b h = record {
   roms = h.sized.roms;
-  masks = masks_all b.roms h.sized.masks;
+  masks = all_masks_have_four_lines b.roms h.sized.masks;
   banks = h.sized.banks;
   chains = h.sized.chains;
-  keys = keys_all b.keys h.sized.columns;
+  keys = has_at_most_eight_columns b.keys h.sized.columns;
   lamps = h.sized.lamps;
 }
 
-pub valid_of : (b : BoardParts) → HasLengths b → board_fault_of b ≡ None → IsValidBoard b
-valid_of b h sound = record {
+pub valid_board_of_lengths : (b : BoardParts) → HasLengths b → board_fault_of b ≡ None → IsValidBoard b
+valid_board_of_lengths b h sound = record {
   sized = record {
     roms = h.roms;
-    masks = mask_each b.roms h.masks;
+    masks = mask_has_four_lines b.roms h.masks;
     banks = h.banks;
     chains = h.chains;
-    columns = λ m e. subst IsKeys e h.keys;
+    columns = λ m e. subst HasAtMostEightColumns e h.keys;
     lamps = h.lamps;
   };
   valid = sound;

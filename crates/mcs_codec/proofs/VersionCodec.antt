@@ -15,7 +15,7 @@ use Rattle.mcs_codec.specs.StateReading.{version_at, board_in_version, versioned
 use Rattle.mcs_codec.specs.Codec.{version_number, version_of, version_at_start}
 use Rattle.mcs_codec.specs.declared.versions.Version.{Version}
 use Rattle.mcs_codec.specs.declared.versions.Version.TheVariants.{One, Two}
-use Rattle.mcs_codec.proofs.Codecs.{IsBytes, IsBytes-after, IsCodec, counted_codec, only_codec, then_some, word_codec}
+use Rattle.mcs_codec.proofs.Codecs.{IsBytes, IsBytes-after, IsCodec, counted_codec, tested_codec, values_of_both_readings, word_codec}
 use Rattle.mcs_codec.proofs.BoardCodec.{board_codec}
 
 -- ---- the first byte of a board is a port character
@@ -24,20 +24,20 @@ use Rattle.mcs_codec.proofs.BoardCodec.{board_codec}
 abbrev BeginsBoard : List ℕ → Type 0
 BeginsBoard bytes = (version_at_start bytes ≡ Some One) × (version_at bytes ≡ Some (One, bytes))
 
-line-begins : (line : LineMask) (rest : List ℕ) → BeginsBoard (mask_character line ∷ rest)
+line-begins-board : (line : LineMask) (rest : List ℕ) → BeginsBoard (mask_character line ∷ rest)
 unfolding version_at
-line-begins mask.Input rest = (refl, refl)
-line-begins mask.Zero rest = (refl, refl)
-line-begins mask.One rest = (refl, refl)
+line-begins-board mask.Input rest = (refl, refl)
+line-begins-board mask.Zero rest = (refl, refl)
+line-begins-board mask.One rest = (refl, refl)
 
-roms-begin : (roms : List (Option (List LineMask))) (rest : List ℕ) → length roms ≡ 16 → BeginsBoard (flat_map rom_bytes roms ++ rest)
+roms-begin-board : (roms : List (Option (List LineMask))) (rest : List ℕ) → length roms ≡ 16 → BeginsBoard (flat_map rom_bytes roms ++ rest)
 unfolding version_at
-roms-begin [] rest l = absurd (omega arith)
-roms-begin (None ∷ roms) rest l = (refl, refl)
-roms-begin (Some lines ∷ roms) rest l = line-begins (mask_at lines 3) _
+roms-begin-board [] rest l = absurd (omega arith)
+roms-begin-board (None ∷ roms) rest l = (refl, refl)
+roms-begin-board (Some lines ∷ roms) rest l = line-begins-board (mask_at lines 3) _
 
-pub board-begins : (b : BoardParts) (rest : List ℕ) → IsValidBoard b → BeginsBoard (board_bytes b ++ rest)
-board-begins b rest h = rw append_assoc (roms-begin b.roms _ h.sized.roms)
+pub board-bytes-begin-board : (b : BoardParts) (rest : List ℕ) → IsValidBoard b → BeginsBoard (board_bytes b ++ rest)
+board-bytes-begin-board b rest h = rw append_assoc (roms-begin-board b.roms _ h.sized.roms)
 
 -- ---- the version
 
@@ -46,72 +46,72 @@ abbrev pub version_bytes : Version → List ℕ
 version_bytes One = []
 version_bytes Two = 2 ∷ []
 
-version_cases : (b : ℕ) (bytes : List ℕ) (character two : Bool) (x : Version × List ℕ) → (two ≡ true → b ≡ 2)
+bytes_of_version_by_cases : (b : ℕ) (bytes : List ℕ) (character two : Bool) (x : Version × List ℕ) → (two ≡ true → b ≡ 2)
     → cond character (Some (One, b ∷ bytes)) (cond two (Some (Two, bytes)) None) ≡ Some x → b ∷ bytes ≡ version_bytes x.0 ++ x.1
-version_cases b bytes true two x is e = let same : (One, b ∷ bytes) ≡ x = cc in subst (λ (y : Version × List ℕ). b ∷ bytes ≡ version_bytes y.0 ++ y.1) same refl
-version_cases b bytes false true x is e = let same : (Two, bytes) ≡ x = cc in subst (λ (y : Version × List ℕ). b ∷ bytes ≡ version_bytes y.0 ++ y.1) same (ap (λ n. n ∷ bytes) (is refl))
-version_cases b bytes false false x is e = absurd cc
+bytes_of_version_by_cases b bytes true two x is e = let same : (One, b ∷ bytes) ≡ x = cc in subst (λ (y : Version × List ℕ). b ∷ bytes ≡ version_bytes y.0 ++ y.1) same refl
+bytes_of_version_by_cases b bytes false true x is e = let same : (Two, bytes) ≡ x = cc in subst (λ (y : Version × List ℕ). b ∷ bytes ≡ version_bytes y.0 ++ y.1) same (ap (λ n. n ∷ bytes) (is refl))
+bytes_of_version_by_cases b bytes false false x is e = absurd cc
 
-version-read : (bytes : List ℕ) (x : Version × List ℕ) → version_at bytes ≡ Some x → bytes ≡ version_bytes x.0 ++ x.1
+bytes-of-read-version : (bytes : List ℕ) (x : Version × List ℕ) → version_at bytes ≡ Some x → bytes ≡ version_bytes x.0 ++ x.1
 unfolding version_at
-version-read [] x e = absurd cc
-version-read (b ∷ bytes) x e = version_cases b bytes _ (eqb b 2) x (eqb-true _ _) e
+bytes-of-read-version [] x e = absurd cc
+bytes-of-read-version (b ∷ bytes) x e = bytes_of_version_by_cases b bytes _ (eqb b 2) x (eqb-true _ _) e
 
 -- ---- the version that the next byte determines, without the bytes after it
 
-abbrev pub and_rest : List ℕ → Version → Version × List ℕ
-and_rest rest v = (v, rest)
+abbrev pub version_with_rest : List ℕ → Version → Version × List ℕ
+version_with_rest rest v = (v, rest)
 
-version_cases_only : (b : ℕ) (bytes rest : List ℕ) (character two : Bool) (versioned : Option Version)
-    → option_map (and_rest rest) versioned ≡ cond character (Some (One, b ∷ bytes)) (cond two (Some (Two, bytes)) None) → versioned ≡ cond character (Some One) (cond two (Some Two) None)
-version_cases_only b bytes rest true two None e = absurd cc
-version_cases_only b bytes rest true two (Some v) e = let same : (v, rest) ≡ (One, b ∷ bytes) = cc in ap (λ (p : Version × List ℕ). Some p.0) same
-version_cases_only b bytes rest false true None e = absurd cc
-version_cases_only b bytes rest false true (Some v) e = let same : (v, rest) ≡ (Two, bytes) = cc in ap (λ (p : Version × List ℕ). Some p.0) same
-version_cases_only b bytes rest false false None e = refl
-version_cases_only b bytes rest false false (Some v) e = absurd cc
+version_without_rest_by_cases : (b : ℕ) (bytes rest : List ℕ) (character two : Bool) (versioned : Option Version)
+    → option_map (version_with_rest rest) versioned ≡ cond character (Some (One, b ∷ bytes)) (cond two (Some (Two, bytes)) None) → versioned ≡ cond character (Some One) (cond two (Some Two) None)
+version_without_rest_by_cases b bytes rest true two None e = absurd cc
+version_without_rest_by_cases b bytes rest true two (Some v) e = let same : (v, rest) ≡ (One, b ∷ bytes) = cc in ap (λ (p : Version × List ℕ). Some p.0) same
+version_without_rest_by_cases b bytes rest false true None e = absurd cc
+version_without_rest_by_cases b bytes rest false true (Some v) e = let same : (v, rest) ≡ (Two, bytes) = cc in ap (λ (p : Version × List ℕ). Some p.0) same
+version_without_rest_by_cases b bytes rest false false None e = refl
+version_without_rest_by_cases b bytes rest false false (Some v) e = absurd cc
 
-pub version_is_read : (bytes rest : List ℕ) (versioned : Option Version) → option_map (and_rest rest) versioned ≡ version_at bytes → versioned ≡ version_at_start bytes
+pub read_version_is_version_at_start : (bytes rest : List ℕ) (versioned : Option Version) → option_map (version_with_rest rest) versioned ≡ version_at bytes → versioned ≡ version_at_start bytes
 unfolding version_at
-version_is_read [] rest None e = refl
-version_is_read [] rest (Some v) e = absurd cc
-version_is_read (b ∷ bytes) rest versioned e = version_cases_only b bytes rest _ _ versioned e
+read_version_is_version_at_start [] rest None e = refl
+read_version_is_version_at_start [] rest (Some v) e = absurd cc
+read_version_is_version_at_start (b ∷ bytes) rest versioned e = version_without_rest_by_cases b bytes rest _ _ versioned e
 
-pub version_number_read : (bytes rest at : List ℕ) (versioned : Option Version) → at ≡ drop 4 bytes → option_map (and_rest rest) versioned ≡ version_at at
+pub read_version_is_version_of : (bytes rest at : List ℕ) (versioned : Option Version) → at ≡ drop 4 bytes → option_map (version_with_rest rest) versioned ≡ version_at at
     → option_map version_number versioned ≡ option_map version_number (version_of bytes)
-version_number_read bytes rest at versioned is e = ap (option_map version_number) (version_is_read (drop 4 bytes) rest versioned (e ∙ ap version_at is))
+read_version_is_version_of bytes rest at versioned is e = ap (option_map version_number) (read_version_is_version_at_start (drop 4 bytes) rest versioned (e ∙ ap version_at is))
 
 -- ---- the board
 
 abbrev pub versioned_board_bytes : Version → BoardParts → List ℕ
 versioned_board_bytes version b = version_bytes version ++ board_bytes b
 
-abbrev pub FitsVersion : Version → BoardParts → Type 0
-FitsVersion One b = IsValidBoard b × (is_small_board b ≡ true)
-FitsVersion Two b = IsValidBoard b
+abbrev pub IsValidBoardIn : Version → BoardParts → Type 0
+IsValidBoardIn One b = IsValidBoard b × (is_small_board b ≡ true)
+IsValidBoardIn Two b = IsValidBoard b
 
-board_by_codec : (version : Version) → IsCodec board_bytes (FitsVersion version) (board_in_version version)
+board_in_version_codec : (version : Version) → IsCodec board_bytes (IsValidBoardIn version) (board_in_version version)
 unfolding board_in_version
-board_by_codec One = only_codec is_small_board board_codec
-board_by_codec Two = board_codec
+board_in_version_codec One = tested_codec is_small_board board_codec
+board_in_version_codec Two = board_codec
 
-version-reads_back : (version : Version) (b : BoardParts) (rest : List ℕ) → FitsVersion version b → version_at (versioned_board_bytes version b ++ rest) ≡ Some (version, board_bytes b ++ rest)
+version-reads_back : (version : Version) (b : BoardParts) (rest : List ℕ) → IsValidBoardIn version b → version_at (versioned_board_bytes version b ++ rest) ≡ Some (version, board_bytes b ++ rest)
 unfolding version_at
-version-reads_back One b rest h = (board-begins b rest h.0).1
+version-reads_back One b rest h = (board-bytes-begin-board b rest h.0).1
 version-reads_back Two b rest h = refl
 
-pub versioned_board_codec : IsCodec (λ (p : Version × BoardParts). versioned_board_bytes p.0 p.1) (λ p. FitsVersion p.0 p.1) versioned_board_at
+pub versioned_board_codec : IsCodec (λ (p : Version × BoardParts). versioned_board_bytes p.0 p.1) (λ p. IsValidBoardIn p.0 p.1) versioned_board_at
 unfolding versioned_board_at
 versioned_board_codec = record {
   reads_encoding = λ bytes x all e.
-      let v = then_some (version_at bytes) (λ version rest. and_then (board_in_version version rest) (λ board. give (version, board))) x e in
-      let mark = version-read bytes v.0 v.1 in
-      let b = then_some (board_in_version v.0.0 v.0.1) (λ board. give (v.0.0, board)) x v.2 in
-      let t = (board_by_codec v.0.0).reads_encoding v.0.1 b.0 (IsBytes-after (version_bytes v.0.0) v.0.1 (subst IsBytes mark all)) b.1 in
+      let v = values_of_both_readings (version_at bytes) (λ version rest. and_then (board_in_version version rest) (λ board. give (version, board))) x e in
+      let mark = bytes-of-read-version bytes v.0 v.1 in
+      let b = values_of_both_readings (board_in_version v.0.0 v.0.1) (λ board. give (v.0.0, board)) x v.2 in
+      let t = (board_in_version_codec v.0.0).reads_encoding v.0.1 b.0 (IsBytes-after (version_bytes v.0.0) v.0.1 (subst IsBytes mark all)) b.1 in
       let same : ((v.0.0, b.0.0), b.0.1) ≡ x = let end = b.2 in cc in
       let parts : bytes ≡ versioned_board_bytes v.0.0 b.0.0 ++ b.0.1 = mark ∙ ap (λ (l : List ℕ). version_bytes v.0.0 ++ l) t.0 ∙ sym (append_assoc (version_bytes v.0.0) (board_bytes b.0.0) b.0.1) in
-      subst (λ (y : (Version × BoardParts) × List ℕ). (bytes ≡ versioned_board_bytes y.0.0 y.0.1 ++ y.1) × FitsVersion y.0.0 y.0.1) same (parts, t.1);
-  reads_back = λ p rest h. rw (version-reads_back p.0 p.1 rest h, (board_by_codec p.0).reads_back p.1 rest h) refl;
+      subst (λ (y : (Version × BoardParts) × List ℕ). (bytes ≡ versioned_board_bytes y.0.0 y.0.1 ++ y.1) × IsValidBoardIn y.0.0 y.0.1) same (parts, t.1);
+  reads_back = λ p rest h. rw (version-reads_back p.0 p.1 rest h, (board_in_version_codec p.0).reads_back p.1 rest h) refl;
 }
 
 -- ---- the watches
@@ -124,10 +124,10 @@ abbrev pub FitsWatches : Version → List ℕ → Type 0
 FitsWatches One watches = watches ≡ []
 FitsWatches Two watches = (length watches ≤ 8) × AllByRecursion (λ n. n < 2 ^ 16) watches
 
-no-watches : (bytes : List ℕ) (x : List ℕ × List ℕ) → Some ([], bytes) ≡ Some x → (bytes ≡ [] ++ x.1) × (x.0 ≡ [])
-no-watches bytes x e = let same : ([], bytes) ≡ x = cc in subst (λ (y : List ℕ × List ℕ). (bytes ≡ [] ++ y.1) × (y.0 ≡ [])) same (refl, refl)
+version-1-reads-no-watches : (bytes : List ℕ) (x : List ℕ × List ℕ) → Some ([], bytes) ≡ Some x → (bytes ≡ [] ++ x.1) × (x.0 ≡ [])
+version-1-reads-no-watches bytes x e = let same : ([], bytes) ≡ x = cc in subst (λ (y : List ℕ × List ℕ). (bytes ≡ [] ++ y.1) × (y.0 ≡ [])) same (refl, refl)
 
 pub watches_codec : (version : Version) → IsCodec (watches_bytes version) (FitsWatches version) (watches_at version)
 unfolding watches_at
-watches_codec One = record { reads_encoding = λ bytes x all e. no-watches bytes x e; reads_back = λ a rest h. ap (λ (l : List ℕ). Some (l, rest)) (sym h) }
+watches_codec One = record { reads_encoding = λ bytes x all e. version-1-reads-no-watches bytes x e; reads_back = λ a rest h. ap (λ (l : List ℕ). Some (l, rest)) (sym h) }
 watches_codec Two = counted_codec 8 (omega arith) word_codec

@@ -1,4 +1,4 @@
--- The bytes that encode a board. (Our own choice.)
+-- The bytes that encode a board. (Defined by Fethsaim, not by Intel.)
 use Rattle.std.specs.Prelude.{ℕ, List, [], ◌∷◌, ◌++◌, length, Option, Some, None}
 use Rattle.std.specs.List.{flat_map}
 use Rattle.mcs_nibble.specs.declared.lines.LineMask.{LineMask}
@@ -19,8 +19,8 @@ rom_bytes (Some mask) =
     ∷ []
 rom_bytes None = 45 ∷ 45 ∷ 45 ∷ 45 ∷ []
 
--- the four bytes of a line: its kind and three numbers; the last number is 0 if the kind has only
--- two
+-- the four bytes of a line: the number of its kind, and then three numbers; the last number is 0 if
+-- a line of this kind has only two
 abbrev pub board_line_bytes : Line → List ℕ
 board_line_bytes (Rom chip k) = 0 ∷ chip ∷ k ∷ 0 ∷ []
 board_line_bytes (Ram bank chip k) = 1 ∷ bank ∷ chip ∷ k ∷ []

@@ -1,4 +1,4 @@
--- The bytes that encode a command: a tag, and then its fields. (Our own choice.)
+-- The bytes that encode a command: a tag, and then its fields. (Defined by Fethsaim, not by Intel.)
 use Rattle.std.specs.Prelude.{ℕ, ◌+◌, ◌*◌, ◌^◌, ◌<◌, ◌==◌, List, [], ◌∷◌, ◌++◌, map, if◌then◌else◌}
 use Rattle.std.specs.List.{list_any}
 use Rattle.std.specs.Int.{w16, w32, to_be_bytes}
@@ -32,11 +32,11 @@ place_bytes (Status bank high k n) = 7 ∷ bank ∷ high ∷ k ∷ n ∷ []
 abbrev pub mark : List (ℕ × ℕ) → ℕ → ℕ
 mark image at = if list_any (λ p. p.0 == at) image then 1 else 0
 
--- the byte whose bit k is f k, for k from 0 to 7
+-- the byte whose bit `k` is `f k`, for `k` from 0 to 7
 abbrev pub byte_of_bits : (ℕ → ℕ) → ℕ
 byte_of_bits f = f 0 + 2 * f 1 + 4 * f 2 + 8 * f 3 + 16 * f 4 + 32 * f 5 + 64 * f 6 + 128 * f 7
 
--- the marks of an image: bit k of byte i is 1 if the image has a byte at the address 8 * i + k
+-- the marks of an image: bit `k` of byte `i` is 1 if the image has a byte at address `8 * i + k`
 unfoldable pub mark_bytes : List (ℕ × ℕ) → List ℕ
 mark_bytes image = table_of 512 (λ i. byte_of_bits (λ k. mark image (8 * i + k)))
 
@@ -65,28 +65,28 @@ command_bytes (Unwatch bank src) = 13 ∷ bank ∷ src ∷ []
 -- ---- range
 
 -- holds if each number of a `Place` is in its range
-abbrev pub IsPlace : Place → Type 0
-IsPlace (Acc n) = n < 16
-IsPlace (Cy b) = b < 2
-IsPlace (Pc at) = at < 4096
-IsPlace (Register r n) = (r < 16) × (n < 16)
-IsPlace (Dcl bank) = bank < 8
-IsPlace (Rom at byte) = (at < 4096) × (byte < 256)
-IsPlace (Ram bank src n) = (bank < 8) × ((src < 256) × (n < 16))
-IsPlace (Status bank high k n) = (bank < 8) × ((high < 16) × ((k < 4) × (n < 16)))
+abbrev pub IsPlaceInRange : Place → Type 0
+IsPlaceInRange (Acc n) = n < 16
+IsPlaceInRange (Cy b) = b < 2
+IsPlaceInRange (Pc at) = at < 4096
+IsPlaceInRange (Register r n) = (r < 16) × (n < 16)
+IsPlaceInRange (Dcl bank) = bank < 8
+IsPlaceInRange (Rom at byte) = (at < 4096) × (byte < 256)
+IsPlaceInRange (Ram bank src n) = (bank < 8) × ((src < 256) × (n < 16))
+IsPlaceInRange (Status bank high k n) = (bank < 8) × ((high < 16) × ((k < 4) × (n < 16)))
 
 -- holds if each part of a command is in its range
-abbrev pub IsCommand : Command → Type 0
-IsCommand (Wire board) = IsValidBoard board
-IsCommand (Load image) = IsImage image
-IsCommand (Press row column) = (row < 256) × (column < 256)
-IsCommand (Release row column) = (row < 256) × (column < 256)
-IsCommand (Run cycles) = cycles < 2 ^ 32
-IsCommand Step = Unit {0}
-IsCommand (Poke place) = IsPlace place
-IsCommand (Test bit) = bit < 2
-IsCommand Reset = Unit {0}
-IsCommand (Break at) = at < 4096
-IsCommand (Unbreak at) = at < 4096
-IsCommand (Watch bank src) = (bank < 8) × (src < 256)
-IsCommand (Unwatch bank src) = (bank < 8) × (src < 256)
+abbrev pub IsCommandInRange : Command → Type 0
+IsCommandInRange (Wire board) = IsValidBoard board
+IsCommandInRange (Load image) = IsImage image
+IsCommandInRange (Press row column) = (row < 256) × (column < 256)
+IsCommandInRange (Release row column) = (row < 256) × (column < 256)
+IsCommandInRange (Run cycles) = cycles < 2 ^ 32
+IsCommandInRange Step = Unit {0}
+IsCommandInRange (Poke place) = IsPlaceInRange place
+IsCommandInRange (Test bit) = bit < 2
+IsCommandInRange Reset = Unit {0}
+IsCommandInRange (Break at) = at < 4096
+IsCommandInRange (Unbreak at) = at < 4096
+IsCommandInRange (Watch bank src) = (bank < 8) × (src < 256)
+IsCommandInRange (Unwatch bank src) = (bank < 8) × (src < 256)

@@ -11,16 +11,16 @@ use Rattle.mcs_codec.specs.Reading.{◌>>=◌, Reading, give, fail_reading, byte
 use Rattle.mcs_codec.specs.BoardReading.{board_at}
 
 -- reads the `Place` of a RAM nibble: bank, SRC byte, new value
-abbrev pub character_at : Reading Place
-character_at = do
+abbrev pub ram_nibble_at : Reading Place
+ram_nibble_at = do
   bank ← number_below_at 8
   src ← byte_at
   n ← number_below_at 16
   give (Ram bank src n)
 
 -- reads the `Place` of a status nibble: bank, upper nibble of the SRC byte, number, new value
-abbrev pub status_character_at : Reading Place
-status_character_at = do
+abbrev pub status_nibble_at : Reading Place
+status_nibble_at = do
   bank ← number_below_at 8
   high ← number_below_at 16
   k ← number_below_at 4
@@ -35,8 +35,8 @@ place_after_tag tag =
     if tag == 3 then (do r ← number_below_at 16; n ← number_below_at 16; give (Register r n)) else
     if tag == 4 then (do bank ← number_below_at 8; give (Dcl bank)) else
     if tag == 5 then (do at ← address_at; byte ← byte_at; give (Rom at byte)) else
-    if tag == 6 then character_at else
-    if tag == 7 then status_character_at else
+    if tag == 6 then ram_nibble_at else
+    if tag == 7 then status_nibble_at else
     fail_reading
 
 unfoldable pub place_at : Reading Place
@@ -44,12 +44,12 @@ place_at = do
   tag ← byte_at
   place_after_tag tag
 
--- the mark of an address, which is bit `at % 8` of byte `at / 8` of the marks
+-- the mark of the address `at`: bit `at % 8` of byte `at / 8` of the marks
 unfoldable pub mark_bit : List ℕ → ℕ → ℕ
 mark_bit marks at = bit_of (slice_index marks (at / 8)) (at % 8)
 
--- Reads one byte for each marked address among the n addresses that start at `at`. Gives each byte
--- with its address.
+-- Reads one byte for each marked address among the `n` addresses from `at` on (`n` is the second
+-- argument). Gives each byte with its address.
 unfoldable pub addressed_bytes_at : List ℕ → ℕ → ℕ → Reading (List (ℕ × ℕ))
 addressed_bytes_at marks zero at = give []
 addressed_bytes_at marks (suc n) at =
@@ -62,7 +62,8 @@ image_at = do
   marks ← bytes_at 512
   addressed_bytes_at marks 4096 0
 
--- reads the rest of a command after its tag, for every command except a load
+-- reads the rest of a command after its tag, for every command except a load; fails for the tag of
+-- a load, and for an unknown tag
 abbrev pub command_without_image : ℕ → Reading Command
 command_without_image tag =
     if tag == 1 then (do board ← board_at; give (Wire board)) else

@@ -1,8 +1,8 @@
 -- The steps that read values from bytes. These definitions need not be trusted: the readings that
 -- are built from them are proved to be the inverses of the encodings in `BoardBytes`,
 -- `CommandBytes` and `StateBytes`. A reading consumes bytes from left to right. It gives a value
--- and the bytes after it, or nothing if the bytes do not encode a value. In a `do` block, each step
--- starts at the byte at which the step before it stopped.
+-- and the bytes after the value, or nothing if the bytes do not encode a value. In a `do` block,
+-- each step starts where the step before it stopped.
 use Rattle.std.specs.Prelude.{ℕ, zero, suc, Bool, List, [], ◌∷◌, length, take, drop, Option, Some, None, nat_lt, nat_le, if◌then◌else◌}
 use Rattle.std.specs.Int.{Width, w16, byte_len, from_be_bytes}
 
@@ -35,7 +35,7 @@ fail_reading = λ bytes. None
 abbrev pub give_if : {A : Type 0} → Bool → A → Reading A
 give_if test a = λ bytes. if test then Some (a, bytes) else None
 
--- gives the value if there is one, and fails otherwise
+-- gives the value of the option if there is one, and fails otherwise
 abbrev pub give_some : {A : Type 0} → Option A → Reading A
 give_some (Some a) = give a
 give_some None = fail_reading
@@ -73,7 +73,7 @@ number_below_at limit = read_if (λ n. nat_lt n limit) byte_at
 abbrev pub address_at : Reading ℕ
 address_at = read_if (λ n. nat_lt n 4096) (wide_number_at w16)
 
--- reads n values, one after another
+-- reads `n` values, one after another (`n` is the first argument)
 unfoldable pub read_times : {A : Type 0} → ℕ → Reading A → Reading (List A)
 read_times zero read = give []
 read_times (suc n) read = do

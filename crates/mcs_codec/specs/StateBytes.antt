@@ -1,6 +1,6 @@
 -- The bytes that encode a state, in groups of fields, in both versions. An address and a watch take
--- two bytes each, the count of commands takes four, and every other number takes one. (Our own
--- choice.)
+-- two bytes each, the count of commands takes four, and every other number takes one. (Defined by
+-- Fethsaim, not by Intel.)
 use Rattle.std.specs.Prelude.{ℕ, List, [], ◌∷◌, ◌++◌}
 use Rattle.std.specs.List.{flat_map}
 use Rattle.std.specs.Int.{w32, to_be_bytes}
@@ -40,7 +40,7 @@ field_group_bytes p b breakpoints rest =
     ++ rest)))
 
 -- The bytes after the board in version 2: the groups of fields and the watches. Each watch is the
--- number bank * 256 + SRC byte, in two bytes.
+-- number `bank * 256 + SRC byte`, in two bytes.
 abbrev pub bytes_after_board : BenchState → List ℕ
 bytes_after_board s = field_group_bytes s.processor s.bus s.breakpoints (counted_bytes address_bytes s.watches)
 

@@ -25,7 +25,7 @@ version_at (b ∷ bytes) =
     else if b == 2 then Some (Two, bytes)
     else None
 
--- reads the board, which must be small in version 1
+-- reads the board; fails in version 1 if the board is too large for version 1 (`is_small_board`)
 unfoldable pub board_in_version : Version → Reading BoardParts
 board_in_version One = read_if is_small_board board_at
 board_in_version Two = board_at
@@ -44,7 +44,7 @@ chains_at (c ∷ chains) = do
   others ← chains_at chains
   give (bits ∷ others)
 
--- reads the watches; version 1 has none
+-- reads the watches; a state of version 1 has none, and no bytes are read
 unfoldable pub watches_at : Version → Reading (List ℕ)
 watches_at One = give []
 watches_at Two = counted_at WATCHES (wide_number_at w16)

@@ -120,7 +120,7 @@ impl Decode for ChainPart {
     }
 }
 
-/// Reads a key matrix. Returns `None` if the bytes do not encode one.
+/// Reads a key matrix. Returns `None` if the bytes do not start with the encoding of a key matrix.
 #[tactic(auto, unfolding(crate::specs::BoardReading::matrix_at))]
 fn read_matrix(reader: &mut Reader<'_>) -> Option<KeyMatrix>
     ensures { option_map (λ x. (x, reader.new)) result ≡ matrix_at reader.old }
@@ -169,8 +169,8 @@ fn put_keys(keys: &Option<KeyMatrix>, out: &mut [u8], at: usize) -> usize
     }
 }
 
-/// Reads the parts of a board without a check that they make a valid board. Returns `None` if the
-/// bytes do not encode parts.
+/// Reads the parts of a board, and does not check that they make a valid board. Returns `None` if
+/// the bytes do not start with the encoding of such parts.
 #[tactic(auto, unfolding(crate::specs::BoardReading::parts_at))]
 fn read_parts(reader: &mut Reader<'_>) -> Option<BoardParts>
     ensures { option_map (λ x. (x, reader.new)) result ≡ parts_at reader.old }
@@ -191,8 +191,8 @@ fn read_parts(reader: &mut Reader<'_>) -> Option<BoardParts>
     })
 }
 
-/// Reads a valid board from the start of the bytes. Returns `None` if the bytes do not start with
-/// the encoding of one.
+/// Reads a board from the start of the bytes. Returns `None` if the bytes do not start with the
+/// encoding of a valid board.
 #[tactic(auto, unfolding(crate::specs::BoardReading::board_at))]
 pub fn read_board(reader: &mut Reader<'_>) -> Option<Board>
     ensures { option_map (λ x. (x, reader.new)) result ≡ board_at reader.old }

@@ -2,7 +2,7 @@
 ghost use Rattle.std.specs.Prelude.{◌≡◌, ℕ, ◌+◌, ◌≤◌, ◌<◌, ◌∷◌, ◌++◌, List, [], length, take, option_map, Option, Some, None, IfOk, OnErr, IfSome, IfNone, if◌then◌else◌};
 ghost use Rattle.mcs_model.specs.declared.command.Command.{Command};
 ghost use Rattle.mcs_codec.specs.Reading.{read_all_of};
-ghost use Rattle.mcs_codec.specs.CommandBytes.{command_bytes, IsCommand};
+ghost use Rattle.mcs_codec.specs.CommandBytes.{command_bytes, IsCommandInRange};
 ghost use Rattle.mcs_codec.specs.CommandReading.{command_without_image, command_after_tag, command_at};
 ghost use Rattle.mcs_codec.specs.Codec.{BeginsAsLoad, Encodes};
 
@@ -26,7 +26,7 @@ pub const COMMAND_BYTES: usize = RECORD_BYTES;
 /// Proves that each part of a command is in its range. Also proves that the encoding has at least
 /// one byte, the tag.
 fn show_command_is_in_range(command: &Command)
-    ensures range { IsCommand command.now }
+    ensures range { IsCommandInRange command.now }
     ensures tag { 1 ≤ length (command_bytes command.now) }
 {
     match command {

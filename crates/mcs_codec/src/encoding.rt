@@ -1,4 +1,4 @@
-//! Traits and functions that write and read values in sequence.
+//! Traits and functions that write values one after another to a buffer, or read them from bytes.
 ghost use Rattle.std.specs.Prelude.{◌≡◌, ℕ, ◌+◌, ◌≤◌, ◌<◌, ◌∷◌, ◌++◌, List, [], length, take, option_map, Option, Some, None, if◌then◌else◌};
 ghost use Rattle.std.specs.List.{flat_map};
 ghost use Rattle.mcs_codec.specs.Reading.{number_below_at, read_times, counted_at};
@@ -10,7 +10,7 @@ use mcs_nibble::{Addr, Bit, Nibble};
 
 /// A type whose values each have one encoding.
 pub trait Encode {
-    /// The encoding of the value.
+    /// The bytes that encode a value.
     ghost spelling: { Self → List ℕ };
 
     /// Writes the value to `out` at offset `at` and returns the offset after it.
@@ -54,7 +54,7 @@ pub fn put_all<T: Encode>(items: &[T], out: &mut [u8], at: usize) -> usize
     end
 }
 
-/// Reads a value into each element of `items`. Returns `None` if the bytes do not encode that many
+/// Reads a value into each element of `items`. Returns `None` if the bytes do not encode enough
 /// values.
 pub fn read_into<T: Decode>(reader: &mut Reader<'_>, items: &mut [T]) -> Option<()>
     ensures { option_map (λ _. (items.new, reader.new)) result
@@ -66,7 +66,7 @@ pub fn read_into<T: Decode>(reader: &mut Reader<'_>, items: &mut [T]) -> Option<
     Some(())
 }
 
-/// Reads `count` values. Returns `None` if the bytes do not encode that many.
+/// Reads `count` values. Returns `None` if the bytes do not encode `count` values.
 pub fn read_list<T: Decode + Default, const CAP: usize>(
     reader: &mut Reader<'_>,
     count: usize,

@@ -1,5 +1,5 @@
-//! The encoding of an image: one mark bit for each address, which is 1 if the image has a byte
-//! there, and then the bytes.
+//! The encoding of an image: one mark bit for each address, and then the bytes of the image. A mark
+//! is 1 if the image has a byte at the address.
 ghost use Rattle.std.specs.Prelude.{◌≡◌, ℕ, ◌+◌, ◌*◌, ◌≤◌, ◌<◌, ◌∷◌, ◌++◌, List, [], length, take, map, slice_index, option_map, IfOk};
 ghost use Rattle.mcs_nibble.specs.Tables.{table_of};
 ghost use Rattle.mcs_codec.specs.CommandBytes.{mark, byte_of_bits, mark_bytes, values, image_bytes};
@@ -20,7 +20,7 @@ const MARK_BYTES: usize = 512;
 /// An address and the byte of an image at that address.
 type AddressedByte = (Addr, u8);
 
-/// Returns 1 for each address at which the image has a byte, and 0 for all others.
+/// Returns one mark for each address: 1 if the image has a byte at the address, and 0 otherwise.
 fn marks_of(image: &[AddressedByte]) -> [Bit; ADDRESSES]
     ensures { (at : ℕ) → at < 4096 → slice_index result at ≡ mark image.now at }
 {
@@ -31,7 +31,7 @@ fn marks_of(image: &[AddressedByte]) -> [Bit; ADDRESSES]
     marks
 }
 
-/// Returns a byte with the marks of the eight addresses that start at `at`. The first mark is the
+/// Returns a byte with the marks of the eight addresses from `at` on. The mark of `at` is the
 /// lowest bit.
 fn mark_byte(marks: &[Bit], at: usize) -> u8
     requires { at + 8 ≤ length marks.now }

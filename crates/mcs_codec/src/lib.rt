@@ -1,13 +1,13 @@
 //! The encoding of commands and of whole states in a session file.
 //!
-//! Every command and every state has exactly one encoding, and no bytes encode two of them. The
-//! decoder also reads states of version 1, whose bytes begin differently, and converts them to
-//! version 2. Nothing is written in version 1. Bytes with a value out of its range, an invalid
-//! board, extra bytes or missing bytes encode nothing.
+//! Every command and every state has exactly one encoding. No bytes encode two different commands
+//! or two different states. The decoder also reads states of version 1, whose bytes begin
+//! differently, and converts them to version 2. Nothing is written in version 1. Bytes with a value
+//! out of its range, an invalid board, extra bytes or missing bytes encode nothing.
 //!
-//! `put` and `put_..` write a value to a buffer at an offset; `read` and `read_..` read one from a
-//! `Reader`. Definitions whose names end in `_bytes` are the bytes that are written. Definitions
-//! whose names end in `_at` read these bytes.
+//! `put` and `put_..` write a value to a buffer at an offset; `read` and `read_..` read a value
+//! from a `Reader`. In the contracts, a definition whose name ends in `_bytes` gives the bytes of a
+//! value, and a definition whose name ends in `_at` reads a value from its bytes.
 #![tactic(auto)]
 
 mod boards;

@@ -9,8 +9,8 @@ ghost use Rattle.mcs_codec.specs.Codec.{EncodesState, EncodesState1};
 use crate::versions::one_state;
 use mcs_version1::laws::{commands_lift, queries_lift};
 
-/// Proves that version 1 keeps its meaning. In a converted state, version 2 rejects, executes and
-/// answers each command of version 1 as version 1 did. It answers each query of version 1 with the
+/// Proves that a converted state behaves as it did in version 1. Version 2 rejects, executes and
+/// answers each command of version 1 as version 1 did, and answers each query of version 1 with the
 /// same text. Any text that depends only on the board and the contents of its chips also stays the
 /// same, for example the answers to `list` and `board`.
 pub fn version_1_keeps_its_meaning()

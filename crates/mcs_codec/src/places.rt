@@ -1,6 +1,6 @@
 //! The encoding of a [`Place`]: a location that `poke` sets, with its new value.
 ghost use Rattle.std.specs.Prelude.{◌≡◌, ℕ, ◌+◌, ◌≤◌, ◌∷◌, ◌++◌, List, [], length, take, option_map, Option, Some, None};
-ghost use Rattle.mcs_codec.specs.CommandBytes.{place_bytes, IsPlace};
+ghost use Rattle.mcs_codec.specs.CommandBytes.{place_bytes, IsPlaceInRange};
 ghost use Rattle.mcs_codec.specs.CommandReading.{place_at};
 
 use crate::encoding::{Decode, Encode, put};
@@ -107,7 +107,7 @@ impl Encode for Place {
 
 /// Proves that each number of a [`Place`] is in its range.
 pub fn show_place_is_in_range(place: Place)
-    ensures { IsPlace place }
+    ensures { IsPlaceInRange place }
 {
     match place {
         Place::Acc(n) => {

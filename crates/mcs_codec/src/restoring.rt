@@ -35,7 +35,7 @@ impl Decode for u16 {
 }
 
 /// Reads a board in the given version. Returns `None` if the bytes do not encode a board, or if the
-/// version is 1 and the board is too large for it (`is_small_board`).
+/// version is 1 and the board is too large for version 1 (`is_small_board`).
 #[tactic(auto, unfolding(crate::specs::StateReading::board_in_version))]
 fn read_board_in_version(version: Version, reader: &mut Reader<'_>) -> Option<Board>
     ensures { option_map (λ x. (x, reader.new)) result ≡ board_in_version version reader.old }
@@ -51,8 +51,8 @@ fn read_board_in_version(version: Version, reader: &mut Reader<'_>) -> Option<Bo
     }
 }
 
-/// Reads the version and then the board. This is the only step in reading a state that determines
-/// its version. Returns `None` if the bytes do not encode a version and a board.
+/// Reads the version and then the board. Only this step of reading a state determines the version.
+/// Returns `None` if the bytes do not encode a version and a board.
 #[tactic(auto, unfolding(crate::specs::StateReading::versioned_board_at))]
 fn read_versioned_board(reader: &mut Reader<'_>) -> Option<(Version, Board)>
     ensures { option_map (λ x. (x, reader.new)) result ≡ versioned_board_at reader.old }
@@ -101,8 +101,8 @@ fn read_chains(reader: &mut Reader<'_>, chains: &[ChainPart]) -> Option<ArrayVec
     Some(read)
 }
 
-/// Reads the watches; version 1 has none and reads no bytes. Returns `None` if the bytes do not
-/// encode the watches.
+/// Reads the watches. A state of version 1 has no watches, so nothing is read. Returns `None` if
+/// the bytes do not encode the watches.
 #[tactic(auto, unfolding(crate::specs::StateReading::watches_at))]
 fn read_watches(version: Version, reader: &mut Reader<'_>) -> Option<ArrayVec<u16, WATCHES>>
     ensures { option_map (λ x. (x.items, reader.new)) result ≡ watches_at version reader.old }
@@ -163,8 +163,8 @@ fn read_whole_state(bytes: &[u8], flat: &mut Flat) -> Option<Version>
 }
 
 /// Returns the number of the version, 1 or 2, that the fifth byte determines. Returns `None` if
-/// there is no fifth byte or it determines no version. If the bytes encode a state, they encode it
-/// in this version.
+/// there is no fifth byte, or if it determines no version. If the bytes encode a state, they encode
+/// it in the returned version.
 pub fn version_of(bytes: &[u8]) -> Option<u8>
     ensures { result ≡ option_map version_number (version_of bytes.now) }
 {

@@ -20,13 +20,13 @@ pub const STATE_BYTES: usize = SNAPSHOT_BYTES;
 /// A list in a bench's state that is written as one byte for each item.
 #[derive(Clone, Copy)]
 pub enum StateList {
-    /// A list of values in the chips.
+    /// One of the lists of the chips, for example the bytes of the ROMs.
     Chips(ChipList),
     /// The port latches of the ROMs.
     RomPorts,
     /// The index registers of the processor.
     IndexRegisters,
-    /// The bits of a chain, bit 0 first.
+    /// The bits of the chain with this number, bit 0 first.
     ChainBits(u8),
     /// The states of the keys, row by row.
     Keys,
@@ -186,7 +186,8 @@ fn put_groups(bench: &Bench, out: &mut [u8], at: usize) -> usize
     put_counted(bench.watches(), out, at)
 }
 
-/// Writes the state of a bench to the start of `into` and returns its length.
+/// Writes the state of a bench to the start of `into` and returns the length of the encoding in
+/// bytes.
 fn put_state(bench: &Bench, into: &mut [u8]) -> usize
     requires valid { IsValid bench.now }
     requires room { length (state_bytes bench.now) ≤ length into.old }

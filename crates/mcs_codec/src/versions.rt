@@ -4,7 +4,7 @@ ghost use Rattle.std.specs.List.{list_any};
 ghost use Rattle.mcs_model.specs.BenchState.{BenchState};
 ghost use Rattle.mcs_version1.specs.Boards.{is_small_board};
 ghost use Rattle.mcs_version1.specs.Command.{in_version_1, is_place_1};
-ghost use Rattle.mcs_codec.specs.Codec.{EncodesStateBy, has_command, version_number, version_of};
+ghost use Rattle.mcs_codec.specs.Codec.{EncodesStateBy, version_has_command, version_number, version_of};
 
 use mcs_model::board::Board;
 use mcs_model::command::{Command, Place};
@@ -97,7 +97,7 @@ impl Version {
 
     /// Returns true if the version has this command.
     pub fn has(self, command: &Command) -> bool
-        ensures { result ≡ has_command self command.now }
+        ensures { result ≡ version_has_command self command.now }
     {
         match self {
             Version::One => in_version_1(command),
@@ -107,8 +107,8 @@ impl Version {
 }
 
 /// Proves that no bytes encode two different states, or states of both versions. If bytes encode a
-/// state, their fifth byte determines its version. (Each state has at most one encoding in a
-/// version, because its definition is a function.)
+/// state, their fifth byte determines its version. (Each state has at most one encoding in each
+/// version, because the definition of the encoding is a function.)
 pub fn one_state()
     ensures states { (bytes : List ℕ) (v w : Version) (s t : BenchState)
         → EncodesStateBy v bytes s → EncodesStateBy w bytes t → s ≡ t }

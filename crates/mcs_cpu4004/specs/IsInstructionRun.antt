@@ -2,8 +2,8 @@
 use Rattle.std.specs.Prelude.{◌≡◌, ℕ, ◌<◌, ◌≤◌, true, false}
 use Rattle.mcs_model.specs.Running.{Machine, after_cycles, is_outside_table}
 
--- Holds if k cycles of one instruction lead from machine s to machine t, and k is at most `left`.
--- If k is 0, no cycle is possible at s.
+-- Holds if `k` cycles of one instruction lead from machine `s` to machine `t`, and `k` is at most
+-- `left`. If `k` is 0, the opcode at the program counter of `s` is outside the opcode table.
 pub record IsInstructionRun (left : ℕ) (s t : Machine) (k : ℕ) : Type 0 where
   pub within : k ≤ left
   pub machine : t ≡ after_cycles k s

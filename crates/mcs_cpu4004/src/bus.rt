@@ -6,8 +6,8 @@ ghost use Rattle.mcs_model.specs.Levels.{after_ram_port, after_rom_port, port_of
 use mcs_nibble::{Addr, Bit, Nibble};
 
 /// The chips that the processor accesses, and the TEST pin. Contracts describe a call by the flat state of the bus
-/// before and after it. The bank number is the value of the command register, 0 to 7; this numbering is this
-/// project's own choice.
+/// before and after the call. The bank number is the value of the command register, 0 to 7. (Fethsaim defines this
+/// numbering, not Intel.)
 pub trait Bus {
     ghost flat: { Self → BusState };
 
@@ -15,8 +15,8 @@ pub trait Bus {
     fn fetch(&self, at: Addr) -> u8
         ensures { result ≡ fetch_of (flat self.now) at };
 
-    /// Sends an SRC byte to the ROMs and to a RAM bank. The ROMs store the byte, and the bank stores it if it has
-    /// chips.
+    /// Sends an SRC byte to the ROMs and to a RAM bank. The ROMs store the byte. The bank also stores the byte, unless
+    /// the bank has no chips.
     fn src(&mut self, bank: u8, byte: u8)
         requires { bank < 8 }
         ensures { flat self.new ≡ after_src (flat self.old) bank byte };

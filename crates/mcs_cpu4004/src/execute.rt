@@ -175,7 +175,8 @@ fn active_line(lines: Nibble) -> Nibble
 }
 
 /// Adjusts the accumulator to decimal, as DAA does. The new carry is 1 exactly when 6 is added: either the carry was
-/// already 1, or the sum is above 15. The code has no branches, because a host cannot predict the digits.
+/// already 1, or the sum is above 15. The code has no branches, because the host processor cannot predict branches
+/// that depend on the digits.
 #[inline(always)]
 fn decimal_adjust(regs: &mut Regs)
     ensures { regs.new ≡ after_daa regs.old }
@@ -186,10 +187,10 @@ fn decimal_adjust(regs: &mut Regs)
     regs.cy = Bit::when(adds);
 }
 
-/// Expands to the next program counter for the instruction with this name. It is `$next`, the address after the
-/// instruction, unless the instruction is a jump, JMS or BBL. The expression is evaluated before the instruction's
-/// other effects. It also increments the register of ISZ, because the result decides whether ISZ jumps. `$a` and `$b`
-/// are the operands.
+/// Expands to the program counter after an instruction, whose name is the first argument. The result is `$next`, the
+/// address after the instruction, unless the instruction is a jump, JMS or BBL. The expression is evaluated before the
+/// instruction's other effects. For ISZ, it also increments the register, because the sum decides whether ISZ jumps.
+/// `$a` and `$b` are the operands.
 macro_rules! next_pc {
     (Jcn $regs:ident $bus:ident $next:ident $a:ident $b:ident) => {
         pc_after_jcn($regs, $a, $b, $bus.test(), $next)
@@ -214,9 +215,9 @@ macro_rules! next_pc {
     };
 }
 
-/// Expands to the effect of the instruction with this name on the bus and on all registers except the program
-/// counter. `next_pc!` contains the effect of ISZ. `$a` and `$b` are the operands, and `$next` is the address after
-/// the instruction.
+/// Expands to the effect of an instruction, whose name is the first argument, on the bus and on all registers except
+/// the program counter. `next_pc!` contains the effect of ISZ. `$a` and `$b` are the operands, and `$next` is the
+/// address after the instruction.
 macro_rules! effect {
     (Nop $regs:ident $bus:ident $next:ident $a:ident $b:ident) => {
         ()
@@ -368,7 +369,8 @@ macro_rules! effect {
     };
 }
 
-/// Expands to a match that executes an instruction. Its value is the next program counter and the number of cycles.
+/// Expands to a match that executes an instruction. The value of the match is the next program counter and the number
+/// of cycles.
 macro_rules! execute_rows {
     (($regs:ident, $bus:ident, $op:ident, $at:ident) $($codes:pat, $name:ident $kind:ident $words:literal $cycles:literal $group:ident $text:literal;)*) => {
         match $op {

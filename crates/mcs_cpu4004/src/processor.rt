@@ -104,8 +104,8 @@ impl Cpu {
     /// and `left` must be at least 1. Returns the next program counter, and the number of cycles executed, 1 or 2. If
     /// only the first of two cycles was executed, the second is pending.
     ///
-    /// The stored program counter does not change: a run keeps the current value in a variable, and stores it at the
-    /// end.
+    /// The stored program counter does not change: the caller keeps the current value in a variable, and stores it at
+    /// the end of the run.
     #[inline(always)]
     #[tactic(auto, unfolding(mcs_model::specs::Effect::cycle_of))]
     pub fn run_instruction<B: Bus>(
@@ -207,7 +207,7 @@ impl Cpu {
         self.regs.dcl = dcl;
     }
 
-    /// Sets whether a second cycle is pending: 1 if it is, otherwise 0.
+    /// Sets whether a second cycle is pending: 1 for pending, 0 for not pending.
     pub fn set_owed(&mut self, owed: u8)
         requires { owed < 2 }
         ensures { self.new ≡ record self.old { owed = owed } }

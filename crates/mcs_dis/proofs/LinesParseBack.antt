@@ -1,18 +1,18 @@
--- The lines of a text that was written line by line, each line followed by LF, are these same
--- lines.
+-- If a text consists of lines, each followed by LF, splitting the text gives the same lines.
 use Rattle.std.proofs.Common.{◌≡◌, ℕ, ◌-◌, Bool, true, false, eqb, length, slice_index, List, [], ◌∷◌, refl, ap, ◌∙◌, append_assoc}
 use Rattle.std.specs.List.{flat_map, AllByRecursion}
 use Rattle.std.specs.Str.Lines.{strip_carriage_return}
 use Rattle.mcs_model.specs.Cutting.{HasNoSeparator}
 use Rattle.mcs_model.specs.TextLines.{as_line, is_line_feed, lines, lines_of}
-use Rattle.mcs_model.proofs.LineLemmas.{lines-feed}
+use Rattle.mcs_model.proofs.LineLemmas.{lines-of_line_and_rest}
 
 abbrev pub ends_in_cr : List ℕ → Bool
 ends_in_cr line = eqb (slice_index line (length line - 1)) 13
 
--- a line that does not end in CR, in front of other lines, is unchanged
-line_before_others : (l : List ℕ) (ls : List (List ℕ)) → ends_in_cr l ≡ false → lines_of (flat_map as_line ls) ≡ ls → strip_carriage_return l ∷ lines_of (flat_map as_line ls) ≡ l ∷ ls
-line_before_others l ls e again = rw (e, again) refl
+-- `strip_carriage_return` does not change a line that does not end in CR; the lines after this line
+-- are `ls`
+lines_parse_back_with_line_in_front : (l : List ℕ) (ls : List (List ℕ)) → ends_in_cr l ≡ false → lines_of (flat_map as_line ls) ≡ ls → strip_carriage_return l ∷ lines_of (flat_map as_line ls) ≡ l ∷ ls
+lines_parse_back_with_line_in_front l ls e again = rw (e, again) refl
 
 abbrev pub IsLine : List ℕ → Type 0
 IsLine l = HasNoSeparator is_line_feed l × (ends_in_cr l ≡ false)
@@ -21,4 +21,4 @@ pub written_lines_parse_back : (ls : List (List ℕ)) → AllByRecursion IsLine 
 unfolding lines
 written_lines_parse_back [] all = refl
 written_lines_parse_back (l ∷ ls) all =
-    ap (λ (t : List ℕ). lines_of t) (append_assoc l (10 ∷ []) (flat_map as_line ls)) ∙ lines-feed l (flat_map as_line ls) true all.0.0 ∙ line_before_others l ls all.0.1 (written_lines_parse_back ls all.1)
+    ap (λ (t : List ℕ). lines_of t) (append_assoc l (10 ∷ []) (flat_map as_line ls)) ∙ lines-of_line_and_rest l (flat_map as_line ls) true all.0.0 ∙ lines_parse_back_with_line_in_front l ls all.0.1 (written_lines_parse_back ls all.1)

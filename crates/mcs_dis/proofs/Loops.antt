@@ -1,5 +1,5 @@
 -- The invariants of the loops that write a source text and a listing: the lines already written,
--- then the lines of the bytes that are left.
+-- followed by the lines for the remaining bytes, are the whole text.
 use Rattle.std.proofs.Common.{◌≡◌, ℕ, suc, zero, ◌+◌, ◌-◌, ◌<◌, ◌≤◌, Bool, true, false, cond, leb, List, [], ◌∷◌, ◌++◌, length, get_or, drop, take, Option, Some, None, refl, sym, ap, subst, ◌∙◌, inl, inr, arith, append_assoc, append-nil}
 use Rattle.std.specs.Option.{option_map_or}
 use Rattle.std.proofs.lemmas.Bool.{leb-true, le-leb, lt-leb, lt-ltb}
@@ -10,43 +10,43 @@ use Rattle.mcs_model.specs.Table.{instruction_of, word_count_of}
 use Rattle.mcs_source.specs.Text.{listing_line, listing_lines, listing_text, op_at, piece_size, piece_text, second_word_of_piece, second_word, complete_op}
 use Rattle.mcs_source.specs.SourceText.{piece_texts, origin_text, range, source_text}
 use Rattle.mcs_model.specs.TextLines.{as_line}
-use Rattle.mcs_source.proofs.Decoding.{one_or_two}
-use Rattle.mcs_model.proofs.ListLemmas.{take-drop-rest}
+use Rattle.mcs_source.proofs.Decoding.{word_count_is_one_or_two}
+use Rattle.mcs_model.proofs.ListLemmas.{take_rest-unchanged}
 
-pub size_some : (x : Option Op) → 1 ≤ piece_size x
-size_some None = omega arith
-size_some (Some o) = elim (one_or_two o) [ inl e ↦ omega (arith, e) | inr e ↦ omega (arith, e) ]
+pub piece_size_is_at_least_1 : (x : Option Op) → 1 ≤ piece_size x
+piece_size_is_at_least_1 None = omega arith
+piece_size_is_at_least_1 (Some o) = elim (word_count_is_one_or_two o) [ inl e ↦ omega (arith, e) | inr e ↦ omega (arith, e) ]
 
-whole_fits : (o : Option Op) (b : ℕ) (rest : List ℕ) → piece_size (complete_op o b rest) ≤ 1 + length rest
-whole_fits None b rest = omega arith
-whole_fits (Some o) b rest =
+complete_op_fits : (o : Option Op) (b : ℕ) (rest : List ℕ) → piece_size (complete_op o b rest) ≤ 1 + length rest
+complete_op_fits None b rest = omega arith
+complete_op_fits (Some o) b rest =
     let Q : Bool → Type 0 = λ t. leb (word_count_of o) (1 + length rest) ≡ t → piece_size (cond t (Some o) None) ≤ 1 + length rest in
     (elim (leb (word_count_of o) (1 + length rest)) as Q [
       | true ↦ λ yes. leb-true (word_count_of o) (1 + length rest) yes
       | false ↦ λ not_whole. omega arith
     ]) refl
 
-pub size_fits : (b : ℕ) (rest : List ℕ) → piece_size (op_at b rest) ≤ 1 + length rest
+pub piece_size_fits : (b : ℕ) (rest : List ℕ) → piece_size (op_at b rest) ≤ 1 + length rest
 unfolding op_at
-size_fits b rest = whole_fits (instruction_of b (second_word rest)) b rest
+piece_size_fits b rest = complete_op_fits (instruction_of b (second_word rest)) b rest
 
 -- ---- the instruction at the start of some bytes
 
--- the first word alone is a complete instruction if its instruction has one word
+-- a first word alone is complete if the decoded instruction has one word
 pub one_word_is_complete : (o : Option Op) (b : ℕ) → option_map_or word_count_of o 1 ≤ 1 → complete_op o b [] ≡ o
 one_word_is_complete None b le = refl
 one_word_is_complete (Some o) b le = rw (le-leb (word_count_of o) 1 le) refl
 
--- the first word alone is not a complete instruction if its instruction has two words
+-- a first word alone is not complete if the decoded instruction has two words
 pub two_words_are_incomplete : (o : Option Op) (b : ℕ) → 1 < option_map_or word_count_of o 1 → complete_op o b [] ≡ None
 two_words_are_incomplete None b lt = refl
 two_words_are_incomplete (Some o) b lt = rw (lt-leb (word_count_of o) 1 lt) refl
 
--- an instruction of the opcode table is complete if a second word follows the first
+-- a decoded instruction is complete if a second word follows the first word
 pub complete_with_second_word : (o : Option Op) (b c : ℕ) (rest : List ℕ) → complete_op o b (c ∷ rest) ≡ o
 complete_with_second_word None b c rest = refl
 complete_with_second_word (Some o) b c rest =
-    let fits : word_count_of o ≤ 1 + length (c ∷ rest) = elim (one_or_two o) [ inl e ↦ omega (arith, e) | inr e ↦ omega (arith, e) ] in
+    let fits : word_count_of o ≤ 1 + length (c ∷ rest) = elim (word_count_is_one_or_two o) [ inl e ↦ omega (arith, e) | inr e ↦ omega (arith, e) ] in
     rw (le-leb (word_count_of o) (1 + length (c ∷ rest)) fits) refl
 
 pub op_of_two_bytes : (bytes : List ℕ) → 2 ≤ length bytes → instruction_of (get_or bytes 0 0) (get_or bytes 1 0) ≡ op_at (get_or bytes 0 0) (drop 1 bytes)
@@ -63,10 +63,10 @@ op_of_one_byte (b ∷ c ∷ rest) some short = absurd (omega (arith, short))
 -- the piece at the start of some bytes does not extend past their end
 pub start_piece_fits : (bytes : List ℕ) → 0 < length bytes → piece_size (op_at (get_or bytes 0 0) (drop 1 bytes)) ≤ length bytes
 start_piece_fits [] some = absurd (omega (arith, some))
-start_piece_fits (b ∷ rest) some = omega (arith, size_fits b rest)
+start_piece_fits (b ∷ rest) some = omega (arith, piece_size_fits b rest)
 
 pub start_piece_is_not_empty : (bytes : List ℕ) → 0 < piece_size (op_at (get_or bytes 0 0) (drop 1 bytes))
-start_piece_is_not_empty bytes = size_some (op_at (get_or bytes 0 0) (drop 1 bytes))
+start_piece_is_not_empty bytes = piece_size_is_at_least_1 (op_at (get_or bytes 0 0) (drop 1 bytes))
 
 pub second_word_is_second_byte : (bytes : List ℕ) → 2 ≤ length bytes → Some (second_word (drop 1 bytes)) ≡ Some (get_or bytes 1 0)
 second_word_is_second_byte [] two = absurd (omega (arith, two))
@@ -76,9 +76,9 @@ second_word_is_second_byte (b ∷ c ∷ rest) two = refl
 pub second_word_of_two : (piece : Option Op) (bytes : List ℕ) → 1 < piece_size piece → piece_size piece ≤ length bytes → Some (get_or bytes 1 0) ≡ second_word_of_piece piece (drop 1 bytes)
 second_word_of_two piece bytes more fits = rw (lt-ltb 1 (piece_size piece) more) (sym (second_word_is_second_byte bytes (omega (arith, more, fits))))
 
-pub rest_is : (n b : ℕ) (rest : List ℕ) → 1 ≤ n → drop n (b ∷ rest) ≡ drop (n - 1) rest
-rest_is zero b rest le = absurd (omega (arith, le))
-rest_is (suc n) b rest le = ap (λ k. drop k rest) (omega arith)
+pub drop_after_first_byte : (n b : ℕ) (rest : List ℕ) → 1 ≤ n → drop n (b ∷ rest) ≡ drop (n - 1) rest
+drop_after_first_byte zero b rest le = absurd (omega (arith, le))
+drop_after_first_byte (suc n) b rest le = ap (λ k. drop k rest) (omega arith)
 
 -- ---- the source
 
@@ -90,36 +90,36 @@ pub record IsSourceSoFar (whole out : List ℕ) (at : ℕ) (rest : List ℕ) : T
   pub in_rom : at + length rest ≤ 4096
   pub text : out ++ flat_map as_line (piece_texts most at rest) ≡ whole
 
-one_text : (most : ℕ) (whole out : List ℕ) (at b : ℕ) (rest : List ℕ) → length (b ∷ rest) ≤ most → at + length (b ∷ rest) ≤ 4096 → out ++ flat_map as_line (piece_texts most at (b ∷ rest)) ≡ whole
+source_so_far_after_first_piece : (most : ℕ) (whole out : List ℕ) (at b : ℕ) (rest : List ℕ) → length (b ∷ rest) ≤ most → at + length (b ∷ rest) ≤ 4096 → out ++ flat_map as_line (piece_texts most at (b ∷ rest)) ≡ whole
     → IsSourceSoFar whole (out ++ as_line (piece_text at b (op_at b rest))) (at + piece_size (op_at b rest)) (drop (piece_size (op_at b rest)) (b ∷ rest))
 unfolding piece_texts
-one_text zero whole out at b rest enough in_rom text = absurd (omega (arith, enough))
-one_text (suc most) whole out at b rest enough in_rom text =
+source_so_far_after_first_piece zero whole out at b rest enough in_rom text = absurd (omega (arith, enough))
+source_so_far_after_first_piece (suc most) whole out at b rest enough in_rom text =
     let n : ℕ = piece_size (op_at b rest) in
-    let some : 1 ≤ piece_size (op_at b rest) = size_some (op_at b rest) in
-    let fits : piece_size (op_at b rest) ≤ 1 + length rest = size_fits b rest in
+    let some : 1 ≤ piece_size (op_at b rest) = piece_size_is_at_least_1 (op_at b rest) in
+    let fits : piece_size (op_at b rest) ≤ 1 + length rest = piece_size_fits b rest in
     let len : length (drop (n - 1) rest) ≡ length rest - (n - 1) = length-drop (n - 1) rest in
-    rw (rest_is (piece_size (op_at b rest)) b rest some) (record {
+    rw (drop_after_first_byte (piece_size (op_at b rest)) b rest some) (record {
       most = most;
       enough = omega (arith, len, enough);
       in_rom = omega (arith, len, in_rom, some, fits);
       text = append_assoc out (as_line (piece_text at b (op_at b rest))) (flat_map as_line (piece_texts most (at + n) (drop (n - 1) rest))) ∙ text;
     })
 
-front_text : (whole out new rest : List ℕ) (at n : ℕ) → 0 < length rest → IsSourceSoFar whole out at rest → n ≡ piece_size (op_at (get_or rest 0 0) (drop 1 rest))
+source_so_far_after_piece : (whole out new rest : List ℕ) (at n : ℕ) → 0 < length rest → IsSourceSoFar whole out at rest → n ≡ piece_size (op_at (get_or rest 0 0) (drop 1 rest))
     → new ≡ out ++ as_line (piece_text at (get_or rest 0 0) (op_at (get_or rest 0 0) (drop 1 rest))) → IsSourceSoFar whole new (at + n) (drop n rest)
-front_text whole out new [] at n some w size line = absurd (omega (arith, some))
-front_text whole out new (b ∷ rest) at n some w size line = rw (line, size) (one_text w.most whole out at b rest w.enough w.in_rom w.text)
+source_so_far_after_piece whole out new [] at n some w size line = absurd (omega (arith, some))
+source_so_far_after_piece whole out new (b ∷ rest) at n some w size line = rw (line, size) (source_so_far_after_first_piece w.most whole out at b rest w.enough w.in_rom w.text)
 
-pub next_text : (whole out new rest : List ℕ) (at n here : ℕ) → 0 < length rest → IsSourceSoFar whole out at rest → here ≡ at → n ≡ piece_size (op_at (get_or rest 0 0) (drop 1 rest))
+pub source_so_far_after_piece_in_slice : (whole out new rest : List ℕ) (at n here : ℕ) → 0 < length rest → IsSourceSoFar whole out at rest → here ≡ at → n ≡ piece_size (op_at (get_or rest 0 0) (drop 1 rest))
     → new ≡ out ++ as_line (piece_text here (get_or rest 0 0) (op_at (get_or rest 0 0) (drop 1 rest))) → IsSourceSoFar whole new (at + n) (take (length rest - n) (drop n rest))
-next_text whole out new rest at n here some w there size line =
+source_so_far_after_piece_in_slice whole out new rest at n here some w there size line =
     let written : new ≡ out ++ as_line (piece_text at (get_or rest 0 0) (op_at (get_or rest 0 0) (drop 1 rest))) =
     line ∙ ap (λ (k : ℕ). out ++ as_line (piece_text k (get_or rest 0 0) (op_at (get_or rest 0 0) (drop 1 rest)))) there in
-    subst (λ (l : List ℕ). IsSourceSoFar whole new (at + n) l) (sym (take-drop-rest n rest)) (front_text whole out new rest at n some w size written)
+    subst (λ (l : List ℕ). IsSourceSoFar whole new (at + n) l) (sym (take_rest-unchanged n rest)) (source_so_far_after_piece whole out new rest at n some w size written)
 
-pub source_starts : (rom out : List ℕ) (from to at n m : ℕ) → length rom ≡ 4096 → from < to → to ≤ 4096 → out ≡ as_line (origin_text from) → at ≡ from → n ≡ from → m ≡ to → IsSourceSoFar (source_text rom from to) out at (take (m - n) (drop n rom))
-source_starts rom out from to at n m all some end is there low high =
+pub source_so_far_at_start : (rom out : List ℕ) (from to at n m : ℕ) → length rom ≡ 4096 → from < to → to ≤ 4096 → out ≡ as_line (origin_text from) → at ≡ from → n ≡ from → m ≡ to → IsSourceSoFar (source_text rom from to) out at (take (m - n) (drop n rom))
+source_so_far_at_start rom out from to at n m all some end is there low high =
     rw (is, there, low, high) (record {
       most = length (range rom from to);
       enough = omega arith;
@@ -127,13 +127,13 @@ source_starts rom out from to at n m all some end is there low high =
       text = refl;
     })
 
-no_texts : (most at : ℕ) → piece_texts most at [] ≡ []
+no_piece_texts_of_no_bytes : (most at : ℕ) → piece_texts most at [] ≡ []
 unfolding piece_texts
-no_texts zero at = refl
-no_texts (suc most) at = refl
+no_piece_texts_of_no_bytes zero at = refl
+no_piece_texts_of_no_bytes (suc most) at = refl
 
 pub source_is_complete : (whole out rest : List ℕ) (at : ℕ) → length rest ≡ 0 → IsSourceSoFar whole out at rest → out ≡ whole
-source_is_complete whole out [] at none w = sym (append-nil out) ∙ (ap (λ (ls : List (List ℕ)). out ++ flat_map as_line ls) (sym (no_texts w.most at)) ∙ w.text)
+source_is_complete whole out [] at none w = sym (append-nil out) ∙ (ap (λ (ls : List (List ℕ)). out ++ flat_map as_line ls) (sym (no_piece_texts_of_no_bytes w.most at)) ∙ w.text)
 source_is_complete whole out (b ∷ rest) at none w = absurd (omega (arith, none))
 
 -- ---- the listing
@@ -144,55 +144,55 @@ pub record IsListingSoFar (whole out : List ℕ) (left at : ℕ) (rest : List �
   pub in_rom : at + length rest ≤ 4096
   pub text : out ++ flat_map as_line (listing_lines left at rest) ≡ whole
 
-one_listed : (left : ℕ) (whole out : List ℕ) (at b : ℕ) (rest : List ℕ) → IsListingSoFar whole out (suc left) at (b ∷ rest)
+listing_so_far_after_first_piece : (left : ℕ) (whole out : List ℕ) (at b : ℕ) (rest : List ℕ) → IsListingSoFar whole out (suc left) at (b ∷ rest)
     → IsListingSoFar whole (out ++ as_line (listing_line at b rest (op_at b rest))) left (at + piece_size (op_at b rest)) (drop (piece_size (op_at b rest)) (b ∷ rest))
 unfolding listing_lines
-one_listed left whole out at b rest w =
+listing_so_far_after_first_piece left whole out at b rest w =
     let n : ℕ = piece_size (op_at b rest) in
-    let some : 1 ≤ piece_size (op_at b rest) = size_some (op_at b rest) in
-    let fits : piece_size (op_at b rest) ≤ 1 + length rest = size_fits b rest in
+    let some : 1 ≤ piece_size (op_at b rest) = piece_size_is_at_least_1 (op_at b rest) in
+    let fits : piece_size (op_at b rest) ≤ 1 + length rest = piece_size_fits b rest in
     let len : length (drop (n - 1) rest) ≡ length rest - (n - 1) = length-drop (n - 1) rest in
-    rw (rest_is (piece_size (op_at b rest)) b rest some) (record {
+    rw (drop_after_first_byte (piece_size (op_at b rest)) b rest some) (record {
       in_rom = omega (arith, len, w.in_rom, some, fits);
       text = append_assoc out (as_line (listing_line at b rest (op_at b rest))) (flat_map as_line (listing_lines left (at + n) (drop (n - 1) rest))) ∙ w.text;
     })
 
-front_listed : (whole out new rest : List ℕ) (left at n : ℕ) → 0 < length rest → IsListingSoFar whole out (suc left) at rest → n ≡ piece_size (op_at (get_or rest 0 0) (drop 1 rest))
+listing_so_far_after_piece : (whole out new rest : List ℕ) (left at n : ℕ) → 0 < length rest → IsListingSoFar whole out (suc left) at rest → n ≡ piece_size (op_at (get_or rest 0 0) (drop 1 rest))
     → new ≡ out ++ as_line (listing_line at (get_or rest 0 0) (drop 1 rest) (op_at (get_or rest 0 0) (drop 1 rest))) → IsListingSoFar whole new left (at + n) (drop n rest)
-front_listed whole out new [] left at n some w size line = absurd (omega (arith, some))
-front_listed whole out new (b ∷ rest) left at n some w size line = rw (line, size) (one_listed left whole out at b rest w)
+listing_so_far_after_piece whole out new [] left at n some w size line = absurd (omega (arith, some))
+listing_so_far_after_piece whole out new (b ∷ rest) left at n some w size line = rw (line, size) (listing_so_far_after_first_piece left whole out at b rest w)
 
-pub next_listed : (whole out new rest : List ℕ) (lines i at n here : ℕ) → i < lines → 0 < length rest → IsListingSoFar whole out (lines - i) at rest → here ≡ at → n ≡ piece_size (op_at (get_or rest 0 0) (drop 1 rest))
+pub listing_so_far_after_piece_in_slice : (whole out new rest : List ℕ) (lines i at n here : ℕ) → i < lines → 0 < length rest → IsListingSoFar whole out (lines - i) at rest → here ≡ at → n ≡ piece_size (op_at (get_or rest 0 0) (drop 1 rest))
     → new ≡ out ++ as_line (listing_line here (get_or rest 0 0) (drop 1 rest) (op_at (get_or rest 0 0) (drop 1 rest))) → IsListingSoFar whole new (lines - (i + 1)) (at + n) (take (length rest - n) (drop n rest))
-next_listed whole out new rest lines i at n here more some w there size line =
+listing_so_far_after_piece_in_slice whole out new rest lines i at n here more some w there size line =
     let left : lines - i ≡ suc (lines - (i + 1)) = omega (arith, more) in
     let written : new ≡ out ++ as_line (listing_line at (get_or rest 0 0) (drop 1 rest) (op_at (get_or rest 0 0) (drop 1 rest))) =
     line ∙ ap (λ (k : ℕ). out ++ as_line (listing_line k (get_or rest 0 0) (drop 1 rest) (op_at (get_or rest 0 0) (drop 1 rest)))) there in
     let now : IsListingSoFar whole out (suc (lines - (i + 1))) at rest = subst (λ (k : ℕ). IsListingSoFar whole out k at rest) left w in
-    subst (λ (l : List ℕ). IsListingSoFar whole new (lines - (i + 1)) (at + n) l) (sym (take-drop-rest n rest)) (front_listed whole out new rest (lines - (i + 1)) at n some now size written)
+    subst (λ (l : List ℕ). IsListingSoFar whole new (lines - (i + 1)) (at + n) l) (sym (take_rest-unchanged n rest)) (listing_so_far_after_piece whole out new rest (lines - (i + 1)) at n some now size written)
 
-pub listing_starts : (rom out : List ℕ) (from lines at n : ℕ) → length rom ≡ 4096 → from < 4096 → out ≡ [] → at ≡ from → n ≡ from → IsListingSoFar (listing_text rom from lines) out (lines - 0) at (take (length rom - n) (drop n rom))
-listing_starts rom out from lines at n all low is there start =
+pub listing_so_far_at_start : (rom out : List ℕ) (from lines at n : ℕ) → length rom ≡ 4096 → from < 4096 → out ≡ [] → at ≡ from → n ≡ from → IsListingSoFar (listing_text rom from lines) out (lines - 0) at (take (length rom - n) (drop n rom))
+listing_so_far_at_start rom out from lines at n all low is there start =
     let none : lines - 0 ≡ lines = omega arith in
-    rw (is, there, start, none) (subst (λ (l : List ℕ). IsListingSoFar (listing_text rom from lines) [] lines from l) (sym (take-drop-rest from rom)) (record {
+    rw (is, there, start, none) (subst (λ (l : List ℕ). IsListingSoFar (listing_text rom from lines) [] lines from l) (sym (take_rest-unchanged from rom)) (record {
       in_rom = omega (arith, length-drop from rom, all, low);
       text = refl;
     }))
 
-none_listed : (left at : ℕ) → listing_lines left at [] ≡ []
+no_listing_lines_of_no_bytes : (left at : ℕ) → listing_lines left at [] ≡ []
 unfolding listing_lines
-none_listed zero at = refl
-none_listed (suc left) at = refl
+no_listing_lines_of_no_bytes zero at = refl
+no_listing_lines_of_no_bytes (suc left) at = refl
 
-pub listing_ends_with_rom : (whole out rest : List ℕ) (left at : ℕ) → length rest ≡ 0 → IsListingSoFar whole out left at rest → out ≡ whole
-listing_ends_with_rom whole out [] left at none w = sym (append-nil out) ∙ (ap (λ (ls : List (List ℕ)). out ++ flat_map as_line ls) (sym (none_listed left at)) ∙ w.text)
-listing_ends_with_rom whole out (b ∷ rest) left at none w = absurd (omega (arith, none))
+pub listing_is_complete_at_end_of_rom : (whole out rest : List ℕ) (left at : ℕ) → length rest ≡ 0 → IsListingSoFar whole out left at rest → out ≡ whole
+listing_is_complete_at_end_of_rom whole out [] left at none w = sym (append-nil out) ∙ (ap (λ (ls : List (List ℕ)). out ++ flat_map as_line ls) (sym (no_listing_lines_of_no_bytes left at)) ∙ w.text)
+listing_is_complete_at_end_of_rom whole out (b ∷ rest) left at none w = absurd (omega (arith, none))
 
-no_lines_left : (whole out rest : List ℕ) (at : ℕ) → IsListingSoFar whole out 0 at rest → out ≡ whole
+listing_is_complete_if_no_lines_left : (whole out rest : List ℕ) (at : ℕ) → IsListingSoFar whole out 0 at rest → out ≡ whole
 unfolding listing_lines
-no_lines_left whole out rest at w = sym (append-nil out) ∙ w.text
+listing_is_complete_if_no_lines_left whole out rest at w = sym (append-nil out) ∙ w.text
 
-pub listing_ends_with_count : (whole out rest : List ℕ) (lines i at : ℕ) → lines ≤ i → IsListingSoFar whole out (lines - i) at rest → out ≡ whole
-listing_ends_with_count whole out rest lines i at end w =
+pub listing_is_complete_after_all_lines : (whole out rest : List ℕ) (lines i at : ℕ) → lines ≤ i → IsListingSoFar whole out (lines - i) at rest → out ≡ whole
+listing_is_complete_after_all_lines whole out rest lines i at end w =
     let none : lines - i ≡ 0 = omega (arith, end) in
-    no_lines_left whole out rest at (subst (λ (k : ℕ). IsListingSoFar whole out k at rest) none w)
+    listing_is_complete_if_no_lines_left whole out rest at (subst (λ (k : ℕ). IsListingSoFar whole out k at rest) none w)

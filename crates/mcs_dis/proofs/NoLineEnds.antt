@@ -8,8 +8,8 @@ use Rattle.mcs_model.specs.declared.op.Op.{Op}
 use Rattle.mcs_model.specs.declared.op.Op.TheVariants.{Nop, Jcn, Fim, Src, Fin, Jin, Jun, Jms, Inc, Isz, Add, Sub, Ld, Xch, Bbl, Ldm, Wrm, Wmp, Wrr, Wr0, Wr1, Wr2, Wr3, Sbm, Rdm, Rdr, Adm, Rd0, Rd1, Rd2, Rd3, Clb, Clc, Iac, Cmc, Cma, Ral, Rar, Tcc, Dac, Tcs, Stc, Daa, Kbp, Dcl}
 use Rattle.mcs_source.specs.Assembly.{reachable_page}
 use Rattle.mcs_source.specs.Text.{instruction_text, address, byte_text}
-use Rattle.mcs_source.specs.Spelled.{IsOp}
-use Rattle.mcs_dis.proofs.ReadBack.{one_below, near_small}
+use Rattle.mcs_source.specs.Spelled.{HasOperandsInRange}
+use Rattle.mcs_dis.proofs.ReadBack.{test_true_below_limit, reachable_page_is_below_16}
 use Rattle.mcs_model.specs.Cutting.{HasNoSeparator}
 use Rattle.mcs_model.specs.TextLines.{is_line_feed}
 use Rattle.mcs_dis.proofs.LinesParseBack.{ends_in_cr, IsLine}
@@ -20,94 +20,94 @@ is_no_line_end b = not (eqb b 10) && not (eqb b 13)
 abbrev pub NoLineEnds : List ℕ → Type 0
 NoLineEnds l = list_all is_no_line_end l ≡ true
 
-all_at : (l : List ℕ) (i : ℕ) → i < length l → NoLineEnds l → is_no_line_end (get_or l i 0) ≡ true
-all_at [] i lt all = absurd (omega (arith, lt))
-all_at (b ∷ l) zero lt all = (and_parts (is_no_line_end b) (list_all is_no_line_end l) all).0
-all_at (b ∷ l) (suc i) lt all = all_at l i (omega (arith, lt)) (and_parts (is_no_line_end b) (list_all is_no_line_end l) all).1
+byte_at_index_is_no_line_end : (l : List ℕ) (i : ℕ) → i < length l → NoLineEnds l → is_no_line_end (get_or l i 0) ≡ true
+byte_at_index_is_no_line_end [] i lt all = absurd (omega (arith, lt))
+byte_at_index_is_no_line_end (b ∷ l) zero lt all = (and_parts (is_no_line_end b) (list_all is_no_line_end l) all).0
+byte_at_index_is_no_line_end (b ∷ l) (suc i) lt all = byte_at_index_is_no_line_end l i (omega (arith, lt)) (and_parts (is_no_line_end b) (list_all is_no_line_end l) all).1
 
-no_cr : (l : List ℕ) → NoLineEnds l → ends_in_cr l ≡ false
-no_cr [] all = refl
-no_cr (b ∷ l) all =
+does_not_end_in_cr : (l : List ℕ) → NoLineEnds l → ends_in_cr l ≡ false
+does_not_end_in_cr [] all = refl
+does_not_end_in_cr (b ∷ l) all =
     let last : ℕ = get_or (b ∷ l) (length (b ∷ l) - 1) 0 in
-    not-true (eqb last 13) (and_parts (not (eqb last 10)) (not (eqb last 13)) (all_at (b ∷ l) (length (b ∷ l) - 1) (omega arith) all)).1
+    not-true (eqb last 13) (and_parts (not (eqb last 10)) (not (eqb last 13)) (byte_at_index_is_no_line_end (b ∷ l) (length (b ∷ l) - 1) (omega arith) all)).1
 
-no_lfs : (l : List ℕ) → NoLineEnds l → HasNoSeparator is_line_feed l
-no_lfs [] all = tt
-no_lfs (b ∷ l) all =
+contains_no_line_feed : (l : List ℕ) → NoLineEnds l → HasNoSeparator is_line_feed l
+contains_no_line_feed [] all = tt
+contains_no_line_feed (b ∷ l) all =
     let (here, more) = and_parts (is_no_line_end b) (list_all is_no_line_end l) all in
-    (not-true (eqb b 10) (and_parts (not (eqb b 10)) (not (eqb b 13)) here).0, no_lfs l more)
+    (not-true (eqb b 10) (and_parts (not (eqb b 10)) (not (eqb b 13)) here).0, contains_no_line_feed l more)
 
-pub line_is : (l : List ℕ) → NoLineEnds l → IsLine l
-line_is l all = (no_lfs l all, no_cr l all)
+pub is_line_if_no_line_ends : (l : List ℕ) → NoLineEnds l → IsLine l
+is_line_if_no_line_ends l all = (contains_no_line_feed l all, does_not_end_in_cr l all)
 
-clean_append : (xs ys : List ℕ) → NoLineEnds xs → NoLineEnds ys → NoLineEnds (xs ++ ys)
-clean_append [] ys all more = more
-clean_append (b ∷ xs) ys all more =
+no_line_ends_in_append : (xs ys : List ℕ) → NoLineEnds xs → NoLineEnds ys → NoLineEnds (xs ++ ys)
+no_line_ends_in_append [] ys all more = more
+no_line_ends_in_append (b ∷ xs) ys all more =
     let (here, others) = and_parts (is_no_line_end b) (list_all is_no_line_end xs) all in
-    rw here (clean_append xs ys others more)
+    rw here (no_line_ends_in_append xs ys others more)
 
-glyph_clean : (d : ℕ) → d < 16 → is_no_line_end (hex_digit d) ≡ true
-glyph_clean d lt = one_below (λ d. is_no_line_end (hex_digit d)) 16 refl d lt
+hex_digit_is_no_line_end : (d : ℕ) → d < 16 → is_no_line_end (hex_digit d) ≡ true
+hex_digit_is_no_line_end d lt = test_true_below_limit (λ d. is_no_line_end (hex_digit d)) 16 refl d lt
 
-decimal_clean : (d : ℕ) → d < 16 → NoLineEnds (decimal d)
+no_line_ends_in_decimal : (d : ℕ) → d < 16 → NoLineEnds (decimal d)
 unfolding digits
-decimal_clean d lt = one_below (λ d. list_all is_no_line_end (decimal d)) 16 refl d lt
+no_line_ends_in_decimal d lt = test_true_below_limit (λ d. list_all is_no_line_end (decimal d)) 16 refl d lt
 
-hex_clean : (b : ℕ) → b < 256 → NoLineEnds (two_hex_digits b)
-hex_clean b lt =
+no_line_ends_in_two_hex_digits : (b : ℕ) → b < 256 → NoLineEnds (two_hex_digits b)
+no_line_ends_in_two_hex_digits b lt =
     let high : b / 16 < 16 = omega arith in
     let last : b % 16 < 16 = omega arith in
-    rw (glyph_clean (b / 16) high, glyph_clean (b % 16) last) refl
+    rw (hex_digit_is_no_line_end (b / 16) high, hex_digit_is_no_line_end (b % 16) last) refl
 
-pub address_clean : (p b : ℕ) → p < 16 → b < 256 → NoLineEnds (address p b)
-address_clean p b lp lt = rw (glyph_clean p lp) (hex_clean b lt)
+pub no_line_ends_in_address : (p b : ℕ) → p < 16 → b < 256 → NoLineEnds (address p b)
+no_line_ends_in_address p b lp lt = rw (hex_digit_is_no_line_end p lp) (no_line_ends_in_two_hex_digits b lt)
 
-pub byte_clean : (b : ℕ) → b < 256 → NoLineEnds (byte_text b)
-byte_clean b lt = hex_clean b lt
+pub no_line_ends_in_byte_text : (b : ℕ) → b < 256 → NoLineEnds (byte_text b)
+no_line_ends_in_byte_text b lt = no_line_ends_in_two_hex_digits b lt
 
-pub text_clean : (at : ℕ) (o : Op) → IsOp o → NoLineEnds (instruction_text at o)
-text_clean at Nop h = refl
-text_clean at Wrm h = refl
-text_clean at Wmp h = refl
-text_clean at Wrr h = refl
-text_clean at Wr0 h = refl
-text_clean at Wr1 h = refl
-text_clean at Wr2 h = refl
-text_clean at Wr3 h = refl
-text_clean at Sbm h = refl
-text_clean at Rdm h = refl
-text_clean at Rdr h = refl
-text_clean at Adm h = refl
-text_clean at Rd0 h = refl
-text_clean at Rd1 h = refl
-text_clean at Rd2 h = refl
-text_clean at Rd3 h = refl
-text_clean at Clb h = refl
-text_clean at Clc h = refl
-text_clean at Iac h = refl
-text_clean at Cmc h = refl
-text_clean at Cma h = refl
-text_clean at Ral h = refl
-text_clean at Rar h = refl
-text_clean at Tcc h = refl
-text_clean at Dac h = refl
-text_clean at Tcs h = refl
-text_clean at Stc h = refl
-text_clean at Daa h = refl
-text_clean at Kbp h = refl
-text_clean at Dcl h = refl
-text_clean at (Inc r) h = decimal_clean r h
-text_clean at (Add r) h = decimal_clean r h
-text_clean at (Sub r) h = decimal_clean r h
-text_clean at (Ld r) h = decimal_clean r h
-text_clean at (Xch r) h = decimal_clean r h
-text_clean at (Bbl r) h = decimal_clean r h
-text_clean at (Ldm r) h = decimal_clean r h
-text_clean at (Src p) h = decimal_clean p (omega (arith, h))
-text_clean at (Fin p) h = decimal_clean p (omega (arith, h))
-text_clean at (Jin p) h = decimal_clean p (omega (arith, h))
-text_clean at (Jun p b) h = address_clean p b h.0 h.1
-text_clean at (Jms p b) h = address_clean p b h.0 h.1
-text_clean at (Fim p b) h = clean_append (decimal p) (44 ∷ 32 ∷ 48 ∷ 120 ∷ two_hex_digits b) (decimal_clean p (omega (arith, h.0))) (hex_clean b h.1)
-text_clean at (Jcn c b) h = clean_append (decimal c) (44 ∷ 32 ∷ address (reachable_page at) b) (decimal_clean c h.0) (address_clean (reachable_page at) b (near_small at) h.1)
-text_clean at (Isz r b) h = clean_append (decimal r) (44 ∷ 32 ∷ address (reachable_page at) b) (decimal_clean r h.0) (address_clean (reachable_page at) b (near_small at) h.1)
+pub no_line_ends_in_instruction_text : (at : ℕ) (o : Op) → HasOperandsInRange o → NoLineEnds (instruction_text at o)
+no_line_ends_in_instruction_text at Nop h = refl
+no_line_ends_in_instruction_text at Wrm h = refl
+no_line_ends_in_instruction_text at Wmp h = refl
+no_line_ends_in_instruction_text at Wrr h = refl
+no_line_ends_in_instruction_text at Wr0 h = refl
+no_line_ends_in_instruction_text at Wr1 h = refl
+no_line_ends_in_instruction_text at Wr2 h = refl
+no_line_ends_in_instruction_text at Wr3 h = refl
+no_line_ends_in_instruction_text at Sbm h = refl
+no_line_ends_in_instruction_text at Rdm h = refl
+no_line_ends_in_instruction_text at Rdr h = refl
+no_line_ends_in_instruction_text at Adm h = refl
+no_line_ends_in_instruction_text at Rd0 h = refl
+no_line_ends_in_instruction_text at Rd1 h = refl
+no_line_ends_in_instruction_text at Rd2 h = refl
+no_line_ends_in_instruction_text at Rd3 h = refl
+no_line_ends_in_instruction_text at Clb h = refl
+no_line_ends_in_instruction_text at Clc h = refl
+no_line_ends_in_instruction_text at Iac h = refl
+no_line_ends_in_instruction_text at Cmc h = refl
+no_line_ends_in_instruction_text at Cma h = refl
+no_line_ends_in_instruction_text at Ral h = refl
+no_line_ends_in_instruction_text at Rar h = refl
+no_line_ends_in_instruction_text at Tcc h = refl
+no_line_ends_in_instruction_text at Dac h = refl
+no_line_ends_in_instruction_text at Tcs h = refl
+no_line_ends_in_instruction_text at Stc h = refl
+no_line_ends_in_instruction_text at Daa h = refl
+no_line_ends_in_instruction_text at Kbp h = refl
+no_line_ends_in_instruction_text at Dcl h = refl
+no_line_ends_in_instruction_text at (Inc r) h = no_line_ends_in_decimal r h
+no_line_ends_in_instruction_text at (Add r) h = no_line_ends_in_decimal r h
+no_line_ends_in_instruction_text at (Sub r) h = no_line_ends_in_decimal r h
+no_line_ends_in_instruction_text at (Ld r) h = no_line_ends_in_decimal r h
+no_line_ends_in_instruction_text at (Xch r) h = no_line_ends_in_decimal r h
+no_line_ends_in_instruction_text at (Bbl r) h = no_line_ends_in_decimal r h
+no_line_ends_in_instruction_text at (Ldm r) h = no_line_ends_in_decimal r h
+no_line_ends_in_instruction_text at (Src p) h = no_line_ends_in_decimal p (omega (arith, h))
+no_line_ends_in_instruction_text at (Fin p) h = no_line_ends_in_decimal p (omega (arith, h))
+no_line_ends_in_instruction_text at (Jin p) h = no_line_ends_in_decimal p (omega (arith, h))
+no_line_ends_in_instruction_text at (Jun p b) h = no_line_ends_in_address p b h.0 h.1
+no_line_ends_in_instruction_text at (Jms p b) h = no_line_ends_in_address p b h.0 h.1
+no_line_ends_in_instruction_text at (Fim p b) h = no_line_ends_in_append (decimal p) (44 ∷ 32 ∷ 48 ∷ 120 ∷ two_hex_digits b) (no_line_ends_in_decimal p (omega (arith, h.0))) (no_line_ends_in_two_hex_digits b h.1)
+no_line_ends_in_instruction_text at (Jcn c b) h = no_line_ends_in_append (decimal c) (44 ∷ 32 ∷ address (reachable_page at) b) (no_line_ends_in_decimal c h.0) (no_line_ends_in_address (reachable_page at) b (reachable_page_is_below_16 at) h.1)
+no_line_ends_in_instruction_text at (Isz r b) h = no_line_ends_in_append (decimal r) (44 ∷ 32 ∷ address (reachable_page at) b) (no_line_ends_in_decimal r h.0) (no_line_ends_in_address (reachable_page at) b (reachable_page_is_below_16 at) h.1)

@@ -9,9 +9,9 @@ use Rattle.mcs_model.specs.Table.{instruction_of, word_count_of}
 use Rattle.mcs_source.specs.Assembly.{statement_bytes, size, is_bad_origin, next_statement}
 use Rattle.mcs_source.specs.Text.{op_at, complete_op, second_word, piece_text, piece_size}
 use Rattle.mcs_dis.specs.ParseBack.{statement}
-use Rattle.mcs_dis.proofs.ReadBack.{read_back, statement_emits_encoding, byte_parses_back, statement_size_is_word_count, next_address_is, origin_is_not_bad}
-use Rattle.mcs_dis.proofs.NoLineEnds.{NoLineEnds, byte_clean, text_clean}
-use Rattle.mcs_source.proofs.Decoding.{decoded_spells, one_or_two}
+use Rattle.mcs_dis.proofs.ReadBack.{instruction_text_parses_back, statement_emits_encoding, byte_parses_back, statement_size_is_word_count, next_address_after_instruction, origin_is_not_bad}
+use Rattle.mcs_dis.proofs.NoLineEnds.{NoLineEnds, no_line_ends_in_byte_text, no_line_ends_in_instruction_text}
+use Rattle.mcs_source.proofs.Decoding.{decoded_instruction_is_encoded_by_words, word_count_is_one_or_two}
 
 abbrev pub piece_statement : ℕ → ℕ → Option Op → asm.Statement
 piece_statement at b None = asm.Data (asm.Number b ∷ [])
@@ -27,38 +27,38 @@ pub record IsPiece (at b : ℕ) (rest : List ℕ) (x : Option Op) : Type 0 where
   pub fits : piece_size x ≤ 1 + length rest
   pub clean : NoLineEnds (piece_text at b x)
 
-byte_piece : (at b : ℕ) (rest : List ℕ) → b < 256 → IsPiece at b rest None
-byte_piece at b rest lt = record { reads = byte_parses_back b lt; bytes = rw (lt-ltb b 256 lt) refl; size_of = refl; next = refl; fine = refl; some = omega arith; fits = omega arith; clean = byte_clean b lt }
+single_byte_is_piece : (at b : ℕ) (rest : List ℕ) → b < 256 → IsPiece at b rest None
+single_byte_is_piece at b rest lt = record { reads = byte_parses_back b lt; bytes = rw (lt-ltb b 256 lt) refl; size_of = refl; next = refl; fine = refl; some = omega arith; fits = omega arith; clean = no_line_ends_in_byte_text b lt }
 
-take_words : (n b : ℕ) (rest : List ℕ) → (n ≡ 1) ⊎ (n ≡ 2) → n ≤ 1 + length rest → take n (b ∷ second_word rest ∷ []) ≡ take n (b ∷ rest)
-take_words n b rest (inl e) le = rw e refl
-take_words n b [] (inr e) le = absurd (omega (arith, e, le))
-take_words n b (c ∷ rest) (inr e) le = rw e refl
+words_are_first_bytes : (n b : ℕ) (rest : List ℕ) → (n ≡ 1) ⊎ (n ≡ 2) → n ≤ 1 + length rest → take n (b ∷ second_word rest ∷ []) ≡ take n (b ∷ rest)
+words_are_first_bytes n b rest (inl e) le = rw e refl
+words_are_first_bytes n b [] (inr e) le = absurd (omega (arith, e, le))
+words_are_first_bytes n b (c ∷ rest) (inr e) le = rw e refl
 
-op_piece : (at b : ℕ) (rest : List ℕ) (o : Op) → second_word rest < 256 → instruction_of b (second_word rest) ≡ Some o → word_count_of o ≤ 1 + length rest → IsPiece at b rest (Some o)
-op_piece at b rest o lt e le =
-    let s = decoded_spells b (second_word rest) o lt e in
+instruction_is_piece : (at b : ℕ) (rest : List ℕ) (o : Op) → second_word rest < 256 → instruction_of b (second_word rest) ≡ Some o → word_count_of o ≤ 1 + length rest → IsPiece at b rest (Some o)
+instruction_is_piece at b rest o lt e le =
+    let s = decoded_instruction_is_encoded_by_words b (second_word rest) o lt e in
     record {
-      reads = read_back at o s.0;
-      bytes = statement_emits_encoding at o [] s.0 ∙ ap Ok (s.1 ∙ take_words (word_count_of o) b rest (one_or_two o) le);
+      reads = instruction_text_parses_back at o s.0;
+      bytes = statement_emits_encoding at o [] s.0 ∙ ap Ok (s.1 ∙ words_are_first_bytes (word_count_of o) b rest (word_count_is_one_or_two o) le);
       size_of = statement_size_is_word_count at o;
-      next = next_address_is at at o;
+      next = next_address_after_instruction at at o;
       fine = origin_is_not_bad at o;
-      some = elim (one_or_two o) [ inl e ↦ omega (arith, e) | inr e ↦ omega (arith, e) ];
+      some = elim (word_count_is_one_or_two o) [ inl e ↦ omega (arith, e) | inr e ↦ omega (arith, e) ];
       fits = le;
-      clean = text_clean at o s.0;
+      clean = no_line_ends_in_instruction_text at o s.0;
     }
 
-pub piece_is : (at b : ℕ) (rest : List ℕ) → b < 256 → second_word rest < 256 → IsPiece at b rest (op_at b rest)
+pub op_at_is_piece : (at b : ℕ) (rest : List ℕ) → b < 256 → second_word rest < 256 → IsPiece at b rest (op_at b rest)
 unfolding op_at
-piece_is at b rest lt second =
+op_at_is_piece at b rest lt second =
     let P : Option Op → Type 0 = λ d. instruction_of b (second_word rest) ≡ d → IsPiece at b rest (complete_op d b rest) in
     (elim (instruction_of b (second_word rest)) as P [
-      | None ↦ λ e. byte_piece at b rest lt
+      | None ↦ λ e. single_byte_is_piece at b rest lt
       | Some o ↦ λ e.
           let Q : Bool → Type 0 = λ t. leb (word_count_of o) (1 + length rest) ≡ t → IsPiece at b rest (cond t (Some o) None) in
           (elim (leb (word_count_of o) (1 + length rest)) as Q [
-            | true ↦ λ yes. op_piece at b rest o second e (leb-true (word_count_of o) (1 + length rest) yes)
-            | false ↦ λ not_whole. byte_piece at b rest lt
+            | true ↦ λ yes. instruction_is_piece at b rest o second e (leb-true (word_count_of o) (1 + length rest) yes)
+            | false ↦ λ not_whole. single_byte_is_piece at b rest lt
           ]) refl
     ]) refl

@@ -1,4 +1,4 @@
-//! The disassembler. It gives the text of an instruction, the listing of a ROM, and source text that assembles to the
+//! The disassembler. It returns the text of an instruction, the listing of a ROM, and source text that assembles to the
 //! bytes of a ROM range.
 #![tactic(auto)]
 

@@ -10,9 +10,9 @@ use crate::texts::{push_columns, push_origin, push_piece};
 use mcs_nibble::Addr;
 use std::alloc::{AllocError, Global};
 
-/// Returns the text of the instruction at an address, from its words. The text is `DB 0xHH` if the opcode is not in
-/// the opcode table, or if a second word is needed but missing (`None`). A second word after a one-word instruction
-/// is ignored.
+/// Returns the text of the instruction at address `at`, from the words `first` and `second`. The text is `DB 0xHH` if
+/// the opcode is not in the opcode table, or if a second word is needed but missing (`None`). A second word after a
+/// one-word instruction is ignored.
 pub fn line_of(alloc: Global, at: Addr, first: u8, second: Option<u8>) -> Result<String, AllocError>
     ensures { IfOk result (λ s. string_bytes s ≡ line_text at first second) }
 {

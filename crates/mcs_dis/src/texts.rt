@@ -12,7 +12,8 @@ use mcs_code::{Op, instructions, operand_pattern};
 use mcs_nibble::{Addr, Nibble};
 use std::alloc::AllocError;
 
-/// Expands to a match from an instruction to its mnemonic, with an arm for each row of the instruction table.
+/// Expands to a match expression that returns the mnemonic of an instruction, with an arm for each row of the
+/// instruction table.
 macro_rules! name_rows {
     (($op:ident) $($codes:pat, $name:ident $kind:ident $words:literal $cycles:literal $group:ident $text:literal;)*) => {
         match *$op {
@@ -71,8 +72,9 @@ fn push_number_and_target(
     push_address(out, ", ", at.plus(2).page(), word)
 }
 
-/// Expands to code that appends the operands `$a` and `$b` of an instruction, by the kind of its operands. JUN, JMS
-/// and JCN have the kind `nibble_byte`: the nibble is a page for JUN and JMS, and a condition for JCN.
+/// Expands to code that appends the operands `$a` and `$b` of an instruction. The kind of the operands determines
+/// their format. JUN, JMS and JCN have the kind `nibble_byte`: the nibble is a page for JUN and JMS, and a condition
+/// for JCN.
 macro_rules! push_by_kind {
     (($out:ident $at:ident) $a:ident $b:ident $name:ident none) => {
         Ok(())
@@ -100,7 +102,8 @@ macro_rules! push_by_kind {
     };
 }
 
-/// Expands to a match that appends the operands of an instruction, with an arm for each row of the instruction table.
+/// Expands to a match expression that appends the operands of an instruction, with an arm for each row of the
+/// instruction table.
 macro_rules! operand_rows {
     (($out:ident, $at:ident, $op:ident) $($codes:pat, $name:ident $kind:ident $words:literal $cycles:literal $group:ident $text:literal;)*) => {
         match $op {
@@ -109,7 +112,7 @@ macro_rules! operand_rows {
     };
 }
 
-/// Appends the operands of the instruction at an address.
+/// Appends the operands of the instruction at address `at`.
 fn push_operands(out: &mut String, at: Addr, op: Op) -> Result<(), AllocError>
     ensures { OnOk result (string_bytes out.new ≡ string_bytes out.old ++ operands at op) }
 {
@@ -125,7 +128,7 @@ fn push_op(out: &mut String, at: Addr, op: Op) -> Result<(), AllocError>
 }
 
 /// Appends the text of the piece at an address: an instruction, or `DB` with the byte `first` if there is no
-/// instruction.
+/// instruction (`None`).
 #[tactic(auto, using(std::proofs::lemmas::Fmt::hex_byte))]
 pub fn push_piece(
     out: &mut String,
@@ -163,7 +166,8 @@ fn push_digits(out: &mut String, at: Addr) -> Result<(), AllocError>
     write!(out, "{page:X}{word:02X}")
 }
 
-/// Appends the columns of a listing line that show the first and the second word. They follow the address column.
+/// Appends the columns of a listing line that show the first and the second word. These columns follow the address
+/// column.
 #[tactic(auto, using(std::proofs::lemmas::Fmt::hex_byte))]
 fn push_words(out: &mut String, first: u8, second: Option<u8>) -> Result<(), AllocError>
     ensures { OnOk result (string_bytes out.new
@@ -175,7 +179,7 @@ fn push_words(out: &mut String, first: u8, second: Option<u8>) -> Result<(), All
     }
 }
 
-/// Appends the address column and the word columns of a listing line. They precede the text of the piece.
+/// Appends the address column and the word columns of a listing line. These columns precede the text of the piece.
 pub fn push_columns(
     out: &mut String,
     at: Addr,

@@ -1,5 +1,5 @@
 -- Lists of calls on a disk, newest first: the calls that were made, and the number of writes that
--- no sync has followed. (Our own choice.)
+-- no sync has followed.
 use Rattle.std.specs.Prelude.{◌≡◌, ◌⊎◌, ℕ, ◌+◌, ◌≤◌, List, [], ◌∷◌, ◌++◌, Result, OnOk, OnErr}
 use Rattle.mcs_disk.specs.Calls.{DiskCall, WasRead, Wrote, Failed, Synced}
 
@@ -20,22 +20,22 @@ pub record AtMostOneUnsynced (old new : List DiskCall) : Type 0 where
       → unsynced_writes (call ∷ sooner ++ old) ≤ 1
 
 -- Holds if `new` is the list `old` after the given call failed. A failed write either adds an entry
--- `Failed` with its offset and bytes, or leaves the list unchanged. Any other failed call leaves it
--- unchanged.
+-- `Failed` with its offset and bytes, or leaves the list unchanged. Any other failed call leaves
+-- the list unchanged.
 abbrev pub IsFailureOf : DiskCall → List DiskCall → List DiskCall → Type 0
 IsFailureOf (Wrote at bytes) old new =
     (new ≡ old) ⊎ ((seen : List ℕ) × (new ≡ Failed at bytes seen ∷ old))
 IsFailureOf call old new = new ≡ old
 
--- Holds if one of the given calls failed, and only the calls made before it succeeded. `IsFailureOf`
--- states how the list records the failed call.
+-- Holds if one of the given calls failed, and only the calls made before it succeeded.
+-- `IsFailureOf` states how the list records the failed call.
 abbrev pub IsCutShort : List DiskCall → List DiskCall → List DiskCall → Type 0
 IsCutShort [] old new = ⊥
 IsCutShort (call ∷ before) old new = IsFailureOf call (before ++ old) new ⊎ IsCutShort before old new
 
--- Holds if `new` is `old` after the given calls. If the result is Ok, all of them were made. If it
--- is an error, one of them failed, and only the calls made before it succeeded. `IsFailureOf` states
--- how the list records the failed call.
+-- Holds if `new` is the list `old` after the given calls. If `result` is Ok, all of them succeeded.
+-- If `result` is an error, one of them failed, and only the calls made before the failed call
+-- succeeded. `IsFailureOf` states how the list records the failed call.
 pub record MakesCalls {T E : Type 0} (calls old new : List DiskCall) (result : Result T E) : Type 0 where
   pub all : OnOk result (new ≡ calls ++ old)
   pub cut : OnErr result (IsCutShort calls old new)

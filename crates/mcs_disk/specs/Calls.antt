@@ -1,8 +1,8 @@
 -- The effect of calls on a disk's bytes, and the bytes that a power cut can leave after them. Lists
--- of calls are newest first. (Our own choice of device: it writes ranges of bytes. Before a sync,
--- it promises only that bytes outside the written ranges are unchanged. After a sync, it promises
--- that all bytes stay. We assume this of POSIX's read, write and fdatasync on a file that was
--- synced when it was opened. POSIX itself says nothing about power cuts.)
+-- of calls are newest first. (Fethsaim defines this model of a device: the device writes ranges of
+-- bytes. Before a sync, it promises only that bytes outside the written ranges are unchanged. After
+-- a sync, it promises that all bytes stay. We assume this of POSIX's read, write and fdatasync on a
+-- file that was synced when it was opened. POSIX itself says nothing about power cuts.)
 use Rattle.std.specs.Prelude.{◌≡◌, ◌⊎◌, ℕ, zero, suc, ◌+◌, ◌≤◌, ◌<◌, List, [], ◌∷◌, length, take, drop, slice_index}
 
 -- A call in a list of calls: a call that returned Ok, or a failed write. Failed reads and syncs are
@@ -13,15 +13,15 @@ pub data DiskCall : Type 0 where
   -- a write of these bytes at this offset that returned Ok
   Wrote : ℕ → List ℕ → DiskCall
   -- `Failed at tried seen`: a write of the bytes `tried` at offset `at` that failed, or that a
-  -- close, a process kill or a power cut interrupted (`IsInterruptedInWrite` of mcs_host). A power cut can
-  -- leave any bytes in the range of the write. From then on, a read of the range returns the bytes
-  -- `seen`, truncated to the length of `tried`. If `seen` is shorter, a read of the rest of the
-  -- range returns the same bytes as before.
+  -- close, a process kill or a power cut interrupted (`IsInterruptedInWrite` of mcs_host). A power
+  -- cut can leave any bytes in the range of the write. From then on, a read of the range returns
+  -- the bytes `seen`, truncated to the length of `tried`. If `seen` is shorter, a read of the rest
+  -- of the range returns the same bytes as before.
   Failed : ℕ → List ℕ → List ℕ → DiskCall
   -- a sync that returned Ok: it has made all bytes of the disk stable
   Synced : DiskCall
 
--- the n bytes of `file` that start at offset `at`; fewer if the file ends before that
+-- the `n` bytes of `file` that start at offset `at`; fewer if the file ends before that
 abbrev pub part : ℕ → ℕ → List ℕ → List ℕ
 part at n file = take n (drop at file)
 
@@ -33,7 +33,7 @@ put zero [] (y ∷ ys) = y ∷ ys
 put zero (x ∷ xs) (y ∷ ys) = x ∷ put zero xs ys
 put (suc at) bytes (y ∷ ys) = y ∷ put at bytes ys
 
--- Holds if `new` equals `old` outside the n bytes that start at offset `at`. Inside this range,
+-- Holds if `new` equals `old` outside the `n` bytes that start at offset `at`. Inside this range,
 -- `new` can hold any bytes.
 pub record Torn (at n : ℕ) (old new : List ℕ) : Type 0 where
   pub size : length new ≡ length old

@@ -1,4 +1,4 @@
--- The calls that a `FuseDisk` fails, and those that it passes on.
+-- The calls that a `FuseDisk` fails, and those that it passes on to the wrapped disk.
 use Rattle.std.specs.Prelude.{◌≡◌, ◌↔◌, ℕ, ◌+◌, ◌≤◌, IsErr, IsOk, Result}
 use Rattle.mcs_disk.specs.Disk.{CountsFault}
 use Rattle.mcs_disk.specs.States.{mem_disk_state}
@@ -7,13 +7,13 @@ use Rattle.mcs_disk.specs.declared.fuse.Fuse.TheVariants.{NeverFails, FailsAllAf
 use Rattle.mcs_disk.specs.declared.fuse.FuseDisk.{FuseDisk}
 use Rattle.mcs_disk.specs.declared.memory.MemDisk.{MemDisk}
 
--- holds if the schedule fails the call that follows the next n calls
+-- holds if the schedule fails the call that follows the next `n` calls
 abbrev pub Fails : Fuse → ℕ → Type 0
 Fails NeverFails n = ⊥
 Fails (FailsAllAfter passed) n = passed ≤ n
 Fails (FailsOneAfter passed) n = n ≡ passed
 
--- holds if the disk fails the call after the next n calls, without passing it on
+-- holds if the disk fails the call that follows the next `n` calls, without passing it on
 abbrev pub FailsAfter : FuseDisk → ℕ → Type 0
 FailsAfter disk n = Fails disk.fuse n
 

@@ -4,8 +4,8 @@ use Rattle.mcs_disk.specs.Calls.{DiskCall, WasRead, Wrote, Failed, Synced}
 use Rattle.mcs_disk.specs.declared.call_record.Call.{Call}
 use Rattle.mcs_disk.specs.declared.call_record.Call.TheVariants.{Read, Write, FailedWrite, Sync}
 
--- The `DiskCall` for a `Call`, and for its bytes if it is a write. After a failed write, a read
--- returns the same bytes as before.
+-- The `DiskCall` for a `Call`; `bytes` are the bytes of a write. The list `seen` of a failed write
+-- is empty: a read after it returns the same bytes as before.
 abbrev pub call_of : Call → List ℕ → DiskCall
 call_of Read bytes = WasRead
 call_of (Write at) bytes = Wrote at bytes

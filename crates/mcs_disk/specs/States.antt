@@ -5,8 +5,8 @@ use Rattle.mcs_disk.specs.NotedCalls.{calls_in}
 use Rattle.mcs_disk.specs.declared.fuse.FuseDisk.{FuseDisk}
 use Rattle.mcs_disk.specs.declared.memory.MemDisk.{MemDisk}
 
--- the state of an in-memory disk: it is always honest, has no faults, and has the calls since its
--- initial bytes
+-- the state of an in-memory disk: it is always honest, has no faults, and lists the calls since the
+-- disk was created
 abbrev pub mem_disk_state : MemDisk → DiskState
 mem_disk_state disk = record {
   faults = 0;

@@ -1,5 +1,5 @@
 -- Stretches of calls on a disk, from one state to a later one: the writes in a stretch, and the
--- bytes that a power cut at any moment of the stretch can leave. (Our own choice.)
+-- bytes that a power cut at any moment of the stretch can leave.
 use Rattle.std.specs.Prelude.{◌≡◌, ◌⊎◌, ℕ, ◌+◌, List, [], ◌∷◌}
 use Rattle.mcs_disk.specs.Calls.{DiskCall, WasRead, Wrote, Failed, Synced}
 use Rattle.mcs_disk.specs.Disk.{DiskState, IsLater, images_since, time_of}
@@ -25,11 +25,11 @@ pub record AddsNoImage (old new : DiskState) : Type 0 where
   pub writes_nothing : WritesNothing old new
 
 -- holds if `new` is later than `old`, and every image that a power cut at some moment since `old`
--- can leave satisfies P
+-- can leave satisfies `P`
 pub record LeavesOnly (old new : DiskState) (P : List ℕ → Type 0) : Type 0 where
   pub later : IsLater old new
   pub each : (image : List ℕ) → images_since (time_of old) new image → P image
 
--- holds if an image satisfies P or Q
+-- holds if `image` satisfies `P` or `Q`
 abbrev pub SatisfiesEither : (List ℕ → Type 0) → (List ℕ → Type 0) → List ℕ → Type 0
 SatisfiesEither P Q image = P image ⊎ Q image

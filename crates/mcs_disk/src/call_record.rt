@@ -15,6 +15,6 @@ pub enum Call {
     Sync,
 }
 
-/// The record of the calls on one disk. It starts with the bytes that the disk held before any
+/// The record of the calls on one disk. The field `start` holds the bytes of the disk before any
 /// call.
 pub type CallRecord = Record<Call>;

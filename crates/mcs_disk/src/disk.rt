@@ -15,9 +15,9 @@ pub struct DiskFault;
 /// A byte device that can read and write ranges, and sync.
 ///
 /// Every disk has a size, a fault count and a list of the calls on it. On an honest disk, a read
-/// returns the bytes that follow from the list. The list also determines which bytes a power cut
-/// can leave. Between two syncs, a cut can leave any bytes in a written range. After a successful
-/// sync, it leaves the current bytes.
+/// returns the bytes that the listed calls have left. The list also determines which bytes a power
+/// cut can leave. Between two syncs, a cut can leave any bytes in a written range. After a
+/// successful sync, it leaves the current bytes.
 pub trait Disk {
     /// The state of the disk, as contracts see it.
     ghost state: { Self → DiskState };
@@ -27,7 +27,8 @@ pub trait Disk {
         ensures { result ≡ size_of (state self.now) };
 
     /// Fills `into` with the bytes that start at offset `at`. The range must lie within the disk.
-    /// It fails if the device fails. The bytes are those of the disk only if the disk is honest.
+    /// Fails if the device fails. On an honest disk, these are the bytes that the calls so far have
+    /// left.
     fn read(&mut self, at: usize, into: &mut [u8]) -> Result<(), DiskFault>
         requires { at + length into.old ≤ size_of (state self.old) }
         ensures call { CountsFault (state self.old) (state self.new) (IsErr result) }
@@ -35,8 +36,8 @@ pub trait Disk {
         ensures honest { (state self.old).honest
             → OnOk result (into.new ≡ part at (length into.old) (bytes_of (state self.old))) };
 
-    /// Writes `from` at offset `at`. The range must lie within the disk. It fails if the device
-    /// fails. Until a sync succeeds, a power cut can leave any bytes in that range.
+    /// Writes `from` at offset `at`. The range must lie within the disk. Fails if the device fails.
+    /// Until a sync succeeds, a power cut can leave any bytes in that range.
     fn write(&mut self, at: usize, from: &[u8]) -> Result<(), DiskFault>
         requires { at + length from.now ≤ size_of (state self.old) }
         ensures call { CountsFault (state self.old) (state self.new) (IsErr result) }
@@ -44,7 +45,7 @@ pub trait Disk {
             (state self.new).calls result };
 
     /// Makes all written bytes stable: after Ok, a power cut leaves the bytes that a read returns.
-    /// It fails if the device fails.
+    /// Fails if the device fails.
     fn sync(&mut self) -> Result<(), DiskFault>
         ensures call { CountsFault (state self.old) (state self.new) (IsErr result) }
         ensures lists_call { MakesCalls (Synced ∷ []) (state self.old).calls (state self.new).calls result };

@@ -34,14 +34,14 @@ pub fn reads_and_syncs_add_no_image<D: Disk>()
 {}
 
 /// Shows for an honest disk: if a power cut since time `later` can leave the disk `found`, then a
-/// power cut since an earlier time can leave it too.
+/// power cut since the time `earlier` can leave `found` too.
 pub fn cut_since_later_is_since_earlier<D: Disk, E: Disk>()
     ensures { (earlier later : ℕ) (disk : D) (found : E) → earlier ≤ later
         → (D.state disk).honest → IsLeftByCut later (D.state disk) (E.state found)
         → IsLeftByCut earlier (D.state disk) (E.state found) }
 {}
 
-/// Shows that a power cut on a durable disk, since the disk's current time, leaves the bytes of the
+/// Shows that a power cut on a durable disk, at the disk's current time, leaves the bytes of the
 /// disk unchanged.
 pub fn cut_keeps_durable_bytes<D: Disk, E: Disk>()
     ensures { (disk : D) (found : E) → IsDurable (D.state disk)
@@ -58,8 +58,8 @@ pub fn cut_is_before_a_stretch_or_since_its_start<D: Disk, E: Disk>()
         ⊎ IsLeftByCut (time_of (D.state old)) (D.state new) (E.state found) }
 {}
 
-/// Shows that a second power cut adds no new outcome. With no call between the two cuts, it leaves
-/// a disk that the first cut could have left.
+/// Shows that a second power cut adds no new outcome. If no call is made between the two cuts, the
+/// second cut leaves a disk that the first cut could have left.
 pub fn second_cut_adds_no_outcome<D: Disk, E: Disk, F: Disk>()
     ensures { (time : ℕ) (disk : D) (found : E) (again : F)
         → IsLeftByCut time (D.state disk) (E.state found)

@@ -11,7 +11,7 @@ use std::alloc::{AllocError, Global};
 
 /// An honest in-memory disk. Every call returns Ok, and no call allocates memory.
 ///
-/// The calls on the disk determine the bytes that a power cut would have left at each moment. Only
+/// The calls on the disk determine the bytes that a power cut could have left at each moment. Only
 /// contracts can see these calls.
 #[derive(Drop)]
 pub struct MemDisk {

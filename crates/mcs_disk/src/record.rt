@@ -30,7 +30,7 @@ impl<C> Record<C> {
         }
     }
 
-    /// Adds a call with its bytes. It becomes the newest call of the record.
+    /// Adds a call with its bytes, as the newest call of the record.
     pub fn note(&mut self, _call: &C, _bytes: &[u8])
         ensures { self.new
             ≡ record self.old { notes = (_call.now, _bytes.now) ∷ self.old.notes } }

@@ -15,40 +15,40 @@ use Rattle.mcs_model.specs.Running.{Machine}
 use Rattle.mcs_drive.specs.DrivenRuns.{Levels, FitsBoard}
 use Rattle.mcs_drive.specs.TrackedMachine.{Observer, TrackedMachine, machine_in, with_levels, without_levels, cycled, after_cycles, next_reads_input, driven, Holds}
 use Rattle.mcs_drive.specs.RunsBetweenReads.{IgnoresLevels, LeadsTo}
-use Rattle.mcs_drive.proofs.Tracking.{cycle-rest}
+use Rattle.mcs_drive.proofs.Tracking.{cycled-with_levels-if-no-read}
 
 -- ---- a cycle does not change the board
 
-either-board : (b : Bool) (m n : BusState) (board : BoardParts) → m.board ≡ board → n.board ≡ board → (cond b m n).board ≡ board
-either-board true m n board h k = h
-either-board false m n board h k = k
+board-of-cond : (b : Bool) (m n : BusState) (board : BoardParts) → m.board ≡ board → n.board ≡ board → (cond b m n).board ≡ board
+board-of-cond true m n board h k = h
+board-of-cond false m n board h k = k
 
-rom_port-board : (m : BusState) (n : ℕ) (o : Option (List LineMask)) → (elim o as (λ _. BusState) [ Some mask ↦ after_chain_clocks (clock_levels m) (with_rom_ports_at m (m.rom_src / 16) (latch_value mask n)) | None ↦ m ]).board ≡ m.board
+board-unchanged-by-rom_port-write : (m : BusState) (n : ℕ) (o : Option (List LineMask)) → (elim o as (λ _. BusState) [ Some mask ↦ after_chain_clocks (clock_levels m) (with_rom_ports_at m (m.rom_src / 16) (latch_value mask n)) | None ↦ m ]).board ≡ m.board
 unfolding after_chain_clocks
-rom_port-board m n None = refl
-rom_port-board m n (Some mask) = refl
+board-unchanged-by-rom_port-write m n None = refl
+board-unchanged-by-rom_port-write m n (Some mask) = refl
 
-bus-board : (op : Op) (s : Regs) (m : BusState) → (bus_after op s m).board ≡ m.board
+board-unchanged-by-bus_after : (op : Op) (s : Regs) (m : BusState) → (bus_after op s m).board ≡ m.board
 unfolding after_src after_ram with_ram after_status with_status after_ram_port after_rom_port after_chain_clocks
-bus-board (Src k) s m = either-board (nat_lt 0 (chips_of m s.dcl)) _ _ m.board refl refl
-bus-board Wrm s m = either-board (has_chip m s.dcl (src_of m s.dcl)) _ _ m.board refl refl
-bus-board Wmp s m = either-board (has_chip m s.dcl (src_of m s.dcl)) _ _ m.board refl refl
-bus-board Wrr s m = rom_port-board m s.acc (rom_masks m.board (m.rom_src / 16))
-bus-board Wr0 s m = either-board (nat_lt (src_of m s.dcl / 16 / 4) (chips_of m s.dcl)) _ _ m.board refl refl
-bus-board Wr1 s m = either-board (nat_lt (src_of m s.dcl / 16 / 4) (chips_of m s.dcl)) _ _ m.board refl refl
-bus-board Wr2 s m = either-board (nat_lt (src_of m s.dcl / 16 / 4) (chips_of m s.dcl)) _ _ m.board refl refl
-bus-board Wr3 s m = either-board (nat_lt (src_of m s.dcl / 16 / 4) (chips_of m s.dcl)) _ _ m.board refl refl
-bus-board _ s m = refl
+board-unchanged-by-bus_after (Src k) s m = board-of-cond (nat_lt 0 (chips_of m s.dcl)) _ _ m.board refl refl
+board-unchanged-by-bus_after Wrm s m = board-of-cond (has_chip m s.dcl (src_of m s.dcl)) _ _ m.board refl refl
+board-unchanged-by-bus_after Wmp s m = board-of-cond (has_chip m s.dcl (src_of m s.dcl)) _ _ m.board refl refl
+board-unchanged-by-bus_after Wrr s m = board-unchanged-by-rom_port-write m s.acc (rom_masks m.board (m.rom_src / 16))
+board-unchanged-by-bus_after Wr0 s m = board-of-cond (nat_lt (src_of m s.dcl / 16 / 4) (chips_of m s.dcl)) _ _ m.board refl refl
+board-unchanged-by-bus_after Wr1 s m = board-of-cond (nat_lt (src_of m s.dcl / 16 / 4) (chips_of m s.dcl)) _ _ m.board refl refl
+board-unchanged-by-bus_after Wr2 s m = board-of-cond (nat_lt (src_of m s.dcl / 16 / 4) (chips_of m s.dcl)) _ _ m.board refl refl
+board-unchanged-by-bus_after Wr3 s m = board-of-cond (nat_lt (src_of m s.dcl / 16 / 4) (chips_of m s.dcl)) _ _ m.board refl refl
+board-unchanged-by-bus_after _ s m = refl
 
-cycle-board-when : (s : Machine) (b : Bool) (o : Option Op) → (unwrap_or (cond b (Some (record s.0 { owed = 0 }, s.1)) (elim o as (λ _. Option (Regs × BusState)) [ Some op ↦ Some (effect op s.0 s.1) | None ↦ None ])) s).1.board ≡ s.1.board
-cycle-board-when s true o = refl
-cycle-board-when s false None = refl
-cycle-board-when s false (Some op) = bus-board op s.0 s.1
+board-unchanged-by-cycle_of : (s : Machine) (b : Bool) (o : Option Op) → (unwrap_or (cond b (Some (record s.0 { owed = 0 }, s.1)) (elim o as (λ _. Option (Regs × BusState)) [ Some op ↦ Some (effect op s.0 s.1) | None ↦ None ])) s).1.board ≡ s.1.board
+board-unchanged-by-cycle_of s true o = refl
+board-unchanged-by-cycle_of s false None = refl
+board-unchanged-by-cycle_of s false (Some op) = board-unchanged-by-bus_after op s.0 s.1
 
 module _ (w : Observer) where
   pub cycle-board : (s : TrackedMachine) → (cycled w s).1.board ≡ s.1.board
   unfolding cycle_of
-  cycle-board s = cycle-board-when (machine_in s) (eqb s.0.owed 1) (instruction_at s.0 s.1)
+  cycle-board s = board-unchanged-by-cycle_of (machine_in s) (eqb s.0.owed 1) (instruction_at s.0 s.1)
 
   pub cycles-board : (k : ℕ) (s : TrackedMachine) → (after_cycles w k s).1.board ≡ s.1.board
   cycles-board zero s = refl
@@ -64,7 +64,8 @@ module _ (w : Observer) where
   driven-alike f zero s t e = e
   driven-alike f (suc k) s t e = ap (λ (m : TrackedMachine). without_levels (cycled w (with_levels (f k) m))) (driven-alike f k s t e)
 
-  -- in a run in which only the first cycle reads an input, only the levels before the first cycle matter
+  -- in a run in which only the first cycle reads an input, only the levels before the first cycle
+  -- matter
   pub driven-quiet : (f : ℕ → Levels) (n : ℕ) (a : TrackedMachine) → board_fault_of a.1.board ≡ None → ((i : ℕ) → i < n → next_reads_input (after_cycles w (suc i) (with_levels (f 0) a)) ≡ false) → without_levels (driven w f (suc n) a) ≡ without_levels (after_cycles w (suc n) (with_levels (f 0) a))
   driven-quiet f zero a v quiet = refl
   driven-quiet f (suc n) a v quiet =
@@ -73,15 +74,16 @@ module _ (w : Observer) where
       let ago = driven-quiet f n a v (λ i h. quiet i (omega arith)) in
       let sound = ap board_fault_of (cycles-board (suc n) b) ∙ v in
       ap (λ (m : TrackedMachine). without_levels (cycled w (with_levels l m))) ago
-      ∙ ap without_levels (cycle-rest w l (after_cycles w (suc n) b) sound (quiet n (omega arith)))
+      ∙ ap without_levels (cycled-with_levels-if-no-read w l (after_cycles w (suc n) b) sound (quiet n (omega arith)))
 
   -- ---- machines before a read of an input
 
-  -- at the input levels l, a leads to a machine in R
+  -- at the input levels `l`, `a` leads to a machine in `R`
   abbrev pub Leads : (TrackedMachine → Bool) → (TrackedMachine → Type 0) → TrackedMachine → Levels → Type 0
   Leads p R a l = (to : TrackedMachine) × R to × LeadsTo w p a to l
 
-  -- holds if p is true for each machine in R, and each leads to a machine in R at all input levels
+  -- holds if `p` is true for each machine in `R`, and each machine in `R` leads to a machine in `R`
+  -- at all input levels
   pub record IsClosedSet (p : TrackedMachine → Bool) (R : TrackedMachine → Type 0) : Type 0 where
     pub ignores : IgnoresLevels p
     pub sound : (a : TrackedMachine) → R a → board_fault_of a.1.board ≡ None
@@ -114,6 +116,6 @@ module _ (w : Observer) where
             ∙ sym (c.ignores (after_cycles w (suc k) b)) ∙ leads.property_holds k within
       ]
 
-  -- if R is closed and contains a, then p holds at every moment of every run from a
+  -- if `R` is closed and contains `a`, then `p` holds at every moment of every run from `a`
   pub closed-holds : (p : TrackedMachine → Bool) (R : TrackedMachine → Type 0) → IsClosedSet p R → (a : TrackedMachine) → R a → Holds w p a
   closed-holds p R c a is = λ f fit k. closed_set-holds p R c (suc k) k (omega arith) f a is fit

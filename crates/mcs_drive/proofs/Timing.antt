@@ -6,22 +6,22 @@ use Rattle.mcs_drive.specs.TrackedMachine.{Observer, TrackedMachine, STOPWATCH_M
 
 -- ---- one cycle
 
-some : (n : ℕ) → (n ≡ 0 → ⊥) → 1 ≤ n
-some zero h = absurd (h refl)
-some (suc n) h = omega arith
+positive-if-not-zero : (n : ℕ) → (n ≡ 0 → ⊥) → 1 ≤ n
+positive-if-not-zero zero h = absurd (h refl)
+positive-if-not-zero (suc n) h = omega arith
 
 cond-positive : (a b : Bool) (n : ℕ) → (a ≡ false → 1 ≤ n) → 1 ≤ cond a 1 (cond b (n + 1) n)
 cond-positive true b n h = omega arith
 cond-positive false true n h = omega arith
 cond-positive false false n h = h refl
 
--- after a cycle at which it begins, the stopwatch shows at least 1
-after-begun : (n : ℕ) (ends : Bool) → 1 ≤ stopwatch_after n true ends
-after-begun n ends = cond-positive (eqb n 0 || ends) (nat_lt n STOPWATCH_MAX) n (λ e. some n (eqb-false n 0 (or_parts (eqb n 0) ends e).0))
+-- if the stopwatch begins at the machine before a cycle, it shows at least 1 after the cycle
+stopwatch-positive-after-begin : (n : ℕ) (ends : Bool) → 1 ≤ stopwatch_after n true ends
+stopwatch-positive-after-begin n ends = cond-positive (eqb n 0 || ends) (nat_lt n STOPWATCH_MAX) n (λ e. positive-if-not-zero n (eqb-false n 0 (or_parts (eqb n 0) ends e).0))
 
 -- a running stopwatch that does not end counts the cycle
-counts-on : (n m : ℕ) (begins ends : Bool) → 1 ≤ n → n < STOPWATCH_MAX → ends ≡ false → m ≤ n → suc m ≤ stopwatch_after n begins ends
-counts-on n m begins ends runs few free more =
+running-stopwatch-counts-cycle : (n m : ℕ) (begins ends : Bool) → 1 ≤ n → n < STOPWATCH_MAX → ends ≡ false → m ≤ n → suc m ≤ stopwatch_after n begins ends
+running-stopwatch-counts-cycle n m begins ends runs few free more =
     let at : (eqb n 0 || ends) ≡ false = rw (ne_eqb n 0 (omega arith), free) refl in
     let below : nat_lt n STOPWATCH_MAX ≡ true = lt-ltb n STOPWATCH_MAX few in
     let is : stopwatch_after n begins ends ≡ n + 1 = rw (at, below) refl in
@@ -30,7 +30,8 @@ counts-on n m begins ends runs few free more =
 module _ (w : Observer) where
   -- ---- a run
 
-  -- the stopwatch ended at most m cycles after cycle k, or it shows more than m
+  -- holds if the stopwatch ends within `m` cycles after cycle `k`, or shows more than `m` after
+  -- cycle `k + m`
   abbrev EndedOrShowsMore : (ℕ → Levels) → ℕ → TrackedMachine → ℕ → Type 0
   EndedOrShowsMore f k s m =
       ((d : ℕ) × (1 ≤ d) × (d ≤ m) × (ends_at w (driven w f (k + d) s) ≡ true))
@@ -45,14 +46,14 @@ module _ (w : Observer) where
       let next : suc (k + m) ≡ k + suc m = omega arith in
       let t = driven w f (suc (k + m)) s in
       inr (subst (λ (n : ℕ). suc (suc m) ≤ (driven w f (suc n) s).2.elapsed) next
-      (counts-on t.2.elapsed (suc m) (begins_at w t) (ends_at w t) (omega arith) few e shows))
+      (running-stopwatch-counts-cycle t.2.elapsed (suc m) (begins_at w t) (ends_at w t) (omega arith) few e shows))
 
   runs-to : (limit : ℕ) (s : TrackedMachine) → limit < STOPWATCH_MAX → (f : ℕ → Levels) → ((k : ℕ) → nat_le (driven w f k s).2.elapsed limit ≡ true) → (k : ℕ) → begins_at w (driven w f k s) ≡ true → (m : ℕ) → EndedOrShowsMore f k s m
   runs-to limit s few f within k begins zero =
       let t = driven w f k s in
       let here : k ≡ k + zero = omega arith in
       inr (subst (λ (n : ℕ). 1 ≤ (driven w f (suc n) s).2.elapsed) here
-      (subst (λ b. 1 ≤ stopwatch_after t.2.elapsed b (ends_at w t)) (sym begins) (after-begun t.2.elapsed (ends_at w t))))
+      (subst (λ b. 1 ≤ stopwatch_after t.2.elapsed b (ends_at w t)) (sym begins) (stopwatch-positive-after-begin t.2.elapsed (ends_at w t))))
   runs-to limit s few f within k begins (suc m) =
       elim (runs-to limit s few f within k begins m) [
         | inl ended ↦ inl (ended.0, ended.1, (let less = ended.2 in omega arith), ended.3)

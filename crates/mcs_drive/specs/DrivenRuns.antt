@@ -1,7 +1,7 @@
 -- The effects of inputs on a machine. Before each cycle the environment sets the keys and the TEST
 -- pin to any levels. The machine then executes one cycle, as the instruction table defines it. To
--- believe the results, a reader must trust only this file, Tracked, and the definitions of
--- mcs_model that these two use. (Our own choice.)
+-- believe that a property holds for all inputs, a reader must trust only this file, TrackedMachine,
+-- Marks, and the definitions that these three use. (Defined by Fethsaim, not by Intel.)
 use Rattle.std.specs.Prelude.{◌<◌, ℕ, zero, suc, List, unwrap_or}
 use Rattle.mcs_model.specs.declared.board.BoardParts.{BoardParts}
 use Rattle.mcs_model.specs.Boards.{key_count}
@@ -14,12 +14,12 @@ pub record Levels : Type 0 where
   pub keys : List ℕ
   pub test : ℕ
 
--- holds if l has a level, 0 or 1, for each key of the board and for TEST
+-- holds if `l` has a level, 0 or 1, for each key of the board and for TEST
 pub record FitsBoard (b : BoardParts) (l : Levels) : Type 0 where
   pub keys : AreBelow (key_count b) 2 l.keys
   pub test : l.test < 2
 
--- a machine with its keys and TEST set to the input levels l
+-- a machine with its keys and TEST set to the input levels `l`
 abbrev pub with_levels : Levels → Machine → Machine
 with_levels l s = (s.0, record s.1 { keys = l.keys; test = l.test })
 
@@ -27,7 +27,8 @@ with_levels l s = (s.0, record s.1 { keys = l.keys; test = l.test })
 abbrev pub cycled : Machine → Machine
 cycled s = unwrap_or (cycle_of s.0 s.1) s
 
--- a machine after k cycles, if its inputs are set to the levels f i before cycle i
+-- a machine after `k` cycles, if its inputs are set to the levels `f i` before cycle `i`, counted
+-- from 0
 abbrev pub driven : (ℕ → Levels) → ℕ → Machine → Machine
 driven f zero s = s
 driven f (suc k) s = cycled (with_levels (f k) (driven f k s))

@@ -15,7 +15,8 @@ use Rattle.mcs_drive.specs.DrivenRuns.{Levels, with_levels, cycled}
 
 -- ---- reads of inputs
 
--- true if an instruction reads an input: RDR, or a JCN that tests the TEST pin (bit 0 of its condition)
+-- true if an instruction reads an input: RDR, or a JCN that tests the TEST pin (bit 0 of its
+-- condition)
 abbrev pub reads_input : Option Op → Bool
 reads_input (Some Rdr) = true
 reads_input (Some (Jcn c w)) = c % 2 == 1
@@ -34,14 +35,14 @@ LevelsHaveNoEffect =
 
 -- ---- the value that a read returns
 
--- The value that an instruction reads at the input levels l: the port of the selected ROM for RDR,
--- TEST for a JCN that tests TEST. The value is 0 if the instruction reads no input.
+-- The value that an instruction reads at the input levels `l`: the port of the selected ROM for
+-- RDR, TEST for a JCN that tests TEST. The value is 0 if the instruction reads no input.
 abbrev pub value_read_by : Option Op → Levels → BusState → ℕ
 value_read_by (Some Rdr) l m = port_of (record m { keys = l.keys; test = l.test })
 value_read_by (Some (Jcn c w)) l m = if c % 2 == 1 then l.test else 0
 value_read_by _ l m = 0
 
--- the value that the instruction at the program counter reads at the input levels l
+-- the value that the instruction at the program counter reads at the input levels `l`
 abbrev pub answer : Levels → Machine → ℕ
 answer l s = value_read_by (instruction_at s.0 s.1) l s.1
 
@@ -57,8 +58,8 @@ ReadsDecideCycle =
 
 -- ---- the values that a read can return
 
--- true if a key can pull line k of a ROM: the line is a column of the key matrix, and at least one
--- row is driven
+-- true if a key can pull line `k` of ROM `chip`: the line is a column of the key matrix, and at
+-- least one row is driven
 abbrev pub can_be_pulled : BusState → ℕ → ℕ → Bool
 can_be_pulled s chip k =
     elim s.board.keys [
@@ -75,8 +76,8 @@ PulledLinesCanBePulled =
     (l : Levels) (s : Machine) (chip k : ℕ) → is_pulled (with_levels l s).1 chip k ≡ true →
     can_be_pulled s.1 chip k ≡ true
 
--- The value read at the port of a ROM if a line is pulled exactly when a key can pull it and its
--- bit in c is 1. The value is 0 if the ROM is absent.
+-- The value read at the port of a ROM, if a line is pulled exactly when a key can pull the line and
+-- the line's bit in `c` is 1. The value is 0 if the ROM is absent.
 abbrev pub port_choice : BusState → ℕ → ℕ → ℕ
 port_choice s chip c =
     elim (rom_masks s.board chip) [
@@ -84,7 +85,7 @@ port_choice s chip c =
       | None ↦ 0
     ]
 
--- at any input levels, the value read at the port of the selected ROM is `port_choice` for some c
+-- at any input levels, the value read at the port of the selected ROM is `port_choice` for some `c`
 -- below 16
 abbrev pub PortChoicesCoverReads : Type 0
 PortChoicesCoverReads =

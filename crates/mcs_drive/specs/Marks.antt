@@ -1,5 +1,5 @@
 -- Marks: the key levels that an observer looks for. A read of a port shows a mark if the value read
--- is possible only with the key at that level. (Our own choice.)
+-- is possible only with the key at that level. (Defined by Fethsaim, not by Intel.)
 use Rattle.std.specs.Prelude.{◌≡◌, ◌<◌, ◌≤◌, ◌+◌, ◌/◌, ℕ, suc, List, [], ◌∷◌, Bool, true, false, not, ◌&&◌, ◌==◌, Option, Some, None, length, slice_index, slice_index_or, if◌then◌else◌}
 use Rattle.std.specs.List.{list_any, range_with_len}
 use Rattle.mcs_nibble.specs.Bits.{bit_of}
@@ -17,16 +17,16 @@ use Rattle.mcs_drive.specs.DrivenRuns.{Levels}
 
 -- ---- marks that a read shows
 
--- true if row r of a key matrix is driven: the chain bit of the row is 1
+-- true if row `r` of a key matrix is driven: the chain bit of the row is 1
 abbrev pub is_row_driven : BusState → KeyMatrix → ℕ → Bool
 is_row_driven s m r = chain_bit s m.chain (m.first + r) == 1
 
--- the line that column j of a key matrix pulls
+-- the line to which column `j` of a key matrix is wired
 abbrev pub column_line : KeyMatrix → ℕ → Line
 column_line m j = slice_index_or m.columns.items j (Rom 0 0)
 
--- true if a key other than the key of the mark can pull line k of a ROM: the other key is in a
--- driven row, and its column is that line
+-- true if a key other than the key of the mark can pull line `k` of ROM `chip`: the other key is in
+-- a driven row, and the column of the other key is wired to that line
 abbrev pub can_other_key_pull : BusState → KeyMatrix → Mark → ℕ → ℕ → Bool
 can_other_key_pull s m mark chip k =
     list_any
@@ -34,8 +34,8 @@ can_other_key_pull s m mark chip k =
     && list_any (λ r. is_row_driven s m r && not (r == mark.row && j == mark.column)) (range_with_len 0 m.rows))
     (range_with_len 0 (length m.columns.items))
 
--- True if a value read at the port of the selected ROM shows a mark whose key pulls this line. The
--- value shows that the key is up if the row of the key is driven and the line reads 0. It shows
+-- True if a value read at the port of the selected ROM shows a mark whose key can pull this line.
+-- The value shows that the key is up if the row of the key is driven and the line reads 0. It shows
 -- that the key is down if the line reads 1 and no other key can pull the line.
 abbrev pub line_shows : BusState → KeyMatrix → ℕ → Mark → Line → Bool
 line_shows s m value mark (Rom chip k) =
@@ -67,7 +67,8 @@ pub record IsAtMark (b : BoardParts) (l : Levels) (mark : Mark) : Type 0 where
   pub there : has_key b mark.row mark.column ≡ true
   pub level : slice_index l.keys (key_index b mark.row mark.column) ≡ bit_when mark.is_down
 
--- holds if the keys are at the marks, in order, at increasing moments from `a` on and before b
+-- holds if the keys are at the marks, in order, at increasing moments that are at least `a` and
+-- below `b`
 abbrev pub PassesMarks : BoardParts → (ℕ → Levels) → List Mark → ℕ → ℕ → Type 0
 PassesMarks board f [] a b = Unit {0}
 PassesMarks board f (mark ∷ marks) a b =

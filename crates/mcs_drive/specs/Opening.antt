@@ -5,21 +5,22 @@ use Rattle.mcs_drive.specs.DrivenRuns.{Levels, FitsBoard}
 use Rattle.mcs_drive.specs.Marks.{PassesMarks}
 use Rattle.mcs_drive.specs.TrackedMachine.{Observer, TrackedMachine, Holds, driven, condition_holds_at}
 
--- false if the condition of an observer holds although not all its marks are seen, otherwise true
+-- false if the condition of an observer holds before all marks of the observer are seen, otherwise
+-- true
 abbrev pub holds_only_after_marks : Observer → TrackedMachine → Bool
 holds_only_after_marks w s = not (condition_holds_at w s && nat_lt s.2.seen (length w.marks))
 
--- Holds if a condition becomes true at moment b, and is false from moment `a` until then. Moment
+-- Holds if a condition becomes true at moment `b`, and is false from moment `a` until then. Moment
 -- `a` is the start of the run, or the moment after the condition last held. `holds i` is true if
--- the condition holds at moment i.
+-- the condition holds at moment `i`.
 pub record BecomesTrue (holds : ℕ → Bool) (a b : ℕ) : Type 0 where
   pub start : (a ≡ 0) ⊎ ((a < b) × (holds (a - 1) ≡ true))
   pub waits : (i : ℕ) → a ≤ i → i < b → holds i ≡ false
   pub comes : holds b ≡ true
 
 -- If the condition of an observer never holds before all its marks are seen, then the keys were at
--- the marks, in order, each time it becomes true. They were at the marks after the condition last
--- held, or after the start of the run.
+-- the marks, in order, each time the condition becomes true. The keys were at the marks after the
+-- condition last held, or after the start of the run.
 abbrev pub MarksPrecedeCondition : Type 0
 MarksPrecedeCondition =
     (w : Observer) (s : TrackedMachine) → s.2.seen ≡ 0 → board_fault_of s.1.board ≡ None → Holds w (holds_only_after_marks w) s →

@@ -4,21 +4,21 @@ use Rattle.mcs_model.specs.Boards.{board_fault_of}
 use Rattle.mcs_drive.specs.DrivenRuns.{Levels}
 use Rattle.mcs_drive.specs.TrackedMachine.{Observer, TrackedMachine, with_levels, without_levels, after_cycles, next_reads_input, answer}
 
--- holds if the property p does not depend on the input levels
+-- holds if the property `p` does not depend on the input levels
 abbrev pub IgnoresLevels : (TrackedMachine → Bool) → Type 0
 IgnoresLevels p = (s : TrackedMachine) → p s ≡ p (without_levels s)
 
--- Holds if a, at the input levels l, reaches b in one or more cycles. The input levels of the
--- reached machine and of b are ignored. Only the first cycle can read an input, and p holds after
--- each cycle.
+-- Holds if `a`, at the input levels `l`, reaches `b` in one or more cycles. The input levels of the
+-- reached machine and of `b` are ignored. Only the first cycle can read an input, and `p` holds
+-- after each cycle.
 pub record LeadsTo (w : Observer) (p : TrackedMachine → Bool) (a b : TrackedMachine) (l : Levels) : Type 0 where
   pub more : ℕ
   pub quiet : (i : ℕ) → i < more → next_reads_input (after_cycles w (suc i) (with_levels l a)) ≡ false
   pub property_holds : (i : ℕ) → i ≤ more → p (after_cycles w (suc i) (with_levels l a)) ≡ true
   pub same : without_levels (after_cycles w (suc more) (with_levels l a)) ≡ without_levels b
 
--- a run from a to b at the levels m is also a run at the levels l, if the next instruction of a
--- reads the same value at both
+-- a run from `a` to `b` at the levels `m` is also a run at the levels `l`, if the next instruction
+-- of `a` reads the same value at both levels
 abbrev pub SameReadGivesSameRun : Type 0
 SameReadGivesSameRun =
     (w : Observer) (p : TrackedMachine → Bool) (a b : TrackedMachine) (l m : Levels) → IgnoresLevels p → board_fault_of a.1.board ≡ None →

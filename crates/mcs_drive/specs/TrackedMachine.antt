@@ -1,7 +1,7 @@
 -- Machines with three counts, and properties that hold for all inputs. The counts are the number of
 -- open calls, the cycles on a stopwatch, and the number of marks seen. No count is part of the
--- machine: the processor stores three return addresses, but not how many of them are in use. (Our
--- own choice.)
+-- machine: the processor stores three return addresses, but not how many of them are in use.
+-- (Defined by Fethsaim, not by Intel.)
 use Rattle.std.specs.Prelude.{◌≡◌, ◌<◌, ◌≤◌, ◌+◌, ◌-◌, ℕ, zero, suc, Bool, true, false, Option, Some, None, unwrap_or, nat_lt, nat_le, if◌then◌else◌, ◌==◌, not, ◌&&◌, ◌||◌, List, [], length, slice_get}
 use Rattle.mcs_model.specs.declared.op.Op.{Op}
 use Rattle.mcs_model.specs.declared.op.Op.TheVariants.{Jms, Bbl}
@@ -33,7 +33,7 @@ machine_in s = (s.0, s.1)
 abbrev pub with_zero_counts : Machine → TrackedMachine
 with_zero_counts s = (s.0, s.1, record { calls = 0; elapsed = 0; seen = 0 })
 
--- a tracked machine with its keys and TEST set to the input levels l
+-- a tracked machine with its keys and TEST set to the input levels `l`
 abbrev pub with_levels : Levels → TrackedMachine → TrackedMachine
 with_levels l s = (s.0, record s.1 { keys = l.keys; test = l.test }, s.2)
 
@@ -43,7 +43,7 @@ without_levels s = with_levels (record { keys = []; test = 0 }) s
 
 -- ---- open calls
 
--- The number of open calls after an instruction, if n calls are open before it. JMS opens a call,
+-- The number of open calls after an instruction, if `n` calls are open before it. JMS opens a call,
 -- and BBL closes one. At most three calls are open: a fourth call overwrites the return address of
 -- the first.
 abbrev pub calls_after : Option Op → ℕ → ℕ
@@ -56,7 +56,7 @@ calls_after _ n = n
 abbrev pub next_op : Regs → BusState → Option Op
 next_op s m = if s.owed == 1 then None else instruction_at s m
 
--- the number of open calls after the next cycle, if n calls are open before it
+-- the number of open calls after the next cycle, if `n` calls are open before the cycle
 abbrev pub open_calls_after : Regs → BusState → ℕ → ℕ
 open_calls_after s m n = calls_after (next_op s m) n
 
@@ -77,8 +77,8 @@ no_observer = record { begins = λ s. false; ends = λ s. false; opens = λ s. f
 
 -- ---- the stopwatch of an observer
 
--- True if the stopwatch begins at a tracked machine. `ends_at` is true if the stopwatch ends there.
--- Both ignore the input levels of the machine.
+-- True if the stopwatch begins at a tracked machine. The next definition, `ends_at`, is true if the
+-- stopwatch ends at the machine. Both ignore the input levels of the machine.
 abbrev pub begins_at : Observer → TrackedMachine → Bool
 begins_at w s = w.begins (without_levels s)
 
@@ -89,9 +89,10 @@ ends_at w s = w.ends (without_levels s)
 abbrev pub STOPWATCH_MAX : ℕ
 STOPWATCH_MAX = 16777215
 
--- The number that a stopwatch shows after a cycle, if it shows n before the cycle: the cycles since
--- it began, at most LONGEST. An end resets the number to 0, or to 1 if the stopwatch also begins
--- there. While the stopwatch runs and does not end, a begin has no effect.
+-- The number that a stopwatch shows after a cycle, if it shows `n` before the cycle: the cycles
+-- since the stopwatch began, at most STOPWATCH_MAX. If the stopwatch is at 0 or ends, the number
+-- becomes 1 if `begins` is true, else 0. While the stopwatch runs and does not end, `begins` has no
+-- effect.
 abbrev pub stopwatch_after : ℕ → Bool → Bool → ℕ
 stopwatch_after n begins ends =
     if n == 0 || ends then (if begins then 1 else 0) else if nat_lt n STOPWATCH_MAX then n + 1 else n
@@ -105,18 +106,20 @@ elapsed_after w s = stopwatch_after s.2.elapsed (begins_at w s) (ends_at w s)
 abbrev pub condition_holds_at : Observer → TrackedMachine → Bool
 condition_holds_at w s = w.opens (without_levels s)
 
--- The number of marks, out of n, that were seen in order since the condition last held; `seen` is
--- the count. The count is n + 1 immediately after the condition held: no mark has been seen since.
+-- The number of marks, out of `n`, that were seen in order since the condition last held. `seen` is
+-- the count of a tracked machine. A count of `n + 1` means that the condition held immediately
+-- before, so that no mark has been seen since.
 abbrev pub seen_mark_count : ℕ → ℕ → ℕ
 seen_mark_count n seen = if nat_lt n seen then 0 else seen
 
--- The count of marks after a cycle, if it is `seen` before. It becomes n + 1 if the condition holds
--- before the cycle. Otherwise it increases by one if the cycle shows the next mark.
+-- The count of marks after a cycle, if the count is `seen` before the cycle. If the condition holds
+-- before the cycle (`opens`), the count becomes `n + 1`. Otherwise it becomes the number of seen
+-- marks, plus one if the cycle shows the next mark (`shown`).
 abbrev pub seen_count_after : ℕ → ℕ → Bool → Bool → ℕ
 seen_count_after n seen opens shown =
     if opens then n + 1 else if shown then seen_mark_count n seen + 1 else seen_mark_count n seen
 
--- true if there is a next mark, and a read of this value in the next cycle shows it
+-- true if not all marks are seen, and a read of `value` in the next cycle shows the next mark
 abbrev pub shows_next_mark : Observer → TrackedMachine → ℕ → Bool
 shows_next_mark w s value =
     elim (slice_get w.marks (seen_mark_count (length w.marks) s.2.seen)) [
@@ -124,8 +127,8 @@ shows_next_mark w s value =
       | None ↦ false
     ]
 
--- The count of marks after the next cycle, if that cycle reads this value. In `seen_after`, the
--- value is the port of the selected ROM.
+-- The count of marks after the next cycle, if that cycle reads `value`. The next definition,
+-- `seen_after`, takes the value at the port of the selected ROM.
 abbrev pub seen_after_reading : Observer → TrackedMachine → ℕ → ℕ
 seen_after_reading w s value = seen_count_after (length w.marks) s.2.seen (condition_holds_at w s) (shows_next_mark w s value)
 
@@ -142,13 +145,14 @@ counts_after w s = record {
   seen = seen_after w s;
 }
 
--- a tracked machine after one cycle; an opcode outside the instruction table does not change the machine
+-- a tracked machine after one cycle; an opcode outside the instruction table does not change the
+-- machine
 abbrev pub cycled : Observer → TrackedMachine → TrackedMachine
 cycled w s =
     let t = unwrap_or (cycle_of s.0 s.1) (machine_in s) in
     (t.0, t.1, counts_after w s)
 
--- a tracked machine after k cycles at constant input levels
+-- a tracked machine after `k` cycles at constant input levels
 abbrev pub after_cycles : Observer → ℕ → TrackedMachine → TrackedMachine
 after_cycles w zero s = s
 after_cycles w (suc k) s = cycled w (after_cycles w k s)
@@ -157,11 +161,12 @@ after_cycles w (suc k) s = cycled w (after_cycles w k s)
 abbrev pub next_reads_input : TrackedMachine → Bool
 next_reads_input s = not (s.0.owed == 1) && reads_input (instruction_at s.0 s.1)
 
--- the value that the instruction at the program counter reads at the input levels l
+-- the value that the instruction at the program counter reads at the input levels `l`
 abbrev pub answer : Levels → TrackedMachine → ℕ
 answer l s = value_read_by (instruction_at s.0 s.1) l s.1
 
--- a tracked machine after k cycles, if its inputs are set to the levels f i before cycle i
+-- a tracked machine after `k` cycles, if its inputs are set to the levels `f i` before cycle `i`,
+-- counted from 0
 abbrev pub driven : Observer → (ℕ → Levels) → ℕ → TrackedMachine → TrackedMachine
 driven w f zero s = s
 driven w f (suc k) s = cycled w (with_levels (f k) (driven w f k s))
@@ -172,12 +177,13 @@ CountsKeepMachine =
     (w : Observer) (f : ℕ → Levels) (k : ℕ) (s : TrackedMachine) →
     machine_in (driven w f k s) ≡ driven_machine f k (machine_in s)
 
--- p is true at every moment of every run from s with observer w, for all inputs (AG p in CTL)
+-- Holds if `p` is true at every moment of every run from `s` with observer `w`, for all inputs. In
+-- CTL, this is AG p.
 abbrev pub Holds : Observer → (TrackedMachine → Bool) → TrackedMachine → Type 0
 Holds w p s = (f : ℕ → Levels) → ((k : ℕ) → FitsBoard s.1.board (f k)) → (k : ℕ) → p (driven w f k s) ≡ true
 
--- a stopwatch that never shows more than `limit` cycles, with `limit` below LONGEST, ends within
--- `limit` cycles each time it begins
+-- a stopwatch that never shows more than `limit` cycles, with `limit` below STOPWATCH_MAX, ends
+-- within `limit` cycles each time it begins
 abbrev pub StopwatchEndsWithinLimit : Type 0
 StopwatchEndsWithinLimit =
     (w : Observer) (limit : ℕ) (s : TrackedMachine) → limit < STOPWATCH_MAX → Holds w (λ t. nat_le t.2.elapsed limit) s →

@@ -14,7 +14,7 @@ pub fn reads_decide_cycle()
     ensures { ReadsDecideCycle }
 {}
 
-/// Proves that a port line is pulled only if a driven row can pull it.
+/// Proves that a port line is pulled only if a key in a driven row can pull it.
 pub fn pulled_lines_can_be_pulled()
     ensures { PulledLinesCanBePulled }
 {}
@@ -25,8 +25,8 @@ pub fn port_choices_cover_reads()
     ensures { PortChoicesCoverReads }
 {}
 
-/// Proves that a run from one read of an input to the next is also a run at other input levels, if its first cycle
-/// reads the same value there.
+/// Proves that a run from one read of an input to the next reaches the same machine at other input levels. The premise
+/// is that the first cycle reads the same value at those levels. The comparison ignores the input levels.
 pub fn same_read_gives_same_run()
     ensures { SameReadGivesSameRun }
 {}
@@ -36,13 +36,14 @@ pub fn counts_keep_machine()
     ensures { CountsKeepMachine }
 {}
 
-/// Proves that a stopwatch that never shows more than a limit ends within that number of cycles each time it begins.
+/// Proves that a stopwatch ends within a limit each time it begins, if it never shows more cycles than that limit. The
+/// limit is below `STOPWATCH_MAX`.
 pub fn stopwatch_ends_within_limit()
     ensures { StopwatchEndsWithinLimit }
 {}
 
-/// Proves that the keys were at the marks of an observer, in order, each time its condition becomes true. The premise
-/// is that the condition never holds before all marks are seen.
+/// Proves that the keys were at the marks of an observer, in order, each time the observer's condition becomes true.
+/// The premise is that the condition never holds before all marks are seen.
 pub fn marks_precede_condition()
     ensures { MarksPrecedeCondition }
 {}

@@ -1,4 +1,4 @@
-//! Definitions of the effects of inputs on a machine, and laws about them.
+//! Definitions of the effects of inputs on a machine, and laws about these effects.
 #![tactic(auto)]
 
 mod laws;

@@ -1,6 +1,6 @@
 //! The key levels that an observer looks for.
 
-/// A key level that an observer looks for: the key at a row and a column is down, or it is up.
+/// The level of one key, down or up, that an observer looks for.
 #[derive(Clone, Copy, Debug)]
 pub struct Mark {
     /// The row of the key.

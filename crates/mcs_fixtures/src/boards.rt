@@ -19,7 +19,7 @@ pub const MIXED: [LineMask; 4] = [
     LineMask::One,
 ];
 
-/// The key columns of the example board: the lines of ROM 1, then those of ROM 2.
+/// The key columns of the example board: the lines of ROM 1, then the lines of ROM 2.
 const COLUMNS: [Line; KEY_COLUMNS] = [
     Line::Rom(1, 0),
     Line::Rom(1, 1),

@@ -10,49 +10,49 @@ use Rattle.clap.specs.declared.parser.matches.SubCommand.{SubCommand}
 use Rattle.clap.proofs.WalkLemmas.{first_value-rows}
 use Rattle.mcs_host.specs.CommandLine.{choice_in, subcommand_and_file, program}
 
--- if the name and the rows of an optional pair are given, so is the pair
-both_there : (entered : Option (Text × List Row)) (name : Text) (rows : List Row) → option_map (λ p. p.0) entered ≡ Some name → option_map (λ p. p.1) entered ≡ Some rows → entered ≡ Some (name, rows)
-both_there None name rows named rowed = absurd (cc)
-both_there (Some p) name rows named rowed =
+-- if an optional pair has this name and these rows, it is `Some (name, rows)`
+pair_of_name_and_rows : (entered : Option (Text × List Row)) (name : Text) (rows : List Row) → option_map (λ p. p.0) entered ≡ Some name → option_map (λ p. p.1) entered ≡ Some rows → entered ≡ Some (name, rows)
+pair_of_name_and_rows None name rows named rowed = absurd (cc)
+pair_of_name_and_rows (Some p) name rows named rowed =
     let same_name : p.0 ≡ name = cc in
     let same_rows : p.1 ≡ rows = cc in
     ap (λ n. Some (n, p.1)) same_name ∙ ap (λ r. Some (name, r)) same_rows
 
--- the subcommand's name in the matches is the one in its rows
-names_agree : {Z : Type 0} (sub : Option (Box SubCommand Z)) → option_map (λ p. p.0) (subcommand_rows sub) ≡ option_map (λ b. (out-SubCommand (box_value b)).name.now) sub
-names_agree None = refl
-names_agree (Some b) = refl
+-- the name of the subcommand is the same in the matches and in `subcommand_rows`
+name_of_subcommand_rows : {Z : Type 0} (sub : Option (Box SubCommand Z)) → option_map (λ p. p.0) (subcommand_rows sub) ≡ option_map (λ b. (out-SubCommand (box_value b)).name.now) sub
+name_of_subcommand_rows None = refl
+name_of_subcommand_rows (Some b) = refl
 
-no_rows : {Z : Type 0} (sub : Option (Box SubCommand Z)) → option_map (λ b. (out-SubCommand (box_value b)).name.now) sub ≡ None → subcommand_rows sub ≡ None
-no_rows None unnamed = refl
-no_rows (Some b) unnamed = absurd (cc)
+no_rows_without_subcommand_name : {Z : Type 0} (sub : Option (Box SubCommand Z)) → option_map (λ b. (out-SubCommand (box_value b)).name.now) sub ≡ None → subcommand_rows sub ≡ None
+no_rows_without_subcommand_name None unnamed = refl
+no_rows_without_subcommand_name (Some b) unnamed = absurd (cc)
 
--- if the matches have this subcommand, the choice is its FILE
-pub chosen_from : (arguments : List Text) (m sub : ArgMatches) (name : Text) → subcommand_rows_of m ≡ subcommand_of program arguments
+-- if the matches have the subcommand `name`, the choice is `name` with its FILE
+pub choice_of_subcommand : (arguments : List Text) (m sub : ArgMatches) (name : Text) → subcommand_rows_of m ≡ subcommand_of program arguments
     → subcommand_name_of m ≡ Some name
     → option_map (λ p. p.1) (subcommand_rows (out-ArgMatches m).subcommand) ≡ Some (rows_of (found_of sub))
     → choice_in arguments ≡ subcommand_and_file (name, rows_of (found_of sub))
 unfolding choice_in
-chosen_from arguments m sub name parsed named rowed = ap (option_and_then subcommand_and_file)
-    (sym parsed ∙ both_there (subcommand_rows_of m) name (rows_of (found_of sub)) (names_agree (out-ArgMatches m).subcommand ∙ named) rowed)
+choice_of_subcommand arguments m sub name parsed named rowed = ap (option_and_then subcommand_and_file)
+    (sym parsed ∙ pair_of_name_and_rows (subcommand_rows_of m) name (rows_of (found_of sub)) (name_of_subcommand_rows (out-ArgMatches m).subcommand ∙ named) rowed)
 
 -- if the matches have no subcommand, there is no choice
-pub chosen_none : (arguments : List Text) (m : ArgMatches) → subcommand_rows_of m ≡ subcommand_of program arguments → subcommand_name_of m ≡ None → choice_in arguments ≡ None
+pub no_choice_without_subcommand : (arguments : List Text) (m : ArgMatches) → subcommand_rows_of m ≡ subcommand_of program arguments → subcommand_name_of m ≡ None → choice_in arguments ≡ None
 unfolding choice_in
-chosen_none arguments m parsed unnamed = ap (option_and_then subcommand_and_file) (sym parsed ∙ no_rows (out-ArgMatches m).subcommand unnamed)
+no_choice_without_subcommand arguments m parsed unnamed = ap (option_and_then subcommand_and_file) (sym parsed ∙ no_rows_without_subcommand_name (out-ArgMatches m).subcommand unnamed)
 
-pub file_in_new : (sub : ArgMatches) (file : Text) → first_value (found_of sub) (codes "FILE") ≡ Some file → subcommand_and_file (codes "new", rows_of (found_of sub)) ≡ Some (codes "new", file)
-file_in_new sub file found = ap (option_map (λ f. (codes "new", f))) (sym (first_value-rows (found_of sub) (codes "FILE")) ∙ found)
+pub new_subcommand_with_file : (sub : ArgMatches) (file : Text) → first_value (found_of sub) (codes "FILE") ≡ Some file → subcommand_and_file (codes "new", rows_of (found_of sub)) ≡ Some (codes "new", file)
+new_subcommand_with_file sub file found = ap (option_map (λ f. (codes "new", f))) (sym (first_value-rows (found_of sub) (codes "FILE")) ∙ found)
 
-pub file_in_open : (sub : ArgMatches) (file : Text) → first_value (found_of sub) (codes "FILE") ≡ Some file → subcommand_and_file (codes "open", rows_of (found_of sub)) ≡ Some (codes "open", file)
-file_in_open sub file found = ap (option_map (λ f. (codes "open", f))) (sym (first_value-rows (found_of sub) (codes "FILE")) ∙ found)
+pub open_subcommand_with_file : (sub : ArgMatches) (file : Text) → first_value (found_of sub) (codes "FILE") ≡ Some file → subcommand_and_file (codes "open", rows_of (found_of sub)) ≡ Some (codes "open", file)
+open_subcommand_with_file sub file found = ap (option_map (λ f. (codes "open", f))) (sym (first_value-rows (found_of sub) (codes "FILE")) ∙ found)
 
-either_way : (v : Bool) (x : Option (Text × Text)) → (if v then x else x) ≡ x
-either_way true x = refl
-either_way false x = refl
+if_with_equal_branches : (v : Bool) (x : Option (Text × Text)) → (if v then x else x) ≡ x
+if_with_equal_branches true x = refl
+if_with_equal_branches false x = refl
 
-pub no_file : (sub : ArgMatches) (name : Text) → first_value (found_of sub) (codes "FILE") ≡ None → subcommand_and_file (name, rows_of (found_of sub)) ≡ None
-no_file sub name missing =
+pub no_subcommand_without_file : (sub : ArgMatches) (name : Text) → first_value (found_of sub) (codes "FILE") ≡ None → subcommand_and_file (name, rows_of (found_of sub)) ≡ None
+no_subcommand_without_file sub name missing =
     let none : first_of (codes "FILE") (rows_of (found_of sub)) ≡ None = sym (first_value-rows (found_of sub) (codes "FILE")) ∙ missing in
     ap (λ r. if bytes_eq name (codes "new") || bytes_eq name (codes "open") then option_map (λ f. (name, f)) r else None) none
-    ∙ either_way (bytes_eq name (codes "new") || bytes_eq name (codes "open")) None
+    ∙ if_with_equal_branches (bytes_eq name (codes "new") || bytes_eq name (codes "open")) None

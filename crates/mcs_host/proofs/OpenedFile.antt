@@ -1,19 +1,19 @@
--- The calls on a file that was filled, or rewritten, while it was opened.
+-- The calls on a file that was filled or rewritten when it was opened.
 use Rattle.std.proofs.Common.{◌≡◌, ◌∙◌, ap, ap₂, subst, sym, refl, inl, inr, ℕ, min, ◌+◌, List, ◌∷◌, length, Bool, true, IsTrue, arith}
 use Rattle.mcs_journal.specs.declared.format.TheConstants.{FILE_SIZE}
-use Rattle.mcs_host.specs.HostCalls.{HostCall, HostState, KeepsNameAndNumber, Length, asked}
+use Rattle.mcs_host.specs.HostCalls.{AnsweredCall, HostState, KeepsNameAndNumber, Length, asked}
 use Rattle.mcs_host.specs.Opening.{IsFreshlyOpened, IsAllZeros, IsFilledAfter, IsOpenedFile, IsReadAfter, IsWrittenAfter, locking_calls}
 
--- the calls on a file that was locked and whose length was requested
-measured_calls : (name : List ℕ) (found n : ℕ) (first locked measured : HostState) → locked.calls ≡ locking_calls name first.calls → measured ≡ asked (Length found true) locked → found ≡ n
+-- the calls on a file after it was locked and its length was requested
+calls_after_length_request : (name : List ℕ) (found n : ℕ) (first locked measured : HostState) → locked.calls ≡ locking_calls name first.calls → measured ≡ asked (Length found true) locked → found ≡ n
     → measured.calls ≡ Length n true ∷ locking_calls name first.calls
-measured_calls name found n first locked measured lock long is =
-    ap (λ (s : HostState). s.calls) long ∙ ap₂ (λ (n : ℕ) (before : List HostCall). Length n true ∷ before) is lock
+calls_after_length_request name found n first locked measured lock long is =
+    ap (λ (s : HostState). s.calls) long ∙ ap₂ (λ (n : ℕ) (before : List AnsweredCall). Length n true ∷ before) is lock
 
-pub filled_as_opened : (create_if_missing : Bool) (name bytes written : List ℕ) (found : ℕ) (first locked measured filled : HostState) → IsTrue create_if_missing → first.name ≡ name → IsFreshlyOpened create_if_missing first.calls
+pub opened_file_if_filled : (create_if_missing : Bool) (name bytes written : List ℕ) (found : ℕ) (first locked measured filled : HostState) → IsTrue create_if_missing → first.name ≡ name → IsFreshlyOpened create_if_missing first.calls
     → KeepsNameAndNumber first locked → locked.calls ≡ locking_calls name first.calls → measured ≡ asked (Length found true) locked → found ≡ 0
     → KeepsNameAndNumber measured filled → IsFilledAfter name written bytes measured.calls filled.calls → length bytes ≡ FILE_SIZE → IsAllZeros written → IsOpenedFile create_if_missing name bytes true filled
-filled_as_opened create_if_missing name bytes written found first locked measured filled to_be_made named begun same lock long none after fills size blank = record {
+opened_file_if_filled create_if_missing name bytes written found first locked measured filled to_be_made named begun same lock long none after fills size blank = record {
   named = after.name ∙ ap (λ (s : HostState). s.name) long ∙ same.name ∙ named;
   opened = first.calls;
   begun = begun;
@@ -23,19 +23,19 @@ filled_as_opened create_if_missing name bytes written found first locked measure
     stable = refl;
     written = written;
     is_blank = blank;
-    asked = subst (λ (before : List HostCall). IsFilledAfter name written bytes before filled.calls) (measured_calls name found 0 first locked measured lock long none) fills;
+    asked = subst (λ (before : List AnsweredCall). IsFilledAfter name written bytes before filled.calls) (calls_after_length_request name found 0 first locked measured lock long none) fills;
   });
 }
 
-whole_length : (found : ℕ) → min found (FILE_SIZE + 1) ≡ FILE_SIZE → found ≡ FILE_SIZE
-whole_length found seen = omega (arith, seen)
+found_length_is_file_size : (found : ℕ) → min found (FILE_SIZE + 1) ≡ FILE_SIZE → found ≡ FILE_SIZE
+found_length_is_file_size found seen = omega (arith, seen)
 
-pub rewritten_as_opened : (create_if_missing : Bool) (name bytes written : List ℕ) (stable : Bool) (found : ℕ) (first locked measured read again : HostState) → IsTrue create_if_missing → first.name ≡ name
+pub opened_file_if_rewritten : (create_if_missing : Bool) (name bytes written : List ℕ) (stable : Bool) (found : ℕ) (first locked measured read again : HostState) → IsTrue create_if_missing → first.name ≡ name
     → IsFreshlyOpened create_if_missing first.calls → KeepsNameAndNumber first locked → locked.calls ≡ locking_calls name first.calls → measured ≡ asked (Length found true) locked → length bytes ≡ min found (FILE_SIZE + 1)
     → KeepsNameAndNumber measured read → IsReadAfter name bytes stable measured.calls read.calls → IsAllZeros bytes → KeepsNameAndNumber read again → written ≡ bytes
     → IsWrittenAfter name written read.calls again.calls → IsOpenedFile create_if_missing name bytes stable again
-rewritten_as_opened create_if_missing name bytes written stable found first locked measured read again to_be_made named begun same lock long size after reads blank still these writes =
-    let whole : found ≡ FILE_SIZE = whole_length found (sym size ∙ blank.size) in
+opened_file_if_rewritten create_if_missing name bytes written stable found first locked measured read again to_be_made named begun same lock long size after reads blank still these writes =
+    let whole : found ≡ FILE_SIZE = found_length_is_file_size found (sym size ∙ blank.size) in
     record {
       named = still.name ∙ after.name ∙ ap (λ (s : HostState). s.name) long ∙ same.name ∙ named;
       opened = first.calls;
@@ -44,7 +44,7 @@ rewritten_as_opened create_if_missing name bytes written stable found first lock
         to_be_made = to_be_made;
         is_blank = blank;
         read = read.calls;
-        asked = subst (λ (before : List HostCall). IsReadAfter name bytes stable before read.calls) (measured_calls name found FILE_SIZE first locked measured lock long whole) reads;
+        asked = subst (λ (before : List AnsweredCall). IsReadAfter name bytes stable before read.calls) (calls_after_length_request name found FILE_SIZE first locked measured lock long whole) reads;
         writes = subst (λ (w : List ℕ). IsWrittenAfter name w read.calls again.calls) these writes;
       }));
     }

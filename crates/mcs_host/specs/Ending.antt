@@ -1,4 +1,4 @@
--- The end of an open file, and the bytes that are found in it after the end. (Our own choice.)
+-- The end of an open file, and the bytes that are found in the file after the end.
 use Rattle.std.specs.Prelude.{◌≡◌, ◌⊎◌, ℕ, ◌≤◌, List, [], ◌∷◌, ◌++◌}
 use Rattle.mcs_disk.specs.Calls.{DiskCall, Wrote, Failed, clock_of, images_after}
 use Rattle.mcs_disk.specs.Disk.{DiskState}
@@ -21,7 +21,8 @@ as_host_file file = system_state file.inner_disk.file
 abbrev pub bytes_found_in : FileDisk → List ℕ
 bytes_found_in file = file.inner_disk.end.start
 
--- holds if the newest of `calls` is a write, and `cut` is the same list with that write interrupted
+-- holds if the newest of `calls` is a write, and `cut` is the same list with a failed call in place
+-- of that write
 pub record IsInterruptedInWrite (calls cut : List DiskCall) : Type 0 where
   pub at : ℕ
   pub bytes : List ℕ
@@ -29,9 +30,9 @@ pub record IsInterruptedInWrite (calls cut : List DiskCall) : Type 0 where
   pub whole : calls ≡ Wrote at bytes ∷ before
   pub torn : cut ≡ Failed at bytes [] ∷ before
 
--- Holds if the file was left after an initial part of its calls, with the clock at `time` or later.
--- Lists of calls are newest first, so the initial part is the tail of the list. Its newest call can
--- be a write that was interrupted.
+-- Holds if the file ended after the calls `made`, an initial part of all its calls. The disk's
+-- clock was then at `time` or later. Lists of calls are newest first, so the initial part is the
+-- tail of the list. If the newest call of `made` is a write, the end can have interrupted it.
 pub record IsLeftSince (time : ℕ) (file : FileDisk) : Type 0 where
   pub never_made : List DiskCall
   pub made : List DiskCall
@@ -40,15 +41,15 @@ pub record IsLeftSince (time : ℕ) (file : FileDisk) : Type 0 where
       ⊎ IsInterruptedInWrite made (calls_in file.inner_disk.end.notes)
   pub clock_reached : time ≤ clock_of (calls_in file.inner_disk.end.notes)
 
--- holds if the bytes that are found after the end are an image after the calls before the end; this
--- spells out `IsHonest` for a file
+-- holds if the bytes found in the file after its end are an image that the calls before the end can
+-- leave; this is what `IsHonest` states for the file
 abbrev pub IsFoundAfterTheEnd : FileDisk → Type 0
 IsFoundAfterTheEnd file =
     images_after file.inner_disk.history.start (calls_in file.inner_disk.end.notes) (bytes_found_in file)
 
--- Holds if `like` and `file` have given the same answers to all calls. In addition, `like` was left
+-- Holds if `like` and `file` have given the same answers to all calls. In addition, `like` ended
 -- after all of its calls, and the bytes `image` are found in it.
-pub record IsFoundWith (image : List ℕ) (file like : FileDisk) : Type 0 where
+pub record AgreesButEndsWith (image : List ℕ) (file like : FileDisk) : Type 0 where
   pub faults : like.inner_disk.faults ≡ file.inner_disk.faults
   pub bytes : like.inner_disk.bytes.items ≡ file.inner_disk.bytes.items
   pub start : like.inner_disk.history.start ≡ file.inner_disk.history.start

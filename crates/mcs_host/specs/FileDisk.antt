@@ -1,4 +1,4 @@
--- The state of a file of the host, seen as a disk. (Our own choice.)
+-- The state of a file of the host, seen as a disk.
 use Rattle.std.specs.Prelude.{◌≡◌, ◌<ℤ◌, ℕ, ℤ, [], pos}
 use Rattle.mcs_disk.specs.Disk.{DiskState}
 use Rattle.mcs_disk.specs.Calls.{images_after}
@@ -6,13 +6,14 @@ use Rattle.mcs_disk.specs.NotedCalls.{calls_in}
 use Rattle.mcs_disk.specs.declared.call_record.Call.{Call}
 use Rattle.mcs_disk.specs.declared.record.Record.{Record}
 
--- The premise on the host, and on programs that write the file without requesting its lock. It
--- states that the bytes that are found in the file after the end are an image after the calls
--- before the end. A write that the end interrupted counts as a failed call.
+-- The premise on the host, and on other programs that write the file without requesting its lock:
+-- the bytes found in the file after its end are an image that the calls before the end can leave. A
+-- write that the end interrupted counts as a failed call.
 abbrev pub IsHonest : Record Call → Record Call → Type 0
 IsHonest history end = images_after history.start (calls_in end.notes) end.start
 
--- the state of a disk over a file with this fault count, this record of calls and this end
+-- the state of a disk whose bytes are in a file, given its fault count, its record of calls and the
+-- end of the file
 abbrev pub file_state : ℕ → Record Call → Record Call → DiskState
 file_state faults history end = record {
   faults = faults;
@@ -21,11 +22,11 @@ file_state faults history end = record {
   calls = calls_in history.notes;
 }
 
--- holds if the descriptor of a file is above 2, so the file has no descriptor of a standard stream
+-- holds if a file descriptor is above 2, so that it is not the descriptor of a standard stream
 abbrev pub IsNotStandardStream : ℤ → Type 0
 IsNotStandardStream number = pos 2 <ℤ number
 
--- holds if no call has been made on the disk, so a power cut leaves all of its bytes
+-- holds if no call has been made on the disk; a power cut then leaves exactly its bytes
 pub record HasNoCalls (disk : DiskState) : Type 0 where
   pub faults : disk.faults ≡ 0
   pub calls : disk.calls ≡ []

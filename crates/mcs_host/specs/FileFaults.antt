@@ -1,4 +1,4 @@
--- The reasons why a file is not opened, for each error that the host can return. (Our own choice.)
+-- The reasons why a file is not opened, for each error that the host can return.
 use Rattle.std.specs.Prelude.{◌≡◌, ◌≢◌, ◌⊎◌, ℤ, pos, Option, Some, None}
 use Rattle.std.specs.declared.fs.attrs.FileType.{FileType}
 use Rattle.std.specs.declared.io.Error.{Error}
@@ -8,7 +8,7 @@ use Rattle.std.specs.IoError.{error_kind, raw_os_error}
 use Rattle.mcs_host.specs.declared.file_fault.FileFault.{FileFault}
 use Rattle.mcs_host.specs.declared.file_fault.FileFault.TheVariants.{Denied, Device, Folder, FolderUnsynced, NameTooLong, NoMemory, NoSpace, NotAFile, FileMissing, TooManyFiles}
 
--- the fault for an error of this kind, or `None` if the kind has no variant of its own
+-- the fault for an error of this kind, or `None` if `FileFault` has no variant for the kind
 abbrev pub fault_of_kind : ErrorKind → Option FileFault
 fault_of_kind NotFound = Some FileMissing
 fault_of_kind NotADirectory = Some FileMissing
@@ -22,8 +22,8 @@ fault_of_kind QuotaExceeded = Some NoSpace
 fault_of_kind FileTooLarge = Some NoSpace
 fault_of_kind _ = None
 
--- holds if `fault` is the fault for any other error with this error number; 23 and 24 are POSIX's
--- ENFILE and EMFILE
+-- holds if `fault` is the fault for an error whose kind has no variant, given its error number; 23
+-- and 24 are ENFILE and EMFILE (too many open files)
 pub record IsFaultOfNumber (number : Option ℤ) (fault : FileFault) : Type 0 where
   pub full : (number ≡ Some (pos 23)) ⊎ (number ≡ Some (pos 24)) → fault ≡ TooManyFiles
   pub other : number ≢ Some (pos 23) → number ≢ Some (pos 24) → fault ≡ Device
@@ -33,14 +33,14 @@ pub record IsHostFault (error : Error) (fault : FileFault) : Type 0 where
   pub named : (f : FileFault) → fault_of_kind (error_kind error) ≡ Some f → fault ≡ f
   pub unnamed : fault_of_kind (error_kind error) ≡ None → IsFaultOfNumber (raw_os_error error) fault
 
--- holds if `fault` is the fault for an error of a request for the name that a link leads to; this
--- request allocates memory
+-- holds if `fault` is the fault for an error of a call that resolves symbolic links; such a call
+-- allocates memory
 pub record IsNameFault (error : Error) (fault : FileFault) : Type 0 where
   pub memory : error_kind error ≡ OutOfMemory → fault ≡ NoMemory
   pub other : error_kind error ≢ OutOfMemory → IsHostFault error fault
 
--- holds if `fault` is the fault for an error of that request (`IsNameFault`), made to create a file
--- under the name of a link
+-- holds if `fault` is the fault for an error of `check_removable`: `FolderUnsynced` for
+-- `InvalidFilename` (for example, the target of a link is not valid UTF-8)
 pub record IsLinkFault (error : Error) (fault : FileFault) : Type 0 where
   pub no_text : error_kind error ≡ InvalidFilename → fault ≡ FolderUnsynced
   pub other : error_kind error ≢ InvalidFilename → IsNameFault error fault

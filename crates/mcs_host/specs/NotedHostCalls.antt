@@ -1,12 +1,12 @@
--- The `HostCall` for each `HostRequest` of the code.
+-- The `AnsweredCall` for each `AnsweredRequest` of the code.
 use Rattle.std.specs.Prelude.{ℕ, List, [], ◌∷◌}
 use Rattle.mcs_host.specs.HostCalls as calls
-use Rattle.mcs_host.specs.HostCalls.{HostCall}
-use Rattle.mcs_host.specs.declared.host_record.HostRequest.{HostRequest}
-use Rattle.mcs_host.specs.declared.host_record.HostRequest.TheVariants as asked
+use Rattle.mcs_host.specs.HostCalls.{AnsweredCall}
+use Rattle.mcs_host.specs.declared.host_record.AnsweredRequest.{AnsweredRequest}
+use Rattle.mcs_host.specs.declared.host_record.AnsweredRequest.TheVariants as asked
 
--- the `HostCall` for an `HostRequest` of the code, given the bytes or the name of the call
-abbrev pub host_call_of : HostRequest → List ℕ → HostCall
+-- the `AnsweredCall` for an `AnsweredRequest` of the code, given the bytes or the name of the call
+abbrev pub host_call_of : AnsweredRequest → List ℕ → AnsweredCall
 host_call_of (asked.Lock ok) bytes = calls.Lock ok
 host_call_of (asked.IsNamed ok) bytes = calls.IsNamed bytes ok
 host_call_of (asked.Length n ok) bytes = calls.Length n ok
@@ -20,7 +20,7 @@ host_call_of (asked.IsLink ok) bytes = calls.IsLink bytes ok
 host_call_of (asked.RealName ok) bytes = calls.RealName bytes ok
 host_call_of asked.OpenedOrCreated bytes = calls.OpenedOrCreated
 
--- the `HostCall`s for the calls of a record, in the same order
-abbrev pub host_calls_in : List (HostRequest × List ℕ) → List HostCall
+-- the `AnsweredCall`s for the calls of a record, in the same order
+abbrev pub host_calls_in : List (AnsweredRequest × List ℕ) → List AnsweredCall
 host_calls_in [] = []
 host_calls_in (note ∷ notes) = host_call_of note.0 note.1 ∷ host_calls_in notes

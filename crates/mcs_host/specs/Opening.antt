@@ -1,11 +1,11 @@
--- The calls that the program makes to open a file, newest first. (Our own choice; FORMAT, "A file
--- of the host", describes them.)
+-- The calls that the program makes to open a file, newest first. (FORMAT, "A file of the host",
+-- describes them.)
 use Rattle.std.specs.Prelude.{◌≡◌, ◌⊎◌, ◌+◌, ◌==◌, ℕ, min, Bool, true, false, IsTrue, IsFalse, List, [], ◌∷◌, length, codes, Option, Some, None}
 use Rattle.std.specs.List.{list_all}
 use Rattle.std.specs.Path.{path_parent}
 use Rattle.mcs_journal.specs.declared.format.TheConstants.{FILE_SIZE, NAME, NAME_SIZE}
 use Rattle.mcs_disk.specs.Disk.{part}
-use Rattle.mcs_host.specs.HostCalls.{HostCall, HostState, IsLink, Length, Lock, IsNamed, OpenedOrCreated, ReadAt, RealName, SetLength, SyncAll, SyncFolder, WriteAt}
+use Rattle.mcs_host.specs.HostCalls.{AnsweredCall, HostState, IsLink, Length, Lock, IsNamed, OpenedOrCreated, ReadAt, RealName, SetLength, SyncAll, SyncFolder, WriteAt}
 
 -- holds if all of these bytes are 0
 abbrev pub AreZeros : List ℕ → Type 0
@@ -17,7 +17,7 @@ pub record IsAllZeros (bytes : List ℕ) : Type 0 where
   pub size : length bytes ≡ FILE_SIZE
   pub zeros : AreZeros bytes
 
--- holds if a file has the size of a session file and begins with the name of one
+-- holds if a file has the size of a session file and begins with the name `MCS4BEN1`
 pub record IsNamedSession (bytes : List ℕ) : Type 0 where
   pub size : length bytes ≡ FILE_SIZE
   pub name : part 0 NAME_SIZE bytes ≡ NAME
@@ -33,10 +33,11 @@ parent_or_working_folder (Some (b ∷ folder)) = b ∷ folder
 abbrev pub folder_of : List ℕ → List ℕ
 folder_of name = parent_or_working_folder (path_parent name)
 
--- Holds if the calls after `before` sync the folder of a file. This is the folder of its name or,
--- if the name is a link, the folder of its real name. `ok` is true if the folder was synced.
--- Otherwise one of the calls failed. (An `IsLink` that failed has the Bool `false`.)
-abbrev pub FolderCalls : List ℕ → Bool → List HostCall → List HostCall → Type 0
+-- Holds if `after` is `before` and then the calls that sync the folder of the file `name`. If the
+-- name is a link, this is the folder of its real path. If `ok` is true, the folder was synced;
+-- otherwise one of these calls failed. (The Bool of an `IsLink` is `false` if the call failed, and
+-- also if the answer was no.)
+abbrev pub FolderCalls : List ℕ → Bool → List AnsweredCall → List AnsweredCall → Type 0
 FolderCalls name ok before after =
     (after ≡ SyncFolder (folder_of name) ok ∷ IsLink name false ∷ before)
     ⊎ (((real_path : List ℕ) × (after
@@ -44,44 +45,47 @@ FolderCalls name ok before after =
     ⊎ (IsFalse ok × ((after ≡ IsLink name false ∷ before)
     ⊎ (after ≡ RealName [] false ∷ IsLink name true ∷ before))))
 
--- holds if the file was opened, or created if `create_if_missing` is true, and no further call was made on it
-abbrev pub IsFreshlyOpened : Bool → List HostCall → Type 0
+-- Holds if no call was made on the file after it was opened. The call that opened the file can have
+-- created the file only if `create_if_missing` is true.
+abbrev pub IsFreshlyOpened : Bool → List AnsweredCall → Type 0
 IsFreshlyOpened create_if_missing calls = (calls ≡ []) ⊎ (IsTrue create_if_missing × (calls ≡ OpenedOrCreated ∷ []))
 
--- the calls that lock the file, before any other call on it, and then find that its name still
--- refers to it
-abbrev pub locking_calls : List ℕ → List HostCall → List HostCall
+-- the calls `before`, then a successful lock of the file, then a check that the name still refers
+-- to the file
+abbrev pub locking_calls : List ℕ → List AnsweredCall → List AnsweredCall
 locking_calls name before = IsNamed name true ∷ Lock true ∷ before
 
--- the calls that set the length of the file, write all of its bytes, and sync it
-abbrev pub writing_calls : List ℕ → List HostCall → List HostCall
+-- the calls `before`, then calls that set the length of the file, write `bytes` as the whole file,
+-- and sync it
+abbrev pub writing_calls : List ℕ → List AnsweredCall → List AnsweredCall
 writing_calls bytes before =
     SyncAll true ∷ WriteAt 0 bytes true ∷ SetLength (length bytes) true ∷ before
 
 -- Holds if, after the calls `before`, the file was synced, then its folder, and then these bytes
 -- were read. If `is_name_stable` is true, the sync of the folder succeeded; otherwise it failed.
 pub record IsReadAfter
-    (name bytes : List ℕ) (is_name_stable : Bool) (before after : List HostCall) : Type 0 where
-  pub synced : List HostCall
+    (name bytes : List ℕ) (is_name_stable : Bool) (before after : List AnsweredCall) : Type 0 where
+  pub synced : List AnsweredCall
   pub folder : FolderCalls name is_name_stable (SyncAll true ∷ before) synced
   pub read : after ≡ ReadAt 0 bytes true ∷ synced
 
 -- holds if, after the calls `before`, these bytes were written as the whole file, and the file and
 -- its folder were synced
-abbrev pub IsWrittenAfter : List ℕ → List ℕ → List HostCall → List HostCall → Type 0
+abbrev pub IsWrittenAfter : List ℕ → List ℕ → List AnsweredCall → List AnsweredCall → Type 0
 IsWrittenAfter name bytes before after = FolderCalls name true (writing_calls bytes before) after
 
 -- holds if, after the calls `before`, `written` was written and synced (`IsWrittenAfter`), and then
 -- `bytes` were read
 pub record IsFilledAfter
-    (name written bytes : List ℕ) (before after : List HostCall) : Type 0 where
-  pub filled : List HostCall
+    (name written bytes : List ℕ) (before after : List AnsweredCall) : Type 0 where
+  pub filled : List AnsweredCall
   pub writes : IsWrittenAfter name written before filled
   pub read : after ≡ ReadAt 0 bytes true ∷ filled
 
--- Holds if the file was empty and `create_if_missing` is true: the file was filled with zeros and read back.
+-- Holds if the file was empty, `create_if_missing` is true, and the file was filled with zeros and
+-- read back.
 pub record IsFilled
-    (create_if_missing : Bool) (name bytes : List ℕ) (is_name_stable : Bool) (locked calls : List HostCall)
+    (create_if_missing : Bool) (name bytes : List ℕ) (is_name_stable : Bool) (locked calls : List AnsweredCall)
     : Type 0 where
   pub to_be_made : IsTrue create_if_missing
   pub size : length bytes ≡ FILE_SIZE
@@ -90,10 +94,11 @@ pub record IsFilled
   pub is_blank : IsAllZeros written
   pub asked : IsFilledAfter name written bytes (Length 0 true ∷ locked) calls
 
--- Holds if the file was read as it is. Of a longer file, only one byte more than a session file has
--- was read; this size shows that it is not a session file.
+-- Holds if the file was read as it is. `found` is the length of the file. If the file is longer
+-- than a session file, only `FILE_SIZE + 1` bytes were read; this shows that it is not a session
+-- file.
 pub record IsRead
-    (create_if_missing : Bool) (name bytes : List ℕ) (is_name_stable : Bool) (locked calls : List HostCall)
+    (create_if_missing : Bool) (name bytes : List ℕ) (is_name_stable : Bool) (locked calls : List AnsweredCall)
     : Type 0 where
   pub found : ℕ
   pub size : length bytes ≡ min found (FILE_SIZE + 1)
@@ -102,14 +107,14 @@ pub record IsRead
   pub not_blank : IsTrue create_if_missing → ¬ (IsAllZeros bytes)
   pub asked : IsReadAfter name bytes is_name_stable (Length found true ∷ locked) calls
 
--- Holds if the file was blank and `create_if_missing` is true: the file was read, and then written again because
--- a blank file can have holes.
+-- Holds if the file was blank, `create_if_missing` is true, and the file was read and then written
+-- again. (A blank file can have holes.)
 pub record IsRewritten
-    (create_if_missing : Bool) (name bytes : List ℕ) (is_name_stable : Bool) (locked calls : List HostCall)
+    (create_if_missing : Bool) (name bytes : List ℕ) (is_name_stable : Bool) (locked calls : List AnsweredCall)
     : Type 0 where
   pub to_be_made : IsTrue create_if_missing
   pub is_blank : IsAllZeros bytes
-  pub read : List HostCall
+  pub read : List AnsweredCall
   pub asked : IsReadAfter name bytes is_name_stable (Length FILE_SIZE true ∷ locked) read
   pub writes : IsWrittenAfter name bytes read calls
 
@@ -119,7 +124,7 @@ pub record IsOpenedFile
     (create_if_missing : Bool) (name bytes : List ℕ) (is_name_stable : Bool) (file : HostState)
     : Type 0 where
   pub named : file.name ≡ name
-  pub opened : List HostCall
+  pub opened : List AnsweredCall
   pub begun : IsFreshlyOpened create_if_missing opened
   pub filled_read_or_rewritten : IsFilled create_if_missing name bytes is_name_stable (locking_calls name opened) file.calls
       ⊎ (IsRead create_if_missing name bytes is_name_stable (locking_calls name opened) file.calls

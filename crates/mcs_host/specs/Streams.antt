@@ -1,4 +1,4 @@
--- Sets of standard streams. (Our own choice.)
+-- Sets of standard streams.
 use Rattle.std.specs.Prelude.{false}
 use Rattle.mcs_host.specs.declared.streams.Streams.{Streams}
 

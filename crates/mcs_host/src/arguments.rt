@@ -6,7 +6,7 @@ use std::alloc::AllocError;
 use std::marker::Model;
 use thiserror::Error;
 
-/// The name of a session file, as given in the arguments. Contracts see its bytes.
+/// The name of a session file, as given in the arguments. Contracts see the bytes of the name.
 #[derive(Drop)]
 pub struct FileName {
     name: String,
@@ -33,7 +33,7 @@ impl FileName {
     }
 }
 
-/// The task that the arguments select: which session to run.
+/// The task that the arguments select: create a session or open an existing one.
 #[derive(Drop)]
 pub enum Choice {
     /// Create a new session in this file.

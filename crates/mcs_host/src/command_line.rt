@@ -20,7 +20,7 @@ impl Choice {
     }
 }
 
-// Parses the arguments with clap. Fails only if clap's definition rejects the arguments, or if
+// Parses the arguments with clap. Fails only if they are invalid by clap's specification, or if
 // memory runs out.
 fn matches<'a, S: AsStr>(alloc: Global, arguments: &'a [S]) -> Result<ArgMatches<'a>, Error>
     ensures ok { IfOk result (λ m. subcommand_rows_of m
@@ -40,9 +40,10 @@ fn matches<'a, S: AsStr>(alloc: Global, arguments: &'a [S]) -> Result<ArgMatches
 
 /// Returns the task that the arguments select. The first argument is the program's name.
 ///
-/// On success, the subcommand and the FILE are those of clap's definition of the matches. It fails
-/// with `Usage` only if that definition rejects the arguments or gives no choice, for example for a
-/// request for help. It fails with `NoMemory` if memory runs out.
+/// On success, the subcommand and the FILE are those that clap's specification gives for the
+/// arguments. Fails with `Usage` only if, by that specification, the arguments are invalid or
+/// select neither `new FILE` nor `open FILE`. A request for help is an example of such arguments.
+/// Fails with `NoMemory` if memory runs out.
 pub fn choice<S: AsStr>(alloc: Global, arguments: &[S]) -> Result<Choice, WordsFault>
     ensures given { IfOk result (λ c.
         choice_in (map S.text arguments.entry.now) ≡ Some (arguments_of_choice c)) }

@@ -28,9 +28,10 @@ impl FileDisk {
     ghost use Rattle.mcs_host.specs.FileDisk.{HasNoCalls};
     ghost use Rattle.mcs_host.specs.Opening.{IsNamedSession, IsOpenedFile};
 
-    /// Opens a file for reading and writing. If `create_if_missing` is true, it creates a missing file, and
-    /// fills an empty file with [`FILE_SIZE`] zero bytes. When it returns Ok, the file's contents
-    /// are on the device. The file's name is there too if `is_name_stable` returns true.
+    /// Opens a file for reading and writing. If `create_if_missing` is true, creates a missing
+    /// file, and fills an empty file with [`FILE_SIZE`] zero bytes. When the function returns Ok,
+    /// the file's contents are on the device. The file's name is there too if
+    /// [`FileDisk::is_name_stable`] returns true.
     ///
     /// It fails with:
     ///
@@ -38,9 +39,9 @@ impl FileDisk {
     /// - `Stream` if the file is also a standard stream (checked before the file is opened)
     /// - `StreamsUnknown` if the host does not say whether the file is a standard stream (also
     ///   checked before the file is opened)
-    /// - `FolderUnsynced` if `create_if_missing` is true, the file was missing, empty or all zeros, and its
-    ///   folder cannot be synced
-    /// - another error if the host rejects the file
+    /// - `FolderUnsynced` if `create_if_missing` is true, the file was missing, empty or all zeros,
+    ///   and its folder cannot be synced
+    /// - another error if the file cannot be opened, locked, filled or read
     pub fn open_at<R: Files<File = File>>(
         rt: &R,
         alloc: Global,
@@ -58,15 +59,16 @@ impl FileDisk {
     }
 
     /// Returns true if the file's name survives a power cut, because its folder was synced. For an
-    /// existing file, it returns false if the program cannot read the folder, or if the host does
-    /// not sync folders. It also returns false if a link leads to a folder whose name is not text.
+    /// existing file, returns false if the program cannot read the folder, or if the host does not
+    /// sync folders. Also returns false if a link leads to a folder whose name is not valid UTF-8.
     pub fn is_name_stable(&self) -> bool
         ensures { result ≡ self.now.inner_disk.is_name_stable }
     {
         self.inner_disk.is_name_stable()
     }
 
-    /// Returns true if the last call that failed did so because the device had no space.
+    /// Returns true if the most recent failed call failed because the device was full or a quota
+    /// was used up. Returns false if no call has failed.
     pub fn is_full(&self) -> bool
         ensures { result ≡ self.now.inner_disk.is_full }
     {
@@ -74,7 +76,7 @@ impl FileDisk {
     }
 
     /// Returns true if the file has the size of a session file and begins with the name `MCS4BEN1`.
-    /// Only then can `open` continue with it.
+    /// `mcs4 open` rejects any other file.
     pub fn is_named_session(&self) -> bool
         ensures { IsTrue result ↔ IsNamedSession (bytes_of (as_disk self.now)) }
     {
@@ -99,7 +101,7 @@ impl Disk for FileDisk {
             result }
         ensures honest { (as_disk self.old).honest → OnOk result
             (into.new ≡ part at (length into.old) (bytes_of (as_disk self.old))) }
-        // The next clause holds for every file, honest or not.
+        // The next clause holds even if the file is not honest.
         ensures given { OnOk result
             (into.new ≡ part at (length into.old) (bytes_of (as_disk self.old))) }
         ensures asked { MakesReadCall at into.new result
@@ -113,8 +115,8 @@ impl Disk for FileDisk {
         ensures call { CountsFault (as_disk self.old) (as_disk self.new) (IsErr result) }
         ensures lists_call { MakesCalls (Wrote at from.now ∷ []) (as_disk self.old).calls
             (as_disk self.new).calls result }
-        // The next clause holds even if the write failed: it can have changed any part of the
-        // range.
+        // The next clause holds even if the write failed, because a failed write can have changed
+        // any part of the range.
         ensures torn { (before image : List ℕ) → images_of (as_disk self.old) before
             → Torn at (length from.now) before image → images_of (as_disk self.new) image }
         ensures asked { as_host_file self.new

@@ -19,8 +19,7 @@ const PROGRAM_FILE_LIMIT_ERROR: i32 = 24;
 /// (POSIX's ENFILE).
 const HOST_FILE_LIMIT_ERROR: i32 = 23;
 
-/// The reason why a file was not opened. All except `NoMemory` are errors of the host. Each error
-/// that a user can act on has its own variant.
+/// The reason why a file was not opened. Each error that a user can act on has its own variant.
 #[derive(Clone, Copy, Debug, PartialEq, Eq, Error)]
 pub enum FileFault {
     /// Another program is using the file and holds its lock.
@@ -54,7 +53,7 @@ pub enum FileFault {
     /// The program or the host has reached its limit of open files.
     #[error("too many open files")]
     TooManyFiles,
-    /// The file is also one of the program's standard streams. The set names the streams.
+    /// The file is also one of the program's standard streams. The field says which streams.
     #[error("a standard stream")]
     Stream(Streams),
     /// The host does not say whether a standard stream is this file.
@@ -79,7 +78,8 @@ impl From<io::Error> for FileFault {
     }
 }
 
-// Returns the fault for an error of this kind, or `None` if the kind has no variant of its own.
+// Returns the fault for an error of this kind, or `None` if [`FileFault`] has no variant for the
+// kind.
 fn fault_for_kind(kind: ErrorKind) -> Option<FileFault>
     ensures { result ≡ fault_of_kind kind }
 {
@@ -96,7 +96,7 @@ fn fault_for_kind(kind: ErrorKind) -> Option<FileFault>
     }
 }
 
-// Returns the fault for any other error, given its error number.
+// Returns the fault for an error whose kind has no variant, given the error number of the host.
 fn fault_for_number(number: Option<i32>) -> FileFault
     ensures { IsFaultOfNumber number result }
 {
@@ -106,7 +106,7 @@ fn fault_for_number(number: Option<i32>) -> FileFault
     }
 }
 
-/// Returns true if the call failed because the device is full or because a quota is used up.
+/// Returns true if `answer` is an error and says that the device is full or a quota is used up.
 pub(crate) fn is_out_of_space(answer: &io::Result<()>) -> bool
     ensures { MatchResult answer.now (λ _. result ≡ false) (λ error. IsTrue result
         ↔ (error_kind error ≡ ErrorKind.StorageFull) ⊎ (error_kind error ≡ ErrorKind.QuotaExceeded)) }

@@ -18,10 +18,10 @@ use std::alloc::{AllocError, Global};
 
 /// An open file of the host, used as a disk.
 ///
-/// The file is read into memory once, when it is opened, and each write also updates this copy. A
-/// read that returns other bytes than the copy is therefore detected as a device fault. What no
-/// call can detect is the premise `honest`: the bytes that are found in the file after a power cut
-/// are one of the images of a disk with these calls.
+/// The file is read into memory once, when it is opened, and each write also updates this copy. If
+/// the host returns bytes that differ from the copy, `read` returns a device fault. No call can
+/// check the premise `honest`: the bytes that are found in the file after its end are one of the
+/// images that the calls before the end can leave.
 #[derive(Drop)]
 pub struct HostDisk<H: HostFile> {
     file: H,
@@ -83,7 +83,8 @@ impl<H: HostFile> HostDisk<H> {
         self.is_name_stable
     }
 
-    /// Returns true if the last call that failed did so because the device had no space.
+    /// Returns true if the most recent failed call failed because the device was full or a quota
+    /// was used up. Returns false if no call has failed.
     pub fn is_full(&self) -> bool
         ensures { result ≡ self.now.is_full }
     {
@@ -105,8 +106,8 @@ impl<H: HostFile> HostDisk<H> {
         given == &self.bytes[at..at + given.len()]
     }
 
-    // Adds one to the saturating fault count, stores `is_full`, and returns the fault. Changes
-    // nothing else. `is_full` is true if the device had no space.
+    // Adds one to the saturating fault count, stores `is_full`, and returns `DiskFault`. Changes
+    // nothing else. `is_full` says whether the device was full or a quota was used up.
     fn fail(&mut self, is_full: bool) -> DiskFault
         ensures file { self.new.file ≡ self.old.file }
         ensures bytes { self.new.bytes ≡ self.old.bytes }
@@ -121,7 +122,7 @@ impl<H: HostFile> HostDisk<H> {
 }
 
 // Returns a vector of `size` zero bytes. Fails if memory runs out.
-#[tactic(auto, using(crate::proofs::ZeroBytes::zeros_of))]
+#[tactic(auto, using(crate::proofs::ZeroBytes::replicated_zeros_are_zeros))]
 fn zeros(alloc: Global, size: usize) -> Result<Vec<u8>, AllocError>
     ensures len { IfOk result (λ bytes. vec_len bytes ≡ size) }
     ensures zeros { IfOk result (λ bytes. AreZeros bytes.items) }
@@ -146,7 +147,7 @@ impl<H: HostFile> Disk for HostDisk<H> {
             result }
         ensures honest { (host_disk self.old).honest → OnOk result
             (into.new ≡ part at (length into.old) (bytes_of (host_disk self.old))) }
-        // The next clause holds for every file, honest or not.
+        // The next clause holds even if the file is not honest.
         ensures given { OnOk result
             (into.new ≡ part at (length into.old) (bytes_of (host_disk self.old))) }
         ensures asked { MakesReadCall at into.new result
@@ -165,8 +166,8 @@ impl<H: HostFile> Disk for HostDisk<H> {
         ensures call { CountsFault (host_disk self.old) (host_disk self.new) (IsErr result) }
         ensures lists_call { MakesCalls (Wrote at from.now ∷ []) (host_disk self.old).calls
             (host_disk self.new).calls result }
-        // The next clause holds even if the write failed: it can have changed any part of the
-        // range.
+        // The next clause holds even if the write failed, because a failed write can have changed
+        // any part of the range.
         ensures torn { (before image : List ℕ) → images_of (host_disk self.old) before
             → Torn at (length from.now) before image → images_of (host_disk self.new) image }
         ensures asked { H.HostFile.state self.new.file
@@ -182,7 +183,8 @@ impl<H: HostFile> Disk for HostDisk<H> {
         Ok(())
     }
 
-    // The length of the file does not change while it is a disk, so a sync of its data is enough.
+    // Syncs only the file's data, because the file's length does not change after the file is
+    // opened.
     fn sync(&mut self) -> Result<(), DiskFault>
         ensures call { CountsFault (host_disk self.old) (host_disk self.new) (IsErr result) }
         ensures lists_call { MakesCalls (Synced ∷ []) (host_disk self.old).calls (host_disk self.new).calls

@@ -1,5 +1,5 @@
-//! The calls on the host that a session file needs, as traits. Code that is generic over these
-//! traits is proved to make exactly the calls that its contracts state, in that order.
+//! The calls on the host that a session file needs, as traits. For code that is generic over these
+//! traits, the contracts state exactly which calls the code makes, and in which order.
 ghost use Rattle.std.specs.Prelude.{◌≡◌, [], ◌∷◌, IfOk, MatchResult, false, is_ok, true};
 ghost use Rattle.std.specs.Path.{path_buf_bytes};
 ghost use Rattle.mcs_host.specs.HostCalls.{HostState, HasCalls, IsLink, Length, Lock, IsNamed, OpenedOrCreated, ReadAt, RealName, SetLength, SyncAll, SyncData, SyncFolder, WriteAt, asked, is_yes};
@@ -37,7 +37,7 @@ pub trait HostFile {
         ensures { state self.new ≡ asked (SetLength to (is_ok result)) (state self.old) };
 
     /// Fills `into` with the bytes of the file that start at offset `at`. Fails if the host returns
-    /// an error, or if the file ends too early.
+    /// an error, or if the file ends before `into` is full.
     fn read_at(&mut self, at: usize, into: &mut [u8]) -> io::Result<()>
         ensures { state self.new ≡ asked (ReadAt at into.new (is_ok result)) (state self.old) };
 
@@ -65,9 +65,9 @@ pub trait Host {
     /// streams refer to.
     fn streams_of_file(&self, name: &str) -> Result<Streams, FileFault>;
 
-    /// Checks that a file created under this name can be removed again. If the name is a link, the
-    /// folder that it leads to must have a name without links; otherwise the call fails. The call
-    /// allocates memory.
+    /// Checks that a file created under this name can be removed again. If the name is a symbolic
+    /// link, the host must give the real path of the folder that the link leads to; otherwise the
+    /// check fails. Allocates memory.
     fn check_removable(&self, alloc: Global, name: &str) -> io::Result<()>;
 
     /// Opens the existing file of this name for reading and writing. Fails if the host returns an
@@ -75,23 +75,23 @@ pub trait Host {
     fn open(&self, name: &str) -> io::Result<Self::File>
         ensures { IfOk result (λ file. HasCalls name.now [] (Self.File.state file)) };
 
-    /// Opens the file of this name for reading and writing. If the file is missing, the call
-    /// creates it. Fails if the host returns an error.
+    /// Opens the file of this name for reading and writing, and creates it if it is missing. Fails
+    /// if the host returns an error.
     fn open_or_create(&self, name: &str) -> io::Result<Self::File>
         ensures { IfOk result (λ file. HasCalls name.now (OpenedOrCreated ∷ []) (Self.File.state file)) };
 
-    /// Returns true if this name still refers to the open file. Fails if the host returns an error.
+    /// Returns true if `name` still refers to the open file. Fails if the host returns an error.
     fn is_named(&self, file: &mut Self::File, name: &str) -> io::Result<bool>
         ensures { Self.File.state file.new
             ≡ asked (IsNamed name.now (is_yes result)) (Self.File.state file.old) };
 
-    /// Returns true if this name of the file is a symbolic link. Fails if the host returns an
+    /// Returns true if `name`, a name of the file, is a symbolic link. Fails if the host returns an
     /// error.
     fn is_link(&self, file: &mut Self::File, name: &str) -> io::Result<bool>
         ensures { Self.File.state file.new
             ≡ asked (IsLink name.now (is_yes result)) (Self.File.state file.old) };
 
-    /// Returns the name, without links, of the file that this name leads to. The call allocates
+    /// Returns the real path of the file: `name` with all symbolic links resolved. Allocates
     /// memory. Fails if the host returns an error.
     fn real_name(
         &self,
@@ -105,8 +105,8 @@ pub trait Host {
             (λ _. Self.File.state file.new
             ≡ asked (RealName [] false) (Self.File.state file.old)) };
 
-    /// Syncs the folder of this name. The folder contains `file`, and the call is recorded with
-    /// `file`. Fails if the host returns an error.
+    /// Syncs the folder of this name, which contains `file`. The call is recorded with `file`.
+    /// Fails if the host returns an error.
     fn sync_folder(&self, file: &mut Self::File, folder: &str) -> io::Result<()>
         ensures { Self.File.state file.new
             ≡ asked (SyncFolder folder.now (is_ok result)) (Self.File.state file.old) };

@@ -1,16 +1,17 @@
 //! The record of the calls on a file of the host.
 use mcs_disk::Record;
 
-/// A call on a file of the host that has been answered. The flag is true if the call returned Ok;
-/// for a question, the answer must also be yes. The value does not contain the bytes or the name of
-/// the call; a `Record` stores them next to the call.
+/// An answered call on a file of the host. The `bool` is true if the call returned Ok and, for a
+/// question, if the answer was also yes. The value does not contain the bytes or the name that were
+/// passed or returned; a `Record` stores them next to the call.
 #[derive(Clone, Copy)]
-pub(crate) enum HostRequest {
+pub(crate) enum AnsweredRequest {
     /// A request to lock the file exclusively.
     Lock(bool),
     /// A question: does a name refer to the file?
     IsNamed(bool),
-    /// A request for the length of the file, with the length that the host returned.
+    /// A request for the length of the file, with the length that the host returned, or 0 if the
+    /// call failed.
     Length(u64, bool),
     /// A request to set the length of the file to this number of bytes.
     SetLength(u64, bool),
@@ -26,12 +27,12 @@ pub(crate) enum HostRequest {
     SyncFolder(bool),
     /// A question: is a name a symbolic link?
     IsLink(bool),
-    /// A request for the name of the file without links.
+    /// A request for the real path of the file, without symbolic links.
     RealName(bool),
     /// The call that opened the file and created it if it was missing.
     OpenedOrCreated,
 }
 
-/// The record of an open file of the host: the name with which it was opened, and the calls on it
-/// since.
-pub(crate) type HostRecord = Record<HostRequest>;
+/// The record of an open file of the host: the name with which the file was opened, and the calls
+/// on the file since then.
+pub(crate) type HostRecord = Record<AnsweredRequest>;

@@ -1,26 +1,28 @@
-//! Laws about the premise that a file is honest: what it means, what follows from it, and that it
-//! can hold. The contract of each function states a law; the function itself does nothing.
+//! Laws about the premise that a file is honest: what the premise means, what follows from it, and
+//! that no call can refute it. The contract of each function states a law; the function itself does
+//! nothing.
 ghost use Rattle.std.specs.Prelude.{◌≡◌, ◌↔◌, ℕ, List};
 ghost use Rattle.mcs_disk.specs.Disk.{bytes_of, images_of, images_since};
 ghost use Rattle.mcs_disk.specs.PowerCut.{IsLeftByCut};
-ghost use Rattle.mcs_host.specs.Ending.{IsFoundAfterTheEnd, IsFoundWith, IsLeftSince, as_disk, as_host_file, bytes_found_in};
+ghost use Rattle.mcs_host.specs.Ending.{IsFoundAfterTheEnd, AgreesButEndsWith, IsLeftSince, as_disk, as_host_file, bytes_found_in};
 ghost use Rattle.mcs_host.specs.FileDisk.{IsNotStandardStream, HasNoCalls};
 
 use crate::FileDisk;
 
-/// Shows that the bytes that are found in an honest file after its end are an image since a given
-/// time. The premise is that the file was left after an initial part of its calls, with the clock
-/// at that time or later.
+/// Shows that the bytes that are found in an honest file after its end are an image since `time`.
+/// The premise is that the file ended after an initial part of its calls, with the disk's clock at
+/// `time` or later.
 pub fn found_bytes_are_an_image()
     ensures { (time : ℕ) (file : FileDisk) → (as_disk file).honest
         → IsLeftSince time file → images_since time (as_disk file) (bytes_found_in file) }
 {}
 
-/// Shows that a file that is opened again is a disk that a power cut since a given time can leave.
+/// Shows that a power cut at or after `time` can leave the disk of a file that was opened again.
 /// The premises are:
 ///
-/// - The file is honest, and it was left with the clock at that time or later.
-/// - The file opened again is honest. Before any call on it, it holds the bytes that were found.
+/// - `file` is honest, and it ended with the disk's clock at `time` or later.
+/// - `again`, the file opened again, is honest. No call has been made on it, and it holds the bytes
+///   that were found in `file`.
 pub fn reopened_file_is_left_by_cut()
     ensures { (time : ℕ) (file again : FileDisk) → (as_disk file).honest
         → IsLeftSince time file → (as_disk again).honest
@@ -30,21 +32,21 @@ pub fn reopened_file_is_left_by_cut()
 {}
 
 /// Shows that a file is honest if, and only if, the bytes that are found after its end are an image
-/// after the calls before that end.
+/// that the calls before the end can leave.
 pub fn file_is_honest_iff_image_is_found()
     ensures { (file : FileDisk) → (as_disk file).honest ↔ IsFoundAfterTheEnd file }
 {}
 
 /// Shows that no answer of a file can refute the premise that the file is honest. For each image
-/// that the calls on a file can leave, there is an honest file with the same answers in which that
-/// image is found after the end.
+/// that the calls on a file can leave, there is an honest file that gave the same answers. The image
+/// is found in this honest file after its end.
 pub fn each_image_can_be_found()
     ensures { (file : FileDisk) (image : List ℕ) → images_of (as_disk file) image
-        → (like : FileDisk) × (as_disk like).honest × IsFoundWith image file like }
+        → (like : FileDisk) × (as_disk like).honest × AgreesButEndsWith image file like }
 {}
 
-/// Shows that no open `FileDisk` has the descriptor of a standard stream. Nothing that the program
-/// writes to a standard stream goes into a session file.
+/// Shows that no open `FileDisk` has the descriptor of a standard stream. So a write to descriptor
+/// 0, 1 or 2 never uses the descriptor of a session file.
 pub fn no_file_is_a_standard_stream()
     ensures { (file : FileDisk) → IsNotStandardStream (as_host_file file).number }
 {}

@@ -1,9 +1,9 @@
 //! The program's interface to the host: the task that the command line selects, and a session file
 //! as a disk.
 //!
-//! [`choice`] parses the command line. [`StandIns`] replace closed standard streams. [`FileDisk`]
-//! implements the trait `Disk` of mcs_disk for a file of the host. It is a premise on the host, not
-//! a theorem, that the file keeps its bytes after a power cut.
+//! [`choice`] parses the command line. [`StandIns`] are the files that replace closed standard
+//! streams. [`FileDisk`] implements the trait `Disk` of mcs_disk for a file of the host. It is a
+//! premise on the host, not a theorem, that the file keeps its bytes after a power cut.
 #![tactic(auto)]
 
 mod arguments;

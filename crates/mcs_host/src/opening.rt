@@ -17,18 +17,18 @@ use std::path::Path;
 /// file is longer, the number of bytes read shows that it is not a session file.
 pub(crate) const MAX_BYTES_READ: usize = FILE_SIZE + 1;
 
-/// The descriptor of standard error, the highest of the three standard streams.
+/// The descriptor of standard error, the highest descriptor of a standard stream.
 const STANDARD_ERROR: i32 = 2;
 
 /// Opens a file for reading and writing, locks it, and reads it into `bytes`, which must be zeros.
 /// Returns the file, and true if the file's name survives a power cut.
 ///
-/// If `create_if_missing` is true, it creates a missing file, and fills an empty file with [`FILE_SIZE`] zero
-/// bytes. If the fill fails, the file is made empty again. If the call fails after it created the
-/// file, it removes the file if it is empty and no other program uses it.
+/// If `create_if_missing` is true, creates a missing file, and fills an empty file with
+/// [`FILE_SIZE`] zero bytes. If filling fails, makes the file empty again. If the function created
+/// the file and then fails, it removes the file if the file is empty and no other program uses it.
 ///
-/// It does not open a file that is also a standard stream. It opens no file if the host does not
-/// say whether the file is a standard stream.
+/// Does not open a file that is also a standard stream. Opens no file if the host does not say
+/// whether the file is a standard stream.
 pub(crate) fn open_and_read<N: Host>(
     host: &N,
     alloc: Global,
@@ -83,9 +83,9 @@ fn open_or_create<N: Host>(
     }
 }
 
-// Locks a file before any other call on it, fills it if necessary, and reads it. When it returns
-// Ok, the file's contents are on the device. The result is true if the file's name is on the device
-// too.
+// Locks a file before any other call on it, fills the file if necessary, and reads it into `bytes`.
+// When the function returns Ok, the file's contents are on the device. The result is true if the
+// file's name is on the device too.
 fn lock_and_read<N: Host>(
     host: &N,
     alloc: Global,
@@ -120,9 +120,9 @@ fn lock_and_read<N: Host>(
     Ok(is_name_stable)
 }
 
-// Locks a file and checks that its name still refers to it, because another program can have
-// removed the file before the lock was granted. Fails if the file has the descriptor of a standard
-// stream, because output to the stream would go into the file.
+// Locks a file and checks that the name `file` still refers to it. Another program can have removed
+// or replaced the file before the lock was granted. Fails if the file has the descriptor of a
+// standard stream, because output to the stream would go into the file.
 fn lock<N: Host>(host: &N, opened: &mut N::File, file: &str) -> Result<(), FileFault>
     ensures not_standard_stream { OnOk result (IsNotStandardStream (N.File.state opened.new).number) }
     ensures same { OnOk result (KeepsNameAndNumber (N.File.state opened.old) (N.File.state opened.new)) }
@@ -157,8 +157,8 @@ fn fill_and_read<N: Host>(
     Ok(())
 }
 
-// Makes an existing file stable, and then fills `bytes` with the start of the file. Returns true if
-// the file's name is stable too.
+// Syncs an existing file and its folder, and then fills `bytes` with the start of the file. Returns
+// true if the folder was synced, so that the file's name is stable too.
 fn sync_and_read<N: Host>(
     host: &N,
     alloc: Global,
@@ -177,7 +177,7 @@ fn sync_and_read<N: Host>(
     Ok(is_name_stable)
 }
 
-// Returns true if the bytes are those of a blank file, which has `FILE_SIZE` zeros.
+// Returns true if the bytes are those of a blank file: `FILE_SIZE` zeros.
 fn is_blank(bytes: &[u8]) -> bool
     ensures { IsTrue result ↔ IsAllZeros bytes.now }
 {
@@ -190,8 +190,8 @@ fn are_zeros(bytes: &[u8]) -> bool
     bytes.iter().all(|byte| *byte == 0)
 }
 
-// Returns the fault for an error of making a file's name stable. It can be a lack of memory,
-// because the call allocates the name that a link leads to.
+// Returns the fault for an error that occurs while a file's folder is synced. The error can be a lack
+// of memory, because a request for the real path of a link allocates memory.
 fn fault_for_name_error(error: io::Error) -> FileFault
     ensures { IsNameFault error result }
 {
@@ -201,8 +201,8 @@ fn fault_for_name_error(error: io::Error) -> FileFault
     }
 }
 
-// Returns the fault for an error of creating a file at the target of a link. If the target's name
-// is not text, the fault is `FolderUnsynced`.
+// Returns the fault for an error of `check_removable`. If the target of a link is not valid UTF-8,
+// for example, the fault is `FolderUnsynced`.
 fn fault_for_link_error(error: io::Error) -> FileFault
     ensures { IsLinkFault error result }
 {
@@ -212,7 +212,8 @@ fn fault_for_link_error(error: io::Error) -> FileFault
     }
 }
 
-// Writes `zeros` to an empty file. If the write fails, makes the file empty again.
+// Writes `zeros` to an empty file and syncs the file and its folder. If one of these calls fails,
+// makes the file empty again.
 fn fill<N: Host>(
     host: &N,
     alloc: Global,
@@ -232,10 +233,10 @@ fn fill<N: Host>(
     filled
 }
 
-// Writes the whole file, so that each byte has space on the device, and makes the file and its name
-// stable. Sets the length first: if the program stops halfway, a new session can still be created
-// in the file. Fails if the folder cannot be synced. Otherwise a power cut could lose the name of a
-// new file, and with it a command that was answered `ok`.
+// Writes `bytes` as the whole file, so that each byte has space on the device, and makes the file
+// and its name stable. Sets the length first: if the program stops halfway, a new session can still
+// be created in the file. Fails if the folder cannot be synced, because a power cut could then lose
+// the name of a new file, and with it commands that were answered `ok`.
 fn write_whole<N: Host>(
     host: &N,
     alloc: Global,
@@ -257,7 +258,7 @@ fn write_whole<N: Host>(
 }
 
 // Syncs the folder of a file, so that the file's name survives a power cut. If the name is a link,
-// the folder is the one of the file that the link leads to.
+// syncs the folder of the file that the link leads to.
 fn sync_folder<N: Host>(host: &N, alloc: Global, opened: &mut N::File, file: &str) -> io::Result<()>
     ensures same { KeepsNameAndNumber (N.File.state opened.old) (N.File.state opened.new) }
     ensures asked { FolderCalls file.now (is_ok result)
@@ -280,9 +281,9 @@ pub(crate) fn folder_of(name: &str) -> &str
     }
 }
 
-// Makes a file's name survive a power cut, and returns true if that succeeded. Returns false if the
-// program cannot read the folder, if the host does not sync folders, or if a link leads to a
-// folder whose name is not text.
+// Syncs the folder of a file, so that the file's name survives a power cut, and returns true.
+// Returns false if the program cannot read the folder, if the host does not sync folders, or if a
+// link leads to a folder whose name is not valid UTF-8. Any other error is returned as a fault.
 fn try_sync_folder<N: Host>(
     host: &N,
     alloc: Global,

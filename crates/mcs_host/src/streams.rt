@@ -1,7 +1,7 @@
 //! The standard streams of the program. Each of them is open before any file is opened, and no
 //! output goes into a session file. std does not say which file a descriptor refers to, so the
-//! program asks the host about the names in /proc/self/fd. If the host does not answer, the program
-//! does not start.
+//! program asks the host about the names in /proc/self/fd. If the host does not answer, and the
+//! stream is not a terminal, the program does not start.
 ghost use Rattle.std.specs.Prelude.{◌≡◌, ◌≢◌, ◌⊎◌, ◌↔◌, IfErr, IfOk, IsErr, IsErrAnd, IsErrOf, IsNone, IsOk, IsTrue, Err, None, Ok, Some, false};
 ghost use Rattle.std.specs.Fs.{file_type, metadata_len, IsDir, IsFile};
 ghost use Rattle.mcs_host.specs.declared.file_fault.FileFault.TheVariants.{Folder, NotAFile};
@@ -70,17 +70,18 @@ pub enum StreamsFault {
     NoStandIn,
 }
 
-/// The error if the program cannot start with its standard streams.
+/// The error that is returned if the program cannot start with its standard streams.
 #[derive(Clone, Copy, Debug)]
 pub struct StreamsError {
     /// The reason why the program cannot start.
     pub fault: StreamsFault,
-    /// The output streams that are session files, or could be. The program writes nothing to them.
+    /// The output streams that are session files, or could be. The program must write nothing to
+    /// them.
     pub unusable: Streams,
 }
 
-/// The files that replace the standard streams that were closed when the program started. While
-/// they exist, no other file gets the descriptor of a standard stream. A read from a stand-in
+/// The files that replace the standard streams that were closed when the program started. While the
+/// stand-ins exist, no other file gets the descriptor of a standard stream. A read from a stand-in
 /// returns end of file, and a write to it fails.
 #[derive(Drop)]
 pub struct StandIns {
@@ -92,7 +93,7 @@ pub struct StandIns {
 impl StandIns {
     /// Opens a stand-in for each closed standard stream, and checks all three streams. Fails if a
     /// stand-in cannot be opened, if an output stream is a session file, or if the host does not
-    /// say what a stream is.
+    /// say which file a stream is.
     pub fn open(rt: &HostRuntime) -> Result<StandIns, StreamsError> {
         let opened = StandIns::open_stand_ins(rt);
         let input = stream_kind(check_stream_is_known(rt, INPUT), rt.stdin().is_terminal());
@@ -110,7 +111,7 @@ impl StandIns {
     }
 
     // Opens the stand-ins in the order of their descriptors. The host assigns the lowest free
-    // descriptor, so each stand-in gets the descriptor of its stream.
+    // descriptor, so each stand-in gets the descriptor of the stream that it replaces.
     fn open_stand_ins(rt: &HostRuntime) -> io::Result<StandIns> {
         Ok(StandIns {
             input: stand_in(rt, &rt.stdin())?,
@@ -134,15 +135,16 @@ fn stand_in<S: AsFd>(rt: &HostRuntime, stream: &S) -> io::Result<Option<File>> {
 enum StreamKind {
     /// The stream is a session file, or a file of the same size that cannot be read.
     Session,
-    /// The stream is another file or a terminal. Standard input counts as this even if it is a
+    /// The stream is another file or a terminal. Standard input counts as `Other` even if it is a
     /// session file.
     Other,
     /// The host does not say which file the stream is.
     Unknown,
 }
 
-// Returns what a stream is, given the host's answer whether it is a session file. If there is no
-// answer, a terminal counts as `Other`.
+// Returns the kind of a stream. `answer` is the host's answer to the question whether the stream is
+// a session file. If the host did not answer, a terminal is `Other`, and any other stream is
+// `Unknown`.
 fn stream_kind(answer: io::Result<bool>, is_terminal: bool) -> StreamKind
     ensures session { IfOk answer (λ yes. IsTrue yes → result ≡ StreamKind.Session) }
     ensures other { IfOk answer (λ yes. yes ≡ false → result ≡ StreamKind.Other) }
@@ -177,7 +179,7 @@ fn refused(input: StreamKind, output: StreamKind, errors: StreamKind) -> Option<
     }
 }
 
-// Returns the output streams to which the program must write nothing.
+// Returns the output streams that are session files, or could be.
 fn unusable(output: StreamKind, errors: StreamKind) -> Streams
     ensures output { result.output ≡ false ↔ output ≡ StreamKind.Other }
     ensures errors { result.errors ≡ false ↔ errors ≡ StreamKind.Other }
@@ -198,8 +200,8 @@ fn may_be_session(stream: StreamKind) -> bool
     }
 }
 
-// Checks that the host says which file a stream is, and returns false. (This is for standard input,
-// which is allowed to be a session file.)
+// Checks that the host says which file a stream is, and returns false: the stream does not count as
+// a session file. (This is for standard input, which is allowed to be a session file.)
 fn check_stream_is_known<R: Files>(rt: &R, stream: &str) -> io::Result<bool> {
     fs::metadata(rt, stream)?;
     Ok(false)
@@ -228,7 +230,7 @@ fn has_session_name<R: Files<File = File>>(rt: &R, stream: &str) -> io::Result<b
     Ok(is_session_name(&found))
 }
 
-/// Returns true if these bytes are the name at the start of a session file.
+/// Returns true if these bytes are `MCS4BEN1`, the name at the start of each session file.
 pub(crate) fn is_session_name(found: &[u8]) -> bool
     ensures { IsTrue result ↔ (found.now ≡ NAME) }
 {
@@ -272,8 +274,8 @@ fn streams_matching<R: Files>(rt: &R, named: &Metadata) -> Result<Streams, FileF
     })
 }
 
-// Returns true if a stream is the file `named`, given the host's answer about the stream. Fails if
-// the host did not answer.
+// Returns true if a stream is the file `named`, given the host's answer about the stream. Fails
+// with `StreamsUnknown` if `answer` is an error.
 fn is_stream(answer: io::Result<Metadata>, named: &Metadata) -> Result<bool, FileFault>
     ensures answered { IsOk answer → IsOk result }
     ensures unanswered { IsErr answer → IsErrOf result FileFault.StreamsUnknown }

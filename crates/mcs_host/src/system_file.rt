@@ -1,11 +1,12 @@
-//! Files of the operating system. Each method makes the call that it is named after, and records
-//! the call with its answer. No contract can check this, so a human reviewer must.
+//! Files of the operating system. The methods make the host calls that the method names describe,
+//! and record each call on an open file together with its answer. No contract can check this, so a
+//! human reviewer must.
 ghost use Rattle.mcs_host.specs.SystemFile.{system_state};
 ghost use Rattle.std.specs.Prelude.{◌≡◌, [], length};
 
 use crate::file_fault::FileFault;
 use crate::host_file::{Host, HostFile};
-use crate::host_record::{HostRecord, HostRequest};
+use crate::host_record::{AnsweredRequest, HostRecord};
 use crate::opening::folder_of;
 use crate::streams::{Streams, is_same_file, streams_of_file};
 use std::alloc::Global;
@@ -46,15 +47,16 @@ impl HostFile for SystemFile {
 
     fn try_lock(&mut self) -> Result<(), TryLockError> {
         let answer = self.file.try_lock();
-        self.history.note(&HostRequest::Lock(answer.is_ok()), &[]);
+        self.history
+            .note(&AnsweredRequest::Lock(answer.is_ok()), &[]);
         answer
     }
 
     fn length(&mut self) -> io::Result<u64> {
         let answer = length_of(&self.file);
         match answer {
-            Ok(n) => self.history.note(&HostRequest::Length(n, true), &[]),
-            Err(_) => self.history.note(&HostRequest::Length(0, false), &[]),
+            Ok(n) => self.history.note(&AnsweredRequest::Length(n, true), &[]),
+            Err(_) => self.history.note(&AnsweredRequest::Length(0, false), &[]),
         }
         answer
     }
@@ -62,35 +64,35 @@ impl HostFile for SystemFile {
     fn set_length(&mut self, to: u64) -> io::Result<()> {
         let answer = self.file.set_len(to);
         self.history
-            .note(&HostRequest::SetLength(to, answer.is_ok()), &[]);
+            .note(&AnsweredRequest::SetLength(to, answer.is_ok()), &[]);
         answer
     }
 
     fn read_at(&mut self, at: usize, into: &mut [u8]) -> io::Result<()> {
         let answer = self.file.read_exact_at(into, at as u64);
         self.history
-            .note(&HostRequest::ReadAt(at, answer.is_ok()), into);
+            .note(&AnsweredRequest::ReadAt(at, answer.is_ok()), into);
         answer
     }
 
     fn write_at(&mut self, at: usize, from: &[u8]) -> io::Result<()> {
         let answer = self.file.write_all_at(from, at as u64);
         self.history
-            .note(&HostRequest::WriteAt(at, answer.is_ok()), from);
+            .note(&AnsweredRequest::WriteAt(at, answer.is_ok()), from);
         answer
     }
 
     fn sync_data(&mut self) -> io::Result<()> {
         let answer = self.file.sync_data();
         self.history
-            .note(&HostRequest::SyncData(answer.is_ok()), &[]);
+            .note(&AnsweredRequest::SyncData(answer.is_ok()), &[]);
         answer
     }
 
     fn sync_all(&mut self) -> io::Result<()> {
         let answer = self.file.sync_all();
         self.history
-            .note(&HostRequest::SyncAll(answer.is_ok()), &[]);
+            .note(&AnsweredRequest::SyncAll(answer.is_ok()), &[]);
         answer
     }
 }
@@ -120,7 +122,7 @@ impl<R: Files<File = File>> Host for R {
         let mut options = OpenOptions::new();
         options.read(true).write(true).create(true);
         let mut made = SystemFile::new(options.open(self, name)?, name);
-        made.history.note(&HostRequest::OpenedOrCreated, &[]);
+        made.history.note(&AnsweredRequest::OpenedOrCreated, &[]);
         Ok(made)
     }
 
@@ -128,7 +130,7 @@ impl<R: Files<File = File>> Host for R {
         let answer = names_file(self, name, &file.file);
         let is_yes = matches!(answer, Ok(true));
         file.history
-            .note(&HostRequest::IsNamed(is_yes), name.as_bytes());
+            .note(&AnsweredRequest::IsNamed(is_yes), name.as_bytes());
         answer
     }
 
@@ -136,7 +138,7 @@ impl<R: Files<File = File>> Host for R {
         let answer = is_name_of_link(self, name);
         let is_yes = matches!(answer, Ok(true));
         file.history
-            .note(&HostRequest::IsLink(is_yes), name.as_bytes());
+            .note(&AnsweredRequest::IsLink(is_yes), name.as_bytes());
         answer
     }
 
@@ -149,11 +151,11 @@ impl<R: Files<File = File>> Host for R {
         match self.canonicalize(alloc, name) {
             Ok(real_path) => {
                 let real = real_path.as_str().as_bytes();
-                file.history.note(&HostRequest::RealName(true), real);
+                file.history.note(&AnsweredRequest::RealName(true), real);
                 Ok(real_path)
             }
             Err(error) => {
-                file.history.note(&HostRequest::RealName(false), &[]);
+                file.history.note(&AnsweredRequest::RealName(false), &[]);
                 Err(error)
             }
         }
@@ -163,7 +165,7 @@ impl<R: Files<File = File>> Host for R {
         let answer = sync_folder(self, folder);
         let is_ok = answer.is_ok();
         file.history
-            .note(&HostRequest::SyncFolder(is_ok), folder.as_bytes());
+            .note(&AnsweredRequest::SyncFolder(is_ok), folder.as_bytes());
         answer
     }
 
@@ -180,8 +182,8 @@ fn is_name_of_link<R: Files<File = File>>(rt: &R, name: &str) -> io::Result<bool
     Ok(fs::symlink_metadata(rt, name)?.is_symlink())
 }
 
-// Follows a chain of links that leads to no file, as far as the host would follow it. Fails if the
-// folder of a link's target has no name without links.
+// Follows symbolic links from `name`, at most `MAX_LINKS` of them. Fails if the host gives no real
+// path for the folder of a link's target, for example because that path is not valid UTF-8.
 fn check_removable<R: Files<File = File>>(rt: &R, alloc: Global, name: &str) -> io::Result<()> {
     let mut link = PathBuf::from_str(alloc, name)?;
     for _ in 0..MAX_LINKS {

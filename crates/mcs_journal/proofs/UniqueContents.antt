@@ -4,7 +4,8 @@ use Rattle.std.proofs.lemmas.List.{take_at, drop_at}
 use Rattle.mcs_disk.specs.Disk.{part}
 use Rattle.mcs_journal.specs.File.{Holds, frames_of, be32, slot_at}
 
--- two lists of records with equal bytes, up to a commit byte that is not 1, are equal
+-- two logs with equal bytes have equal records, if a commit byte that is not 1 (`g` and `h`) ends
+-- the records of each log
 equal_frames_have_equal_records : (rs ss : List (List ℕ)) (g h : ℕ) (xs ys : List ℕ) → g ≢ 1 → h ≢ 1 → frames_of rs ++ g ∷ xs ≡ frames_of ss ++ h ∷ ys → rs ≡ ss
 equal_frames_have_equal_records [] [] g h xs ys shut ends_log same = refl
 equal_frames_have_equal_records [] (s ∷ ss) g h xs ys shut ends_log same = let one : g ≡ 1 = cc in absurd (shut one)
@@ -20,17 +21,17 @@ equal_frames_have_equal_records (r ∷ rs) (s ∷ ss) g h xs ys shut ends_log sa
     let more = equal_frames_have_equal_records rs ss g h xs ys shut ends_log rest in
     (λ k. head k ∷ more k)
 
--- two numbers up to 16,380 with the same four bytes are equal
+-- two numbers up to 16,380 are equal if their four bytes (`be32`) are equal
 be32_is_injective : (m n : ℕ) → m ≤ 16380 → n ≤ 16380 → be32 m ≡ be32 n → m ≡ n
 be32_is_injective m n file_size within_limit same =
     let high : m / 256 % 256 ≡ n / 256 % 256 = cc in
     let low : m % 256 ≡ n % 256 = cc in
     omega (arith, high, low)
 
-pub same_snap : (file snap other : List ℕ) (rs ss : List (List ℕ)) → Holds file snap rs → Holds file other ss → snap ≡ other
-same_snap file snap other rs ss a b =
+pub snapshot_is_unique : (file snap other : List ℕ) (rs ss : List (List ℕ)) → Holds file snap rs → Holds file other ss → snap ≡ other
+snapshot_is_unique file snap other rs ss a b =
     let long = be32_is_injective (length snap) (length other) a.within_limit b.within_limit (sym a.snap_length ∙ b.snap_length) in
     sym a.snap_bytes ∙ ap (λ (n : ℕ). part (slot_at file + 4) n file) long ∙ b.snap_bytes
 
-pub same_records : (file snap other : List ℕ) (rs ss : List (List ℕ)) → Holds file snap rs → Holds file other ss → rs ≡ ss
-same_records file snap other rs ss a b = equal_frames_have_equal_records rs ss _ _ _ _ a.log.ends_log b.log.ends_log (sym a.log.is ∙ b.log.is)
+pub records_are_unique : (file snap other : List ℕ) (rs ss : List (List ℕ)) → Holds file snap rs → Holds file other ss → rs ≡ ss
+records_are_unique file snap other rs ss a b = equal_frames_have_equal_records rs ss _ _ _ _ a.log.ends_log b.log.ends_log (sym a.log.is ∙ b.log.is)

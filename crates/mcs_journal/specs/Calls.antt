@@ -1,5 +1,5 @@
 -- The calls on the disk that each method of a store makes. All lists of calls are newest first.
--- (Our own choice.)
+-- (Defined by Fethsaim, not by Intel.)
 use Rattle.std.specs.Prelude.{◌≡◌, ◌⊎◌, ◌+◌, ◌*◌, ℕ, List, [], ◌∷◌, ◌++◌, length, replicate, Result}
 use Rattle.mcs_disk.specs.CallList.{MakesCalls}
 use Rattle.mcs_disk.specs.Calls.{DiskCall, Synced, WasRead, Wrote}
@@ -11,7 +11,7 @@ use Rattle.mcs_journal.specs.declared.format.TheConstants.{FIRST_HEADER, SELECTO
 use Rattle.mcs_journal.specs.declared.slot.Slot.{Slot}
 use Rattle.mcs_journal.specs.declared.slot.Slot.TheVariants.{A}
 
--- a write of the given bytes at the given offset, and then a sync
+-- the calls of a commit: a write of the given bytes at the given offset, and then a sync
 abbrev pub commit_calls : ℕ → List ℕ → List DiskCall
 commit_calls at bytes = Synced ∷ Wrote at bytes ∷ []
 
@@ -32,15 +32,15 @@ append_calls commit_at payload =
     commit_calls commit_at (1 ∷ [])
     ++ commit_calls (commit_at + 1) (be16 (length payload) ++ payload ++ 0 ∷ [])
 
--- The calls that a `replace` makes when it writes into this slot. The first write puts an area into
--- the slot (`IsArea`: a snapshot area, then a commit byte of 0). The second write sets the selector
--- to the slot. A sync follows each write.
+-- The calls that a `replace` makes when it writes into `slot`. The first write puts `area` into the
+-- slot (`IsArea`: a snapshot area, then a commit byte of 0). The second write sets the selector to
+-- the slot. A sync follows each write.
 abbrev pub replace_calls : Slot → List ℕ → List DiskCall
 replace_calls slot area =
     commit_calls SELECTOR_OFFSET (selector_of slot ∷ []) ++ commit_calls (start_of slot) area
 
--- The calls that a `create` makes after its read of the header. The first write puts an area into
--- the first slot, and the second write is the header. A sync follows each write.
+-- The calls that a `create` makes after it has read the header. The first write puts `area`
+-- (`IsArea`) into the first slot, and the second write is the header. A sync follows each write.
 abbrev pub create_calls : List ℕ → List DiskCall
 create_calls area = commit_calls 0 FIRST_HEADER ++ commit_calls (start_of A) area
 
@@ -50,7 +50,8 @@ create_calls area = commit_calls 0 FIRST_HEADER ++ commit_calls (start_of A) are
 abbrev pub open_calls : ℕ → List DiskCall
 open_calls records = read_calls (4 + 3 * records) ++ Synced ∷ []
 
--- holds if the calls `calls area` were made (`MakesCalls`), for some area of this snapshot
+-- holds if the calls `calls area` were made, all of them or up to a failed call (`MakesCalls`);
+-- `area` is some area that contains the snapshot (`IsArea`)
 pub record MakesWithArea {T E : Type 0} (snap : List ℕ) (calls : List ℕ → List DiskCall)
     (old new : List DiskCall) (result : Result T E) : Type 0 where
   pub area : List ℕ
@@ -68,7 +69,7 @@ FailedCreateCalls store_fault.NoMemory snap old new result = new ≡ old
 FailedCreateCalls store_fault.NotASession snap old new result = ⊥
 FailedCreateCalls store_fault.Damaged snap old new result = ⊥
 
--- holds if a failed `open` turned the list of calls `old` into `new`: it added no call, or a sync
--- and then zero or more reads
+-- holds if a failed `open` turned the list of calls `old` into `new`: the `open` added no call, or
+-- it added a sync and then zero or more reads
 abbrev pub FailedOpenCalls : List DiskCall → List DiskCall → Type 0
 FailedOpenCalls old new = (new ≡ old) ⊎ AreReads (Synced ∷ old) new

@@ -1,5 +1,5 @@
--- The contents of a session file: a snapshot and the records after it. (Our own choice;
--- docs/FORMAT.md describes the layout, and src/format.rt defines its sizes as constants.)
+-- The contents of a session file: a snapshot and the records after it. (Defined by Fethsaim, not by
+-- Intel. docs/FORMAT.md describes the layout, and src/format.rt defines its sizes as constants.)
 use Rattle.std.specs.Prelude.{◌≡◌, ◌≢◌, ◌⊎◌, ◌==◌, Bool, nat_le, ℕ, ◌+◌, ◌/◌, ◌%◌, ◌≤◌, List, [], ◌∷◌, ◌++◌, length, slice_index, if◌then◌else◌}
 use Rattle.mcs_disk.specs.Disk.{DiskState, bytes_of, part, size_of}
 use Rattle.mcs_journal.specs.declared.format.TheConstants.{AREA_SIZE, FILE_SIZE, FIRST_SLOT, LOG_SIZE, MOST_RECORD, MOST_SNAPSHOT, NAME, SECOND_SLOT, ZEROS}
@@ -11,20 +11,21 @@ abbrev pub start_of : Slot → ℕ
 start_of A = FIRST_SLOT
 start_of B = SECOND_SLOT
 
--- the slot that a selector names: the first if the selector is even, the second if it is odd
-abbrev pub slot_named : ℕ → Slot
-slot_named selector = if selector % 2 == 0 then A else B
+-- the slot that a selector selects: the first if the selector is even, the second if the selector
+-- is odd
+abbrev pub slot_selected_by : ℕ → Slot
+slot_selected_by selector = if selector % 2 == 0 then A else B
 
--- the active slot of a file: its selector names this slot
+-- the active slot of a file: the slot that the selector byte selects
 abbrev pub slot_of : List ℕ → Slot
-slot_of file = slot_named (slice_index file 8)
+slot_of file = slot_selected_by (slice_index file 8)
 
--- the offset of a file's active slot, which its selector names
+-- the offset of the active slot of a file
 abbrev pub slot_at : List ℕ → ℕ
 slot_at file = start_of (slot_of file)
 
--- A number as two bytes (`be16`) and as four bytes (`be32`), big-endian. If it is below 2^16 or
--- 2^32 respectively, these are the bytes that std's `to_be_bytes` returns.
+-- A number as two bytes (`be16`) and as four bytes (`be32`), big-endian. If the number is below
+-- 2^16 or 2^32 respectively, these are the bytes that std's `to_be_bytes` returns.
 abbrev pub be16 : ℕ → List ℕ
 be16 n = n / 256 ∷ n % 256 ∷ []
 
@@ -57,8 +58,8 @@ pub record IsLog (records : List (List ℕ)) (log : List ℕ) : Type 0 where
   pub records_ok : AreRecords records
 
 -- Holds if a file holds this snapshot and these records. The file begins with the name, the
--- selector and seven zeros. The slot that the selector names has the length of the snapshot, the
--- snapshot, and the log of the records.
+-- selector and seven zeros. The active slot has the length of the snapshot, the snapshot, and the
+-- log of the records.
 pub record Holds (file : List ℕ) (snap : List ℕ) (records : List (List ℕ)) : Type 0 where
   pub size : length file ≡ FILE_SIZE
   pub name : part 0 8 file ≡ NAME
@@ -74,18 +75,19 @@ ContentsAreUnique =
     (file snap other : List ℕ) (records more : List (List ℕ))
     → Holds file snap records → Holds file other more → (snap ≡ other) × (records ≡ more)
 
--- Holds if a log has room for a record of `size` bytes after `used` bytes of frames. The record
--- also needs a commit byte and its length before it, and another commit byte after it.
+-- Holds if a log has room for a record of `size` bytes after `used` bytes of frames. Besides the
+-- record, there must be room for the commit byte and the length before it, and for another commit
+-- byte after it.
 abbrev pub HasRoom : ℕ → ℕ → Type 0
 HasRoom used size = used + 3 + size + 1 ≤ LOG_SIZE
 
--- true if the log has room for the record; `HasRoom` as a boolean
+-- true if the log has room for the record: `HasRoom` as a boolean
 abbrev pub has_room : ℕ → ℕ → Bool
 has_room used size = nat_le (used + 3 + size + 1) LOG_SIZE
 
 -- holds if a disk is not a session file: its size or its name is wrong
-abbrev pub IsNoSession : DiskState → Type 0
-IsNoSession disk = (size_of disk ≢ FILE_SIZE) ⊎ (part 0 8 (bytes_of disk) ≢ NAME)
+abbrev pub IsNotSessionFile : DiskState → Type 0
+IsNotSessionFile disk = (size_of disk ≢ FILE_SIZE) ⊎ (part 0 8 (bytes_of disk) ≢ NAME)
 
 abbrev pub sixteen_zeros : List ℕ
 sixteen_zeros = 0 ∷ 0 ∷ 0 ∷ 0 ∷ 0 ∷ 0 ∷ 0 ∷ 0 ∷ 0 ∷ 0 ∷ 0 ∷ 0 ∷ 0 ∷ 0 ∷ 0 ∷ 0 ∷ []

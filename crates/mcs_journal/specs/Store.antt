@@ -1,4 +1,5 @@
--- The state of a store as contracts see it, and the invariant of its fields. (Our own choice.)
+-- The state of a store as contracts see it, and the invariant of its fields. (Defined by Fethsaim,
+-- not by Intel.)
 use Rattle.std.specs.Prelude.{◌≡◌, ℕ, ◌+◌, ◌≤◌, Bool, List, length, IsTrue}
 use Rattle.mcs_disk.specs.CallList.{unsynced_writes}
 use Rattle.mcs_disk.specs.Disk.{DiskState, bytes_of, size_of}
@@ -16,7 +17,7 @@ pub record StoreView (D : Type 0) : Type 0 where
   -- the number of bytes that the frames of the records occupy in the log
   pub used : ℕ
 
--- The invariant of an open store on an honest disk. The disk is durable, its selector names the
+-- The invariant of an open store on an honest disk. The disk is durable, its selector selects the
 -- slot `slot`, and it holds a snapshot and records. `used` is the number of bytes that the frames
 -- of the records occupy.
 pub record IsIntactStore (disk : DiskState) (slot : Slot) (used : ℕ) : Type 0 where

@@ -1,10 +1,10 @@
 -- The results of `create` and `open`, for each error and for success, in terms of the disk's
--- contents. (Our own choice.)
+-- contents. (Defined by Fethsaim, not by Intel.)
 use Rattle.std.specs.Prelude.{◌≡◌, ◌+◌, ℕ, List, []}
 use Rattle.mcs_disk.specs.Disk.{DiskState, bytes_of, time_of, IsLater}
 use Rattle.mcs_disk.specs.Stretches.{AddsNoImage}
 use Rattle.mcs_disk.specs.PowerCut.{IsDurable}
-use Rattle.mcs_journal.specs.File.{Holds, IsBlank, IsNoSession}
+use Rattle.mcs_journal.specs.File.{Holds, IsBlank, IsNotSessionFile}
 use Rattle.mcs_journal.specs.declared.fault.StoreFault.{StoreFault}
 use Rattle.mcs_journal.specs.declared.fault.StoreFault.TheVariants as store_fault
 
@@ -28,10 +28,10 @@ IsOpenFault store_fault.Device = Unit {0}
 IsOpenFault store_fault.NoMemory = Unit {0}
 IsOpenFault store_fault.NotBlank = ⊥
 
--- what an error of `open` guarantees about the disk before the call
+-- the condition that an error of `open` implies for the disk before the call
 abbrev pub OpenErrorImplies : StoreFault → DiskState → Type 0
-OpenErrorImplies store_fault.NotASession disk = IsNoSession disk
-OpenErrorImplies store_fault.Damaged disk = ¬ (IsNoSession disk) × HoldsNoContents disk
+OpenErrorImplies store_fault.NotASession disk = IsNotSessionFile disk
+OpenErrorImplies store_fault.Damaged disk = ¬ (IsNotSessionFile disk) × HoldsNoContents disk
 OpenErrorImplies store_fault.Device disk = Unit {0}
 OpenErrorImplies store_fault.NoMemory disk = Unit {0}
 OpenErrorImplies store_fault.NotBlank disk = ⊥
@@ -43,7 +43,7 @@ pub record OpensStore (old new : DiskState) (snap : List ℕ) (records : List (L
   pub adds_no_image : AddsNoImage old new
   pub durable : IsDurable new
 
--- what an error of `create` guarantees about the disk before and after the call
+-- the condition that an error of `create` implies for the disk before and after the call
 abbrev pub CreateErrorImplies : StoreFault → DiskState → DiskState → Type 0
 CreateErrorImplies store_fault.NotBlank old new = ¬ (IsBlank old) × AddsNoImage old new
 CreateErrorImplies store_fault.Device old new = IsLater old new

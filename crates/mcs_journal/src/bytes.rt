@@ -3,7 +3,7 @@ ghost use Rattle.std.specs.Prelude.{◌≡◌, ◌<◌, ◌↔◌, [], length, s
 
 use std::marker::Model;
 
-/// A snapshot or a record that was read from a disk. Contracts see it as a list of bytes.
+/// A snapshot or a record that was read from a disk. Contracts see this value as a list of bytes.
 #[derive(Drop)]
 pub struct Bytes {
     pub(crate) bytes: Vec<u8>,

@@ -6,25 +6,26 @@ use std::alloc::{AllocError, AllocFailed};
 use thiserror::Error;
 
 /// An error of [`create`](crate::Store::create) or [`open`](crate::Store::open). The contracts
-/// state which errors each of the two can return (`IsCreateFault`, `IsOpenFault`).
+/// state which errors each of these functions can return (`IsCreateFault`, `IsOpenFault`).
 #[derive(Clone, Copy, Debug, PartialEq, Eq, Error)]
 pub enum StoreFault {
-    /// `open` returns it if the disk's size or name is not that of a session file (refusal 50).
+    /// `open` returns this error if the disk does not have the size and the name of a session file
+    /// (refusal 50).
     #[error("not a session file")]
     NotASession,
-    /// `open` returns it if the size and the name are right, but the bytes do not hold a snapshot
-    /// with its records (refusal 51).
+    /// `open` returns this error if the size and the name are right, but the bytes do not hold a
+    /// snapshot with its records (refusal 51).
     #[error("damaged")]
     Damaged,
-    /// `create` and `open` return it if a call on the disk failed (refusal 53).
+    /// `create` and `open` return this error if a call on the disk failed (refusal 53).
     #[error("the device failed")]
     Device,
-    /// `create` returns it if the disk's size is not that of a session file, or if one of the first
-    /// 16 bytes is not 0 (refusal 55).
+    /// `create` returns this error if the disk is not blank (refusal 55): it does not have the size
+    /// of a session file, or one of its first 16 bytes is not 0.
     #[error("not blank")]
     NotBlank,
-    /// `create` and `open` return it if memory runs out for a buffer, the snapshot or a record
-    /// (refusal 90).
+    /// `create` and `open` return this error if memory runs out for a buffer, the snapshot or a
+    /// record (refusal 90).
     #[error("out of memory")]
     NoMemory,
 }

@@ -3,12 +3,12 @@
 /// The size of a session file, in bytes.
 pub const FILE_SIZE: usize = 163_856;
 
-/// The maximum size of a snapshot, in bytes. The file layout sets this limit, whatever the bytes
-/// mean. The codec's own limit for a state must not be greater.
+/// The maximum size of a snapshot, in bytes. The file layout sets this limit. The longest state
+/// that mcs_codec encodes must not exceed it.
 pub const MOST_SNAPSHOT: usize = 16_380;
 
-/// The maximum size of a record, in bytes. The file layout sets this limit, whatever the bytes
-/// mean. The codec's own limit for a command must not be greater.
+/// The maximum size of a record, in bytes. The file layout sets this limit. The longest command
+/// that mcs_codec encodes must not exceed it.
 pub const MOST_RECORD: usize = 8_192;
 
 /// The size of the header, which consists of the name, the selector and zeros.
@@ -20,8 +20,8 @@ pub const NAME: [u8; 8] = *b"MCS4BEN1";
 /// The size of the name at the start of the file, in bytes.
 pub const NAME_SIZE: usize = 8;
 
-/// The offset of the selector byte. An even selector names the first slot; an odd selector names
-/// the second.
+/// The offset of the selector byte. An even selector selects the first slot; an odd selector
+/// selects the second.
 pub const SELECTOR_OFFSET: usize = 8;
 
 /// The offset of the zero bytes that end the header.
@@ -30,7 +30,7 @@ pub const ZEROS_OFFSET: usize = 9;
 /// The zero bytes that end the header.
 pub const ZEROS: [u8; 7] = [0; 7];
 
-/// The header of a file whose selector is 0 and so names the first slot.
+/// The header of a new file. Its selector is 0, which selects the first slot.
 pub const FIRST_HEADER: [u8; HEADER_SIZE] = *b"MCS4BEN1\0\0\0\0\0\0\0\0";
 
 /// The offset of the first slot in the file.
@@ -52,12 +52,13 @@ pub const LOG_SIZE: usize = 65_536;
 /// The size of a frame's header, which precedes the record: a commit byte and a two-byte length.
 pub const FRAME_HEADER_SIZE: usize = 3;
 
-/// The value of a commit byte that makes the record after it count.
+/// The commit byte in front of a record that is part of the log.
 pub const COMMITTED: u8 = 1;
 
-/// A value of the commit byte that ends the log: no record after it counts.
+/// The commit byte that a store writes at the end of a log. When a log is read, every value except
+/// 1 ends the log.
 pub const NOT_COMMITTED: u8 = 0;
 
-/// The size of a snapshot area and the first commit byte of the log after it. One write covers
-/// both.
+/// The size of a snapshot area together with the first commit byte of the log after it. A store
+/// writes both at once.
 pub const AREA_WITH_COMMIT_SIZE: usize = AREA_SIZE + 1;

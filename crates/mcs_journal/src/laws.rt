@@ -1,5 +1,5 @@
-//! Laws about the file format, and about its contents after a power cut. The contract of each
-//! function states a law; the function itself does nothing.
+//! Laws about the file format, and about the contents of a disk after a power cut. The contract of
+//! each function states a law; the function itself does nothing.
 ghost use Rattle.std.specs.Prelude.{◌⊎◌, ◌≡◌, ◌∷◌, [], ℕ, List, codes};
 ghost use Rattle.mcs_disk.specs.Disk.{bytes_of, time_of};
 ghost use Rattle.mcs_disk.specs.Stretches.{SatisfiesEither, LeavesOnly};
@@ -30,16 +30,17 @@ pub fn layout_values()
     ensures zeros { ZEROS ≡ 0 ∷ 0 ∷ 0 ∷ 0 ∷ 0 ∷ 0 ∷ 0 ∷ [] }
 {}
 
-/// Shows that any file holds at most one snapshot with one list of records. The bytes of the file
-/// therefore determine what [`open`](crate::Store::open) returns.
+/// Shows that any file holds at most one snapshot with one list of records. Therefore the bytes of
+/// the file determine what [`open`](crate::Store::open) returns.
 pub fn contents_are_unique()
     ensures { ContentsAreUnique }
 {}
 
-/// Shows that a power cut leaves one of two contents. The cut happens after a stretch of calls
-/// began, and each image of the stretch must hold one of the two contents.
-/// [`append`](crate::Store::append) and [`replace`](crate::Store::replace) promise this of their
-/// images.
+/// Shows that a power cut leaves one of two contents. The premise is that each image of the disk
+/// since the state `old` holds one of these two contents. The cut happens at the clock of `old` or
+/// later. On an honest disk, [`append`](crate::Store::append) and
+/// [`replace`](crate::Store::replace) satisfy the premise: each image holds the contents from
+/// before or after the call.
 pub fn cut_leaves_old_or_new_contents<D: Disk, E: Disk>()
     ensures { (snap other : List ℕ) (records more : List (List ℕ)) (old new : D) (found : E)
         → LeavesOnly (D.state old) (D.state new)
@@ -48,9 +49,9 @@ pub fn cut_leaves_old_or_new_contents<D: Disk, E: Disk>()
         → Holds (bytes_of (E.state found)) snap records ⊎ Holds (bytes_of (E.state found)) other more }
 {}
 
-/// Shows that a power cut from now on leaves the contents unchanged, if the disk is durable.
-/// [`append`](crate::Store::append) and [`replace`](crate::Store::replace) leave the disk durable
-/// if they return Ok.
+/// Shows that a power cut leaves the contents unchanged if the disk is durable at the moment of the
+/// cut. An honest disk is durable after [`append`](crate::Store::append) or
+/// [`replace`](crate::Store::replace) has returned Ok.
 pub fn cut_leaves_durable_contents<D: Disk, E: Disk>()
     ensures { (snap : List ℕ) (records : List (List ℕ)) (disk : D) (found : E)
         → IsDurable (D.state disk) → Holds (bytes_of (D.state disk)) snap records

@@ -1,8 +1,9 @@
 //! The journal of a session: a file with two slots. Each slot has a snapshot and a log of the
-//! records after it.
+//! records after the snapshot.
 //!
-//! A [`Store`] keeps a snapshot and its records on a disk. If a power cut interrupts a call of the
-//! store, the disk holds the contents from before the call or those from after it.
+//! A [`Store`] keeps a snapshot and its records on a disk. If a power cut interrupts `append` or
+//! `replace`, an honest disk holds the contents from before the call or those from after the call.
+//! A power cut during `create` can leave any bytes.
 #![tactic(auto)]
 
 mod bytes;

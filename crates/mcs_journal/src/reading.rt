@@ -21,7 +21,7 @@ use mcs_disk::{Disk, DiskFault};
 use std::alloc::Global;
 
 /// Fills `into` with the bytes of the disk that start at offset `at`. The read adds no image to the
-/// disk. It fails if the device fails.
+/// disk. Fails if the device fails.
 pub fn read_at<D: Disk>(disk: &mut D, at: usize, into: &mut [u8]) -> Result<(), DiskFault>
     requires { at + length into.old ≤ size_of (D.state disk.old) }
     ensures reads { ReadsOnly (D.state disk.old) (D.state disk.new) (IsErr result) }
@@ -34,9 +34,9 @@ pub fn read_at<D: Disk>(disk: &mut D, at: usize, into: &mut [u8]) -> Result<(), 
     disk.read(at, into)
 }
 
-/// Reads the record whose commit byte is at offset `at`; `room` bytes of the log are left from
-/// there. Returns `None` if the commit byte is not 1. Fails if the commit byte is 1 but no record
-/// that fits follows it, if the device fails, or if memory runs out.
+/// Reads the record whose commit byte is at offset `at`. From that offset on, the log has `room`
+/// bytes. Returns `None` if the commit byte is not 1. Fails if the commit byte is 1 but no record
+/// that fits into the log follows, if the device fails, or if memory runs out.
 pub fn read_record<D: Disk>(
     alloc: Global,
     disk: &mut D,
@@ -120,7 +120,7 @@ pub fn read_log<D: Disk>(alloc: Global, disk: &mut D, at: usize) -> Result<Log, 
     Ok(Log { records, used })
 }
 
-/// Reads the header and returns the slot that its selector names. Fails if the name or the zeros
+/// Reads the header and returns the slot that its selector selects. Fails if the name or the zeros
 /// are wrong, or if the device fails.
 pub fn read_header<D: Disk>(disk: &mut D) -> Result<Slot, StoreFault>
     requires size { size_of (D.state disk.old) ≡ FILE_SIZE }
@@ -181,7 +181,7 @@ pub fn read_snapshot<D: Disk>(
     Ok(Bytes { bytes })
 }
 
-/// The contents that were read from a disk, and the slot that holds them.
+/// The contents that were read from a disk, and the slot that they were read from.
 #[derive(Drop)]
 pub struct FoundContents {
     pub slot: Slot,
@@ -192,7 +192,7 @@ pub struct FoundContents {
 /// Syncs the disk, and reads the contents that it holds. Fails if the disk holds no valid contents,
 /// if the device fails, or if memory runs out.
 ///
-/// Without the sync, a power cut after the call could lose contents that the call has read.
+/// Without the sync, a power cut after the call could lose the contents that the call has returned.
 pub fn read_contents<D: Disk>(alloc: Global, disk: &mut D) -> Result<FoundContents, StoreFault>
     requires size { size_of (D.state disk.old) ≡ FILE_SIZE }
     ensures reads { ReadsOnly (D.state disk.old) (D.state disk.new)

@@ -13,13 +13,13 @@ pub enum Slot {
 }
 
 impl Slot {
-    ghost use Rattle.mcs_journal.specs.File.{slot_named, start_of};
+    ghost use Rattle.mcs_journal.specs.File.{slot_selected_by, start_of};
     ghost use Rattle.mcs_journal.specs.Writing.{other_slot, selector_of};
 
-    /// Returns the slot that a selector names: the first if the selector is even, or the second if
-    /// it is odd.
+    /// Returns the slot that a selector selects: the first if the selector is even, or the second
+    /// if the selector is odd.
     pub fn named(selector: u8) -> Slot
-        ensures { result ≡ slot_named selector }
+        ensures { result ≡ slot_selected_by selector }
     {
         if selector % 2 == 0 { Slot::A } else { Slot::B }
     }
@@ -34,7 +34,8 @@ impl Slot {
         }
     }
 
-    /// Returns the selector value that names this slot when it is written: 0 or 1.
+    /// Returns the selector value that a store writes to select this slot: 0 for the first slot, 1
+    /// for the second.
     pub fn selector(self) -> u8
         ensures { result ≡ selector_of self }
     {

@@ -23,8 +23,9 @@ use std::marker::Model;
 
 /// A snapshot and the records after it, on a disk.
 ///
-/// A call that returns a device fault closes the store. The disk then holds the contents from
-/// before that call or those from after it. Opening the disk again shows which of the two it holds.
+/// A call that returns a device fault closes the store. An honest disk then holds the contents from
+/// before that call or those from after that call. Opening the disk again shows which contents it
+/// holds.
 #[derive(Drop)]
 pub struct Store<D: Disk + Drop> {
     disk: D,
@@ -44,7 +45,7 @@ impl<D: Disk + Drop> Model for Store<D> {
     ghost invariant = { λ s. IsStore (D.state s.disk) s.live s.slot s.used s.buffer.items };
 }
 
-/// The contents that were read from a disk, and the store that will add to them.
+/// The result of [`open`](Store::open): a store, and the contents that were read from its disk.
 #[derive(Drop)]
 pub struct Opened<D: Disk + Drop> {
     pub store: Store<D>,
@@ -58,8 +59,8 @@ impl<D: Disk + Drop> Store<D> {
     /// Creates a store with the snapshot `snap`, of at most 16,380 bytes, and no records. The disk
     /// must have [`FILE_SIZE`](crate::FILE_SIZE) bytes, of which the first 16 are 0.
     ///
-    /// An error returns the disk; if the error is not `Device`, nothing was written. A power cut
-    /// during the call can leave anything.
+    /// An error returns the disk. If the error is not `Device`, nothing was written. A power cut
+    /// during the call can leave any bytes.
     pub fn create(alloc: Global, disk: D, snap: &[u8]) -> Result<Store<D>, (StoreFault, D)>
         requires within_limit { length snap.now ≤ MOST_SNAPSHOT }
 
@@ -117,8 +118,8 @@ impl<D: Disk + Drop> Store<D> {
         }
     }
 
-    /// Opens the store on a disk, and reads its contents. Writes nothing. An error returns the
-    /// disk.
+    /// Opens the store on a disk, and reads the snapshot and the records. Writes nothing. An error
+    /// returns the disk.
     pub fn open(alloc: Global, disk: D) -> Result<Opened<D>, (StoreFault, D)>
         // the next clauses hold on any disk
         ensures live { IfOk result (λ opened. IsTrue opened.store.live) }
@@ -189,7 +190,7 @@ impl<D: Disk + Drop> Store<D> {
         self.live
     }
 
-    /// Returns true if the log has room for one more record, of `len` bytes. `len` is at most
+    /// Returns true if the log has room for one more record of `len` bytes. `len` must be at most
     /// 8,192.
     pub fn has_room(&self, len: usize) -> bool
         requires { len ≤ MOST_RECORD }
@@ -202,8 +203,8 @@ impl<D: Disk + Drop> Store<D> {
         self.used + FRAME_HEADER_SIZE + len + 1 <= LOG_SIZE
     }
 
-    /// Appends a record of 1 to 8,192 bytes to the log, which must have room for it. The store must
-    /// be open. A device fault closes it.
+    /// Appends a record of 1 to 8,192 bytes to the log. The store must be open, and the log must
+    /// have room for the record. A device fault closes the store.
     pub fn append(&mut self, payload: &[u8]) -> Result<(), DiskFault>
         requires live { IsTrue self.old.live }
         requires valid_length { IsRecord payload.now }
@@ -240,7 +241,7 @@ impl<D: Disk + Drop> Store<D> {
     }
 
     /// Replaces the snapshot and all records with a new snapshot of at most 16,380 bytes and no
-    /// records. The store must be open. A device fault closes it.
+    /// records. The store must be open. A device fault closes the store.
     pub fn replace(&mut self, snap: &[u8]) -> Result<(), DiskFault>
         requires live { IsTrue self.old.live }
         requires within_limit { length snap.now ≤ MOST_SNAPSHOT }

@@ -1,6 +1,7 @@
-//! The writes of a store. Each change first writes bytes that nothing reads yet, and syncs. It then
-//! writes the byte that puts them in force, and syncs again. (For a new store, the header puts them
-//! in force.) So the second write never reaches the disk before the bytes that it puts in force.
+//! The writes of a store. Each change first writes bytes outside the part of the disk that `open`
+//! reads, and syncs. A second write then makes these bytes part of the contents, and a second sync
+//! follows. The second write is a commit byte, the selector or, for a new store, the header.
+//! Because of the first sync, the second write never reaches the disk before the first one.
 ghost use Rattle.std.specs.Prelude.{◌≡◌, ◌⊎◌, ◌≤◌, ◌+◌, List, [], ◌∷◌, ◌++◌, ℕ, length, take, slice_index, OnOk, IfErr, IsErr, IsErrOf};
 ghost use Rattle.mcs_disk.specs.Disk.{CountsFault, bytes_of, size_of, time_of, IsLater};
 ghost use Rattle.mcs_disk.specs.Changes.{Changes, ReadsOnly};
@@ -34,7 +35,7 @@ pub fn commit<D: Disk>(disk: &mut D, at: usize, from: &[u8]) -> Result<(), DiskF
     disk.sync()
 }
 
-/// Encodes the bytes that follow a record's commit byte into `buffer`: the record's length, the
+/// Writes the bytes that follow a record's commit byte into `buffer`: the record's length, the
 /// record, and a commit byte of 0.
 pub fn encode_record(buffer: &mut [u8], payload: &[u8])
     requires room { length payload.now + 3 ≤ length buffer.old }
@@ -82,7 +83,7 @@ pub fn add_record<D: Disk>(
     commit(disk, commit_at, &[COMMITTED])
 }
 
-/// Encodes a snapshot area and, after it, a commit byte of 0 into `buffer`.
+/// Writes the snapshot area of `snap` and, after it, a commit byte of 0 into `buffer`.
 pub fn encode_snapshot(buffer: &mut [u8], snap: &[u8])
     requires room { length buffer.old ≡ AREA_WITH_COMMIT_SIZE }
     requires within_limit { length snap.now ≤ MOST_SNAPSHOT }
@@ -126,8 +127,8 @@ pub fn replace_contents<D: Disk>(
     commit(disk, SELECTOR_OFFSET, &[other.selector()])
 }
 
-/// Checks that the first 16 bytes of a disk are 0. Fails with `NotBlank` if they are not, and with
-/// `Device` if the device fails.
+/// Checks that the first 16 bytes of a disk are 0. Fails with `NotBlank` if one of them is not 0,
+/// and with `Device` if the device fails.
 pub fn check_blank<D: Disk>(disk: &mut D) -> Result<(), StoreFault>
     requires size { size_of (D.state disk.old) ≡ FILE_SIZE }
     ensures reads { ReadsOnly (D.state disk.old) (D.state disk.new)
@@ -152,7 +153,7 @@ pub fn check_blank<D: Disk>(disk: &mut D) -> Result<(), StoreFault>
     Ok(())
 }
 
-/// Writes the snapshot and no records into the first slot, and then the header that names this
+/// Writes the snapshot and no records into the first slot, and then a header that selects this
 /// slot. Fails if the device fails.
 pub fn write_first<D: Disk>(disk: &mut D, buffer: &mut [u8], snap: &[u8]) -> Result<(), DiskFault>
     requires size { size_of (D.state disk.old) ≡ FILE_SIZE }

@@ -15,8 +15,8 @@ use mcs_nibble::{Bit, Nibble};
 use mcs_shift4003::Chain;
 use std::marker::Model;
 
-/// A board and the states of its keys. Only the board stores the key matrix. In contracts the value is the board and
-/// a list of key states, row by row: 1 if the key is down, 0 if it is up.
+/// A board and the states of its keys. Only the board stores the key matrix. In contracts, the value of a key pad is
+/// the board and a list of key states, row by row: 1 for a key that is down, 0 for a key that is up.
 #[derive(Drop)]
 pub struct KeyPad {
     board: Board,
@@ -82,8 +82,8 @@ impl KeyPad {
         }
     }
 
-    /// Returns a nibble in which bit k is 1 if a key pulls line k of ROM `chip` to 1. `bits` is the chain that drives
-    /// the rows of the key matrix. It must have a bit for each row.
+    /// Returns a nibble in which bit `k` is 1 if a key pulls line `k` of ROM `chip` to 1. `bits` is the chain that
+    /// drives the rows of the key matrix. The chain must have a bit for each row.
     #[inline]
     pub fn lines_pulled<const MAX: usize>(&self, bits: &Chain<MAX>, chip: Nibble) -> Nibble
         requires { (matrix_of_board self.now.board).first + (matrix_of_board self.now.board).rows

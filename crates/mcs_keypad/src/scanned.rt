@@ -1,8 +1,8 @@
 //! Key states, and the column masks from which a read of a port is computed.
 //!
-//! A column mask is a byte in which bit j represents column j. Each row has a mask of the columns in which its key is
-//! down. Each line of each ROM has a mask of the columns that pull it. A read of a port takes about ten ORs of row
-//! masks and four ANDs with line masks. This does not depend on the number of keys.
+//! A column mask is a byte in which bit `j` represents column `j`. Each row has a mask of the columns in which its key
+//! is down. Each line of each ROM has a mask of the columns that pull this line. A read of a port takes about ten ORs
+//! of row masks and four ANDs with line masks. The number of these operations does not depend on the number of keys.
 
 ghost use Rattle.std.specs.Prelude.{◌≡◌, ℕ, ◌+◌, ◌*◌, ◌/◌, ◌%◌, ◌<◌, ◌≤◌, Bool, ◌&&◌, All, length, replicate, slice_index, slice_index_or, slice_set};
 ghost use Rattle.std.specs.List.{list_any, range_with_len};
@@ -24,15 +24,15 @@ const ROW_MASKS: usize = KEY_ROWS as usize;
 // The number of line masks: one for each line of each ROM.
 const LINE_MASKS: usize = 4 * ROMS;
 
-/// The key states of a matrix, and the column masks of its rows and of all ROM lines. In a column mask, bit j
-/// represents column j.
+/// The key states of a matrix, and the column masks of its rows and of all ROM lines. In a column mask, bit `j`
+/// represents column `j`.
 #[derive(Drop)]
 pub(crate) struct ScannedKeys {
     // The key states, row by row.
     down: ArrayVec<Bit, KEYS>,
     // For each row, the mask of the columns in which its key is down.
     rows: [u8; ROW_MASKS],
-    // At index 4 * c + k, the mask of the columns that pull line k of ROM c.
+    // At index `4 * c + k`, the mask of the columns that pull line `k` of ROM `c`.
     lines: [u8; LINE_MASKS],
 }
 
@@ -65,8 +65,8 @@ fn is_down(down: &[Bit], at: usize) -> bool
     }
 }
 
-/// Returns the column mask of a row with `columns` keys: bit j is 1 if key `from` + j is down. The first key of the
-/// row has index `from`. Bits from `columns` on are 0.
+/// Returns the column mask of a row with `columns` keys: bit `j` is 1 if the key at index `from + j` is down. The
+/// first key of the row has index `from`. Bits from `columns` on are 0.
 fn row_mask(down: &[Bit], from: usize, columns: usize) -> u8
     requires columns { columns ≤ KEY_COLUMNS }
     requires from { from ≤ KEYS }
@@ -81,7 +81,7 @@ fn row_mask(down: &[Bit], from: usize, columns: usize) -> u8
     byte
 }
 
-/// Returns the column mask of one ROM line: bit j is 1 if column j pulls line `k` of ROM `chip`.
+/// Returns the column mask of one ROM line: bit `j` is 1 if column `j` pulls line `k` of ROM `chip`.
 fn line_mask(columns: &[Line], chip: u8, k: u8) -> u8
     requires { length columns.now ≤ KEY_COLUMNS }
     ensures { IsColumnMask result (length columns.now)
@@ -96,7 +96,7 @@ fn line_mask(columns: &[Line], chip: u8, k: u8) -> u8
     byte
 }
 
-/// Returns the column mask of each of the first `rows` rows: bit j is 1 if the row's key in column j is down.
+/// Returns the column mask of each of the first `rows` rows: bit `j` is 1 if the row's key in column `j` is down.
 fn row_masks(down: &[Bit], rows: u8, columns: usize) -> [u8; ROW_MASKS]
     requires rows { rows ≤ KEY_ROWS }
     requires columns { columns ≤ KEY_COLUMNS }
@@ -110,8 +110,8 @@ fn row_masks(down: &[Bit], rows: u8, columns: usize) -> [u8; ROW_MASKS]
     bytes
 }
 
-/// Returns the column masks of all ROM lines. The mask at index 4 * c + k is that of line k of ROM c: bit j is 1 if
-/// column j pulls this line.
+/// Returns the column masks of all ROM lines. The mask of line `k` of ROM `c` is at index `4 * c + k`: bit `j` is 1
+/// if column `j` pulls this line.
 fn line_masks(columns: &[Line]) -> [u8; LINE_MASKS]
     requires { length columns.now ≤ KEY_COLUMNS }
     ensures { (i : ℕ) → i < LINE_MASKS →
@@ -137,7 +137,7 @@ fn have_common_column(line: u8, driven_columns: u8) -> Bit
     }
 }
 
-/// Returns the states of `rows` * `columns` keys that are all up.
+/// Returns the states of `rows * columns` keys that are all up.
 fn all_keys_up(rows: u8, columns: usize) -> ArrayVec<Bit, KEYS>
     requires rows { rows ≤ KEY_ROWS }
     requires columns { columns ≤ KEY_COLUMNS }
@@ -243,7 +243,7 @@ impl ScannedKeys {
         driven_columns
     }
 
-    /// Returns a nibble in which bit k is 1 if a key of the matrix pulls line k of ROM `chip` to 1. `bits` is the
+    /// Returns a nibble in which bit `k` is 1 if a key of the matrix pulls line `k` of ROM `chip` to 1. `bits` is the
     /// chain that drives the rows of the matrix.
     pub(crate) fn lines_pulled<const MAX: usize>(
         &self,

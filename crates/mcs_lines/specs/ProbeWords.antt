@@ -1,4 +1,5 @@
--- The places that `trace` accepts, and the probe of each place. (Our own choice.)
+-- The places that `trace` accepts, and the probe of each place. (Defined by Fethsaim, not by
+-- Intel.)
 use Rattle.std.specs.Prelude.{ℕ, zero, suc, ◌==◌, Bool, true, false, List, [], ◌∷◌, codes, Option, Some, None, Result, Ok, Err, if◌then◌else◌}
 use Rattle.mcs_model.specs.Numerals.{number_up_to}
 use Rattle.mcs_model.specs.declared.command.Command.{Command}
@@ -26,12 +27,14 @@ probe_at (place.Rom at byte) = Rom at
 probe_at (place.Ram bank src n) = Ram bank src
 probe_at (place.Status bank high k n) = Status bank high k
 
--- the probe of the place to which a `poke` command writes, or an error for any other command
+-- the probe that reads the place to which a `poke` command writes, or the error `NotACommand` for
+-- any other command
 abbrev pub probe_of_command : Command → Result Probe LineFault
 probe_of_command (Poke place) = Ok (probe_at place)
 probe_of_command _ = Err NotACommand
 
--- the probe of the place to which a `poke` request writes, or an error for any other request
+-- The probe that reads the place to which a `poke` request writes. For a refused request, the error
+-- is the reason for the refusal. For any other request, the error is `NotACommand`.
 abbrev pub probe_of_request : Request → Result Probe LineFault
 probe_of_request (Change command) = probe_of_command command
 probe_of_request (Refused fault) = Err fault
@@ -42,10 +45,10 @@ probe_of_request _ = Err NotACommand
 abbrev pub probe_of_poke : List ℕ → Result Probe LineFault
 probe_of_poke word = probe_of_request (poke_of word (codes "0"))
 
--- the probe, or the error `BadNumber` if there is none
-abbrev pub or_bad_probe : Option Probe → Result Probe LineFault
-or_bad_probe None = Err BadNumber
-or_bad_probe (Some p) = Ok p
+-- the probe, or the error `BadNumber` for `None`
+abbrev pub probe_or_bad_number : Option Probe → Result Probe LineFault
+probe_or_bad_number None = Err BadNumber
+probe_or_bad_number (Some p) = Ok p
 
 -- ---- the probes of lines and chain bits, from their numbers
 
@@ -92,68 +95,70 @@ chain_probe n = elim (number_up_to 3 n) [ None ↦ None | Some n ↦ Some (Chain
 
 -- ---- the parts of a word
 
--- the bytes after a prefix of a word, if the word has that prefix
+-- the bytes of a word after a prefix, or `None` if the word does not begin with the prefix
 abbrev pub after_prefix : List ℕ → List ℕ → Option (List ℕ)
 after_prefix [] bytes = Some bytes
 after_prefix (p ∷ ps) [] = None
 after_prefix (p ∷ ps) (b ∷ bytes) = if b == p then after_prefix ps bytes else None
 
--- the number after a prefix of a word, if the word is that prefix followed by a number
+-- the number in a word after a prefix, or `None` if the word does not consist of the prefix and a
+-- number
 abbrev pub number_after_prefix : List ℕ → List ℕ → Option (List ℕ)
 number_after_prefix start name = elim (after_prefix start name) [
   | None ↦ None
   | Some n ↦ if is_number n then Some n else None
 ]
 
--- the number after a prefix, if the word is that prefix and a number, and `k` is a number too; `k`
--- is another part of the same word
+-- The number in `name` after the prefix `start`, if a later part of the word, `k`, is a number,
+-- too. `None` if `k` is not a number, or if `name` does not consist of the prefix and a number.
 abbrev pub number_before_number : List ℕ → List ℕ → List ℕ → Option (List ℕ)
 number_before_number start name k = if is_number k then number_after_prefix start name else None
 
 -- ---- the probe of a word, from its parts between dots
 
--- the probe of `romC`, `chainN` or a place that `poke` accepts
+-- the probe of a word that is `romC`, `chainN` or a place that `poke` accepts
 abbrev pub probe_named : List ℕ → Result Probe LineFault
 probe_named word = elim (number_after_prefix (codes "rom") word) [
-  | Some c ↦ or_bad_probe (rom_port_probe c)
+  | Some c ↦ probe_or_bad_number (rom_port_probe c)
   | None ↦ elim (number_after_prefix (codes "chain") word) [
-    | Some n ↦ or_bad_probe (chain_probe n)
+    | Some n ↦ probe_or_bad_number (chain_probe n)
     | None ↦ probe_of_poke word
   ]
 ]
 
--- the places that `trace` accepts by name, but `poke` does not
+-- the places with a fixed name that `trace` accepts but `poke` does not, each with its probe
 abbrev pub probe_names : List (List ℕ × Probe)
 probe_names = (codes "lamps", Lamps) ∷ (codes "ret", ReturnAddresses) ∷ (codes "src", Src) ∷ []
 
--- the probe of a word that has one part, or more than three
+-- the probe of a word that has no dot, or more than two dots
 abbrev pub probe_of_whole_word : List ℕ → Result Probe LineFault
 probe_of_whole_word word = elim (table_entry word probe_names) [ None ↦ probe_named word | Some p ↦ Ok p ]
 
--- the probe of a word of two parts: `ramB.C`, or a place that `poke` accepts
+-- the probe of a word with one dot that is `ramB.C` or a place that `poke` accepts
 abbrev pub ram_port_or_place_probe : List ℕ → List ℕ → List ℕ → Result Probe LineFault
 ram_port_or_place_probe word name c = elim (number_before_number (codes "ram") name c) [
-  | Some b ↦ or_bad_probe (ram_port_probe b c)
+  | Some b ↦ probe_or_bad_number (ram_port_probe b c)
   | None ↦ probe_of_poke word
 ]
 
--- the probe of a word of two parts
+-- the probe of a word with one dot: `romC.K`, `chainN.I`, `ramB.C` or a place of `poke`
 abbrev pub probe_of_two_parts : List ℕ → List ℕ → List ℕ → Result Probe LineFault
 probe_of_two_parts word name k = elim (number_before_number (codes "rom") name k) [
-  | Some c ↦ or_bad_probe (rom_line_probe c k)
+  | Some c ↦ probe_or_bad_number (rom_line_probe c k)
   | None ↦ elim (number_before_number (codes "chain") name k) [
-    | Some n ↦ or_bad_probe (chain_line_probe n k)
+    | Some n ↦ probe_or_bad_number (chain_line_probe n k)
     | None ↦ ram_port_or_place_probe word name k
   ]
 ]
 
--- the probe of a word of three parts
+-- the probe of a word with two dots: `ramB.C.K` or a place of `poke`
 abbrev pub probe_of_three_parts : List ℕ → List ℕ → List ℕ → List ℕ → Result Probe LineFault
 probe_of_three_parts word name c k = elim (number_before_number (codes "ram") name k) [
-  | Some b ↦ if is_number c then or_bad_probe (ram_line_probe b c k) else probe_of_poke word
+  | Some b ↦ if is_number c then probe_or_bad_number (ram_line_probe b c k) else probe_of_poke word
   | None ↦ probe_of_poke word
 ]
 
+-- the probe that `word` names, from the parts of `word` between its dots
 abbrev pub probe_parts : List ℕ → List (List ℕ) → Result Probe LineFault
 probe_parts word (name ∷ k ∷ []) = probe_of_two_parts word name k
 probe_parts word (name ∷ c ∷ k ∷ []) = probe_of_three_parts word name c k
@@ -170,19 +175,22 @@ abbrev pub is_bad_number : LineFault → Bool
 is_bad_number BadNumber = true
 is_bad_number fault = false
 
--- the error to report for two rejected words: the first word's error, unless it is `BadNumber`
-abbrev pub first_fault : LineFault → LineFault → LineFault
-first_fault fault other = if is_bad_number fault then other else fault
+-- the error to report for two rejected words: the error of the first word, or of the second word if
+-- the first error is `BadNumber`
+abbrev pub fault_to_report : LineFault → LineFault → LineFault
+fault_to_report fault other = if is_bad_number fault then other else fault
 
--- a list of probes with one more probe at its front, or the error to report
+-- the list of probes with the probe of an earlier word at its front; if one or both arguments are
+-- errors, the error to report
 abbrev pub with_probe : Result Probe LineFault → Result (List Probe) LineFault → Result (List Probe) LineFault
 with_probe (Ok p) (Ok ps) = Ok (p ∷ ps)
 with_probe (Ok p) (Err fault) = Err fault
 with_probe (Err fault) (Ok ps) = Err fault
-with_probe (Err fault) (Err other) = Err (first_fault fault other)
+with_probe (Err fault) (Err other) = Err (fault_to_report fault other)
 
 -- The probes of the places that words name. The error is `NotACommand` if a word is not a place, or
--- if there are more than `room` words. Otherwise, it is `BadNumber` if a place has a bad number.
+-- if there are more than `room` words. Otherwise, the error is `BadNumber` if a number in a place
+-- is out of range.
 abbrev pub probes_within : ℕ → List (List ℕ) → Result (List Probe) LineFault
 probes_within room [] = Ok []
 probes_within zero (word ∷ words) = Err NotACommand

@@ -1,11 +1,11 @@
--- The request of a parser that returns nothing for a bad number. Only the contracts of private
+-- The request from a parser that returns `None` for a bad number. Only the contracts of private
 -- functions cite this module.
 use Rattle.std.specs.Prelude.{Option, Some, None}
 use Rattle.mcs_lines.specs.declared.requests.Request.{Request}
 use Rattle.mcs_lines.specs.declared.requests.Request.TheVariants.{Refused}
 use Rattle.mcs_lines.specs.declared.requests.LineFault.TheVariants.{BadNumber}
 
--- the request, or the refusal `BadNumber` if there is no request
+-- the parsed request, or the refusal `BadNumber` if the parser returned `None`
 abbrev pub or_bad_number : Option Request → Request
 or_bad_number None = Refused BadNumber
 or_bad_number (Some r) = r

@@ -1,4 +1,5 @@
--- The tables of commands and places, and the request that a line makes. (Our own choice.)
+-- The tables of commands and places, and the request that a line makes. (Defined by Fethsaim, not
+-- by Intel.)
 use Rattle.std.specs.Prelude.{◌==◌, ◌&&◌, Bool, ℕ, List, [], ◌∷◌, codes, nat_lt, is_some, if◌then◌else◌, Option, Some, None}
 use Rattle.std.specs.Str.{bytes_eq}
 use Rattle.mcs_model.specs.WordTables.{lookup_entry}
@@ -18,49 +19,50 @@ use Rattle.mcs_lines.specs.Words.{parts_of_word}
 abbrev pub table_entry : {A : Type 0} → List ℕ → List (List ℕ × A) → Option A
 table_entry word table = lookup_entry (bytes_eq word) table
 
+-- true if a word is a number of any size
 abbrev pub is_number : List ℕ → Bool
 is_number word = is_some (number_in_word word)
 
--- the request that `ask` makes from the number that a word spells; refusal 11 if the word is not a
--- number or is above `most`
+-- the request that `ask` makes from the number in `word`; refusal 11 if `word` is not a number, or
+-- if the number is above `most`
 abbrev pub request_with_number : ℕ → List ℕ → (ℕ → Request) → Request
 request_with_number most word ask =
     elim (number_up_to most word) [ None ↦ Refused BadNumber | Some n ↦ ask n ]
 
 -- ---- places, and the values that `poke` writes to them
 
--- the request of `poke` for a place and a value; refusal 11 if the value is not a number or is
--- above `most`
+-- the request of `poke` for a place and a value; refusal 11 if the value is not a number, or if the
+-- number is above `most`
 abbrev pub poke_value : ℕ → List ℕ → (ℕ → Place) → Request
 poke_value most value place = request_with_number most value (λ v. Change (Poke (place v)))
 
--- the request of `poke rK`
+-- the request of `poke rK`, from the words for K and the value
 abbrev pub poke_register : List ℕ → List ℕ → Request
 poke_register k value = request_with_number 15 k (λ k. poke_value 15 value (λ n. Register k n))
 
--- the request of `poke rom.A`
+-- the request of `poke rom.A`, from the words for A and the value
 abbrev pub poke_rom : List ℕ → List ℕ → Request
 poke_rom a value = request_with_number 4095 a (λ at. poke_value 255 value (λ byte. Rom at byte))
 
--- the request of `poke ram.B.S`
+-- the request of `poke ram.B.S`, from the words for B, S and the value
 abbrev pub poke_ram : List ℕ → List ℕ → List ℕ → Request
 poke_ram b s value =
     request_with_number 7 b (λ bank. request_with_number 255 s (λ src. poke_value 15 value (λ n. Ram bank src n)))
 
--- the request of `poke st.B.H.K`
+-- the request of `poke st.B.H.K`, from the words for B, H, K and the value
 abbrev pub poke_status : List ℕ → List ℕ → List ℕ → List ℕ → Request
 poke_status b h k value =
     request_with_number 7 b (λ bank.
     request_with_number 15 h (λ high.
     request_with_number 3 k (λ k. poke_value 15 value (λ n. Status bank high k n))))
 
--- the request of `poke rK`; any other name is not a place
+-- the request of `poke rK`, from the place and the value; refusal 10 if the place is not `rK`
 abbrev pub poke_numbered : List ℕ → List ℕ → Request
 poke_numbered [] value = Refused NotACommand
 poke_numbered (b ∷ k) value =
     if (b == 114) && is_number k then poke_register k value else Refused NotACommand
 
--- the places that `poke` accepts by name, each with the request for a value
+-- the places of `poke` that have a fixed name, each with the function from the value to the request
 abbrev pub poke_names : List (List ℕ × (List ℕ → Request))
 poke_names =
     (codes "acc", λ value. poke_value 15 value (λ n. Acc n))
@@ -69,13 +71,13 @@ poke_names =
     ∷ (codes "dcl", λ value. poke_value 7 value (λ bank. Dcl bank))
     ∷ []
 
--- the request of `poke` for a place without dots
+-- the request of `poke` for a place without dots: a fixed name or `rK`
 abbrev pub poke_named : List ℕ → List ℕ → Request
 poke_named name value =
     elim (table_entry name poke_names) [ None ↦ poke_numbered name value | Some poke ↦ poke value ]
 
--- the request of `poke`, from the parts of its place; a place of the wrong form (10) is rejected
--- before a number out of range (11)
+-- The request of `poke`, from the parts of its place and the value. A place of the wrong form
+-- (refusal 10) takes precedence over a number that is out of range (refusal 11).
 abbrev pub poke_parts : List (List ℕ) → List ℕ → Request
 poke_parts (name ∷ []) value = poke_named name value
 poke_parts (name ∷ a ∷ []) value =
@@ -88,6 +90,7 @@ poke_parts (name ∷ b ∷ h ∷ k ∷ []) value =
     then poke_status b h k value else Refused NotACommand
 poke_parts parts value = Refused NotACommand
 
+-- the request of `poke`, from the words for its place and for the value
 abbrev pub poke_of : List ℕ → List ℕ → Request
 poke_of place value = poke_parts (parts_of_word place) value
 
@@ -114,18 +117,18 @@ one_word_commands =
 
 -- The number of cycles in `count` or `trace`: 1 to RUN_CYCLES, or `None` for any other word. For
 -- `run`, the parser accepts any 32-bit number; the bench rejects a number that is out of range
--- (44).
+-- (refusal 44).
 abbrev pub cycle_count_of_word : List ℕ → Option ℕ
 cycle_count_of_word word = elim (number_up_to RUN_CYCLES word) [
   | None ↦ None
   | Some n ↦ if nat_lt 0 n then Some n else None
 ]
 
--- the request of `count` for a number of cycles
+-- the request of `count`, from the word for the number of cycles
 abbrev pub count_request : List ℕ → Request
 count_request n = elim (cycle_count_of_word n) [ None ↦ Refused BadNumber | Some n ↦ Count n ]
 
--- the commands with one argument, each with the function from its argument to its request
+-- the commands with one argument, each with the function from the argument to the request
 abbrev pub one_argument_commands : List (List ℕ × (List ℕ → Request))
 one_argument_commands =
     (codes "run", λ a. request_with_number 4294967295 a (λ n. Change (Run n)))
@@ -141,13 +144,13 @@ one_argument_commands =
 abbrev pub listing : ℕ → ℕ → Request
 listing at lines = if nat_lt 0 lines then Listing at lines else Refused BadNumber
 
--- the request that `ask` makes from the numbers that two words spell; refusal 11 if a word is not a
--- number or is above its limit
+-- the request that `ask` makes from the numbers in the words `a` and `b`; refusal 11 if a word is
+-- not a number, or if a number is above its limit (`most` for `a`, `most'` for `b`)
 abbrev pub request_with_numbers : ℕ → List ℕ → ℕ → List ℕ → (ℕ → ℕ → Request) → Request
 request_with_numbers most a most' b ask = request_with_number most a (λ n. request_with_number most' b (λ m. ask n m))
 
--- The commands with two arguments, each with the function from its arguments to its request. The
--- bench rejects rows and columns that the board lacks (41).
+-- The commands with two arguments, each with the function from the arguments to the request. The
+-- bench rejects a row or a column that the board lacks (refusal 41).
 abbrev pub two_argument_commands : List (List ℕ × (List ℕ → List ℕ → Request))
 two_argument_commands =
     (codes "poke", poke_of)
@@ -158,7 +161,7 @@ two_argument_commands =
     ∷ (codes "list", λ a b. request_with_numbers 4095 a LISTING_LINES b listing)
     ∷ []
 
--- the request of a line, from its first word and the words after it; `trace` is not included
+-- the request of a line, from its first word and the words after it; `trace` lines are not included
 abbrev pub request_of_word : List ℕ → List (List ℕ) → Request
 request_of_word word [] = elim (table_entry word one_word_commands) [ None ↦ Refused NotACommand | Some r ↦ r ]
 request_of_word word (a ∷ []) =

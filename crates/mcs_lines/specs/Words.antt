@@ -1,4 +1,4 @@
--- The bytes that a line can have, and the parts of a word. (Our own choice.)
+-- The bytes that a line can have, and the parts of a word. (Defined by Fethsaim, not by Intel.)
 use Rattle.std.specs.Prelude.{◌==◌, ◌&&◌, ◌||◌, Bool, ℕ, List, nat_lt}
 use Rattle.std.specs.List.{slice_split}
 

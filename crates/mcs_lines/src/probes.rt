@@ -1,6 +1,6 @@
 //! Parses the places that a `trace` command lists.
 ghost use Rattle.std.specs.Prelude.{◌≡◌, Ok, Err, None, Some, MatchOption, MatchResult};
-ghost use Rattle.mcs_lines.specs.ProbeWords.{after_prefix, chain_probe, chain_line_probe, is_bad_number, number_after_prefix, number_before_number, or_bad_probe, probe_at, ram_port_or_place_probe, probe_named, probe_of, probe_of_command, probe_of_poke, probe_of_three_parts, probe_of_two_parts, probe_of_whole_word, probes_within, ram_line_probe, ram_port_probe, rom_line_probe, rom_port_probe};
+ghost use Rattle.mcs_lines.specs.ProbeWords.{after_prefix, chain_probe, chain_line_probe, is_bad_number, number_after_prefix, number_before_number, probe_or_bad_number, probe_at, ram_port_or_place_probe, probe_named, probe_of, probe_of_command, probe_of_poke, probe_of_three_parts, probe_of_two_parts, probe_of_whole_word, probes_within, ram_line_probe, ram_port_probe, rom_line_probe, rom_port_probe};
 ghost use Rattle.mcs_model.specs.TextLines.{words_of};
 
 use crate::numbers::{bank, is_number, nibble, status};
@@ -29,7 +29,8 @@ fn probe_at(place: Place) -> Probe
     }
 }
 
-/// Returns the probe of the place to which a `poke` command writes, or the error `NotACommand` for any other command.
+/// Returns the probe that reads the place to which a `poke` command writes. Returns the error `NotACommand` for any
+/// other command.
 fn probe_of_command(command: &Command) -> Result<Probe, LineFault>
     ensures { result ≡ probe_of_command command.now }
 {
@@ -39,8 +40,8 @@ fn probe_of_command(command: &Command) -> Result<Probe, LineFault>
     }
 }
 
-/// Returns the probe of a place that `poke` accepts. Checks the place by parsing `poke` with this place and the value
-/// 0.
+/// Returns the probe of a place that `poke` accepts. Parses the place as the argument of `poke` with the value 0, and
+/// returns the error of `poke` if that fails.
 fn parse_poke_place(word: &[u8]) -> Result<Probe, LineFault>
     ensures { result ≡ probe_of_poke word.now }
 {
@@ -51,9 +52,9 @@ fn parse_poke_place(word: &[u8]) -> Result<Probe, LineFault>
     }
 }
 
-/// Returns the probe, or the error `BadNumber` if there is none.
+/// Returns `probe`, or the error `BadNumber` if `probe` is `None`.
 fn or_bad_number(probe: Option<Probe>) -> Result<Probe, LineFault>
-    ensures { result ≡ or_bad_probe probe }
+    ensures { result ≡ probe_or_bad_number probe }
 {
     match probe {
         Some(probe) => Ok(probe),
@@ -61,14 +62,14 @@ fn or_bad_number(probe: Option<Probe>) -> Result<Probe, LineFault>
     }
 }
 
-/// Returns the probe of line `romC.K` of a ROM, or `None` if `C` or `K` is not a number or is out of range.
+/// Returns the probe of line `romC.K` of a ROM. Returns `None` if `C` or `K` is not a number or is out of range.
 fn rom_line_probe(c: &[u8], k: &[u8]) -> Option<Probe>
     ensures { result ≡ rom_line_probe c.now k.now }
 {
     Some(Probe::Level(Line::Rom(nibble(c)?.get(), status(k)?.get())))
 }
 
-/// Returns the probe of line `ramB.C.K` of a RAM chip, or `None` if `B`, `C` or `K` is not a number or is out of
+/// Returns the probe of line `ramB.C.K` of a RAM chip. Returns `None` if `B`, `C` or `K` is not a number or is out of
 /// range.
 fn ram_line_probe(b: &[u8], c: &[u8], k: &[u8]) -> Option<Probe>
     ensures { result ≡ ram_line_probe b.now c.now k.now }
@@ -77,7 +78,7 @@ fn ram_line_probe(b: &[u8], c: &[u8], k: &[u8]) -> Option<Probe>
     Some(Probe::Level(Line::Ram(bank, status(c)?.get(), status(k)?.get())))
 }
 
-/// Returns the probe of bit `chainN.I` of a chain, or `None` if `N` or `I` is not a number or is out of range.
+/// Returns the probe of bit `chainN.I` of a chain. Returns `None` if `N` or `I` is not a number or is out of range.
 fn chain_line_probe(n: &[u8], i: &[u8]) -> Option<Probe>
     ensures { result ≡ chain_line_probe n.now i.now }
 {
@@ -85,21 +86,22 @@ fn chain_line_probe(n: &[u8], i: &[u8]) -> Option<Probe>
     Some(Probe::Level(Line::Chain(n, number_within(i, 79)? as u8)))
 }
 
-/// Returns the probe of `romC`, the port of a ROM, or `None` if `C` is not a number or is out of range.
+/// Returns the probe of `romC`, the port of a ROM. Returns `None` if `C` is not a number or is out of range.
 fn rom_port_probe(c: &[u8]) -> Option<Probe>
     ensures { result ≡ rom_port_probe c.now }
 {
     Some(Probe::RomPort(nibble(c)?.get()))
 }
 
-/// Returns the probe of `ramB.C`, the port of a RAM chip, or `None` if `B` or `C` is not a number or is out of range.
+/// Returns the probe of `ramB.C`, the port of a RAM chip. Returns `None` if `B` or `C` is not a number or is out of
+/// range.
 fn ram_port_probe(b: &[u8], c: &[u8]) -> Option<Probe>
     ensures { result ≡ ram_port_probe b.now c.now }
 {
     Some(Probe::RamPort(bank(b)?.get(), status(c)?.get()))
 }
 
-/// Returns the probe of `chainN`, all bits of a chain, or `None` if `N` is not a number or is out of range.
+/// Returns the probe of `chainN`, all bits of a chain. Returns `None` if `N` is not a number or is out of range.
 fn chain_probe(n: &[u8]) -> Option<Probe>
     ensures { result ≡ chain_probe n.now }
 {
@@ -124,7 +126,8 @@ fn after_prefix<'a>(start: &[u8], name: &'a [u8]) -> Option<&'a [u8]>
     }
 }
 
-/// Returns the number that follows the prefix `start` in `name`, or `None` if `name` is not that prefix and a number.
+/// Returns the number that follows the prefix `start` in `name`. Returns `None` if `name` does not consist of that
+/// prefix and a number.
 fn number_after_prefix<'a>(start: &[u8], name: &'a [u8]) -> Option<&'a [u8]>
     ensures { MatchOption result (number_after_prefix start.now name.now ≡ None)
         (λ n. number_after_prefix start.now name.now ≡ Some n.now) }
@@ -133,8 +136,8 @@ fn number_after_prefix<'a>(start: &[u8], name: &'a [u8]) -> Option<&'a [u8]>
     if is_number(n) { Some(n) } else { None }
 }
 
-/// Returns the number that follows the prefix `start` in `name`, if `name` is that prefix and a number, and `k` is a
-/// number too. `k` is another part of the same word.
+/// Returns the number that follows the prefix `start` in `name`, if a later part of the word, `k`, is a number, too.
+/// Returns `None` if `k` is not a number, or if `name` does not consist of that prefix and a number.
 fn number_before_number<'a>(start: &[u8], name: &'a [u8], k: &[u8]) -> Option<&'a [u8]>
     ensures { MatchOption result (number_before_number start.now name.now k.now ≡ None)
         (λ n. number_before_number start.now name.now k.now ≡ Some n.now) }
@@ -146,7 +149,8 @@ fn number_before_number<'a>(start: &[u8], name: &'a [u8], k: &[u8]) -> Option<&'
     }
 }
 
-/// Returns the probe of `romC`, `chainN` or a place that `poke` accepts.
+/// Returns the probe of a word that is `romC`, `chainN` or a place that `poke` accepts. Returns an error for any other
+/// word.
 fn parse_named_probe(word: &[u8]) -> Result<Probe, LineFault>
     ensures { result ≡ probe_named word.now }
 {
@@ -159,7 +163,7 @@ fn parse_named_probe(word: &[u8]) -> Result<Probe, LineFault>
     parse_poke_place(word)
 }
 
-/// Returns the probe of a word that has one part, or more than three.
+/// Returns the probe of a word that has no dot, or more than two dots. Returns an error if the word is not a place.
 fn parse_whole_probe(word: &[u8]) -> Result<Probe, LineFault>
     ensures { result ≡ probe_of_whole_word word.now }
 {
@@ -174,7 +178,8 @@ fn parse_whole_probe(word: &[u8]) -> Result<Probe, LineFault>
     }
 }
 
-/// Returns the probe of a word of two parts: `ramB.C`, or a place that `poke` accepts.
+/// Returns the probe of a word with one dot that is `ramB.C` or a place that `poke` accepts. Returns an error for any
+/// other word.
 fn parse_ram_port_or_place(word: &[u8], name: &[u8], c: &[u8]) -> Result<Probe, LineFault>
     ensures { result ≡ ram_port_or_place_probe word.now name.now c.now }
 {
@@ -184,7 +189,8 @@ fn parse_ram_port_or_place(word: &[u8], name: &[u8], c: &[u8]) -> Result<Probe, 
     parse_poke_place(word)
 }
 
-/// Returns the probe of a word of two parts.
+/// Returns the probe of a word with one dot: `romC.K`, `chainN.I`, `ramB.C` or a place that `poke` accepts. Returns an
+/// error for any other word.
 fn parse_two_part_probe(word: &[u8], name: &[u8], k: &[u8]) -> Result<Probe, LineFault>
     ensures { result ≡ probe_of_two_parts word.now name.now k.now }
 {
@@ -197,7 +203,8 @@ fn parse_two_part_probe(word: &[u8], name: &[u8], k: &[u8]) -> Result<Probe, Lin
     parse_ram_port_or_place(word, name, k)
 }
 
-/// Returns the probe of a word of three parts.
+/// Returns the probe of a word with two dots: `ramB.C.K` or a place that `poke` accepts. Returns an error for any other
+/// word.
 fn parse_three_part_probe(word: &[u8], name: &[u8], c: &[u8], k: &[u8]) -> Result<Probe, LineFault>
     ensures { result ≡ probe_of_three_parts word.now name.now c.now k.now }
 {
@@ -209,7 +216,8 @@ fn parse_three_part_probe(word: &[u8], name: &[u8], c: &[u8], k: &[u8]) -> Resul
     parse_poke_place(word)
 }
 
-/// Returns the probe of the place that a word names, or the error `NotACommand` or `BadNumber`.
+/// Returns the probe of the place that a word names. Returns the error `NotACommand` if the word is not a place, or
+/// `BadNumber` if a number in the place is out of range.
 fn parse_probe(word: &[u8]) -> Result<Probe, LineFault>
     ensures { result ≡ probe_of word.now }
 {
@@ -239,7 +247,7 @@ fn is_bad_number(fault: LineFault) -> bool
 }
 
 /// Parses the words of a line as places. Returns `NotACommand` if a word is not a place, or if there are more than
-/// [`MAX_PROBES`] words. Otherwise, returns `BadNumber` if a place has a bad number.
+/// [`MAX_PROBES`] words. Otherwise, returns `BadNumber` if a number in a place is out of range.
 pub(crate) fn parse_probes(line: &[u8]) -> Result<ArrayVec<Probe, MAX_PROBES>, LineFault>
     ensures { MatchResult result
         (λ probes. probes_within MAX_PROBES (words_of line.now) ≡ Ok probes.items)

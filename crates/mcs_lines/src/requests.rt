@@ -60,7 +60,8 @@ pub enum TextKind {
     Wire,
     /// A program to assemble and load.
     Asm,
-    /// A program. The answer gives the address and size of each line, and the value of each name.
+    /// A program. The answer gives the address of each line, the number of bytes that the line assembles to, and the
+    /// value of each name.
     Map,
     /// A board. The answer reports its first error and the line of the error.
     Wiring,
@@ -75,17 +76,17 @@ pub enum Request {
     Nothing,
     /// The line is rejected.
     Refused(LineFault),
-    /// A query about the bench's state. It does not change the state.
+    /// A query about the bench's state, which does not change that state.
     Ask(Query),
     /// A ROM listing of 1 to [`LISTING_LINES`] lines, from an address.
     Listing(Addr, u16),
-    /// The query for the text of the board.
+    /// The query for the text that describes the board.
     Board,
-    /// A count of the instructions that a run would begin at each address. The run has 1 to [`RUN_CYCLES`] cycles. It
-    /// does not change the bench.
+    /// A count of the instructions that a run would begin at each address. The run has 1 to [`RUN_CYCLES`] cycles.
+    /// Counting does not change the bench.
     Count(u32),
-    /// A trace of a run of 1 to [`RUN_CYCLES`] cycles. It reports each instruction that would change one of the
-    /// places, or every instruction if there are no places. It does not change the bench.
+    /// A trace of a run of 1 to [`RUN_CYCLES`] cycles. The trace reports each instruction that would change one of the
+    /// places, or every instruction if there are no places. Tracing does not change the bench.
     Trace(u32, ArrayVec<Probe, MAX_PROBES>),
     /// A command that changes the bench.
     Change(Command),
@@ -93,7 +94,7 @@ pub enum Request {
     Begin(TextKind),
 }
 
-/// Parses a line that has only one word.
+/// Parses a line that consists of the single word `word`.
 fn parse_one_word(word: &[u8]) -> Request
     ensures { result ≡ request_of_word word.now [] }
 {

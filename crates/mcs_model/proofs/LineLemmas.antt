@@ -14,34 +14,35 @@ lines_after whole line (b ∷ text) =
     then strip_carriage_return line ∷ lines_after whole [] text
     else lines_after whole (line ++ b ∷ []) text
 
--- prepending b and then `line` to the first piece is the same as prepending `line` followed by b
-prepend-byte : (line : List ℕ) (b : ℕ) (ps : List (List ℕ)) (p : List ℕ) (rest : List (List ℕ)) → ps ≡ p ∷ rest → prepend_to_first line (onto_first b ps) ≡ prepend_to_first (line ++ b ∷ []) ps
-prepend-byte line b [] p rest e = absurd (cc)
-prepend-byte line b (q ∷ qs) p rest e = ap (λ (v : List ℕ). v ∷ qs) (sym (append_assoc line (b ∷ []) q))
+-- prepending `b` and then `line` to the first piece is the same as prepending `line` followed by
+-- `b`
+prepend_to_first-onto_first : (line : List ℕ) (b : ℕ) (ps : List (List ℕ)) (p : List ℕ) (rest : List (List ℕ)) → ps ≡ p ∷ rest → prepend_to_first line (onto_first b ps) ≡ prepend_to_first (line ++ b ∷ []) ps
+prepend_to_first-onto_first line b [] p rest e = absurd (cc)
+prepend_to_first-onto_first line b (q ∷ qs) p rest e = ap (λ (v : List ℕ). v ∷ qs) (sym (append_assoc line (b ∷ []) q))
 
--- a piece that other pieces follow is a line
+-- a piece before another piece is a line; `line ++ []` is this piece
 lines_in-cons : (whole : Bool) (line : List ℕ) (ps : List (List ℕ)) (p : List ℕ) (rest : List (List ℕ)) → ps ≡ p ∷ rest → lines_in whole ((line ++ []) ∷ ps) ≡ strip_carriage_return line ∷ lines_in whole ps
 lines_in-cons whole line [] p rest e = absurd (cc)
 lines_in-cons whole line (q ∷ qs) p rest e = ap (λ (v : List ℕ). strip_carriage_return v ∷ lines_in whole (q ∷ qs)) (append-nil line)
 
-lines_in-after : (whole : Bool) (line text : List ℕ) → lines_in whole (prepend_to_first line (slice_split is_line_feed text)) ≡ lines_after whole line text
+lines_in-as_lines_after : (whole : Bool) (line text : List ℕ) → lines_in whole (prepend_to_first line (slice_split is_line_feed text)) ≡ lines_after whole line text
 unfolding lines_after
-lines_in-after whole line [] = ap (last_line whole) (append-nil line)
-lines_in-after whole line (b ∷ text) =
+lines_in-as_lines_after whole line [] = ap (last_line whole) (append-nil line)
+lines_in-as_lines_after whole line (b ∷ text) =
     let ps = slice_split is_line_feed text in
     let f = first_piece_of is_line_feed text in
     elim (is_line_feed b) as (λ v. lines_in whole (prepend_to_first line (cond v ([] ∷ ps) (onto_first b ps))) ≡ cond v (strip_carriage_return line ∷ lines_after whole [] text) (lines_after whole (line ++ b ∷ []) text)) [
       | true ↦ lines_in-cons whole line ps f.0 f.1 f.2
           ∙ ap (λ (v : List (List ℕ)). strip_carriage_return line ∷ lines_in whole v) (sym (prepend_to_first-nil ps f.0 f.1 f.2))
-          ∙ ap (λ (v : List (List ℕ)). strip_carriage_return line ∷ v) (lines_in-after whole [] text)
-      | false ↦ ap (lines_in whole) (prepend-byte line b ps f.0 f.1 f.2) ∙ lines_in-after whole (line ++ b ∷ []) text
+          ∙ ap (λ (v : List (List ℕ)). strip_carriage_return line ∷ v) (lines_in-as_lines_after whole [] text)
+      | false ↦ ap (lines_in whole) (prepend_to_first-onto_first line b ps f.0 f.1 f.2) ∙ lines_in-as_lines_after whole (line ++ b ∷ []) text
     ]
 
 pub byte_by_byte : (text : List ℕ) (whole : Bool) → lines text whole ≡ lines_after whole [] text
 unfolding lines
 byte_by_byte text whole =
     let f = first_piece_of is_line_feed text in
-    ap (lines_in whole) (sym (prepend_to_first-nil (slice_split is_line_feed text) f.0 f.1 f.2)) ∙ lines_in-after whole [] text
+    ap (lines_in whole) (sym (prepend_to_first-nil (slice_split is_line_feed text) f.0 f.1 f.2)) ∙ lines_in-as_lines_after whole [] text
 
 -- bytes without a line feed extend the line that is being read
 pub lines_after-append : (whole : Bool) (line bytes more : List ℕ) → HasNoSeparator is_line_feed bytes → lines_after whole line (bytes ++ more) ≡ lines_after whole (line ++ bytes) more
@@ -50,17 +51,17 @@ lines_after-append whole line [] more none = ap (λ (l : List ℕ). lines_after 
 lines_after-append whole line (b ∷ bytes) more none =
     rw none.0 (lines_after-append whole (line ++ b ∷ []) bytes more none.1 ∙ ap (λ (l : List ℕ). lines_after whole l more) (append_assoc line (b ∷ []) bytes))
 
--- a line feed ends a line
-pub lines-feed : (line bytes : List ℕ) (whole : Bool) → HasNoSeparator is_line_feed line → lines (line ++ 10 ∷ bytes) whole ≡ strip_carriage_return line ∷ lines bytes whole
+-- bytes without a line feed, followed by a line feed, are the first line of the text
+pub lines-of_line_and_rest : (line bytes : List ℕ) (whole : Bool) → HasNoSeparator is_line_feed line → lines (line ++ 10 ∷ bytes) whole ≡ strip_carriage_return line ∷ lines bytes whole
 unfolding lines_after
-lines-feed line bytes whole none =
+lines-of_line_and_rest line bytes whole none =
     byte_by_byte (line ++ 10 ∷ bytes) whole ∙ lines_after-append whole [] line (10 ∷ bytes) none
     ∙ ap (λ (ls : List (List ℕ)). strip_carriage_return line ∷ ls) (sym (byte_by_byte bytes whole))
 
 -- if a text contains no line feed, all of it is the last line
-pub lines-no_feed : (line : List ℕ) (whole : Bool) → HasNoSeparator is_line_feed line → lines line whole ≡ last_line whole line
+pub lines-without_line_feed : (line : List ℕ) (whole : Bool) → HasNoSeparator is_line_feed line → lines line whole ≡ last_line whole line
 unfolding lines_after
-lines-no_feed line whole none =
+lines-without_line_feed line whole none =
     ap (λ (l : List ℕ). lines l whole) (sym (append-nil line)) ∙ byte_by_byte (line ++ []) whole ∙ lines_after-append whole [] line [] none
 
 -- a nonempty last line is one line

@@ -5,9 +5,9 @@ use Rattle.std.proofs.lemmas.Bool.{cases_Bool, cases_eq}
 use Rattle.std.proofs.lemmas.List.{length-drop, take_all}
 use Rattle.std.proofs.lemmas.List.Folds.{list_any_at}
 
--- if no element of the list satisfies p, the element at index i does not satisfy p
-pub none_at : {X : Type 0} (p : X → Bool) (xs : List X) (i : ℕ) (d : X) → list_any p xs ≡ false → i < length xs → p (get_or xs i d) ≡ false
-none_at p xs i d none l = elim (cases_Bool (p (get_or xs i d))) [ inl y ↦ absurd (let t = list_any_at p xs i d l y in cc) | inr n ↦ n ]
+-- if no element of the list satisfies `p`, the element at index `i` does not satisfy `p`
+pub test_false-if_list_any_false : {X : Type 0} (p : X → Bool) (xs : List X) (i : ℕ) (d : X) → list_any p xs ≡ false → i < length xs → p (get_or xs i d) ≡ false
+test_false-if_list_any_false p xs i d none l = elim (cases_Bool (p (get_or xs i d))) [ inl y ↦ absurd (let t = list_any_at p xs i d l y in cc) | inr n ↦ n ]
 
 -- a range that is one number longer is the same range, followed by that number
 pub range-one-more : (a n : ℕ) → range_with_len a (suc n) ≡ range_with_len a n ++ (a + n) ∷ []
@@ -16,7 +16,7 @@ range-one-more a (suc n) =
     let e : a + 1 + n ≡ a + suc n = omega arith in
     ap (λ (l : List ℕ). a ∷ l) (range-one-more (a + 1) n ∙ ap (λ (k : ℕ). range_with_len (a + 1) n ++ k ∷ []) e)
 
--- `find` gives k if k satisfies p and no number below k does
+-- `find` gives `k` if `k` is in the range and satisfies `p`, and no number below `k` satisfies `p`
 pub find_at : (p : ℕ → Bool) (a n k : ℕ) → a ≤ k → k < a + n → ((j : ℕ) → j < k → p j ≡ false) → p k ≡ true → find p (range_with_len a n) ≡ Some k
 find_at p a zero k l h before here = absurd (omega arith)
 find_at p a (suc n) k l h before here =
@@ -26,5 +26,5 @@ find_at p a (suc n) k l h before here =
     ]
 
 -- the slice `&list[at..]` is the list without its first `at` elements
-pub take-drop-rest : {X : Type 0} (at : ℕ) (xs : List X) → take (length xs - at) (drop at xs) ≡ drop at xs
-take-drop-rest at xs = take_all (length xs - at) (drop at xs) (omega (arith, length-drop at xs))
+pub take_rest-unchanged : {X : Type 0} (at : ℕ) (xs : List X) → take (length xs - at) (drop at xs) ≡ drop at xs
+take_rest-unchanged at xs = take_all (length xs - at) (drop at xs) (omega (arith, length-drop at xs))

@@ -20,16 +20,16 @@ pub record HasGoodValues (b : BoardParts) : Type 0 where
   pub matrix : has_bad_matrix b ≡ false
   pub lines : any_line (λ line. not (in_range line)) b ≡ false
 
--- holds if all numbers are in range, each named line exists, each key row has its chain bit, and each line has the
--- right direction
+-- holds if all numbers are in range, each named line exists, each key row has its chain bit, and
+-- each line has the right direction
 pub record IsSound (b : BoardParts) : Type 0 where
   pub values : HasGoodValues b
   pub lines : any_line (λ line. not (is_on_board b line)) b ≡ false
   pub rows : lacks_rows b ≡ false
   pub directions : has_wrong_direction b ≡ false
 
-good_values : (b : BoardParts) → has_bad_value b ≡ false → HasGoodValues b
-good_values b h =
+has_good_values : (b : BoardParts) → has_bad_value b ≡ false → HasGoodValues b
+has_good_values b h =
     let banks = list_any (λ n. nat_lt 4 n) b.banks in
     let chains = list_any (λ c. not (is_chain_size c)) b.chains.items in
     let first = or_parts (banks || chains || has_bad_matrix b) (any_line (λ line. not (in_range line)) b) h in
@@ -41,4 +41,4 @@ pub sound : (b : BoardParts) → board_fault_of b ≡ None → IsSound b
 sound b h =
     let parts = no_fault (has_bad_value b) (lacks_line b) (has_wrong_direction b) h in
     let lines = or_parts (any_line (λ line. not (is_on_board b line)) b) (lacks_rows b) parts.1 in
-    record { values = good_values b parts.0; lines = lines.0; rows = lines.1; directions = parts.2 }
+    record { values = has_good_values b parts.0; lines = lines.0; rows = lines.1; directions = parts.2 }

@@ -27,7 +27,8 @@ new_regs = record {
   owed = 0;
 }
 
--- a new bench: the board is empty, TEST is 1, and everything else is 0 or empty (our own choice)
+-- a new bench: the board is empty, TEST is 1, and everything else is 0 or empty (defined by
+-- Fethsaim, not by Intel)
 abbrev pub new_bench_state : BenchState
 new_bench_state = record {
   processor = new_regs;

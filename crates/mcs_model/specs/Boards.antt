@@ -1,5 +1,5 @@
--- The parts of a board, and the conditions under which they form a valid board. (Our own choice,
--- based on what the chips have.)
+-- The parts of a board, and the conditions under which they form a valid board. (Defined by
+-- Fethsaim, not by Intel.)
 use Rattle.std.specs.Prelude.{◌≡◌, ℕ, ◌+◌, ◌*◌, ◌≤◌, Bool, false, ◌&&◌, ◌||◌, not, List, [], replicate, Option, Some, None, is_some, slice_index, slice_index_or, length, nat_lt, nat_le, if◌then◌else◌}
 use Rattle.std.specs.List.{list_any}
 use Rattle.mcs_nibble.specs.declared.lines.LineMask.{LineMask}
@@ -18,24 +18,25 @@ use Rattle.mcs_model.specs.declared.limits.TheConstants.{ROMS, BANKS, BANK_CHIPS
 abbrev pub rom_masks : BoardParts → ℕ → Option (List LineMask)
 rom_masks b chip = slice_index_or b.roms chip None
 
--- true if line k, 0 to 3, of a ROM is an input line; false if the board does not have that ROM
+-- true if line `k` (0 to 3) of ROM `chip` is an input line; false if the board does not have that
+-- ROM
 abbrev pub is_rom_input_line : BoardParts → ℕ → ℕ → Bool
 is_rom_input_line b chip k = elim (rom_masks b chip) [ Some mask ↦ is_input (mask_at mask k) | None ↦ false ]
 
--- The chain that `chain_part` gives if the board has no chain with the given number. It has no
--- bits, and its two lines have no meaning.
+-- The chain that `chain_part` gives if the board has no chain with the given number. This chain has
+-- no bits, and its clock line and data line have no meaning.
 abbrev pub no_chain : ChainPart
 no_chain = record { clock = Rom 0 0; data_in = Rom 0 0; chips = 0 }
 
--- chain i of the board, or `no_chain` if the board has no chain i
+-- chain `i` of the board, or `no_chain` if the board has no chain `i`
 abbrev pub chain_part : BoardParts → ℕ → ChainPart
 chain_part b i = slice_index_or b.chains.items i no_chain
 
 abbrev pub chain_count : BoardParts → ℕ
 chain_count b = length b.chains.items
 
--- the number of bits in chain i: ten for each chip (4003 data sheet; treating the chips as one
--- sequence of bits is our own choice)
+-- the number of bits in chain `i`: ten for each chip (4003 data sheet; Fethsaim, not Intel, defines
+-- that the chips form one sequence of bits)
 abbrev pub chain_bits : BoardParts → ℕ → ℕ
 chain_bits b i = 10 * (chain_part b i).chips
 
@@ -75,8 +76,9 @@ is_output_line b (Rom chip k) = is_on_board b (Rom chip k) && not (is_rom_input_
 is_output_line b (Ram bank chip k) = is_on_board b (Ram bank chip k)
 is_output_line b (Chain n i) = false
 
--- True if p is true for the clock line or the data line of at least one chain. `any_column` and
--- `any_lamp` are the same for key columns and for lamps.
+-- True if `p` is true for the clock line or the data line of at least one chain. `any_column` is
+-- true if `p` is true for the line of at least one key column, and `any_lamp` for the line of at
+-- least one lamp.
 abbrev pub any_chain_line : (Line → Bool) → BoardParts → Bool
 any_chain_line p b = list_any (λ (c : ChainPart). p c.clock || p c.data_in) b.chains.items
 
@@ -86,7 +88,7 @@ any_column p b = elim b.keys [ Some m ↦ list_any p m.columns.items | None ↦ 
 abbrev pub any_lamp : (Line → Bool) → BoardParts → Bool
 any_lamp p b = list_any p b.lamps.items
 
--- true if p is true for at least one line that the parts name
+-- true if `p` is true for at least one line that the parts name
 abbrev pub any_line : (Line → Bool) → BoardParts → Bool
 any_line p b = any_chain_line p b || any_column p b || any_lamp p b
 
@@ -95,7 +97,7 @@ abbrev pub is_chain_size : ChainPart → Bool
 is_chain_size c = nat_lt 0 c.chips && nat_le c.chips CHAIN_CHIPS
 
 -- True if the numbers of a key matrix are in range: chain 0 to 3, first bit 0 to 79, and 1 to 10
--- rows. There must also be at least one column; the type limits the columns to 8.
+-- rows. There must also be at least one column; the type limits the number of columns to 8.
 abbrev pub is_matrix_size : KeyMatrix → Bool
 is_matrix_size m =
     nat_lt m.chain CHAINS && nat_lt m.first CHAIN_BITS && nat_lt 0 m.rows && nat_le m.rows KEY_ROWS
@@ -125,8 +127,8 @@ lacks_rows b =
 abbrev pub lacks_line : BoardParts → Bool
 lacks_line b = any_line (λ line. not (is_on_board b line)) b || lacks_rows b
 
--- true if a clock or data line is not an output line, a column is not an input line, or a lamp is
--- at an input line
+-- true if a clock or data line is not an output line, a column is not an input line, or a lamp
+-- shows an input line
 abbrev pub has_wrong_direction : BoardParts → Bool
 has_wrong_direction b =
     any_chain_line (λ line. not (is_output_line b line)) b
@@ -150,14 +152,15 @@ has_key b row column =
     ]
 
 -- The number of keys on the board. `key_index` is the index of the key at a row and a column; keys
--- are indexed row by row.
+-- are indexed row by row. Both are 0 if the board has no key matrix.
 abbrev pub key_count : BoardParts → ℕ
 key_count b = elim b.keys [ Some m ↦ m.rows * length m.columns.items | None ↦ 0 ]
 
 abbrev pub key_index : BoardParts → ℕ → ℕ → ℕ
 key_index b row column = elim b.keys [ Some m ↦ row * length m.columns.items + column | None ↦ 0 ]
 
--- holds if the lists in the parts have the lengths that their types imply
+-- holds if each list in the parts has the length, or at most the length, that the type of the list
+-- fixes
 pub record HasDeclaredLengths (b : BoardParts) : Type 0 where
   pub roms : length b.roms ≡ ROMS
   pub masks : (chip : ℕ) (mask : List LineMask) → rom_masks b chip ≡ Some mask → length mask ≡ 4

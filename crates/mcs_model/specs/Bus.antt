@@ -1,14 +1,15 @@
--- Everything outside the processor that it accesses: the board, and the contents of its chips.
--- (MCS-4 Users Manual and data sheets, as each definition says. The following is our own choice.
--- Logic is positive: level 1 is the bit 1. The value of the command register, 0 to 7, is the bank
--- number. Each bank stores its own SRC byte. Absent parts contain 0, read as 0 and ignore writes.)
+-- The state outside the processor: the board, the contents of its chips, its keys and the TEST pin.
+-- (MCS-4 Users Manual and data sheets, as each definition says. Four rules are defined by Fethsaim,
+-- not by Intel. Logic is positive: level 1 is the bit 1. The value of the command register, 0 to 7,
+-- is the bank number. Each bank stores its own SRC byte. Absent parts contain 0, read as 0 and
+-- ignore writes.)
 use Rattle.std.specs.Prelude.{ℕ, ◌+◌, ◌*◌, ◌/◌, List, [], replicate, Bool, slice_index, slice_set, if◌then◌else◌, nat_lt}
 use Rattle.mcs_model.specs.declared.board.BoardParts.{BoardParts}
 use Rattle.mcs_model.specs.Boards.{empty_parts}
 
 -- The state of the bus. The comments give the length of each list in a valid state (`IsInRange` of
--- Validity), and the entries that are 0 because a part is absent (`AbsentPartsAreZero`). `fetch_of`,
--- `ram_of` and `status_of` give 0 for absent chips only because these entries are 0.
+-- Validity), and the entries that are 0 because a part is absent (`AbsentPartsAreZero`).
+-- `fetch_of`, `ram_of` and `status_of` give 0 for absent chips only because these entries are 0.
 pub record BusState : Type 0 where
   pub board : BoardParts
   -- the 4,096 ROM bytes, indexed by address; the bytes of absent ROMs are 0
@@ -29,7 +30,8 @@ pub record BusState : Type 0 where
   pub chains : List (List ℕ)
   -- the states of the keys, row by row: 1 for a key that is down
   pub keys : List ℕ
-  -- the level of the TEST pin, set by a command (our own choice: 1 in a new session)
+  -- the level of the TEST pin, set by a command; 1 in a new session (defined by Fethsaim, not by
+  -- Intel)
   pub test : ℕ
 
 -- the state with the empty board and all contents 0
@@ -48,12 +50,13 @@ zero_bus = record {
   test = 0;
 }
 
--- the ROM byte at an address (4001 data sheet); an absent ROM reads as 00 (our own choice)
+-- the ROM byte at an address (4001 data sheet); an absent ROM reads as 00 (defined by Fethsaim, not
+-- by Intel)
 unfoldable pub fetch_of : BusState → ℕ → ℕ
 fetch_of s at = slice_index s.rom at
 
--- the number of chips in a bank; the bank number is the value of the command register (our own
--- choice)
+-- the number of chips in a bank; the bank number is the value of the command register (defined by
+-- Fethsaim, not by Intel)
 abbrev pub chips_of : BusState → ℕ → ℕ
 chips_of s bank = slice_index s.board.banks bank
 
@@ -66,8 +69,9 @@ src_of s bank = slice_index s.ram_src bank
 abbrev pub has_chip : BusState → ℕ → ℕ → Bool
 has_chip s bank src = nat_lt (src / 64) (chips_of s bank)
 
--- The bus after SRC sends a byte. The ROMs store it, and so does the designated bank if it has
--- chips (MCS-4 Users Manual, SRC). That the other banks keep their SRC bytes is our own choice.
+-- The bus after SRC sends a byte. The ROMs store the byte, and so does the designated bank if the
+-- bank has chips (MCS-4 Users Manual, SRC). Fethsaim, not Intel, defines that the other banks keep
+-- their SRC bytes.
 unfoldable pub after_src : BusState → ℕ → ℕ → BusState
 after_src s bank byte =
     if nat_lt 0 (chips_of s bank)
@@ -78,12 +82,13 @@ after_src s bank byte =
 abbrev pub ram_index : ℕ → ℕ → ℕ
 ram_index bank src = bank * 256 + src
 
--- the selected RAM nibble of a bank (4002 data sheet); an absent nibble reads as 0 (our own choice)
+-- the selected RAM nibble of a bank (4002 data sheet); an absent nibble reads as 0 (defined by
+-- Fethsaim, not by Intel)
 unfoldable pub ram_of : BusState → ℕ → ℕ
 ram_of s bank = slice_index s.ram (ram_index bank (src_of s bank))
 
 -- The bus after a write to the RAM nibble that an SRC byte selects in a bank (4002 data sheet). The
--- write is lost if the chip is absent (our own choice).
+-- write is lost if the chip is absent (defined by Fethsaim, not by Intel).
 unfoldable pub with_ram : BusState → ℕ → ℕ → ℕ → BusState
 with_ram s bank src n =
     if has_chip s bank src
@@ -94,13 +99,13 @@ with_ram s bank src n =
 unfoldable pub after_ram : BusState → ℕ → ℕ → BusState
 after_ram s bank n = with_ram s bank (src_of s bank) n
 
--- the index of status character k in a bank; `high`, the upper nibble of an SRC byte, selects the
+-- the index of status character `k` in a bank; `high`, the upper nibble of an SRC byte, selects the
 -- chip and the register
 abbrev pub status_index : ℕ → ℕ → ℕ → ℕ
 status_index bank high k = bank * 64 + (high * 4 + k)
 
--- status character k of the selected register of a bank (4002 data sheet); an absent character
--- reads as 0 (our own choice)
+-- status character `k` of the selected register of a bank (4002 data sheet); an absent character
+-- reads as 0 (defined by Fethsaim, not by Intel)
 unfoldable pub status_of : BusState → ℕ → ℕ → ℕ
 status_of s bank k = slice_index s.status (status_index bank (src_of s bank / 16) k)
 
@@ -108,15 +113,15 @@ status_of s bank k = slice_index s.status (status_index bank (src_of s bank / 16
 abbrev pub ram_port_index : ℕ → ℕ → ℕ
 ram_port_index bank chip = bank * 4 + chip
 
--- The bus after a write to status character k in a bank. `high`, the upper nibble of an SRC byte,
--- selects the chip and the register (4002 data sheet). The write is lost if the chip is absent (our
--- own choice).
+-- The bus after a write to status character `k` in a bank. `high`, the upper nibble of an SRC byte,
+-- selects the chip and the register (4002 data sheet). The write is lost if the chip is absent
+-- (defined by Fethsaim, not by Intel).
 unfoldable pub with_status : BusState → ℕ → ℕ → ℕ → ℕ → BusState
 with_status s bank high k n =
     if nat_lt (high / 4) (chips_of s bank)
     then record s { status = slice_set s.status (status_index bank high k) n }
     else s
 
--- the bus after a write to status character k of the selected register of a bank
+-- the bus after a write to status character `k` of the selected register of a bank
 unfoldable pub after_status : BusState → ℕ → ℕ → ℕ → BusState
 after_status s bank k n = with_status s bank (src_of s bank / 16) k n

@@ -1,7 +1,7 @@
 -- The bus after a change of one location, after a reset, and after a change of the board. In the
--- definitions whose names begin with `with_`, the last argument is the new value. (Our own choices:
--- writes to absent chips are lost, latch bits of input lines stay 0, and which contents a reset and
--- a new board clear.)
+-- definitions whose names begin with `with_`, the last argument is the new value. (Defined by
+-- Fethsaim, not by Intel: writes to absent chips are lost, and latch bits of input lines stay 0.
+-- Fethsaim also defines which contents a reset and a new board clear.)
 use Rattle.std.specs.Prelude.{ℕ, ◌*◌, ◌/◌, List, [], ◌∷◌, Some, None, is_some, map, replicate, slice_index, slice_index_or, slice_set, if◌then◌else◌, nat_lt}
 use Rattle.mcs_nibble.specs.Tables.{table_of}
 use Rattle.mcs_nibble.specs.Ports.{latch_value}
@@ -23,16 +23,17 @@ abbrev pub with_rom_bytes : BusState → List (ℕ × ℕ) → BusState
 with_rom_bytes s [] = s
 with_rom_bytes s (p ∷ image) = with_rom_bytes (with_rom_byte s p.0 p.1) image
 
--- the bus after a write to the port latch of a RAM chip, without clocking; the write is lost if the
--- chip is absent
+-- the bus after a write to the port latch of a RAM chip; no chain is clocked, and the write is lost
+-- if the chip is absent
 unfoldable pub with_ram_latch : BusState → ℕ → ℕ → ℕ → BusState
 with_ram_latch s bank chip n =
     if nat_lt chip (chips_of s bank)
     then with_ram_ports_at s (ram_port_index bank chip) n
     else s
 
--- The bus after a write to the port latch of a ROM, without clocking. Output lines take the bits of
--- n, and input lines 0. The write is lost if the ROM is absent.
+-- The bus after a write of `n` to the port latch of a ROM; no chain is clocked. The latch bits of
+-- output lines become the bits of `n`, and the latch bits of input lines become 0. The write is
+-- lost if the ROM is absent.
 unfoldable pub with_rom_latch : BusState → ℕ → ℕ → BusState
 with_rom_latch s chip n =
     elim (rom_masks s.board chip) [
@@ -48,7 +49,7 @@ with_ram_src s bank byte =
     then record s { ram_src = slice_set s.ram_src bank byte }
     else s
 
--- the bus after bit i of a chain is set; nothing is shifted
+-- the bus after bit `i` of chain `n` is set; nothing is shifted
 abbrev pub with_chain_bit : BusState → ℕ → ℕ → ℕ → BusState
 with_chain_bit s n i bit =
     record s { chains = slice_set s.chains n (slice_set (slice_index_or s.chains n []) i bit) }
@@ -79,8 +80,8 @@ rom_of_board b rom =
 
 -- The bus after the board is replaced. All keys are up, and everything that a reset clears is 0.
 -- The bytes of ROMs that are not on the new board become 0.
-abbrev pub after_wire : BusState → BoardParts → BusState
-after_wire s b = record (after_reset (record s { board = b })) {
+abbrev pub after_board_change : BusState → BoardParts → BusState
+after_board_change s b = record (after_reset (record s { board = b })) {
   rom = rom_of_board b s.rom;
   keys = replicate (key_count b) 0;
 }

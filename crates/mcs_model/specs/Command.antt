@@ -1,5 +1,5 @@
--- The commands that a bench accepts, their effects and their replies. (All of this is our own
--- choice: a command is an action of a user at the bench.)
+-- The commands that a bench accepts, the effects of commands, and the replies of the bench.
+-- (Defined by Fethsaim, not by Intel: a command is an action of a user at the bench.)
 use Rattle.std.specs.Prelude.{ℕ, Bool, ◌+◌, ◌/◌, ◌==◌, ◌&&◌, ◌||◌, length, Option, Some, None, is_none, nat_lt, nat_le, slice_set, if◌then◌else◌}
 use Rattle.std.specs.List.{list_any}
 use Rattle.mcs_model.specs.declared.board.BoardParts.{BoardParts}
@@ -17,7 +17,7 @@ use Rattle.mcs_model.specs.Boards.{has_key, rom_masks}
 use Rattle.mcs_model.specs.Listed.{is_listed, with_listed, without_listed}
 use Rattle.mcs_model.specs.Bus.{BusState, has_chip, chips_of, ram_index, with_ram, with_status}
 use Rattle.mcs_model.specs.BenchState.{BenchState, new_regs}
-use Rattle.mcs_model.specs.ChipWrites.{with_rom_byte, with_rom_bytes, with_key, after_reset, after_wire}
+use Rattle.mcs_model.specs.ChipWrites.{with_rom_byte, with_rom_bytes, with_key, after_reset, after_board_change}
 use Rattle.mcs_model.specs.Running.{Machine, StopConditions, run_length, after_run, run_stop_reason, step_length, after_step, step_stop_reason}
 
 -- ---- which commands are accepted
@@ -94,7 +94,7 @@ with_place s (Status bank high k n) = with_bus s (with_status s.bus bank high k 
 
 -- the state after the effect of a command, before the command is counted
 abbrev pub after_change : BenchState → Command → BenchState
-after_change s (Wire board) = with_machine s (new_regs, after_wire s.bus board)
+after_change s (Wire board) = with_machine s (new_regs, after_board_change s.bus board)
 after_change s (Load image) = with_bus s (with_rom_bytes s.bus image)
 after_change s (Press row column) = with_bus s (with_key s.bus row column 1)
 after_change s (Release row column) = with_bus s (with_key s.bus row column 0)
@@ -109,14 +109,14 @@ after_change s (Watch bank src) = record s { watches = with_listed s.watches (ra
 after_change s (Unwatch bank src) =
     record s { watches = without_listed s.watches (ram_index bank src) }
 
--- The state after an accepted command. Every accepted command adds 1 to the count, even if nothing
--- else changes.
+-- The state after an accepted command. Every accepted command adds 1 to the number of accepted
+-- commands (`seq`), even if nothing else changes.
 abbrev pub after : BenchState → Command → BenchState
 after s c = record (after_change s c) { seq = s.seq + 1 }
 
 -- ---- the replies
 
--- the reply to an accepted command
+-- the reply to a command that is accepted in the state `s`
 abbrev pub reply : BenchState → Command → Reply
 reply s (Load image) = Loaded (length image)
 reply s (Run n) =

@@ -1,5 +1,5 @@
--- Conditions on the beginning and the end of a word, or of another piece of a line. The only
--- contracts that use these definitions are those of private functions.
+-- Conditions on the beginning and the end of a word, or of another piece of a line. Only contracts
+-- of private functions use these definitions.
 use Rattle.std.specs.Prelude.{◌≡◌, Bool, true, false, ℕ, List, [], ◌∷◌}
 use Rattle.mcs_model.specs.TextLines.{is_blank}
 

@@ -1,8 +1,8 @@
 -- The effect of each instruction, and one instruction cycle. (Intel MCS-4 Users Manual, instruction
 -- set: each rule is the manual's description of the instruction, in the manual's three groups. Five
--- rules are our own choice: some opcodes are outside the table; the return addresses are one list;
--- the command register contains the bank number; each bank stores its own SRC byte; a two-cycle
--- instruction does all its work in the first cycle.)
+-- rules are defined by Fethsaim, not by Intel: some opcodes are outside the table; the return
+-- addresses are one list; the command register contains the bank number; each bank stores its own
+-- SRC byte; a two-cycle instruction does all its work in the first cycle.)
 use Rattle.std.specs.Prelude.{ℕ, ◌+◌, ◌-◌, ◌*◌, ◌/◌, ◌%◌, Bool, ◌&&◌, ◌||◌, not, [], ◌∷◌, Option, Some, None, slice_index, if◌then◌else◌, nat_lt, ◌==◌}
 use Rattle.mcs_model.specs.declared.regs.Regs.{Regs}
 use Rattle.mcs_model.specs.declared.op.Op.{Op}
@@ -13,21 +13,22 @@ use Rattle.mcs_model.specs.Bus.{BusState, fetch_of, after_src, ram_of, after_ram
 use Rattle.mcs_model.specs.Levels.{after_ram_port, after_rom_port, port_of}
 use Rattle.mcs_model.specs.Table.{instruction_of, word_count_of, cycles_of}
 
--- the registers with the accumulator set to n
+-- the registers with the accumulator set to `n`
 abbrev pub with_acc : Regs → ℕ → Regs
 with_acc s n = record s { acc = n }
 
--- the registers after a sum x is stored: x % 16 in the accumulator, x / 16 in the carry
+-- the registers after a sum `x` is stored: `x % 16` in the accumulator, `x / 16` in the carry
 abbrev pub with_sum : Regs → ℕ → Regs
 with_sum s x = record s { acc = x % 16; cy = x / 16 }
 
--- The address on the page of `address` whose lower eight bits are w. JCN, ISZ, FIN and JIN use the
--- page of the address after the instruction (Manual, these instructions at the end of a page).
+-- The address with the lower eight bits `w`, on the same page as `address`. JCN, ISZ, FIN and JIN
+-- use the page of the address after the instruction (MCS-4 Users Manual: these instructions at the
+-- end of a page).
 abbrev pub address_on_page_of : ℕ → ℕ → ℕ
 address_on_page_of address w = word_on_page (page_of address) w
 
--- The registers after a jump to word w on the program counter's page. In s, the program counter is
--- already the address after the instruction.
+-- The registers after a jump to word `w` on the program counter's page. In `s`, the program counter
+-- is already the address after the instruction.
 abbrev pub with_pc_on_page : Regs → ℕ → Regs
 with_pc_on_page s w = record s { pc = address_on_page_of s.pc w }
 
@@ -42,25 +43,26 @@ is_taken condition s test =
     || (condition % 2 == 1 && test == 0) in
     if condition / 8 % 2 == 1 then not holds else holds
 
--- JCN: sets the program counter to word w on its page if the jump is taken
+-- JCN: sets the program counter to word `w` on the program counter's page if the jump is taken
 abbrev pub after_jcn : ℕ → ℕ → Regs → ℕ → Regs
 after_jcn condition w s test = if is_taken condition s test then with_pc_on_page s w else s
 
--- ISZ: increments register r, and sets the program counter to word w on its page if the register is
--- then not 0
+-- ISZ: increments register `r`, and sets the program counter to word `w` on the program counter's
+-- page if the register is then not 0
 abbrev pub after_isz : ℕ → ℕ → Regs → Regs
 after_isz r w s =
     let n = (register_of s r + 1) % 16 in
     if n == 0 then with_register s r n else with_pc_on_page (with_register s r n) w
 
--- JMS: sets the program counter to the target; its old value becomes the first return address, and
--- the last return address is lost (one list: our own choice)
+-- JMS: sets the program counter to the target; the old program counter becomes the first return
+-- address, and the last return address is lost (Fethsaim, not Intel, defines that the return
+-- addresses are one list)
 abbrev pub after_jms : ℕ → Regs → Regs
 after_jms target s =
     record s { pc = target; ret = s.pc ∷ slice_index s.ret 0 ∷ slice_index s.ret 1 ∷ [] }
 
--- BBL: sets the program counter to the first return address; its old value becomes the last return
--- address (our own choice)
+-- BBL: sets the program counter to the first return address; the old program counter becomes the
+-- last return address (defined by Fethsaim, not by Intel)
 abbrev pub after_bbl : Regs → Regs
 after_bbl s =
     record s { pc = slice_index s.ret 0; ret = slice_index s.ret 1 ∷ slice_index s.ret 2 ∷ s.pc ∷ [] }
@@ -87,10 +89,11 @@ key_of n =
     else if n == 8 then 4
     else 15
 
--- The registers after an instruction. In s, the program counter is already the address after the
--- instruction's words. The rules are in the manual's groups: machine instructions (NOP to LDM), RAM
--- and port instructions (WRM to RD3), and accumulator instructions (CLB to DCL). For SUB and SBM, a
--- carry of 1 before the instruction is a borrow, and a carry of 1 after it means no borrow.
+-- The registers after an instruction. In `s`, the program counter is already the address after the
+-- instruction's words. The rules are in the groups of Intel's manual: machine instructions (NOP to
+-- LDM), RAM and port instructions (WRM to RD3), and accumulator instructions (CLB to DCL). For SUB
+-- and SBM, a carry of 1 before the instruction is a borrow, and a carry of 1 after it means no
+-- borrow.
 abbrev pub registers_after : Op → Regs → BusState → Regs
 registers_after Nop s _ = s
 registers_after (Jcn c b) s m = after_jcn c b s m.test
@@ -139,7 +142,8 @@ registers_after Kbp s _ = with_acc s (key_of s.acc)
 registers_after Dcl s _ = record s { dcl = s.acc % 8 }
 
 -- The bus after an instruction. Only SRC and the instructions that write a RAM nibble, a status
--- character or a port change it (Manual, SRC and the input, output and RAM instructions).
+-- character or a port change the bus (MCS-4 Users Manual, SRC and the input, output and RAM
+-- instructions).
 abbrev pub bus_after : Op → Regs → BusState → BusState
 bus_after (Src k) s m = after_src m s.dcl (pair_of s k)
 bus_after Wrm s m = after_ram m s.dcl s.acc
@@ -156,7 +160,8 @@ bus_after _ _ m = m
 abbrev pub after_fetch : Op → Regs → Regs
 after_fetch op s = record s { pc = (s.pc + word_count_of op) % 4096; owed = cycles_of op - 1 }
 
--- the registers and the bus after the first cycle of an instruction, which does all its work
+-- the registers and the bus after the first cycle of an instruction; this cycle does all the work
+-- of the instruction
 abbrev pub effect : Op → Regs → BusState → Regs × BusState
 effect op s m = (registers_after op (after_fetch op s) m, bus_after op s m)
 
@@ -166,8 +171,8 @@ abbrev pub instruction_at : Regs → BusState → Option Op
 instruction_at s m = instruction_of (fetch_of m s.pc) (fetch_of m ((s.pc + 1) % 4096))
 
 -- One instruction cycle. It is the pending second cycle if there is one, and otherwise the first
--- cycle of the instruction at the program counter. There is no result if that instruction's opcode
--- is outside the table.
+-- cycle of the instruction at the program counter. The result is none if the opcode of that
+-- instruction is outside the table.
 unfoldable pub cycle_of : Regs → BusState → Option (Regs × BusState)
 cycle_of s m =
     if s.owed == 1

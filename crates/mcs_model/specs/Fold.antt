@@ -4,8 +4,7 @@ use Rattle.mcs_model.specs.declared.command.Command.{Command}
 use Rattle.mcs_model.specs.BenchState.{BenchState}
 use Rattle.mcs_model.specs.Command.{refusal, after}
 
--- the state after a sequence of commands, each applied as an accepted command (`AreAccepted` states
--- that each is accepted)
+-- the state after a sequence of commands, if the bench accepts each of them (`AreAccepted`)
 abbrev pub fold : BenchState → List Command → BenchState
 fold s [] = s
 fold s (c ∷ cs) = fold (after s c) cs

@@ -1,4 +1,4 @@
--- The theorems of this crate, about the opcode table and about consecutive runs.
+-- The statements of this crate's theorems about the opcode table and about consecutive runs.
 use Rattle.std.specs.Prelude.{◌≡◌, ℕ, ◌+◌, ◌/◌, ◌%◌, Bool, List, [], ◌∷◌, is_none, filter, count_by, nat_le}
 use Rattle.std.specs.List.{range_with_len, list_all}
 use Rattle.mcs_model.specs.Running.{Machine, StopConditions, after_run}
@@ -10,7 +10,7 @@ outside_codes =
     0x01 ∷ 0x02 ∷ 0x03 ∷ 0x04 ∷ 0x05 ∷ 0x06 ∷ 0x07 ∷ 0x08 ∷ 0x09 ∷ 0x0A ∷ 0x0B ∷ 0x0C ∷ 0x0D ∷ 0x0E ∷ 0x0F
     ∷ 0xE3 ∷ 0xFE ∷ 0xFF ∷ []
 
--- holds if `codes` are exactly the opcodes that are in no row of the table
+-- holds if `codes` are exactly the opcodes that are in no row of the table, in ascending order
 abbrev pub AreOutsideTable : List ℕ → Type 0
 AreOutsideTable codes = filter (λ code. is_none (row_of code)) (range_with_len 0 256) ≡ codes
 

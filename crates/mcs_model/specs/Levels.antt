@@ -1,5 +1,6 @@
 -- The levels of lines, and port reads and writes. (4001, 4002 and 4003 data sheets, as each
--- definition says. Our own choice: positive logic, in which a line at level 1 carries the bit 1.)
+-- definition says. Fethsaim, not Intel, defines that logic is positive: a line at level 1 carries
+-- the bit 1.)
 use Rattle.std.specs.Prelude.{ℕ, ◌+◌, ◌*◌, ◌/◌, Bool, false, ◌&&◌, ◌==◌, List, [], Some, None, length, slice_index, slice_index_or, slice_set, if◌then◌else◌}
 use Rattle.std.specs.List.{list_any, range_with_len}
 use Rattle.mcs_nibble.specs.Bits.{bit_of}
@@ -15,22 +16,22 @@ use Rattle.mcs_model.specs.Bus.{BusState, src_of, has_chip, ram_port_index}
 abbrev pub bit_when : Bool → ℕ
 bit_when b = if b then 1 else 0
 
--- bit i of chain n
+-- bit `i` of chain `n`
 abbrev pub chain_bit : BusState → ℕ → ℕ → ℕ
 chain_bit s n i = slice_index (slice_index_or s.chains n []) i
 
--- true if the line is line k of ROM `chip`
+-- true if the line is line `k` of ROM `chip`
 abbrev pub is_rom_line : ℕ → ℕ → Line → Bool
 is_rom_line chip k (Rom c j) = c == chip && j == k
 is_rom_line chip k _ = false
 
--- true if row r drives column j: the chain bit of the row is 1, and the key at that row and column
--- is down
+-- true if row `r` drives column `j`: the chain bit of the row is 1, and the key at that row and
+-- column is down
 abbrev pub row_drives_column : List ℕ → List ℕ → KeyMatrix → ℕ → ℕ → Bool
 row_drives_column bits keys m j r =
     slice_index bits (m.first + r) == 1 && slice_index keys (r * length m.columns.items + j) == 1
 
--- true if at least one row drives a column that is line k of ROM `chip`
+-- true if at least one row drives a column that is line `k` of ROM `chip`
 abbrev pub is_pulled_by : List ℕ → List ℕ → KeyMatrix → ℕ → ℕ → Bool
 is_pulled_by bits keys m chip k =
     list_any
@@ -38,7 +39,8 @@ is_pulled_by bits keys m chip k =
     && list_any (row_drives_column bits keys m j) (range_with_len 0 m.rows))
     (range_with_len 0 (length m.columns.items))
 
--- true if a key pulls line k of ROM `chip` to 1 (our own choice: each key has a diode)
+-- true if a key pulls line `k` of ROM `chip` to 1 (each key has a diode: defined by Fethsaim, not
+-- by Intel)
 unfoldable pub is_pulled : BusState → ℕ → ℕ → Bool
 is_pulled s chip k =
     elim s.board.keys [
@@ -52,8 +54,8 @@ latch_of s (Rom c k) = bit_of (slice_index s.rom_ports c) k
 latch_of s (Ram b c k) = bit_of (slice_index s.ram_ports (ram_port_index b c)) k
 latch_of s _ = 0
 
--- The level of a line. An output line has the level of its latch bit, and a chain output that of
--- its chain bit. An input line is at 1 if a key pulls it, and otherwise at 0.
+-- The level of a line. An output line has the level of its latch bit, and a chain output has the
+-- level of its chain bit. An input line is at 1 if a key pulls it, and otherwise at 0.
 unfoldable pub level : BusState → Line → ℕ
 level s (Rom c k) = if is_rom_input_line s.board c k then bit_when (is_pulled s c k) else latch_of s (Rom c k)
 level s (Ram b c k) = latch_of s (Ram b c k)
@@ -63,26 +65,26 @@ level s (Chain n i) = chain_bit s n i
 unfoldable pub clock_levels : BusState → List ℕ
 clock_levels s = table_of (chain_count s.board) (λ i. level s (chain_part s.board i).clock)
 
--- The bits of chain i after a port write. s is the bus after the write, before any shift; `was` is
--- the level of the clock line before the write. If the clock line rises from 0 to 1, each bit moves
--- up by one position. The level of the data line becomes bit 0, and the last bit is lost. (4003
--- data sheet: a shift register with a serial input. The clock edge, the bit order and the data
--- level are our own choice.)
+-- The bits of chain `i` after a port write. `s` is the bus after the write, before any shift; `was`
+-- is the level of the clock line before the write. If the clock line rises from 0 to 1, each bit
+-- moves up by one position. The level of the data line becomes bit 0, and the last bit is lost.
+-- (4003 data sheet: a shift register with a serial input. Fethsaim, not Intel, defines the clock
+-- edge, the bit order and the data level.)
 unfoldable pub chain_bits_after_clock : BusState → ℕ → ℕ → List ℕ → List ℕ
 chain_bits_after_clock s i was bits =
     if was == 0 && level s (chain_part s.board i).clock == 1
     then bits_after_shift (level s (chain_part s.board i).data_in) bits
     else bits
 
--- the bus after each chain whose clock line rose is shifted; `before` contains the levels of the
+-- the bus after the shift of each chain whose clock line rose; `before` contains the levels of the
 -- clock lines before the port write
 unfoldable pub after_chain_clocks : List ℕ → BusState → BusState
 after_chain_clocks before s = record s {
   chains = table_of (chain_count s.board) (λ i. chain_bits_after_clock s i (slice_index before i) (slice_index_or s.chains i []));
 }
 
--- The bus after the port latch of a ROM is set, without clocking. `with_ram_ports_at` sets the
--- latch of a RAM chip, by its `ram_port_index`.
+-- The bus with the port latch of ROM `c` set to `n`; no chain is clocked. `with_ram_ports_at` sets
+-- the port latch of the RAM chip whose `ram_port_index` is `i`.
 abbrev pub with_rom_ports_at : BusState → ℕ → ℕ → BusState
 with_rom_ports_at s c n = record s { rom_ports = slice_set s.rom_ports c n }
 
@@ -90,7 +92,8 @@ abbrev pub with_ram_ports_at : BusState → ℕ → ℕ → BusState
 with_ram_ports_at s i n = record s { ram_ports = slice_set s.ram_ports i n }
 
 -- The bus after a write to the port of the selected RAM chip of a bank (4002 data sheet, WMP). Each
--- chain whose clock line rises is shifted. A write to an absent chip is lost (our own choice).
+-- chain whose clock line rises is shifted. A write to an absent chip is lost (defined by Fethsaim,
+-- not by Intel).
 unfoldable pub after_ram_port : BusState → ℕ → ℕ → BusState
 after_ram_port s bank n =
     if has_chip s bank (src_of s bank)
@@ -99,7 +102,7 @@ after_ram_port s bank n =
 
 -- The bus after a write to the port of the selected ROM (4001 data sheet, WRR). Each chain whose
 -- clock line rises is shifted. Latch bits of input lines stay 0, and a write to an absent ROM is
--- lost (our own choice).
+-- lost (defined by Fethsaim, not by Intel).
 unfoldable pub after_rom_port : BusState → ℕ → BusState
 after_rom_port s n =
     elim (rom_masks s.board (s.rom_src / 16)) [
@@ -108,7 +111,7 @@ after_rom_port s n =
     ]
 
 -- the value that the processor reads at the port of a ROM (4001 data sheet, RDR); an absent ROM
--- reads as 0 (our own choice)
+-- reads as 0 (defined by Fethsaim, not by Intel)
 unfoldable pub port_at : BusState → ℕ → ℕ
 port_at s chip =
     elim (rom_masks s.board chip) [

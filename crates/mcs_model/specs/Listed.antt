@@ -1,5 +1,4 @@
--- Strictly ascending lists of numbers: the breakpoints and the watches of a bench. (Our own
--- choice.)
+-- Strictly ascending lists of numbers: the breakpoints and the watches of a bench.
 use Rattle.std.specs.Prelude.{ℕ, Bool, not, ◌==◌, nat_lt, List, [], ◌∷◌, if◌then◌else◌}
 use Rattle.std.specs.List.{list_any, filter}
 

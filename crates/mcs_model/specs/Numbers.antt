@@ -7,6 +7,6 @@ use Rattle.std.specs.Prelude.{ℕ, ◌+◌, ◌*◌, ◌/◌, ◌%◌}
 abbrev pub page_of : ℕ → ℕ
 page_of address = address % 4096 / 256
 
--- the address of word w on page p (MCS-4 Users Manual, 4001 section)
+-- the address of word `w` on page `p` (MCS-4 Users Manual, 4001 section)
 abbrev pub word_on_page : ℕ → ℕ → ℕ
 word_on_page p w = 256 * p + w

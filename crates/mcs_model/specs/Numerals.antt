@@ -1,4 +1,4 @@
--- Numbers in command lines and source texts. (Our own choice.)
+-- Numbers in command lines and source texts.
 use Rattle.std.specs.Prelude.{ℕ, min, ◌&&◌, List, [], ◌∷◌, Option, Some, None, nat_lt, nat_le, ◌==◌, if◌then◌else◌}
 use Rattle.std.specs.Option.{option_and_then}
 use Rattle.std.specs.List.{list_all}
@@ -6,8 +6,8 @@ use Rattle.std.specs.Char.{digit_value}
 use Rattle.std.specs.Str.Parse.{digits_value}
 use Rattle.mcs_model.specs.declared.numeral.TheConstants.{NUMBER_CAP}
 
--- the value of a string of digits in a base, or none if it is empty or contains a character that is
--- not a digit of the base
+-- the value of a string of digits in a base, or none if the string is empty or contains a character
+-- that is not a digit of the base
 abbrev pub value_of_digits : ℕ → List ℕ → Option ℕ
 value_of_digits base [] = None
 value_of_digits base (d ∷ ds) =
@@ -24,6 +24,7 @@ number_in_word (z ∷ x ∷ ds) =
     else value_of_digits 10 (z ∷ x ∷ ds)
 number_in_word word = value_of_digits 10 word
 
+-- the number, or none if it is above `most`
 abbrev pub if_at_most : ℕ → ℕ → Option ℕ
 if_at_most most n = if nat_le n most then Some n else None
 

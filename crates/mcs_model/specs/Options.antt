@@ -1,4 +1,4 @@
--- The result of f for the value of an option, or none if the option has no value.
+-- The result of a function for the value of an option, or none if the option has no value.
 use Rattle.std.specs.Prelude.{Option, option_and_then}
 
 infixl 10 ◌>>=◌

@@ -1,5 +1,4 @@
 -- The answers of a bench to queries: one text for each query and state, without the last line feed.
--- (Our own choice.)
 use Rattle.std.specs.Prelude.{ℕ, ◌+◌, ◌*◌, ◌/◌, ◌%◌, ◌==◌, List, [], ◌∷◌, ◌++◌, map, take, drop, length, codes, nat_lt, if◌then◌else◌, slice_index, Some, None}
 use Rattle.std.specs.Fmt.{decimal}
 use Rattle.std.specs.List.{flat_map, join_by, join_with_byte, range_with_len}
@@ -13,7 +12,7 @@ use Rattle.mcs_model.specs.TextLines.{line_feed}
 use Rattle.mcs_model.specs.BenchState.{BenchState}
 use Rattle.mcs_model.specs.Levels.{chain_bit, level, port_at}
 
--- the uppercase hexadecimal digit of a nibble
+-- the uppercase hexadecimal digit of a nibble, as an ASCII code
 abbrev pub hex_digit : ℕ → ℕ
 hex_digit n = if nat_lt n 10 then 48 + n else 55 + n
 
@@ -30,12 +29,12 @@ abbrev pub or_dash : List ℕ → List ℕ
 or_dash [] = codes "-"
 or_dash bytes = bytes
 
--- at most `count` numbers of a list, from index `from` on
+-- the part of a list that begins at index `from`, with at most `count` numbers
 abbrev pub stretch : List ℕ → ℕ → ℕ → List ℕ
 stretch items from count = take count (drop from items)
 
--- the registers of the processor except the return addresses, and the level of the TEST pin
--- (`test`)
+-- the text for the registers of the processor except the return addresses, and for the level of the
+-- TEST pin (`test`)
 abbrev pub registers_text : Regs → ℕ → List ℕ
 registers_text registers test =
     codes "acc " ++ digit_text registers.acc
@@ -54,7 +53,7 @@ regs_text registers test =
     ++ codes " " ++ address_text (slice_index registers.ret 1)
     ++ codes " " ++ address_text (slice_index registers.ret 2)
 
--- the mark of a lamp: `*` if it is on, `.` if it is off
+-- the mark for a lamp at this level: `*` if the lamp is on, `.` if the lamp is off
 abbrev pub lamp_mark : ℕ → ℕ
 lamp_mark level = if level == 1 then 42 else 46
 
@@ -63,7 +62,7 @@ abbrev pub lamps_text : BusState → List ℕ
 lamps_text s =
     codes "lamps " ++ or_dash (map (λ line. lamp_mark (level s line)) s.board.lamps.items)
 
--- the line for register r of a RAM chip: the numbers of its bank, chip and register, its 16 main
+-- the line for register `r` of a RAM chip: the numbers of its bank, chip and register, its 16 main
 -- nibbles, and its four status characters
 abbrev pub register_line : BusState → ℕ → ℕ → ℕ → List ℕ
 register_line s bank chip r =
@@ -71,8 +70,8 @@ register_line s bank chip r =
     ++ codes " " ++ map hex_digit (stretch s.ram (bank * 256 + chip * 64 + r * 16) 16)
     ++ codes " " ++ map hex_digit (stretch s.status (bank * 64 + chip * 16 + r * 4) 4)
 
--- the port of a RAM chip: its bank number, its chip number, the separator `out`, and the contents
--- of its latch
+-- the text for the port of a RAM chip: the bank number, the chip number, the separator `out`, and
+-- the contents of the port latch
 abbrev pub ram_port_text : List ℕ → BusState → ℕ → ℕ → List ℕ
 ram_port_text out s bank chip =
     digit_text bank ++ codes "." ++ digit_text chip ++ out
@@ -108,15 +107,16 @@ watches_text watches = codes "watches " ++ or_dash (join_by watch_text (codes " 
 
 -- ---- the items of the state outside ROM and RAM
 
--- the item of a bank: its number, and the SRC byte that it stores; no item if the bank has no chips
+-- a list with the item of a bank: the bank number, and the SRC byte that the bank stores; empty if
+-- the bank has no chips
 abbrev pub bank_items : BusState → ℕ → List (List ℕ)
 bank_items s bank =
     if nat_lt 0 (chips_of s bank)
     then (digit_text bank ++ codes "." ++ two_hex_digits (slice_index s.ram_src bank)) ∷ []
     else []
 
--- the item of a ROM: its number, the contents of its port latch, and the value that the processor
--- reads at its port; no item if the ROM is absent
+-- a list with the item of a ROM: the chip number, the contents of the port latch, and the value
+-- that the processor reads at the port; empty if the ROM is absent
 abbrev pub rom_items : BusState → ℕ → List (List ℕ)
 rom_items s chip =
     elim (rom_masks s.board chip) [
@@ -127,7 +127,7 @@ rom_items s chip =
       | None ↦ []
     ]
 
--- the item of the key at a row and a column; no item if the key is up
+-- a list with the item of the key at a row and a column; empty if the key is up
 abbrev pub key_item : BusState → ℕ → ℕ → List (List ℕ)
 key_item s row column =
     if slice_index s.keys (key_index s.board row column) == 1
@@ -157,16 +157,17 @@ abbrev pub comma_list : List (List ℕ) → List ℕ
 comma_list [] = codes "-"
 comma_list items = join_with_byte 44 items
 
--- the items of the RAM chips of a bank: the contents of each port latch
+-- the items of the RAM chips of a bank: for each chip, its numbers and the contents of its port
+-- latch
 abbrev pub ram_items : BusState → ℕ → List (List ℕ)
 ram_items s bank = map (ram_port_text (codes ".") s bank) (range_with_len 0 (chips_of s bank))
 
--- the bits of a chain as one item, bit 0 first
+-- the bits of chain `n` as one item, bit 0 first
 abbrev pub chain_item : BusState → ℕ → List ℕ
 chain_item s n = map (λ i. hex_digit (chain_bit s n i)) (range_with_len 0 (chain_bits s.board n))
 
--- the answer to `state`: everything except the board and the contents of ROM and RAM, as a name and
--- one word for each part
+-- the answer to `state`: a name and one word for each part of the state, except the board and the
+-- contents of ROM and RAM
 abbrev pub state_text : BenchState → List ℕ
 state_text s =
     codes "state " ++ seq_text s.seq

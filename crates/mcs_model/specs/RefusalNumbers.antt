@@ -1,4 +1,4 @@
--- The refusal numbers of errors. (Our own choice.)
+-- The refusal numbers of errors.
 use Rattle.std.specs.Prelude.{ℕ}
 use Rattle.mcs_model.specs.declared.board.BoardFault.{BoardFault}
 use Rattle.mcs_model.specs.declared.board.BoardFault.TheVariants.{BadValue, NoSuchLine, WrongDirection}

@@ -1,6 +1,6 @@
 -- The opcode table: the instruction of each opcode, and the number of words and cycles of each
 -- instruction. (MCS-4 Users Manual, instruction set. The opcodes 01 to 0F, E3, FE and FF are in no
--- row. That they are outside the table, and stop a run, is our own choice.)
+-- row. Fethsaim, not Intel, defines that these opcodes are outside the table and stop a run.)
 use Rattle.std.specs.Prelude.{ℕ, ◌/◌, ◌%◌, Bool, true, ◌&&◌, List, [], ◌∷◌, Option, find, ◌==◌}
 use Rattle.std.specs.Option.{option_map}
 use Rattle.mcs_model.specs.declared.op.Op.{Op}
@@ -13,8 +13,8 @@ pub data LowerNibbles : Type 0 where
   Odd : LowerNibbles
   Only : ℕ → LowerNibbles
 
--- a row: the upper nibble of its opcodes, their lower nibbles, and the instruction for one of these
--- opcodes and the word after it
+-- A row: the upper nibble of its opcodes, the lower nibbles of its opcodes, and a function. The
+-- function gives the instruction for one of these opcodes and the word after the opcode.
 pub record Row : Type 0 where
   pub upper : ℕ
   pub lower : LowerNibbles
@@ -98,7 +98,7 @@ covers upper lower r = upper == r.upper && includes_nibble r.lower lower
 unfoldable pub row_of : ℕ → Option Row
 row_of code = find (covers (code / 16) (code % 16)) rows
 
--- the instruction with these two words, or none if the first word is outside the table
+-- the instruction with these two words, or none if the first word is an opcode outside the table
 unfoldable pub instruction_of : ℕ → ℕ → Option Op
 instruction_of first second = option_map (λ (r : Row). r.op first second) (row_of first)
 

@@ -1,5 +1,4 @@
--- The lines of a text, and the words of a line, in source texts and in the shell's input. (Our own
--- choice.)
+-- The lines of a text, and the words of a line, in source texts and in the shell's input.
 use Rattle.std.specs.Prelude.{ℕ, ◌==◌, ◌||◌, Bool, true, false, List, [], ◌∷◌, ◌++◌, filter, length, nat_lt}
 use Rattle.std.specs.List.{flat_map, slice_split}
 use Rattle.std.specs.Str.Lines.{strip_carriage_return}
@@ -19,8 +18,8 @@ as_line bytes = bytes ++ line_feed ∷ []
 abbrev pub text_of : List (List ℕ) → List ℕ
 text_of lines = flat_map as_line lines
 
--- the line after the last line feed, as a list; the list is empty if the line is empty, or if the
--- text was cut off (`whole` is false)
+-- a list with the line after the last line feed, without its final CR; the list is empty if that
+-- line is empty, or if the text was cut off (`whole` is false)
 abbrev pub last_line : Bool → List ℕ → List (List ℕ)
 last_line false line = []
 last_line true [] = []

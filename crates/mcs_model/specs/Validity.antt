@@ -1,5 +1,4 @@
--- Valid flat states: the states that a bench can be in. (Our own choice, based on what the chips
--- store.)
+-- Valid flat states: the states that a bench can be in. (Defined by Fethsaim, not by Intel.)
 use Rattle.std.specs.Prelude.{◌≡◌, ◌<◌, ◌≤◌, ◌/◌, ℕ, List, [], All, MatchOption, length, slice_index, slice_index_or, None}
 use Rattle.std.specs.List.Sorted.{IsStrictlyIncreasing}
 use Rattle.mcs_nibble.specs.Ports.{latch_value}
@@ -17,7 +16,8 @@ pub record AreBelow (count limit : ℕ) (items : List ℕ) : Type 0 where
 
 -- ---- the board
 
--- holds if the parts have no errors, and their lists have the lengths that their types imply
+-- holds if the parts have no errors, and each list in the parts has the length, or at most the
+-- length, that the type of the list fixes
 pub record IsValidBoard (b : BoardParts) : Type 0 where
   pub sized : HasDeclaredLengths b
   pub valid : board_fault_of b ≡ None

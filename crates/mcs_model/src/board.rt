@@ -15,7 +15,7 @@ use mcs_nibble::LineMask;
 use std::marker::Model;
 use thiserror::Error;
 
-/// A line, named by its numbers. The numbers can have any values, so a board does not necessarily have the line.
+/// A line, identified by its numbers. The numbers can have any values, so a board does not necessarily have the line.
 #[derive(Clone, Copy, Debug, PartialEq, Eq)]
 pub enum Line {
     /// A port line of a ROM: the chip, 0 to 15, and the line, 0 to 3.
@@ -52,16 +52,16 @@ impl ChainPart {
     }
 }
 
-/// A key matrix. The outputs of a chain drive its rows, and its columns pull input lines of ROMs.
+/// A key matrix. The outputs of a chain drive its rows, and each column is connected to an input line of a ROM.
 #[derive(Debug, Drop)]
 pub struct KeyMatrix {
     /// The number of the chain that drives the rows.
     pub chain: u8,
-    /// The chain bit that drives row 0. Bit `first + r` drives row r.
+    /// The chain bit that drives row 0. Bit `first + r` drives row `r`.
     pub first: u8,
     /// The number of rows.
     pub rows: u8,
-    /// The line that each column pulls, column 0 first.
+    /// The line to which each column is connected, column 0 first.
     pub columns: ArrayVec<Line, KEY_COLUMNS>,
 }
 
@@ -91,18 +91,19 @@ pub struct BoardParts {
     pub chains: ArrayVec<ChainPart, CHAINS>,
     /// The key matrix, if any.
     pub keys: Option<KeyMatrix>,
-    /// The line that each lamp shows.
+    /// The line whose level each lamp shows, lamp 0 first.
     pub lamps: ArrayVec<Line, LAMPS>,
 }
 
-/// The reason why parts do not form a valid board. If several reasons apply, the first in the order of the variants
-/// is reported.
+/// The reason why parts do not form a valid board. If several reasons apply, `Board::of` reports the first one in the
+/// order of the variants.
 #[derive(Clone, Copy, Debug, PartialEq, Eq, Error)]
 pub enum BoardFault {
     /// A number is out of range, or a key matrix has no columns (refusal 23).
     #[error("a number is out of its range, or a key matrix has no column")]
     BadValue,
-    /// A line, a chain or the chain bit of a key row is not on the board (refusal 25).
+    /// A line that the parts name is not on the board, or the chain of the key matrix is not. This error is also
+    /// reported if that chain has too few bits for the key rows (refusal 25).
     #[error("a line, a chain or a row's bit is not on the board")]
     NoSuchLine,
     /// An input line is used where an output line is required, or an output line where an input line is required
@@ -421,7 +422,7 @@ impl BoardParts {
         self.lamps.iter().any(|line| self.has_input_line(*line))
     }
 
-    /// Returns true if a clock or data line is not an output line, a column is not an input line, or a lamp is at an
+    /// Returns true if a clock or data line is not an output line, a column is not an input line, or a lamp shows an
     /// input line.
     fn has_wrong_direction(&self) -> bool
         ensures { result ≡ has_wrong_direction self.now }
@@ -435,7 +436,8 @@ impl BoardParts {
         self.has_input_lamp()
     }
 
-    /// Proves that each ROM has four mask options, as its type implies. Callers get this fact from the contract.
+    /// Proves that each ROM has four mask options, as the type of `roms` implies. Callers get this fact from the
+    /// contract.
     fn prove_four_masks(&self)
         ensures { (chip : ℕ) (mask : List LineMask) → rom_masks self.now chip ≡ Some mask →
             length mask ≡ 4 }
@@ -445,7 +447,8 @@ impl BoardParts {
         }
     }
 
-    /// Proves that the lists have the lengths that their types imply. Callers get these facts from the contract.
+    /// Proves that each list in the parts has the length, or at most the length, that the type of the list fixes.
+    /// Callers get these facts from the contract.
     fn prove_lengths(&self)
         ensures { HasDeclaredLengths self.now }
     {
@@ -458,7 +461,7 @@ impl BoardParts {
         self.prove_four_masks();
     }
 
-    /// Returns the first error in the parts, or `None` if there is none.
+    /// Returns the first error in the parts, or `None` if the parts have no errors.
     fn fault(&self) -> Option<BoardFault>
         ensures { result ≡ board_fault_of self.now }
     {

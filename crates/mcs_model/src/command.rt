@@ -1,4 +1,4 @@
-//! Commands to a bench, and its replies.
+//! Commands to a bench, and the replies of the bench.
 
 use crate::board::Board;
 use crate::image::Image;
@@ -16,7 +16,7 @@ pub enum Place {
     Pc(Addr),
     /// An index register: its number and its new value.
     Register(RegNo, Nibble),
-    /// The command register: the number of the designated bank.
+    /// The command register. Its value is the number of the designated RAM bank.
     Dcl(BankNo),
     /// A ROM byte: its address and its new value.
     Rom(Addr, u8),
@@ -49,7 +49,7 @@ pub enum Command {
     /// Sets the level of the TEST pin.
     Test(Bit),
     /// Cycles the power. Registers, RAM, port latches, SRC bytes and chains become 0. ROM, keys, TEST, breakpoints,
-    /// watches and the board stay.
+    /// watches and the board do not change.
     Reset,
     /// Sets a breakpoint at an address.
     Break(Addr),

@@ -33,8 +33,8 @@ impl Image {
         })
     }
 
-    /// Appends a byte. Its address must be above all addresses in the image. If an allocation fails, the image is
-    /// unchanged.
+    /// Appends `byte` with the address `at`, which must be above all addresses in the image. If an allocation fails,
+    /// the image is unchanged.
     pub fn push(&mut self, at: Addr, byte: u8) -> Result<(), AllocError>
         requires { All (λ p. p.0 < at) self.old }
         ensures added { OnOk result (self.new ≡ self.old ++ (at, byte) ∷ []) }
@@ -44,7 +44,7 @@ impl Image {
         Ok(())
     }
 
-    /// Returns the bytes with their addresses, in ascending order of address. There are at most 4,096.
+    /// Returns the bytes with their addresses, in ascending order of address. The image has at most 4,096 bytes.
     pub fn pairs(&self) -> &[(Addr, u8)]
         ensures pairs { result.now ≡ self.now }
         ensures image { IsImage result.now }

@@ -42,7 +42,7 @@ pub const WATCHES: usize = 8;
 /// The maximum number of instruction cycles in one run.
 pub const RUN_CYCLES: u32 = 100_000;
 
-/// The maximum number of instruction cycles for replaying the log of a session.
+/// The maximum number of instruction cycles that a replay of a session file's log can take.
 pub const REPLAY_CYCLES: u32 = 4_000_000;
 
 /// The maximum number of commands that one session accepts.

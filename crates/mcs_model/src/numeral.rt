@@ -2,7 +2,7 @@
 ghost use Rattle.std.specs.Prelude.{◌≡◌, ◌⊎◌, min, option_map};
 ghost use Rattle.mcs_model.specs.Numerals.{value_of_digits, number_in_word, number_up_to};
 
-/// The largest result of `number`: 2^32, which also represents all larger numbers.
+/// The largest number that `number` returns: 2^32. `number` also returns 2^32 for all larger numbers.
 pub const NUMBER_CAP: u64 = 4_294_967_296;
 
 fn digits(ds: &[u8], base: u32) -> Option<u64>
@@ -23,7 +23,7 @@ fn digits(ds: &[u8], base: u32) -> Option<u64>
 /// Parses a word as a number: decimal digits, or `0x` and hexadecimal digits of either case. Returns `None` if the word
 /// is not a number.
 ///
-/// The word can have any length. For every number from 4,294,967,296 on, the result is 4,294,967,296.
+/// The word can have any length. If the number is above 4,294,967,296, the result is 4,294,967,296.
 pub fn number(word: &[u8]) -> Option<u64>
     ensures { result ≡ option_map (λ n. min n NUMBER_CAP) (number_in_word word.now) }
 {

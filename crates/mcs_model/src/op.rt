@@ -47,13 +47,13 @@ pub enum Op {
     Wmp,
     /// Write the accumulator to the port of the selected ROM.
     Wrr,
-    /// Write the accumulator to status character 0 of the selected register.
+    /// Write the accumulator to status character 0 of the selected RAM register.
     Wr0,
-    /// Write the accumulator to status character 1 of the selected register.
+    /// Write the accumulator to status character 1 of the selected RAM register.
     Wr1,
-    /// Write the accumulator to status character 2 of the selected register.
+    /// Write the accumulator to status character 2 of the selected RAM register.
     Wr2,
-    /// Write the accumulator to status character 3 of the selected register.
+    /// Write the accumulator to status character 3 of the selected RAM register.
     Wr3,
     /// Subtract the selected RAM nibble from the accumulator with borrow.
     Sbm,
@@ -63,13 +63,13 @@ pub enum Op {
     Rdr,
     /// Add the selected RAM nibble to the accumulator with carry.
     Adm,
-    /// Read status character 0 of the selected register into the accumulator.
+    /// Read status character 0 of the selected RAM register into the accumulator.
     Rd0,
-    /// Read status character 1 of the selected register into the accumulator.
+    /// Read status character 1 of the selected RAM register into the accumulator.
     Rd1,
-    /// Read status character 2 of the selected register into the accumulator.
+    /// Read status character 2 of the selected RAM register into the accumulator.
     Rd2,
-    /// Read status character 3 of the selected register into the accumulator.
+    /// Read status character 3 of the selected RAM register into the accumulator.
     Rd3,
     /// Clear the accumulator and the carry.
     Clb,
@@ -95,7 +95,8 @@ pub enum Op {
     Stc,
     /// Decimal adjust the accumulator.
     Daa,
-    /// Keyboard process: convert the accumulator from one-out-of-four code to the number of the line.
+    /// Keyboard process: replace the accumulator by the number, 1 to 4, of its only bit that is 1. The result is 0 if
+    /// no bit is 1, and 15 if several bits are 1.
     Kbp,
     /// Designate command line: select the RAM bank.
     Dcl,

@@ -5,7 +5,7 @@ use mcs_nibble::BankNo;
 /// A query about the state of a bench. It does not change the state.
 #[derive(Clone, Copy, Debug, PartialEq, Eq)]
 pub enum Query {
-    /// The state of each lamp, in the order of the board.
+    /// The state of each lamp, on or off, in the order of the lamps on the board.
     Lamps,
     /// The registers of the processor, and the TEST pin.
     Regs,

@@ -1,4 +1,4 @@
-//! The reasons why a bench rejects commands, and their numbers.
+//! The reasons why a bench rejects commands, and the refusal number of each reason.
 ghost use Rattle.std.specs.Prelude.{◌≡◌};
 ghost use Rattle.mcs_model.specs.RefusalNumbers.{bench_fault_number};
 

@@ -3,8 +3,8 @@ ghost use Rattle.std.specs.Prelude.{◌≡◌};
 ghost use Rattle.mcs_nibble.specs.Ports.{mask_character, mask_of};
 
 /// The mask option of a ROM port line, fixed when the chip is made. The mask makes each line an input or an output
-/// (Intel MCS-4 Users Manual, 4001). In this project, the mask also fixes the constant that the processor reads at an
-/// output line; this is our own choice.
+/// (Intel MCS-4 Users Manual, 4001). Fethsaim, not Intel, defines that the mask also fixes the constant that the
+/// processor reads at an output line.
 #[derive(Clone, Copy, Debug, PartialEq, Eq)]
 pub enum LineMask {
     /// An input line. The processor reads the level of the line, and the latch bit of the line is 0.

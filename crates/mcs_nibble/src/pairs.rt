@@ -3,7 +3,7 @@ ghost use Rattle.std.specs.Prelude.{◌≡◌, ℕ, ◌/◌, ◌%◌, ◌<◌, �
 
 use std::marker::Model;
 
-/// A register pair number, 0 to 7. Pair k consists of registers 2k and 2k + 1.
+/// A register pair number, 0 to 7. Pair `k` consists of the index registers `2 * k` and `2 * k + 1`.
 #[derive(Clone, Copy, Debug, Default, PartialEq, Eq)]
 pub struct PairNo {
     value: u8,

@@ -1,6 +1,6 @@
 -- A forecast of a run: the instructions that the run would begin, each with the machine before and
--- after it. (Our own choice. A two-cycle instruction does all its work in its first cycle, so the
--- forecast contains the machine after that cycle.)
+-- after it. (Defined by Fethsaim, not by Intel. A two-cycle instruction does all its work in its
+-- first cycle, so the forecast contains the machine after that cycle.)
 use Rattle.std.specs.Prelude.{◌≡◌, ℕ, ◌+◌, ◌%◌, ◌++◌, Bool, true, false, not, ◌&&◌, ◌==◌, List, map, Option, Some}
 use Rattle.std.specs.List.{count_by, filter, range_with_len}
 use Rattle.mcs_model.specs.declared.op.Op.{Op}
@@ -16,7 +16,8 @@ pub record BegunInstruction : Type 0 where
   pub before : Machine
   pub after : Machine
 
--- cycle k of a run from s, counted from 0, with the machine before and after it
+-- cycle `k` (counted from 0) of a run from the machine `s`, with the machine before and after the
+-- cycle
 abbrev pub cycle_at : Machine → ℕ → BegunInstruction
 cycle_at s k = record { cycles = k; before = after_cycles k s; after = after_cycles (k + 1) s }
 
@@ -24,36 +25,35 @@ cycle_at s k = record { cycles = k; before = after_cycles k s; after = after_cyc
 abbrev pub begins : BegunInstruction → Bool
 begins b = b.before.0.owed == 0
 
--- The instructions that begin in the first k cycles from s, in order. This holds for every k that a
--- run from s reaches. After an opcode outside the instruction table, the list would contain each
--- further cycle as an instruction.
+-- The instructions that begin in the first `k` cycles from the machine `s`, in order. This is
+-- correct only if a run from `s` reaches `k` cycles. After an opcode outside the opcode table, the
+-- list would contain each further cycle as an instruction.
 unfoldable pub instructions_begun_within : ℕ → Machine → List BegunInstruction
 instructions_begun_within k s = filter begins (map (cycle_at s) (range_with_len 0 k))
 
--- the instructions that a run of n cycles from s would begin
+-- the instructions that a run of at most `n` cycles from the machine `s` would begin
 abbrev pub instructions_begun_in : StopConditions → ℕ → Machine → List BegunInstruction
 instructions_begun_in stops n s = instructions_begun_within (run_length stops n s) s
 
 -- ---- the number of instructions that begin at each address
 
--- true if an instruction is at this address
-abbrev pub is_at : ℕ → BegunInstruction → Bool
-is_at at b = b.before.0.pc == at
+-- true if an instruction begins at this address
+abbrev pub begins_at_address : ℕ → BegunInstruction → Bool
+begins_at_address at b = b.before.0.pc == at
 
 -- True if the program counter after an instruction is not the address of the instruction plus 2.
--- Only JCN and ISZ use this definition. A jump to the address that is 2 higher does not count as a
+-- This definition is meant only for JCN and ISZ. A jump to the address plus 2 does not count as a
 -- jump.
 abbrev pub jumps : BegunInstruction → Bool
 jumps b = not (b.after.0.pc == (b.before.0.pc + 2) % 4096)
 
--- the number of instructions begun at an address
+-- the number of instructions in the list that begin at an address
 abbrev pub runs_at : List BegunInstruction → ℕ → ℕ
-runs_at begun at = count_by (is_at at) begun
+runs_at begun at = count_by (begins_at_address at) begun
 
--- the number of instructions that begin at an address and after which the program counter is not
--- that address plus 2
+-- the number of instructions in the list that begin at an address and jump (`jumps`)
 abbrev pub jumps_at : List BegunInstruction → ℕ → ℕ
-jumps_at begun at = count_by (λ b. is_at at b && jumps b) begun
+jumps_at begun at = count_by (λ b. begins_at_address at b && jumps b) begun
 
 -- true if an instruction is a conditional jump: JCN or ISZ
 abbrev pub is_conditional_jump : Option Op → Bool
@@ -67,20 +67,21 @@ is_branch s at = is_conditional_jump (instruction_at (record s.0 { pc = at }) s.
 
 -- ---- a run, cycle by cycle
 
--- The reason why a run stops after a cycle from s to t, or none; the end of the run is not
--- considered. With n = 0 and k = 1, `stop_reason_at` never gives `Ended`.
+-- The reason why a run stops after a cycle that changes the machine from `s` to `t`, or none. The
+-- end of the run is not considered: with the arguments 0 and 1, `stop_reason_at` never gives
+-- `Ended`.
 abbrev pub early_stop_reason : StopConditions → Machine → Machine → Option Stop
 early_stop_reason stops s t = stop_reason_at stops 0 1 s t
 
 -- ---- a run in two parts
 
--- the same instruction, if the run starts k cycles earlier
+-- the instruction `b` as part of a run that starts `k` cycles earlier
 abbrev pub later : ℕ → BegunInstruction → BegunInstruction
 later k b = record b { cycles = k + b.cycles }
 
--- If nothing stops a run of m + n cycles early, it first begins the instructions of a run of m
--- cycles. Then it begins the instructions of a run of n cycles from the machine after the first
--- run.
+-- If nothing stops a run of `m + n` cycles early, this run first begins the instructions of a run
+-- of `m` cycles. Then it begins the instructions of a run of `n` cycles from the machine after
+-- those `m` cycles.
 abbrev pub InstructionsAddUp : Type 0
 InstructionsAddUp =
     (stops : StopConditions) (m n : ℕ) (s : Machine) → run_length stops (m + n) s ≡ m + n →

@@ -1,4 +1,4 @@
-//! A law about the definitions of this crate, proved as the contract of an empty function.
+//! A theorem about the definitions of this crate. The theorem is the contract of a function with an empty body.
 ghost use Rattle.std.specs.Prelude.{◌≡◌};
 ghost use Rattle.mcs_probe.specs.declared.probe.TheConstants.{MAX_PROBES};
 

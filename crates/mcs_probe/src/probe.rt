@@ -27,17 +27,17 @@ pub enum Probe {
     Status(BankNo, Nibble, StatusNo),
     /// The level of a line, or 0 if the line is not on the board.
     Level(Line),
-    /// The levels of the four port lines of a ROM, as a nibble with line k at bit k. The nibble is 0 if the board
+    /// The levels of the four port lines of a ROM, as a nibble with line `k` at bit `k`. The nibble is 0 if the board
     /// does not have the ROM.
     RomPort(u8),
-    /// The levels of the four port lines of a RAM chip, as a nibble with line k at bit k. The fields are the bank
+    /// The levels of the four port lines of a RAM chip, as a nibble with line `k` at bit `k`. The fields are the bank
     /// number and the chip number. The nibble is 0 if the board does not have the chip.
     RamPort(u8, u8),
     /// The bits of a chain, bit 0 first, or a dash if the board does not have the chain.
     Chain(u8),
     /// The SRC byte that the ROMs store.
     Src,
-    /// The board's lamps, in order.
+    /// The states of the board's lamps, on or off, in order.
     Lamps,
     /// The three return addresses. BBL returns to the first one.
     ReturnAddresses,

@@ -1,4 +1,4 @@
--- The line and the exit status of an answer. (Our own choice.)
+-- The line and the exit status of an answer.
 use Rattle.std.specs.Prelude.{◌≡◌, ℕ, List, ◌++◌, codes, Result, Ok, Err, IfOk}
 use Rattle.std.specs.Fmt.{decimal}
 use Rattle.std.specs.List.{flat_map}
@@ -31,7 +31,8 @@ refusal_line refusal.NoRom = codes "no" ++ space_and_decimal NO_ROM
 refusal_line (refusal.Line line) = codes "wrong line" ++ space_and_decimal line
 refusal_line refusal.Incomplete = codes "no question"
 
--- the exit status of a refusal: 2 if the text is not a valid question, 3 if the question has no answer
+-- the exit status of a refusal: 2 if the question is invalid or incomplete, 3 if the board's text
+-- or the program's text is rejected or memory runs out
 abbrev pub refusal_status : Refusal → ℕ
 refusal_status (refusal.Line line) = 2
 refusal_status refusal.Incomplete = 2
@@ -45,7 +46,8 @@ abbrev pub status_of_answer : Result Outcome Refusal → ℕ
 status_of_answer (Ok found) = 0
 status_of_answer (Err why) = refusal_status why
 
--- holds if a line and an exit status answer the question that a text contains
+-- holds if a line and an exit status are those of a refusal, or those of an outcome whose promise
+-- is true for the question in the text
 pub record AnswersQuestion (text line : List ℕ) (status : ℕ) : Type 0 where
   pub found : Result Outcome Refusal
   pub answer_line : line ≡ line_of_answer found

@@ -1,4 +1,4 @@
--- The machine that two texts define, and the meaning of an answer about it. (Our own choice.)
+-- The machine that a board's text and a program's text define, and what a proof about it means.
 use Rattle.std.specs.Prelude.{◌≡◌, ℕ, List, Bool, Ok, None}
 use Rattle.mcs_model.specs.declared.board.BoardParts.{BoardParts}
 use Rattle.mcs_model.specs.declared.command.Command.TheVariants.{Wire, Load, Reset}
@@ -16,8 +16,8 @@ use Rattle.mcs_check.specs.OutcomeMeaning.{IsProved}
 abbrev pub bench_with_board : BoardParts → BenchState
 bench_with_board b = after new_bench_state (Wire b)
 
--- the machine of a new bench after `wire` with a board, `asm` with an image, and `reset`. No call is open
--- and the stopwatch is at 0.
+-- the machine of a new bench after `wire` with a board, `asm` with an image, and `reset`. No call
+-- is open, the stopwatch is at 0, and no mark was seen.
 abbrev pub machine_with_program : BoardParts → List (ℕ × ℕ) → TrackedMachine
 machine_with_program b image = with_zero_counts (machine_of (after (after (bench_with_board b) (Load image)) Reset))
 
@@ -29,15 +29,15 @@ pub record AreTextsAccepted (board program : List ℕ) (b : BoardParts) (image :
   pub loads : image ≡ by_address pairs
   pub fits : refusal_of_command (bench_with_board b) (Load image) ≡ None
 
--- holds if a rig, with a new processor and no open calls, is the machine that two texts define
+-- holds if a rig, with a new processor and all counts at 0, is the machine that two texts define
 pub record IsRigOfTexts (board program : List ℕ) (rig : BusState) : Type 0 where
   pub parts : BoardParts
   pub loaded : List (ℕ × ℕ)
   pub accepted : AreTextsAccepted board program parts loaded
   pub is_machine : with_zero_counts (new_regs, rig) ≡ machine_with_program parts loaded
 
--- holds if the promise of an outcome is true of the machine that two texts define, with a given
--- observer
+-- holds if the promise of an outcome about the property `p` is true of the machine that two texts
+-- define; `w` is the observer of the machine's runs
 pub record IsProvedOf (board program : List ℕ) (w : Observer) (p : TrackedMachine → Bool) (outcome : Outcome) : Type 0 where
   pub parts : BoardParts
   pub loaded : List (ℕ × ℕ)

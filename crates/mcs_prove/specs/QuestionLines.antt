@@ -1,4 +1,4 @@
--- The lines of a question and their meaning. (Our own choice.)
+-- The lines of a question and their meaning.
 use Rattle.std.specs.Prelude.{ℕ, Bool, true, false, List, [], ◌∷◌, codes, nat_lt, Option, Some, None, if◌then◌else◌}
 use Rattle.std.specs.Option.{option_map}
 use Rattle.mcs_model.specs.Options.{◌>>=◌}
@@ -58,7 +58,8 @@ abbrev pub cell_of : List ℕ → List ℕ → Option Cell
 cell_of list index =
     lookup_entry (bytes_eq list) cell_lists >>= λ l. number_up_to LAST_INDEX index >>= λ i. cell_at l i
 
--- the comparison of a cell's value, or of one line of it, with a range
+-- the comparison that six words spell. It compares a cell's value, or one line of the value, with a
+-- range.
 abbrev pub comparison_of : List ℕ → List ℕ → List ℕ → List ℕ → List ℕ → List ℕ → Option Comparison
 comparison_of kind list index part low high =
     lookup_entry (bytes_eq kind) comparison_kinds >>= λ inside.
@@ -130,7 +131,7 @@ one_word_lines =
     ∷ (codes "prove", Prove)
     ∷ []
 
--- `pause 1000000`: at least one cycle
+-- the line `pause n`; None if n is 0
 abbrev pub pause_line : ℕ → Option QuestionLine
 pause_line n = if nat_lt 0 n then Some (Pause n) else None
 

@@ -1,4 +1,4 @@
--- The meaning of a question, read line by line. (Our own choice.)
+-- The meaning of a question, which is read line by line.
 use Rattle.std.specs.Prelude.{◌≡◌, ◌==◌, ◌&&◌, ℕ, Bool, true, false, not, List, [], ◌∷◌, ◌++◌, length, nat_le, codes, Option, Some, None, if◌then◌else◌}
 use Rattle.std.specs.Option.{option_map}
 use Rattle.mcs_model.specs.Options.{◌>>=◌}
@@ -22,9 +22,10 @@ use Rattle.mcs_prove.specs.declared.question.TheConstants.{DEFAULT_PAUSE}
 use Rattle.mcs_prove.specs.MachineOfTexts.{IsProvedOf}
 use Rattle.mcs_prove.specs.QuestionLines.{line_of}
 
--- a question as read so far. `never_lists`, `begins`, `ends` and `opens` are the complete lists of conditions.
--- `conditions` is the current list: that of the last `never`, `begin`, `end` or `open`. `role` is its
--- role. `section` is the section of the next line. `has_prove_line` is true after `prove`.
+-- a question as read so far. `never_lists`, `begins`, `ends` and `opens` are the complete lists of
+-- conditions. `conditions` is the current list, which follows the last `never`, `begin`, `end` or
+-- `open` line. `role` is the role of the current list. `section` is the section to which the next
+-- line belongs. `has_prove_line` is true after `prove`.
 pub record QuestionSoFar : Type 0 where
   pub board : Option (List ℕ)
   pub program : Option (List ℕ)
@@ -63,7 +64,8 @@ empty_question = record {
   has_prove_line = false;
 }
 
--- a question in which a list of conditions is complete and stored with the lists of its role
+-- a question after the current list of conditions is complete: `cs` is stored with the lists of its
+-- role
 abbrev pub with_list : QuestionSoFar → List Condition → ListRole → QuestionSoFar
 with_list a cs Never = record a { never_lists = a.never_lists ++ cs ∷ []; conditions = None }
 with_list a cs Begin = record a { begins = a.begins ++ cs ∷ []; conditions = None }
@@ -77,28 +79,28 @@ with_list_stored a (Some cs) = with_list a cs a.role
 abbrev pub with_list_ended : QuestionSoFar → QuestionSoFar
 with_list_ended a = with_list_stored a a.conditions
 
--- the question if a line is valid, and None otherwise
+-- the question `a` if a line is valid (true), and None otherwise (false)
 abbrev pub if_valid : Bool → QuestionSoFar → Option QuestionSoFar
 if_valid true a = Some a
 if_valid false a = None
 
--- a question after its board's text begins; None if it already has one
+-- a question after its board's text begins; None if the question already has this text
 abbrev pub begin_board : QuestionSoFar → Option (List ℕ) → Option QuestionSoFar
 begin_board a None = Some (record a { board = Some []; section = Board })
 begin_board a (Some text) = None
 
--- a question after its program's text begins; None if it already has one
+-- a question after its program's text begins; None if the question already has this text
 abbrev pub begin_program : QuestionSoFar → Option (List ℕ) → Option QuestionSoFar
 begin_program a None = Some (record a { program = Some []; section = Program })
 begin_program a (Some text) = None
 
--- a question with one more condition in the current list; None if no `never`, `begin`, `end` or `open`
--- precedes it
+-- a question with one more condition in the current list; None if no `never`, `begin`, `end` or
+-- `open` line precedes the condition
 abbrev pub with_condition : QuestionSoFar → Condition → Option (List Condition) → Option QuestionSoFar
 with_condition a c None = None
 with_condition a c (Some cs) = Some (record a { conditions = Some (cs ++ c ∷ []) })
 
--- a question after a parsed line; None if the line is not allowed there
+-- a question after a parsed line; None if the line is not allowed at this point
 abbrev pub after_parsed_line : QuestionSoFar → QuestionLine → Option QuestionSoFar
 after_parsed_line a line.Blank = Some a
 after_parsed_line a (line.MaxStates n) = Some (record a { max_states = n })
@@ -113,12 +115,12 @@ after_parsed_line a (line.OneCondition c) = with_condition a c a.conditions
 after_parsed_line a (line.NextMark mark) = Some (record a { marks = a.marks ++ mark ∷ [] })
 after_parsed_line a line.Prove = Some (record (with_list_ended a) { has_prove_line = true })
 
--- a question after the words of a line outside the two texts; None if the line is invalid or follows
--- `prove`
+-- a question after the words of a line outside the two texts; None if the line is invalid or
+-- follows `prove`
 abbrev pub after_words : QuestionSoFar → List (List ℕ) → Option QuestionSoFar
 after_words a words = if a.has_prove_line then None else line_of words >>= λ parsed. after_parsed_line a parsed
 
--- a text with one more line
+-- a text with one more line; None if there is no text
 abbrev pub with_line : Option (List ℕ) → List ℕ → Option (List ℕ)
 with_line text bytes = option_map (λ t. t ++ as_line bytes) text
 
@@ -146,8 +148,8 @@ question_of_text text = after_lines empty_question (lines text)
 
 -- ---- the property of a question
 
--- true if the question has no stopwatch or a complete stopwatch. A complete stopwatch has a begin, an end
--- and a limit, and is not combined with sets of values.
+-- true if the question has no stopwatch or a complete stopwatch. A complete stopwatch has a begin,
+-- an end and a limit, and is not combined with sets of values.
 abbrev pub is_stopwatch_complete_with : Option ℕ → QuestionSoFar → Bool
 is_stopwatch_complete_with None a = length a.begins == 0 && length a.ends == 0
 is_stopwatch_complete_with (Some limit) a = not (length a.begins == 0) && not (length a.ends == 0) && a.max_entries == 0
@@ -155,11 +157,12 @@ is_stopwatch_complete_with (Some limit) a = not (length a.begins == 0) && not (l
 abbrev pub is_stopwatch_complete : QuestionSoFar → Bool
 is_stopwatch_complete a = is_stopwatch_complete_with a.limit a
 
--- true if marks and `open` lists are both absent, or both present and not combined with sets of values
+-- true if marks and `open` lists are both absent, or both present and not combined with sets of
+-- values
 abbrev pub are_marks_complete : QuestionSoFar → Bool
 are_marks_complete a = if length a.marks == 0 then length a.opens == 0 else not (length a.opens == 0) && a.max_entries == 0
 
--- true if the stopwatch and the marks are complete
+-- true if the stopwatch and the marks are each absent or complete
 abbrev pub is_consistent : QuestionSoFar → Bool
 is_consistent a = is_stopwatch_complete a && are_marks_complete a
 
@@ -172,17 +175,19 @@ abbrev pub is_within_limit : Option ℕ → TrackedMachine → Bool
 is_within_limit None s = true
 is_within_limit (Some limit) s = nat_le s.2.elapsed limit
 
--- the property: true if no list in `never_lists` has all its conditions met, the stopwatch is within its
--- limit, and the condition of the observer does not hold before all marks were seen
+-- the property of a question. It is true if no list in `never_lists` has all its conditions met and
+-- the stopwatch is within its limit. In addition, the observer's condition must not hold before all
+-- marks were seen.
 abbrev pub keeps_property : Observer → List (List Condition) → Option ℕ → TrackedMachine → Bool
 keeps_property w never_lists limit s = meets_none never_lists s && is_within_limit limit s && holds_only_after_marks w s
 
--- holds if the promise of an outcome is true of the machine that two texts define, for this observer and
--- this property
+-- holds if the promise of an outcome is true of the machine that two texts define, for this
+-- observer and this property
 abbrev pub IsPropertyProvedOf : List ℕ → List ℕ → Observer → List (List Condition) → Option ℕ → Outcome → Type 0
 IsPropertyProvedOf board program w never_lists limit outcome = IsProvedOf board program w (keeps_property w never_lists limit) outcome
 
--- holds if a text contains a complete question and the promise of an outcome is true for it
+-- holds if a text contains a complete question, and the promise of an outcome is true for the
+-- property of this question
 pub record IsAnswerTo (text : List ℕ) (outcome : Outcome) : Type 0 where
   pub question : QuestionSoFar
   pub board : List ℕ

@@ -31,7 +31,7 @@ pub struct Answer {
     pub status: u8,
 }
 
-/// Appends the values that the machine read, with a space before each value. Fails if memory runs out.
+/// Appends the values of `MayFail`, with a space before each value. Fails if memory runs out.
 fn push_values(out: &mut String, values: &[u8]) -> Result<(), AllocError>
     ensures { OnOk result (string_bytes out.new ≡ string_bytes out.old ++ flat_map space_and_decimal values.now) }
 {
@@ -101,7 +101,7 @@ fn status_of(found: &Result<Outcome, Refusal>) -> u8
     }
 }
 
-/// Parses a question, tries to prove it and returns the outcome.
+/// Parses a question, tries to prove its property and returns the outcome.
 fn outcome_of(alloc: Global, text: &str) -> Result<Outcome, Refusal>
     ensures { IfOk result (IsAnswerTo text.now) }
 {

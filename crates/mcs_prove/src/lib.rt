@@ -1,8 +1,8 @@
 //! Proves, for all inputs, properties of the machine that a board's text and a program's text define.
 //!
-//! A question is a sequence of lines, as in a session. Its answer is one line. A new bench has the machine in
-//! question after `wire` with the board's text, `asm` with the program's text, and `reset`. `answer_to` parses a
-//! question, tries to prove its property and returns the answer.
+//! The machine is that of a new bench after `wire` with the board's text, `asm` with the program's text, and `reset`. A
+//! question is a sequence of lines, as in a session. Its answer is one line. `answer_to` parses a question, tries to
+//! prove its property and returns the answer.
 #![tactic(auto)]
 
 mod answer;

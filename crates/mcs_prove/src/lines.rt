@@ -1,7 +1,7 @@
 //! The lines of a question, outside the two texts:
 //!
 //!     most 1000000                search at most 1000000 states
-//!     sets 1000000                use sets of values, with at most 1000000 entries; 0: use search
+//!     sets 1000000                prove with sets of values, with at most 1000000 entries; 0: prove by search
 //!     memory 1000                 use at most about 1000 MB
 //!     pause 1000000               split a stretch of cycles without reads every 1000000 cycles
 //!     wire                        the board's text follows, up to a line with a single dot
@@ -40,7 +40,7 @@ pub(crate) const MAX_MEMORY: u32 = 1_000_000;
 /// The largest `pause` that a question can set, in cycles.
 const MAX_PAUSE: u32 = 1_000_000_000;
 
-/// The largest stopwatch limit that a question can set, in cycles: one less than the most that a stopwatch shows.
+/// The largest stopwatch limit that a question can set, in cycles: one less than a stopwatch can show.
 const MAX_TIME_LIMIT: u32 = 16_777_214;
 
 /// The role of a list of conditions in a question.
@@ -194,7 +194,7 @@ fn comparison_of(
     })
 }
 
-/// Returns `mistakes` with the kind of mistake that a word names, or `None` if the word names no kind.
+/// Returns `mistakes` plus the kind of mistake that `word` names, or `None` if `word` names no kind.
 fn with_mistake(mistakes: Mistakes, word: &[u8]) -> Option<Mistakes>
     ensures { result ≡ with_mistake mistakes word.now }
 {
@@ -219,7 +219,7 @@ fn with_mistake(mistakes: Mistakes, word: &[u8]) -> Option<Mistakes>
     Some(more)
 }
 
-/// Parses the kinds of mistake that words name. Returns `None` if a word names no kind.
+/// Parses words that name kinds of mistake. Returns `None` if a word names no kind.
 fn with_mistakes(words: &[u8]) -> Option<Mistakes>
     ensures { result ≡ with_mistakes no_mistakes (words_of words.now) }
 {
@@ -232,7 +232,7 @@ fn with_mistakes(words: &[u8]) -> Option<Mistakes>
     Some(mistakes)
 }
 
-/// Parses the kinds of mistake that words name. Returns `None` if a word names no kind, or if there are no words.
+/// Parses words that name kinds of mistake. Returns `None` if a word names no kind, or if there are no words.
 fn mistakes_of(words: &[u8]) -> Option<Mistakes>
     ensures { result ≡ mistakes_of (words_of words.now) }
 {
@@ -320,7 +320,8 @@ fn mark_of(level: &[u8], row: &[u8], column: &[u8]) -> Option<Mark>
     })
 }
 
-/// Parses a line of four or more words. Returns `None` unless the line is a comparison, which has six words.
+/// Parses a line of four or more words, of which `rest` are the words after the third. Returns `None` unless the line
+/// is a comparison, which has six words.
 fn comparison_line(kind: &[u8], list: &[u8], index: &[u8], rest: &[u8]) -> Option<QuestionLine>
     ensures { result ≡ comparison_line kind.now list.now index.now (words_of rest.now) }
 {

@@ -1,4 +1,5 @@
-//! Proves, for all inputs, that the machine that two texts define never meets given conditions.
+//! Proves, for all inputs, that a machine never meets given conditions. A board's text and a program's text define the
+//! machine.
 ghost use Rattle.std.specs.Prelude.{◌≡◌, ◌≤◌, ◌&&◌, [], IfOk, map};
 ghost use Rattle.mcs_search.specs.declared.searching.TheConstants.{MAX_STATES};
 ghost use Rattle.mcs_drive.specs.TrackedMachine.{TrackedMachine, no_observer};
@@ -78,8 +79,8 @@ fn conjunctions_of(
     Ok(conjunctions)
 }
 
-/// Returns the conjunctions that must never be met: those of `never_lists` and, if the stopwatch has a limit, those of the
-/// limit.
+/// Returns the conjunctions that must never be met: those of `never_lists` and, if there is a limit, those that are met
+/// when the stopwatch shows more cycles than the limit.
 fn with_limit(
     alloc: Global,
     never_lists: Vec<Vec<Condition>>,
@@ -95,8 +96,8 @@ fn with_limit(
     Ok(conjunctions)
 }
 
-/// Returns the conjunctions that must never be met: those of `never_lists`, those of the marks and, if the stopwatch has a
-/// limit, those of the limit.
+/// Returns the conjunctions that must never be met. They are those of `with_limit`, and those that are met when a
+/// conjunction in `opens` is met before all marks were seen.
 fn nevers_of(
     alloc: Global,
     never_lists: Vec<Vec<Condition>>,

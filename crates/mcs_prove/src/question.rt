@@ -26,7 +26,7 @@ pub(crate) enum Section {
     Program,
 }
 
-/// A question as parsed so far. Contracts see the values of its fields.
+/// A question as parsed so far. In contracts, a `Question` is a `QuestionSoFar`.
 #[derive(Drop)]
 pub(crate) struct Question {
     /// The board's text, if it has begun.
@@ -170,7 +170,8 @@ impl Question {
         Ok(())
     }
 
-    /// Adds a condition to the current list. Returns false if no `never`, `begin`, `end` or `open` line precedes it.
+    /// Adds a condition to the current list. Returns false if no `never`, `begin`, `end` or `open` line precedes the
+    /// condition.
     fn add_condition(&mut self, condition: Condition) -> Result<bool, AllocError>
         ensures { IfOk result (λ is_valid. if_valid is_valid self.new
             ≡ with_condition self.old condition self.old.conditions) }
@@ -184,7 +185,7 @@ impl Question {
         }
     }
 
-    /// Begins the board's text. Returns false if the question already has one.
+    /// Begins the board's text. Returns false if the question already has this text.
     fn begin_board(&mut self, alloc: Global) -> bool
         ensures { if_valid result self.new ≡ begin_board self.old self.old.board }
     {
@@ -196,7 +197,7 @@ impl Question {
         true
     }
 
-    /// Begins the program's text. Returns false if the question already has one.
+    /// Begins the program's text. Returns false if the question already has this text.
     fn begin_program(&mut self, alloc: Global) -> bool
         ensures { if_valid result self.new ≡ begin_program self.old self.old.program }
     {

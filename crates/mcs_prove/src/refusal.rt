@@ -19,12 +19,14 @@ pub enum Refusal {
     /// `asm` rejects the program's text because the board lacks a ROM that the program occupies.
     #[error("the board lacks a ROM of the program")]
     NoRom,
-    /// A line of the question is invalid. The field is its number, from 1.
+    /// A line of the question is invalid. The field is the line's number, from 1.
     #[error("line {0} of the question is invalid")]
     Line(usize),
-    /// The question lacks the board's text, the program's text or the line `prove`. Or its stopwatch lacks its begin,
-    /// its end or its limit. Or it has marks without an `open` list, an `open` list without marks, or more than 200
-    /// marks. Or it combines a stopwatch or marks with sets of values.
+    /// The question is incomplete or inconsistent, for one of these reasons:
+    /// - It lacks the board's text, the program's text or the line `prove`.
+    /// - Its stopwatch lacks its begin, its end or its limit.
+    /// - It has marks without an `open` list, an `open` list without marks, or more than 200 marks.
+    /// - It combines a stopwatch or marks with sets of values.
     #[error("the question lacks a text, its end, a part of its stopwatch or of its marks, or combines these with sets")]
     Incomplete,
 }

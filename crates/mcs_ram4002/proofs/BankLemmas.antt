@@ -7,135 +7,140 @@ use Rattle.std.specs.Prelude.{All}
 use Rattle.std.proofs.lemmas.List.{get_or_default, get_or_past, get_or-replicate, get_or-take}
 use Rattle.std.proofs.lemmas.List.Elements.{All-get_or, All-take}
 use Rattle.mcs_nibble.specs.Tables.{flat_rows, column}
-use Rattle.mcs_nibble.proofs.FlatRowsLemmas.{get-flat, set-flat, flat-unchanged, length-flat, zero-flat, get-column, set-column, column-unchanged, length-column, zero-column}
+use Rattle.mcs_nibble.proofs.FlatRowsLemmas.{get-flat_rows, set-flat_rows, flat_rows-unchanged, length-flat_rows, zero-flat_rows, get-column, set-column, column-unchanged, length-column, zero-column}
 use Rattle.mcs_ram4002.specs.declared.BankWrite.{BankWrite}
 use Rattle.mcs_ram4002.specs.declared.BankWrite.TheVariants.{Character, Status, Port, Src}
 use Rattle.mcs_ram4002.specs.declared.Chip.{Chip}
 use Rattle.mcs_ram4002.specs.RamBank.{BankState, ChipState, unpacked_nibbles, contents_of_chip, absent_chip, bank_of, blank_bank, main_cells_of, status_cells_of, status_cell_index, target_chip, chip_after, src_after, with_write, IsInBank, IsSizedChip, IsValidChip, HasFixedLengths, IsValidBank}
-use Rattle.mcs_ram4002.proofs.BelowLimit.{below-at, flat-below, column-below}
-use Rattle.mcs_ram4002.proofs.PackedNibbles.{unpacked-small, unpacked-zeros, unpacked-none}
+use Rattle.mcs_ram4002.proofs.BelowLimit.{element-below_limit, flat_rows-below_limit, column-below_limit}
+use Rattle.mcs_ram4002.proofs.PackedNibbles.{unpacked_nibbles-below_16, unpacked_nibbles-of_zeros, unpacked_nibbles-of_empty_list}
 
-length_wired : (chips : List Chip) (chip_count : ℕ) → chip_count ≤ length chips → length (take chip_count chips) ≡ chip_count
-length_wired chips chip_count l = grind (arith, common_steps)
+length-present_chips : (chips : List Chip) (chip_count : ℕ) → chip_count ≤ length chips → length (take chip_count chips) ≡ chip_count
+length-present_chips chips chip_count l = grind (arith, common_steps)
 
--- The chip at index i of the bank is the chip at index i of the list if i is below `chip_count`.
+-- The chip at index `i` of the bank is the chip at index `i` of the list if `i` is below
+-- `chip_count`.
 present_chip-at_index : (chips : List Chip) (chip_count i : ℕ) (x : Chip) → i < chip_count → chip_count ≤ length chips → get_or (take chip_count chips) i absent_chip ≡ get_or chips i x
 present_chip-at_index chips chip_count i x h l = get_or-take chip_count chips i absent_chip h ∙ get_or_default chips i absent_chip x (omega arith)
 
-chip_absent : (chips : List Chip) (chip_count i : ℕ) → chip_count ≤ i → get_or (take chip_count chips) i absent_chip ≡ absent_chip
-chip_absent chips chip_count i h = grind (arith, common_steps)
+absent_chip-at_index : (chips : List Chip) (chip_count i : ℕ) → chip_count ≤ i → get_or (take chip_count chips) i absent_chip ≡ absent_chip
+absent_chip-at_index chips chip_count i h = grind (arith, common_steps)
 
--- Cell k of chip i is at index `i * width + k` of the flat list. The same cell of an absent chip is
--- 0.
-pub read-flat : (width : ℕ) (f : Chip → List ℕ) (chips : List Chip) (chip_count i k p : ℕ) (x : Chip) → i < 4 → k < width → p ≡ i * width + k → i < chip_count → chip_count ≤ length chips → slice_index (f (get_or chips i x)) k ≡ slice_index (flat_rows 4 width f absent_chip (take chip_count chips)) p
-read-flat width f chips chip_count i k p x h l at there fits =
+-- Cell `k` of chip `i` is at index `i * width + k` of the flat list. For an absent chip, the list
+-- has 0 at this index.
+pub present_cell-in_flat_list : (width : ℕ) (f : Chip → List ℕ) (chips : List Chip) (chip_count i k p : ℕ) (x : Chip) → i < 4 → k < width → p ≡ i * width + k → i < chip_count → chip_count ≤ length chips → slice_index (f (get_or chips i x)) k ≡ slice_index (flat_rows 4 width f absent_chip (take chip_count chips)) p
+present_cell-in_flat_list width f chips chip_count i k p x h l at there fits =
     ap (λ c. slice_index (f c) k) (sym (present_chip-at_index chips chip_count i x there fits))
-    ∙ sym (get-flat 4 width f absent_chip (take chip_count chips) i k h l)
+    ∙ sym (get-flat_rows 4 width f absent_chip (take chip_count chips) i k h l)
     ∙ ap (slice_index (flat_rows 4 width f absent_chip (take chip_count chips))) (sym at)
 
-pub absent-flat : (width : ℕ) (f : Chip → List ℕ) (chips : List Chip) (chip_count i k p : ℕ) → slice_index (f absent_chip) k ≡ 0 → i < 4 → k < width → p ≡ i * width + k → chip_count ≤ i → 0 ≡ slice_index (flat_rows 4 width f absent_chip (take chip_count chips)) p
-absent-flat width f chips chip_count i k p none h l at gone =
+pub absent_cell-in_flat_list : (width : ℕ) (f : Chip → List ℕ) (chips : List Chip) (chip_count i k p : ℕ) → slice_index (f absent_chip) k ≡ 0 → i < 4 → k < width → p ≡ i * width + k → chip_count ≤ i → 0 ≡ slice_index (flat_rows 4 width f absent_chip (take chip_count chips)) p
+absent_cell-in_flat_list width f chips chip_count i k p none h l at gone =
     sym (ap (slice_index (flat_rows 4 width f absent_chip (take chip_count chips))) at
-    ∙ get-flat 4 width f absent_chip (take chip_count chips) i k h l
-    ∙ ap (λ c. slice_index (f c) k) (chip_absent chips chip_count i gone)
+    ∙ get-flat_rows 4 width f absent_chip (take chip_count chips) i k h l
+    ∙ ap (λ c. slice_index (f c) k) (absent_chip-at_index chips chip_count i gone)
     ∙ none)
 
 pub port-read : (chips : List Chip) (chip_count src i : ℕ) (x : Chip) → i < 4 → i < chip_count → chip_count ≤ length chips → (get_or chips i x).port ≡ slice_index (bank_of chips chip_count src).ports i
 port-read chips chip_count src i x h there fits =
     ap (λ (c : Chip). c.port) (sym (present_chip-at_index chips chip_count i x there fits)) ∙ sym (get-column 4 (λ (c : Chip). c.port) absent_chip (take chip_count chips) i h)
 
-pub port-absent : (chips : List Chip) (chip_count src i : ℕ) → i < 4 → chip_count ≤ i → 0 ≡ slice_index (bank_of chips chip_count src).ports i
-port-absent chips chip_count src i h gone =
-    sym (get-column 4 (λ (c : Chip). c.port) absent_chip (take chip_count chips) i h ∙ ap (λ (c : Chip). c.port) (chip_absent chips chip_count i gone))
+pub port-of_absent_chip : (chips : List Chip) (chip_count src i : ℕ) → i < 4 → chip_count ≤ i → 0 ≡ slice_index (bank_of chips chip_count src).ports i
+port-of_absent_chip chips chip_count src i h gone =
+    sym (get-column 4 (λ (c : Chip). c.port) absent_chip (take chip_count chips) i h ∙ ap (λ (c : Chip). c.port) (absent_chip-at_index chips chip_count i gone))
 
 -- A present chip is within the bank's list of chips.
-within : (chips : List Chip) (chip_count i : ℕ) → i < chip_count → chip_count ≤ length chips → i < length (take chip_count chips)
-within chips chip_count i there fits = let e = length_wired chips chip_count fits in omega arith
+present_index-in_range : (chips : List Chip) (chip_count i : ℕ) → i < chip_count → chip_count ≤ length chips → i < length (take chip_count chips)
+present_index-in_range chips chip_count i there fits = let e = length-present_chips chips chip_count fits in omega arith
 
--- When chip i is replaced by d, the flat lists of contents that d does not change stay the same.
-kept : (width : ℕ) (f : Chip → List ℕ) (chips : List Chip) (chip_count i : ℕ) (x d : Chip) → i < chip_count → chip_count ≤ length chips → f d ≡ f (get_or chips i x) → flat_rows 4 width f absent_chip (take chip_count (slice_set chips i d)) ≡ flat_rows 4 width f absent_chip (take chip_count chips)
-kept width f chips chip_count i x d there fits same =
+-- If chip `d` replaces chip `i` and has the same cells, the flat list of these cells stays the
+-- same.
+cells-unchanged_by_set_chip : (width : ℕ) (f : Chip → List ℕ) (chips : List Chip) (chip_count i : ℕ) (x d : Chip) → i < chip_count → chip_count ≤ length chips → f d ≡ f (get_or chips i x) → flat_rows 4 width f absent_chip (take chip_count (slice_set chips i d)) ≡ flat_rows 4 width f absent_chip (take chip_count chips)
+cells-unchanged_by_set_chip width f chips chip_count i x d there fits same =
     ap (flat_rows 4 width f absent_chip) (take-set-lt chip_count chips i d there)
-    ∙ flat-unchanged 4 width f absent_chip (take chip_count chips) i d (within chips chip_count i there fits) (same ∙ ap f (sym (present_chip-at_index chips chip_count i x there fits)))
+    ∙ flat_rows-unchanged 4 width f absent_chip (take chip_count chips) i d (present_index-in_range chips chip_count i there fits) (same ∙ ap f (sym (present_chip-at_index chips chip_count i x there fits)))
 
-kept-ports : (chips : List Chip) (chip_count i : ℕ) (x d : Chip) → i < chip_count → chip_count ≤ length chips → d.port ≡ (get_or chips i x).port → column 4 (λ (c : Chip). c.port) absent_chip (take chip_count (slice_set chips i d)) ≡ column 4 (λ (c : Chip). c.port) absent_chip (take chip_count chips)
-kept-ports chips chip_count i x d there fits same =
+ports-unchanged_by_set_chip : (chips : List Chip) (chip_count i : ℕ) (x d : Chip) → i < chip_count → chip_count ≤ length chips → d.port ≡ (get_or chips i x).port → column 4 (λ (c : Chip). c.port) absent_chip (take chip_count (slice_set chips i d)) ≡ column 4 (λ (c : Chip). c.port) absent_chip (take chip_count chips)
+ports-unchanged_by_set_chip chips chip_count i x d there fits same =
     ap (column 4 (λ (c : Chip). c.port) absent_chip) (take-set-lt chip_count chips i d there)
-    ∙ column-unchanged 4 (λ (c : Chip). c.port) absent_chip (take chip_count chips) i d (within chips chip_count i there fits) (same ∙ ap (λ (c : Chip). c.port) (sym (present_chip-at_index chips chip_count i x there fits)))
+    ∙ column-unchanged 4 (λ (c : Chip). c.port) absent_chip (take chip_count chips) i d (present_index-in_range chips chip_count i there fits) (same ∙ ap (λ (c : Chip). c.port) (sym (present_chip-at_index chips chip_count i x there fits)))
 
--- When chip i is replaced by d, whose cell k is n, element p of the flat list becomes n.
-written : (width : ℕ) (f : Chip → List ℕ) (chips : List Chip) (chip_count i k p n : ℕ) (x d : Chip) → i < 4 → k < width → p ≡ i * width + k → i < chip_count → chip_count ≤ length chips → length (f (get_or chips i x)) ≡ width → f d ≡ slice_set (f (get_or chips i x)) k n → flat_rows 4 width f absent_chip (take chip_count (slice_set chips i d)) ≡ slice_set (flat_rows 4 width f absent_chip (take chip_count chips)) p n
-written width f chips chip_count i k p n x d h l at there fits len new =
+-- If chip `d` replaces chip `i` and differs from it only in cell `k`, element `p` of the flat list
+-- becomes the new value `n` of this cell.
+cells-after_cell_write : (width : ℕ) (f : Chip → List ℕ) (chips : List Chip) (chip_count i k p n : ℕ) (x d : Chip) → i < 4 → k < width → p ≡ i * width + k → i < chip_count → chip_count ≤ length chips → length (f (get_or chips i x)) ≡ width → f d ≡ slice_set (f (get_or chips i x)) k n → flat_rows 4 width f absent_chip (take chip_count (slice_set chips i d)) ≡ slice_set (flat_rows 4 width f absent_chip (take chip_count chips)) p n
+cells-after_cell_write width f chips chip_count i k p n x d h l at there fits len new =
     let old = present_chip-at_index chips chip_count i x there fits in
     ap (flat_rows 4 width f absent_chip) (take-set-lt chip_count chips i d there)
-    ∙ set-flat 4 width f absent_chip (take chip_count chips) i k d n h l (within chips chip_count i there fits) (rw old (omega arith)) (new ∙ ap (λ c. slice_set (f c) k n) (sym old))
+    ∙ set-flat_rows 4 width f absent_chip (take chip_count chips) i k d n h l (present_index-in_range chips chip_count i there fits) (rw old (omega arith)) (new ∙ ap (λ c. slice_set (f c) k n) (sym old))
     ∙ ap (λ j. slice_set (flat_rows 4 width f absent_chip (take chip_count chips)) j n) (sym at)
 
--- If a write was executed on its chip, it was executed on the bank.
+-- If `d` is chip `i` after a write to chip `i`, the bank with `d` in place of chip `i` is the bank
+-- after the write.
 pub stored : (chips : List Chip) (chip_count src i : ℕ) (x d : Chip) (write : BankWrite) → IsInBank write → i ≡ target_chip write → i < 4 → i < chip_count → chip_count ≤ length chips → IsSizedChip (get_or chips i x) → contents_of_chip d ≡ chip_after (contents_of_chip (get_or chips i x)) write → bank_of (slice_set chips i d) chip_count (src_after write src) ≡ with_write (bank_of chips chip_count src) write
 stored chips chip_count src i x d (Character at n) place is h there fits sized new =
-    rw (written 64 main_cells_of chips chip_count i (at % 64) at n x d h (omega arith) (omega arith) there fits sized.main (ap (λ (c : ChipState). c.main) new), kept 16 status_cells_of chips chip_count i x d there fits (ap (λ (c : ChipState). c.status) new), kept-ports chips chip_count i x d there fits (ap (λ (c : ChipState). c.port) new)) refl
+    rw (cells-after_cell_write 64 main_cells_of chips chip_count i (at % 64) at n x d h (omega arith) (omega arith) there fits sized.main (ap (λ (c : ChipState). c.main) new), cells-unchanged_by_set_chip 16 status_cells_of chips chip_count i x d there fits (ap (λ (c : ChipState). c.status) new), ports-unchanged_by_set_chip chips chip_count i x d there fits (ap (λ (c : ChipState). c.port) new)) refl
 stored chips chip_count src i x d (Status high k n) place is h there fits sized new =
-    rw (kept 64 main_cells_of chips chip_count i x d there fits (ap (λ (c : ChipState). c.main) new), written 16 status_cells_of chips chip_count i (high % 4 * 4 + k) (status_cell_index high k) n x d h (omega arith) (omega arith) there fits sized.status (ap (λ (c : ChipState). c.status) new), kept-ports chips chip_count i x d there fits (ap (λ (c : ChipState). c.port) new)) refl
+    rw (cells-unchanged_by_set_chip 64 main_cells_of chips chip_count i x d there fits (ap (λ (c : ChipState). c.main) new), cells-after_cell_write 16 status_cells_of chips chip_count i (high % 4 * 4 + k) (status_cell_index high k) n x d h (omega arith) (omega arith) there fits sized.status (ap (λ (c : ChipState). c.status) new), ports-unchanged_by_set_chip chips chip_count i x d there fits (ap (λ (c : ChipState). c.port) new)) refl
 stored chips chip_count src i x d (Port chip n) place is h there fits sized new =
     let ports =
     ap (column 4 (λ (c : Chip). c.port) absent_chip) (take-set-lt chip_count chips i d there)
-    ∙ set-column 4 (λ (c : Chip). c.port) absent_chip (take chip_count chips) i d n h (within chips chip_count i there fits) (ap (λ (c : ChipState). c.port) new)
+    ∙ set-column 4 (λ (c : Chip). c.port) absent_chip (take chip_count chips) i d n h (present_index-in_range chips chip_count i there fits) (ap (λ (c : ChipState). c.port) new)
     ∙ ap (λ j. slice_set (column 4 (λ (c : Chip). c.port) absent_chip (take chip_count chips)) j n) is in
-    rw (kept 64 main_cells_of chips chip_count i x d there fits (ap (λ (c : ChipState). c.main) new), kept 16 status_cells_of chips chip_count i x d there fits (ap (λ (c : ChipState). c.status) new), ports) refl
+    rw (cells-unchanged_by_set_chip 64 main_cells_of chips chip_count i x d there fits (ap (λ (c : ChipState). c.main) new), cells-unchanged_by_set_chip 16 status_cells_of chips chip_count i x d there fits (ap (λ (c : ChipState). c.status) new), ports) refl
 stored chips chip_count src i x d (Src byte) place is h there fits sized new =
-    rw (kept 64 main_cells_of chips chip_count i x d there fits (ap (λ (c : ChipState). c.main) new), kept 16 status_cells_of chips chip_count i x d there fits (ap (λ (c : ChipState). c.status) new), kept-ports chips chip_count i x d there fits (ap (λ (c : ChipState). c.port) new)) refl
+    rw (cells-unchanged_by_set_chip 64 main_cells_of chips chip_count i x d there fits (ap (λ (c : ChipState). c.main) new), cells-unchanged_by_set_chip 16 status_cells_of chips chip_count i x d there fits (ap (λ (c : ChipState). c.status) new), ports-unchanged_by_set_chip chips chip_count i x d there fits (ap (λ (c : ChipState). c.port) new)) refl
 
 -- ---- properties of every bank
 
 whole : (chips : List Chip) (chip_count src : ℕ) → HasFixedLengths (bank_of chips chip_count src)
-whole chips chip_count src = record { main = length-flat 4 64 _ _ _; status = length-flat 4 16 _ _ _; ports = length-column 4 _ _ _ }
+whole chips chip_count src = record { main = length-flat_rows 4 64 _ _ _; status = length-flat_rows 4 16 _ _ _; ports = length-column 4 _ _ _ }
 
-pub whole_of : (b : BankState) (chips : List Chip) (chip_count src : ℕ) → bank_of chips chip_count src ≡ b → HasFixedLengths b
-whole_of b chips chip_count src is = subst HasFixedLengths is (whole chips chip_count src)
+pub bank-has_fixed_lengths : (b : BankState) (chips : List Chip) (chip_count src : ℕ) → bank_of chips chip_count src ≡ b → HasFixedLengths b
+bank-has_fixed_lengths b chips chip_count src is = subst HasFixedLengths is (whole chips chip_count src)
 
 -- If all chips of a list are valid, so is each chip of the bank, present or absent.
-chip_valid : (chips : List Chip) (chip_count i : ℕ) → All IsValidChip chips → IsValidChip (get_or (take chip_count chips) i absent_chip)
-chip_valid chips chip_count i valid =
+each_chip-valid : (chips : List Chip) (chip_count i : ℕ) → All IsValidChip chips → IsValidChip (get_or (take chip_count chips) i absent_chip)
+each_chip-valid chips chip_count i valid =
     elim (cases_lt i (length (take chip_count chips))) [
       | inl l ↦ All-get_or IsValidChip (take chip_count chips) i absent_chip l (All-take IsValidChip chip_count chips valid)
-      | inr gone ↦ subst IsValidChip (sym (get_or_past (take chip_count chips) i absent_chip gone)) (record { main = unpacked-small []; status = unpacked-small []; port = omega arith })
+      | inr gone ↦ subst IsValidChip (sym (get_or_past (take chip_count chips) i absent_chip gone)) (record { main = unpacked_nibbles-below_16 []; status = unpacked_nibbles-below_16 []; port = omega arith })
     ]
 
 pub valid_of : (b : BankState) (chips : List Chip) (chip_count src : ℕ) → bank_of chips chip_count src ≡ b → src < 256 → (chip_count ≡ 0 → src ≡ 0) → All IsValidChip chips → IsValidBank b
 valid_of b chips chip_count src is small unwired valid =
     let at : IsValidBank (bank_of chips chip_count src) = record {
       whole = whole chips chip_count src;
-      main = flat-below 4 64 16 main_cells_of absent_chip (take chip_count chips) (λ i k. below-at 16 _ k (omega arith) (chip_valid chips chip_count i valid).main);
-      status = flat-below 4 16 16 status_cells_of absent_chip (take chip_count chips) (λ i k. below-at 16 _ k (omega arith) (chip_valid chips chip_count i valid).status);
-      ports = column-below 4 16 (λ (c : Chip). c.port) absent_chip (take chip_count chips) (λ i. (chip_valid chips chip_count i valid).port);
+      main = flat_rows-below_limit 4 64 16 main_cells_of absent_chip (take chip_count chips) (λ i k. element-below_limit 16 _ k (omega arith) (each_chip-valid chips chip_count i valid).main);
+      status = flat_rows-below_limit 4 16 16 status_cells_of absent_chip (take chip_count chips) (λ i k. element-below_limit 16 _ k (omega arith) (each_chip-valid chips chip_count i valid).status);
+      ports = column-below_limit 4 16 (λ (c : Chip). c.port) absent_chip (take chip_count chips) (λ i. (each_chip-valid chips chip_count i valid).port);
       src = small;
-      absent_main = λ at l gone. sym (absent-flat 64 main_cells_of chips chip_count (at / 64) (at % 64) at (unpacked-none (at % 64)) (omega arith) (omega arith) (omega arith) gone);
-      absent_status = λ high k h l gone. sym (absent-flat 16 status_cells_of chips chip_count (high / 4) (high % 4 * 4 + k) (status_cell_index high k) (unpacked-none (high % 4 * 4 + k)) (omega arith) (omega arith) (omega arith) gone);
-      absent_port = λ chip l gone. sym (port-absent chips chip_count src chip l gone);
+      absent_main = λ at l gone. sym (absent_cell-in_flat_list 64 main_cells_of chips chip_count (at / 64) (at % 64) at (unpacked_nibbles-of_empty_list (at % 64)) (omega arith) (omega arith) (omega arith) gone);
+      absent_status = λ high k h l gone. sym (absent_cell-in_flat_list 16 status_cells_of chips chip_count (high / 4) (high % 4 * 4 + k) (status_cell_index high k) (unpacked_nibbles-of_empty_list (high % 4 * 4 + k)) (omega arith) (omega arith) (omega arith) gone);
+      absent_port = λ chip l gone. sym (port-of_absent_chip chips chip_count src chip l gone);
       absent_src = unwired;
     } in
     subst IsValidBank is at
 
--- If f gives x for a blank chip and for an absent chip, f gives x for each chip of a blank bank.
+-- If `f` gives `x` for a blank chip and for an absent chip, `f` gives `x` for each chip of a blank
+-- bank.
 blank_chip-value : {X : Type 0} (f : Chip → X) (x : X) (n chip_count i : ℕ) (b : Chip) → chip_count ≤ n → f b ≡ x → f absent_chip ≡ x → f (get_or (take chip_count (replicate n b)) i absent_chip) ≡ x
 blank_chip-value f x n chip_count i b l here none =
     elim (cases_lt i chip_count) [
       | inl h ↦ ap f (get_or-take chip_count (replicate n b) i absent_chip h ∙ get_or-replicate n i b absent_chip (omega arith)) ∙ here
-      | inr h ↦ ap f (chip_absent (replicate n b) chip_count i h) ∙ none
+      | inr h ↦ ap f (absent_chip-at_index (replicate n b) chip_count i h) ∙ none
     ]
 
 -- A list of zeros reads as 0 at each index, even past its end.
 pub slice_index-zeros : (n k : ℕ) → slice_index (replicate n 0) k ≡ 0
 slice_index-zeros n k = grind (arith, common_steps)
 
-zero-cell : (n k : ℕ) → slice_index (unpacked_nibbles (replicate n 0)) k ≡ 0
-zero-cell n k = ap (λ cells. slice_index cells k) (unpacked-zeros n) ∙ slice_index-zeros (2 * n) k
+unpacked_zeros-at_index : (n k : ℕ) → slice_index (unpacked_nibbles (replicate n 0)) k ≡ 0
+unpacked_zeros-at_index n k = ap (λ cells. slice_index cells k) (unpacked_nibbles-of_zeros n) ∙ slice_index-zeros (2 * n) k
 
 pub blank : (n chip_count src : ℕ) → chip_count ≤ n → bank_of (replicate n (record { main = replicate 32 0; status = replicate 8 0; port = 0 })) chip_count src ≡ record (blank_bank chip_count) { src = src }
 blank n chip_count src l =
     let b : Chip = record { main = replicate 32 0; status = replicate 8 0; port = 0 } in
-    let main = zero-flat 4 64 main_cells_of absent_chip (take chip_count (replicate n b)) (λ i k. blank_chip-value (λ c. slice_index (main_cells_of c) k) 0 n chip_count i b l (zero-cell 32 k) (unpacked-none k)) in
-    let status = zero-flat 4 16 status_cells_of absent_chip (take chip_count (replicate n b)) (λ i k. blank_chip-value (λ c. slice_index (status_cells_of c) k) 0 n chip_count i b l (zero-cell 8 k) (unpacked-none k)) in
+    let main = zero-flat_rows 4 64 main_cells_of absent_chip (take chip_count (replicate n b)) (λ i k. blank_chip-value (λ c. slice_index (main_cells_of c) k) 0 n chip_count i b l (unpacked_zeros-at_index 32 k) (unpacked_nibbles-of_empty_list k)) in
+    let status = zero-flat_rows 4 16 status_cells_of absent_chip (take chip_count (replicate n b)) (λ i k. blank_chip-value (λ c. slice_index (status_cells_of c) k) 0 n chip_count i b l (unpacked_zeros-at_index 8 k) (unpacked_nibbles-of_empty_list k)) in
     let ports = zero-column 4 (λ (c : Chip). c.port) absent_chip (take chip_count (replicate n b)) (λ i. blank_chip-value (λ c. c.port) 0 n chip_count i b l refl refl) in
     rw (main, status, ports) refl

@@ -1,6 +1,6 @@
 -- A bank of 4002s as flat lists. Source: MCS-4 Users Manual, 4002: each chip has an output port and
 -- four registers of 16 main nibbles and 4 status characters each. SRC selects a chip, a register
--- and a main nibble. Our own choice: an absent chip reads as 0.
+-- and a main nibble. Defined by Fethsaim, not by Intel: an absent chip reads as 0.
 use Rattle.std.specs.Prelude.{◌≡◌, ℕ, ◌+◌, ◌*◌, ◌/◌, ◌%◌, ◌^◌, ◌<◌, ◌≤◌, List, [], All, replicate, slice_index, slice_set, length, take, if◌then◌else◌, nat_lt}
 use Rattle.mcs_nibble.specs.Tables.{table_of, flat_rows, column}
 use Rattle.mcs_ram4002.specs.declared.BankWrite.{BankWrite}
@@ -14,14 +14,13 @@ pub record BankState : Type 0 where
   pub src : ℕ
   -- the 256 main nibbles, indexed by the SRC byte that selects them
   pub main : List ℕ
-  -- the 64 status characters; status character k of the register that the upper SRC nibble h
-  -- selects is at index h * 4 + k
+  -- the 64 status characters, at the indices that `status_cell_index` returns
   pub status : List ℕ
   -- the output port latches of chips 0 to 3
   pub ports : List ℕ
 
--- the index of status character k of the register that `high`, the upper nibble of an SRC byte,
--- selects
+-- the index of status character `k` (0 to 3) of a register; `high` is the upper nibble of the SRC
+-- byte that selects the register
 abbrev pub status_cell_index : ℕ → ℕ → ℕ
 status_cell_index high k = high * 4 + k
 
@@ -85,11 +84,11 @@ pub record IsValidBank (b : BankState) : Type 0 where
 
 -- ---- how a bank stores its chips
 
--- half k of a byte: the lower half if k is 0, the upper half if k is 1
+-- half `k` of a byte: the lower half if `k` is 0, the upper half if `k` is 1
 abbrev pub half_of : ℕ → ℕ → ℕ
 half_of byte k = byte / 16 ^ k % 16
 
--- the nibbles in a list of bytes; each byte stores two nibbles, with the first one in its lower
+-- the nibbles in a list of bytes; each byte stores two nibbles, with the first nibble in the lower
 -- half
 unfoldable pub unpacked_nibbles : List ℕ → List ℕ
 unpacked_nibbles bytes = table_of (2 * length bytes) (λ k. half_of (slice_index bytes (k / 2)) (k % 2))
@@ -104,9 +103,9 @@ status_cells_of c = unpacked_nibbles c.status
 
 -- the contents of a chip: its main nibbles, its status characters and its port latch
 pub record ChipState : Type 0 where
-  -- the main nibbles, at index register * 16 + nibble number
+  -- the main nibbles, at index `register * 16 + nibble number`
   pub main : List ℕ
-  -- the status characters, at index register * 4 + status character number
+  -- the status characters, at index `register * 4 + status character number`
   pub status : List ℕ
   pub port : ℕ
 
@@ -144,7 +143,7 @@ chip_after c (Status high k n) = record c { status = slice_set c.status (high % 
 chip_after c (Port chip n) = record c { port = n }
 chip_after c (Src byte) = c
 
--- the SRC byte that a bank stores after a write
+-- the SRC byte that a bank stores after a write; `src` is the byte before the write
 abbrev pub src_after : BankWrite → ℕ → ℕ
 src_after (Character at n) src = src
 src_after (Status high k n) src = src

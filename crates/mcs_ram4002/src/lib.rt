@@ -1,10 +1,10 @@
 //! The 4002: RAM chips, and the banks that they form. Intel calls a nibble of RAM a RAM character. Each byte of a
 //! chip's storage holds two nibbles.
 //!
-//! On its own, a bank behaves as the processor sees it. `src`, `read`, `write`, `read_status`, `write_status` and
-//! `write_port` access the location that the last SRC selected. A rig accesses a bank by index instead (`at`,
-//! `status_at`, `port`, `store`), as an observer of the board does. This lets the rig define once, for all banks,
-//! which location SRC selects.
+//! `src` stores the SRC byte of the bank, as the instruction SRC does. `read`, `write`, `read_status`, `write_status`
+//! and `write_port` access the location that this byte selects. A rig accesses a bank by index instead (`at`,
+//! `status_at`, `port`, `store`), as an observer of the board does. The rig can then define once, for all banks, which
+//! location an SRC byte selects.
 #![tactic(auto)]
 
 ghost use Rattle.std.specs.Prelude.{◌≡◌, ℕ, ◌+◌, ◌-◌, ◌*◌, ◌/◌, ◌%◌, ◌<◌, ◌≤◌, All, replicate, slice_index};
@@ -41,7 +41,8 @@ impl BankWrite {
         }
     }
 
-    /// Returns the SRC byte that the bank stores after the write. `src` is the byte that it stores before the write.
+    /// Returns the SRC byte that the bank stores after the write. `src` is the SRC byte that the bank stores before the
+    /// write.
     fn src_after(self, src: u8) -> u8
         ensures { result ≡ src_after self src }
     {
@@ -64,7 +65,7 @@ fn nibble_in_byte(byte: u8, at: u8) -> Nibble
     }
 }
 
-/// Returns the byte with nibble `at` of a chip replaced by `n`. The nibble is the lower half if `at` is even, and the
+/// Returns `byte` with nibble `at` of a chip replaced by `n`. The nibble is the lower half if `at` is even, and the
 /// upper half if `at` is odd.
 fn byte_with_nibble(byte: u8, at: u8, n: Nibble) -> u8
     ensures set { half_of result (at % 2) ≡ n }
@@ -99,7 +100,7 @@ impl Chip {
         }
     }
 
-    /// Returns the main nibble at index `at`, which is register * 16 + nibble number.
+    /// Returns the main nibble at index `at`. The index is `register * 16 + nibble number`.
     fn character(&self, at: u8) -> Nibble
         requires { at < 64 }
         ensures { result ≡ slice_index (main_cells_of self.now) at }
@@ -107,7 +108,7 @@ impl Chip {
         nibble_in_byte(self.main[usize::from(at / 2)], at)
     }
 
-    /// Returns the status character at index `at`, which is register * 4 + status character number.
+    /// Returns the status character at index `at`. The index is `register * 4 + status character number`.
     fn status_character(&self, at: u8) -> Nibble
         requires { at < 16 }
         ensures { result ≡ slice_index (status_cells_of self.now) at }
@@ -220,7 +221,7 @@ impl<const CHIPS: usize> Bank<CHIPS> {
         }
     }
 
-    /// Executes a write. Has no effect if the chip that it changes is absent.
+    /// Executes a write. Has no effect if the target chip of the write is absent.
     #[inline(always)]
     pub fn store(&mut self, write: BankWrite)
         requires { IsInBank write }
@@ -236,7 +237,7 @@ impl<const CHIPS: usize> Bank<CHIPS> {
         }
     }
 
-    /// Stores an SRC byte. If the bank has no chips, the stored byte stays 0.
+    /// Stores an SRC byte. If the bank has no chips, the bank's SRC byte stays 0.
     pub fn src(&mut self, byte: u8)
         ensures { self.new ≡ after_write self.old (BankWrite.Src byte) }
     {

@@ -1,7 +1,7 @@
 //! The 4001: 256 bytes of program memory and a four-line port.
 //!
-//! A `Rom` is a complete chip. A rig uses only the port of each ROM, a `RomPort`. It stores the bytes of all ROMs in
-//! one list, indexed by address, so that a fetch reads one list element.
+//! A `Rom` is a complete chip. A rig uses only the port of each ROM, a `RomPort`. The rig stores the bytes of all
+//! ROMs in one list, indexed by address, so that a fetch reads one list element.
 #![tactic(auto)]
 
 ghost use Rattle.std.specs.Prelude.{◌≡◌, ℕ, ◌<◌, All, slice_index, slice_set, replicate, length};
@@ -44,8 +44,8 @@ fn latched_bit(mask: &[LineMask; 4], n: Nibble, k: u8) -> Bit
     }
 }
 
-/// Returns the bit that the processor reads from line `k` (0 to 3). If the line is an input, this is its level, bit
-/// `k` of `inputs`. If it is an output, this is the constant of its mask.
+/// Returns the bit that the processor reads from line `k` (0 to 3). An input line reads as its level, bit `k` of
+/// `inputs`. An output line reads as the constant of its mask.
 fn read_port_line(mask: &[LineMask; 4], inputs: Nibble, k: u8) -> Bit
     requires { k < 4 }
     ensures { result ≡ read_bit (bit_of inputs) mask.now k }

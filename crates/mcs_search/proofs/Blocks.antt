@@ -6,42 +6,42 @@ use Rattle.std.proofs.lemmas.List.Elements.{All-nil, All-push, All-same, All-tai
 use Rattle.mcs_search.specs.declared.block.TheConstants.{KEYS_PER_BLOCK}
 use Rattle.mcs_search.specs.Keys.{KeyStore, keys_of_blocks, AreFull, ArenaInvariant}
 
-abbrev full : (width n : ℕ) → KeyStore → Type 0
-full width n b = (b.width ≡ width) × (length b.keys ≡ n)
+abbrev IsFullBlock : (width n : ℕ) → KeyStore → Type 0
+IsFullBlock width n b = (b.width ≡ width) × (length b.keys ≡ n)
 
 first_block-length : (width n : ℕ) (b : KeyStore) (bs : List KeyStore) → AreFull width n (b ∷ bs) → length b.keys ≡ n
 first_block-length width n b bs all = (all 0 b (omega arith)).1
 
--- Full blocks of n keys together have n keys for each block.
+-- If each block has n keys, the blocks together have `length bs * n` keys.
 pub length-keys_of_blocks : (width n : ℕ) (bs : List KeyStore) → AreFull width n bs → length (keys_of_blocks bs) ≡ length bs * n
 unfolding keys_of_blocks
 length-keys_of_blocks width n [] all = omega arith
 length-keys_of_blocks width n (b ∷ bs) all =
-    let rest = length-keys_of_blocks width n bs (All-tail (full width n) b bs all) in
+    let rest = length-keys_of_blocks width n bs (All-tail (IsFullBlock width n) b bs all) in
     let one = first_block-length width n b bs all in
     let sum = length-append b.keys (keys_of_blocks bs) in
     let q = suc-mul (length bs) n in
     omega arith
 
 -- The key at index q * n + r of the arena is the key at index r of full block q.
-pub key-in-block : (width n q r : ℕ) (bs : List KeyStore) (ys : List (List ℕ)) (d : KeyStore) → AreFull width n bs → q < length bs → r < n →
+pub key-in_full_block : (width n q r : ℕ) (bs : List KeyStore) (ys : List (List ℕ)) (d : KeyStore) → AreFull width n bs → q < length bs → r < n →
     get_or (keys_of_blocks bs ++ ys) (q * n + r) [] ≡ get_or (get_or bs q d).keys r []
 unfolding keys_of_blocks
-key-in-block width n q r [] ys d all h k = absurd (omega arith)
-key-in-block width n zero r (b ∷ bs) ys d all h k =
+key-in_full_block width n q r [] ys d all h k = absurd (omega arith)
+key-in_full_block width n zero r (b ∷ bs) ys d all h k =
     let one = first_block-length width n b bs all in
     let at : zero * n + r ≡ r = omega arith in
     ap (λ i. get_or ((b.keys ++ keys_of_blocks bs) ++ ys) i []) at
     ∙ ap (λ ks. get_or ks r []) (append_assoc b.keys (keys_of_blocks bs) ys)
     ∙ get_or_append_left b.keys (keys_of_blocks bs ++ ys) [] r (omega arith)
-key-in-block width n (suc q) r (b ∷ bs) ys d all h k =
+key-in_full_block width n (suc q) r (b ∷ bs) ys d all h k =
     let one = first_block-length width n b bs all in
     let m = suc-mul q n in
     let at : suc q * n + r - n ≡ q * n + r = omega arith in
     ap (λ ks. get_or ks (suc q * n + r) []) (append_assoc b.keys (keys_of_blocks bs) ys)
     ∙ get_or-append_right b.keys (keys_of_blocks bs ++ ys) n (suc q * n + r) [] one (omega arith)
     ∙ ap (λ i. get_or (keys_of_blocks bs ++ ys) i []) at
-    ∙ key-in-block width n q r bs ys d (All-tail (full width n) b bs all) (omega arith) k
+    ∙ key-in_full_block width n q r bs ys d (All-tail (IsFullBlock width n) b bs all) (omega arith) k
 
 -- The key at index r after the full blocks is the key at index r of the last block.
 pub key-after_full_blocks : (width n r : ℕ) (bs : List KeyStore) (ys : List (List ℕ)) → AreFull width n bs →
@@ -53,10 +53,10 @@ key-after_full_blocks width n r bs ys all =
     ∙ ap (λ i. get_or ys i []) at
 
 -- Appending a block appends its keys.
-pub keys_of_blocks-more : (bs : List KeyStore) (b : KeyStore) → keys_of_blocks (bs ++ b ∷ []) ≡ keys_of_blocks bs ++ b.keys
+pub keys_of_blocks-append_block : (bs : List KeyStore) (b : KeyStore) → keys_of_blocks (bs ++ b ∷ []) ≡ keys_of_blocks bs ++ b.keys
 unfolding keys_of_blocks
-keys_of_blocks-more [] b = append-nil b.keys
-keys_of_blocks-more (a ∷ bs) b = ap (λ ks. a.keys ++ ks) (keys_of_blocks-more bs b) ∙ sym (append_assoc a.keys (keys_of_blocks bs) b.keys)
+keys_of_blocks-append_block [] b = append-nil b.keys
+keys_of_blocks-append_block (a ∷ bs) b = ap (λ ks. a.keys ++ ks) (keys_of_blocks-append_block bs b) ∙ sym (append_assoc a.keys (keys_of_blocks bs) b.keys)
 
 -- ---- the keys of an arena
 
@@ -67,7 +67,7 @@ pub arena_key-in_full_block : (width len i : ℕ) (bs : List KeyStore) (last d :
     get_or (get_or bs (i / 65536) d).keys (i % 65536) [] ≡ get_or (keys_of_blocks bs ++ last.keys) i []
 arena_key-in_full_block width len i bs last d fits h =
     let at : i / 65536 * 65536 + i % 65536 ≡ i = omega arith in
-    sym (key-in-block width 65536 (i / 65536) (i % 65536) bs last.keys d fits.blocks h (omega arith))
+    sym (key-in_full_block width 65536 (i / 65536) (i % 65536) bs last.keys d fits.blocks h (omega arith))
     ∙ ap (λ j. get_or (keys_of_blocks bs ++ last.keys) j []) at
 
 -- An index after the full blocks is an index in the last block.
@@ -90,9 +90,9 @@ arena_key-in_last_block width len i bs last fits h k =
 
 -- ---- an arena after one more key is added
 
-pub arena-push : (width len : ℕ) (bs : List KeyStore) (last new : KeyStore) (key : List ℕ) → ArenaInvariant width len bs last →
+pub arena_invariant-after_push : (width len : ℕ) (bs : List KeyStore) (last new : KeyStore) (key : List ℕ) → ArenaInvariant width len bs last →
     new.width ≡ last.width → new.keys ≡ last.keys ++ key ∷ [] → length new.keys < KEYS_PER_BLOCK → ArenaInvariant width (len + 1) bs new
-arena-push width len bs last new key fits w k few =
+arena_invariant-after_push width len bs last new key fits w k few =
     let more = ap length k ∙ length-append last.keys (key ∷ []) in
     let count = fits.count in
     record {
@@ -102,43 +102,44 @@ arena-push width len bs last new key fits w k few =
       count = omega arith;
     }
 
--- The new key fills the last block, and a new empty block becomes the last.
-pub arena-block_filled : (width len : ℕ) (bs : List KeyStore) (last new next : KeyStore) (key : List ℕ) → ArenaInvariant width len bs last →
+-- The invariant still holds if the new key fills the last block and an empty block becomes the
+-- last block.
+pub arena_invariant-after_block_filled : (width len : ℕ) (bs : List KeyStore) (last new next : KeyStore) (key : List ℕ) → ArenaInvariant width len bs last →
     new.width ≡ last.width → new.keys ≡ last.keys ++ key ∷ [] → KEYS_PER_BLOCK ≤ length new.keys → next ≡ record { width = width; keys = [] } →
     ArenaInvariant width (len + 1) (bs ++ new ∷ []) next
-arena-block_filled width len bs last new next key fits w k full-now is =
+arena_invariant-after_block_filled width len bs last new next key fits w k full-now is =
     let more = ap length k ∙ length-append last.keys (key ∷ []) in
     let few = fits.last_few in
     let count = fits.count in
-    let all = ap length (keys_of_blocks-more bs new) ∙ length-append (keys_of_blocks bs) new.keys in
+    let all = ap length (keys_of_blocks-append_block bs new) ∙ length-append (keys_of_blocks bs) new.keys in
     let none : length next.keys ≡ 0 = ap (λ (s : KeyStore). length s.keys) is in
     record {
-      blocks = All-push (full width KEYS_PER_BLOCK) bs new fits.blocks (w ∙ fits.last_width, omega arith);
+      blocks = All-push (IsFullBlock width KEYS_PER_BLOCK) bs new fits.blocks (w ∙ fits.last_width, omega arith);
       last_width = ap (λ (s : KeyStore). s.width) is;
       last_few = omega arith;
       count = omega arith;
     }
 
-pub keys-push : (bs : List KeyStore) (last new : KeyStore) (key : List ℕ) → new.keys ≡ last.keys ++ key ∷ [] → keys_of_blocks bs ++ new.keys ≡ (keys_of_blocks bs ++ last.keys) ++ key ∷ []
-keys-push bs last new key k = ap (λ ks. keys_of_blocks bs ++ ks) k ∙ sym (append_assoc (keys_of_blocks bs) last.keys (key ∷ []))
+pub arena_keys-after_push : (bs : List KeyStore) (last new : KeyStore) (key : List ℕ) → new.keys ≡ last.keys ++ key ∷ [] → keys_of_blocks bs ++ new.keys ≡ (keys_of_blocks bs ++ last.keys) ++ key ∷ []
+arena_keys-after_push bs last new key k = ap (λ ks. keys_of_blocks bs ++ ks) k ∙ sym (append_assoc (keys_of_blocks bs) last.keys (key ∷ []))
 
-pub keys-block_filled : (width : ℕ) (bs : List KeyStore) (last new next : KeyStore) (key : List ℕ) → new.keys ≡ last.keys ++ key ∷ [] → next ≡ record { width = width; keys = [] } →
+pub arena_keys-after_block_filled : (width : ℕ) (bs : List KeyStore) (last new next : KeyStore) (key : List ℕ) → new.keys ≡ last.keys ++ key ∷ [] → next ≡ record { width = width; keys = [] } →
     keys_of_blocks (bs ++ new ∷ []) ++ next.keys ≡ (keys_of_blocks bs ++ last.keys) ++ key ∷ []
-keys-block_filled width bs last new next key k is =
+arena_keys-after_block_filled width bs last new next key k is =
     ap (λ (s : KeyStore). keys_of_blocks (bs ++ new ∷ []) ++ s.keys) is
     ∙ append-nil (keys_of_blocks (bs ++ new ∷ []))
-    ∙ keys_of_blocks-more bs new
-    ∙ keys-push bs last new key k
+    ∙ keys_of_blocks-append_block bs new
+    ∙ arena_keys-after_push bs last new key k
 
 -- ---- an empty arena
 
-pub arena-empty : (width : ℕ) (bs : List KeyStore) (last : KeyStore) → bs ≡ [] → last ≡ record { width = width; keys = [] } → ArenaInvariant width 0 bs last
+pub arena_invariant-of_empty_arena : (width : ℕ) (bs : List KeyStore) (last : KeyStore) → bs ≡ [] → last ≡ record { width = width; keys = [] } → ArenaInvariant width 0 bs last
 unfolding keys_of_blocks
-arena-empty width bs last empty is =
+arena_invariant-of_empty_arena width bs last empty is =
     let none : length last.keys ≡ 0 = ap (λ (s : KeyStore). length s.keys) is in
     let all : length (keys_of_blocks bs) ≡ 0 = ap (λ xs. length (keys_of_blocks xs)) empty in
     record {
-      blocks = All-same (full width KEYS_PER_BLOCK) bs [] empty (All-nil (full width KEYS_PER_BLOCK));
+      blocks = All-same (IsFullBlock width KEYS_PER_BLOCK) bs [] empty (All-nil (IsFullBlock width KEYS_PER_BLOCK));
       last_width = ap (λ (s : KeyStore). s.width) is;
       last_few = omega arith;
       count = omega arith;

@@ -11,27 +11,27 @@ length-keys_in_bytes width zero bytes = refl
 length-keys_in_bytes width (suc n) bytes = ap suc (length-keys_in_bytes width n (drop width bytes))
 
 -- Each key ends within the list of bytes.
-pub key-within : (width n i len : ℕ) → i < n → len ≡ n * width → i * width + width ≤ len
-key-within width n i len h e =
+pub key_end-within_bytes : (width n i len : ℕ) → i < n → len ≡ n * width → i * width + width ≤ len
+key_end-within_bytes width n i len h e =
     let p : suc i * width ≤ n * width = mul-le-mul_right width (omega arith) in
     let q = suc-mul i width in
     omega arith
 
 -- Key i has the `width` bytes that begin at byte i * width.
-pub key-at : (width n i : ℕ) (bytes : List ℕ) → i < n → get_or (keys_in_bytes width n bytes) i [] ≡ take width (drop (i * width) bytes)
+pub key-at_index : (width n i : ℕ) (bytes : List ℕ) → i < n → get_or (keys_in_bytes width n bytes) i [] ≡ take width (drop (i * width) bytes)
 unfolding keys_in_bytes
-key-at width zero i bytes h = absurd (omega arith)
-key-at width (suc n) zero bytes h = (let e : zero * width ≡ 0 = omega arith in rw e refl)
-key-at width (suc n) (suc i) bytes h =
-    key-at width n i (drop width bytes) (omega arith)
+key-at_index width zero i bytes h = absurd (omega arith)
+key-at_index width (suc n) zero bytes h = (let e : zero * width ≡ 0 = omega arith in rw e refl)
+key-at_index width (suc n) (suc i) bytes h =
+    key-at_index width n i (drop width bytes) (omega arith)
     ∙ ap (take width) (drop-drop (i * width) width bytes ∙ ap (λ k. drop k bytes) (let q = suc-mul i width in omega arith))
 
 -- Appending the bytes of a key appends the key.
-pub append-key : (width n : ℕ) (bytes key : List ℕ) → length bytes ≡ n * width → length key ≡ width → keys_in_bytes width (n + 1) (bytes ++ key) ≡ keys_in_bytes width n bytes ++ key ∷ []
+pub keys_in_bytes-append_key : (width n : ℕ) (bytes key : List ℕ) → length bytes ≡ n * width → length key ≡ width → keys_in_bytes width (n + 1) (bytes ++ key) ≡ keys_in_bytes width n bytes ++ key ∷ []
 unfolding keys_in_bytes
-append-key width zero [] key e w = ap (λ k. k ∷ []) (ap (λ m. take m key) (sym w) ∙ take-length key)
-append-key width zero (x ∷ bytes) key e w = absurd (let z : zero * width ≡ 0 = omega arith in omega arith)
-append-key width (suc n) bytes key e w =
+keys_in_bytes-append_key width zero [] key e w = ap (λ k. k ∷ []) (ap (λ m. take m key) (sym w) ∙ take-length key)
+keys_in_bytes-append_key width zero (x ∷ bytes) key e w = absurd (let z : zero * width ≡ 0 = omega arith in omega arith)
+keys_in_bytes-append_key width (suc n) bytes key e w =
     let q = suc-mul n width in
     let long : width ≤ length bytes = omega arith in
     let d = length-drop width bytes in
@@ -40,4 +40,4 @@ append-key width (suc n) bytes key e w =
     ap (λ m. keys_in_bytes width m (bytes ++ key)) one
     ∙ ap (λ k. k ∷ keys_in_bytes width (n + 1) (drop width (bytes ++ key))) (take-append-le width bytes key long)
     ∙ ap (λ ds. take width bytes ∷ keys_in_bytes width (n + 1) ds) (drop-append-le width bytes key long)
-    ∙ ap (λ ks. take width bytes ∷ ks) (append-key width n (drop width bytes) key rest w)
+    ∙ ap (λ ks. take width bytes ∷ ks) (keys_in_bytes-append_key width n (drop width bytes) key rest w)

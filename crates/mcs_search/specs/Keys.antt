@@ -3,8 +3,7 @@ use Rattle.std.specs.Prelude.{◌≡◌, ◌<◌, ◌⊎◌, ◌+◌, ℕ, zero,
 use Rattle.std.specs.List.{All}
 use Rattle.mcs_search.specs.declared.block.TheConstants.{KEYS_PER_BLOCK}
 
--- the first n keys in a list of bytes; each key has `width` bytes, and the next one follows it
--- directly
+-- the first n keys that are stored back to back in a list of bytes; each key has `width` bytes
 unfoldable pub keys_in_bytes : ℕ → ℕ → List ℕ → List (List ℕ)
 keys_in_bytes width zero bytes = []
 keys_in_bytes width (suc n) bytes = take width bytes ∷ keys_in_bytes width n (drop width bytes)
@@ -31,12 +30,12 @@ pub record ArenaInvariant (width len : ℕ) (full : List KeyStore) (last : KeySt
   pub last_few : length last.keys < KEYS_PER_BLOCK
   pub count : len ≡ length (keys_of_blocks full) + length last.keys
 
--- holds if the new store has the keys of the old one, followed by any number of others
+-- holds if the new store has the keys of the old store, possibly followed by more keys
 pub record Grows (old new : KeyStore) : Type 0 where
   pub width : new.width ≡ old.width
   pub keys : (more : List (List ℕ)) × (new.keys ≡ old.keys ++ more)
 
--- holds if the new store has the keys of the old one, followed by the given key or by none
+-- holds if the new store has the keys of the old store, possibly followed by the given key
 pub record Adds (old : KeyStore) (key : List ℕ) (new : KeyStore) : Type 0 where
   pub width : new.width ≡ old.width
   pub keys : (new.keys ≡ old.keys) ⊎ (new.keys ≡ old.keys ++ key ∷ [])

@@ -1,11 +1,10 @@
--- A transition system in which each state is identified by a key, a list of bytes. (Our own
--- choice.)
+-- A transition system in which each state is identified by a key, a list of bytes.
 use Rattle.std.specs.Prelude.{◌≡◌, ◌⊎◌, ℕ, List, [], ◌∷◌, length}
 use Rattle.std.specs.List.{All, Contains}
 
 -- the rules of a transition system:
 -- `is_state`: the key is that of a state
--- `covers`: the choices are all those that the state needs
+-- `covers`: the choices include all choices that a search must follow from the state
 -- `leads`: the choice leads from the first state to the second, and the property holds at every
 -- step
 -- `fails`: the property fails while the choice is followed from the state
@@ -19,7 +18,7 @@ pub record Rules : Type 1 where
 abbrev pub LeadsInto : Rules → List (List ℕ) → List ℕ → ℕ → Type 0
 LeadsInto r keys key choice = (next : List ℕ) × r.leads key choice next × Contains keys next
 
--- holds if every choice that a state needs leads to one of the given keys
+-- holds if all choices that a search must follow from a state lead to keys in the given list
 abbrev pub IsFollowed : Rules → List (List ℕ) → List ℕ → Type 0
 IsFollowed r keys key =
     (choices : List ℕ) × r.covers key choices × All (LeadsInto r keys key) choices

@@ -19,7 +19,8 @@ IsProved r start verdict.TooMany = Unit {0}
 IsProved r start (verdict.NoMemory n) = Unit {0}
 IsProved r start verdict.GaveUp = Unit {0}
 
--- the progress of a search: the keys found, in order, and how many of them were followed
+-- the progress of a search: the keys found, in order, and the number of states whose choices were
+-- followed
 pub record SearchProgress : Type 0 where
   pub keys : List (List ℕ)
   pub followed : ℕ
@@ -28,8 +29,8 @@ pub record SearchProgress : Type 0 where
 abbrev pub start_of : SearchProgress → List ℕ
 start_of p = slice_index_or p.keys 0 []
 
--- the invariant of a search: all keys found are states, and every choice that a followed state
--- needs leads to a key that was found
+-- the invariant of a search: each key found is that of a state. All choices that the search must
+-- follow from the first `followed` states lead to keys that were found.
 pub record IsUnderWay (r : Rules) (p : SearchProgress) : Type 0 where
   pub states : All r.is_state p.keys
   pub followed : (k : ℕ) → k < p.followed → IsFollowed r p.keys (slice_index_or p.keys k [])

@@ -7,8 +7,8 @@ use std::alloc::{AllocError, Global};
 use std::marker::Model;
 use std::mem;
 
-/// Keys of one width, each with its parent, stored in blocks. When the arena grows, it copies no full block. It needs
-/// no memory beyond that of its keys.
+/// Keys of one width, each with its parent, stored in blocks. When the arena grows, it copies no keys of full blocks.
+/// It therefore never needs memory for a second copy of all its keys.
 #[derive(Drop)]
 pub(crate) struct Arena {
     full: Vec<KeyBlock>,
@@ -79,8 +79,8 @@ impl Arena {
         ensures width { self.new.width ≡ self.old.width }
         ensures err { OnErr result (self.new ≡ self.old) }
     {
-        // If this key fills the last block, that block is pushed to `full`. Reserving its space first means that the
-        // push cannot fail.
+        // If this key fills the last block, that block is pushed to `full`. Space in `full` is reserved first, so that
+        // this push cannot fail.
         self.full.reserve(1)?;
         self.last.push(key, parent)?;
         self.len += 1;

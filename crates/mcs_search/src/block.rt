@@ -8,8 +8,8 @@ use std::marker::Model;
 /// The number of keys in a full block.
 pub(crate) const KEYS_PER_BLOCK: usize = 65_536;
 
-/// The origin of a state: the index of the state from which the search first reached it, and the choice that it
-/// followed there.
+/// The step by which the search first reached a state: the index of the previous state, and the choice that leads from
+/// there.
 #[derive(Clone, Copy)]
 pub(crate) struct Parent {
     pub(crate) state: u32,
@@ -79,7 +79,7 @@ impl KeyBlock {
         ensures width { self.new.width ≡ self.old.width }
         ensures err { OnErr result (self.new ≡ self.old) }
     {
-        // Removes the parent that an earlier call left behind if it failed before it stored the key.
+        // Removes a parent without a key: an earlier call leaves one if it fails after it stored the parent.
         self.parents.truncate(self.len);
         self.parents.push(parent)?;
         self.bytes.extend_from_slice(key)?;

@@ -1,4 +1,4 @@
-//! Functions that follow the choices of one state, and that replay the choices that led to it.
+//! Functions that follow the choices of one state, and functions that replay the choices from the start to a state.
 ghost use Rattle.std.specs.Prelude.{◌≡◌, ◌<◌, ◌≤◌, length, IfOk, IsTrue};
 ghost use Rattle.std.specs.List.{All};
 ghost use Rattle.mcs_search.specs.Rules.{Rules, IsCounterexample};
@@ -17,15 +17,15 @@ pub(crate) enum FollowOutcome {
     All,
     /// The property fails while this choice is followed.
     Broken(u8),
-    /// A next state is new, but the search may visit no more states.
+    /// A next state is new, but the search has already found its maximum number of states.
     TooMany,
     /// The system gave up on a choice.
     GaveUp,
 }
 
 /// Follows the given choices of the state `key`, whose index is `at`, and adds the next states to `visited`. Stops at
-/// the first choice that breaks the property, exceeds the limit of `max_states` states, or makes the system give up. Fails
-/// if memory cannot be allocated.
+/// the first choice that breaks the property, exceeds the limit of `max_states` states, or makes the system give up.
+/// `into` is a buffer for the key of the next state. Fails if memory cannot be allocated.
 pub(crate) fn follow_choices<S: System>(
     system: &mut S,
     visited: &mut VisitedSet,
@@ -68,9 +68,9 @@ pub(crate) fn follow_choices<S: System>(
     Ok(FollowOutcome::All)
 }
 
-/// Returns the choices that led to the state at index `state`, followed by the choice `last`. Reads them from the
-/// stored parents. Nothing is proved about parents, so the caller must replay the choices. Fails if memory cannot be
-/// allocated.
+/// Returns the choices that led to the state at index `state`, followed by the choice `last`. Takes the choices from
+/// the stored parents. Nothing is proved about parents, so the caller must replay the choices. Fails if memory cannot
+/// be allocated.
 pub(crate) fn choices_to(
     alloc: Global,
     visited: &VisitedSet,

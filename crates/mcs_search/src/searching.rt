@@ -1,4 +1,4 @@
-//! The search. It runs in one call or in several, each for a limited number of steps.
+//! A search, which runs in one call, or in several calls with a limited number of steps each.
 ghost use Rattle.std.specs.Prelude.{◌≡◌, ◌<◌, ◌≤◌, [], ◌∷◌, length, IfOk, IfSome, slice_index_or};
 ghost use Rattle.mcs_search.specs.Rules.{Rules};
 ghost use Rattle.mcs_search.specs.Verdicts.{IsProved, IsUnderWay, SearchProgress, start_of};
@@ -10,7 +10,7 @@ use crate::visited::VisitedSet;
 use std::alloc::{AllocError, Global};
 use std::marker::Model;
 
-/// The maximum number of states that a search may visit.
+/// The largest limit on the number of states that a search accepts.
 pub const MAX_STATES: usize = 4_000_000_000;
 
 /// The result of a search.
@@ -28,7 +28,7 @@ pub enum Verdict {
     GaveUp,
 }
 
-/// A breadth-first search in progress: the states found, and the number of those whose choices were followed.
+/// A breadth-first search in progress: the states found so far, and the number of states whose choices were followed.
 #[derive(Drop)]
 pub struct Search {
     visited: VisitedSet,
@@ -101,8 +101,9 @@ impl Search {
         self.visited.key(i)
     }
 
-    /// Returns the verdict after `choice` broke the property. Replays all choices from the start. Returns `Broken`
-    /// with these choices if the property fails again, and otherwise `GaveUp`. Fails if memory cannot be allocated.
+    /// Returns the verdict after `choice`, followed from the current state, broke the property. Replays the choices
+    /// from the start to the current state, and then `choice`. Returns `Broken` with these choices if the property
+    /// fails again, and otherwise `GaveUp`. Fails if memory cannot be allocated.
     fn counterexample<S: System>(
         &mut self,
         system: &mut S,
@@ -187,8 +188,8 @@ impl Search {
     }
 }
 
-/// Searches all states that a system can reach from `start`, up to `max_states` states. Fails only if memory for the first
-/// state cannot be allocated.
+/// Searches all states that a system can reach from `start`, up to `max_states` states. Fails only if memory for the
+/// first state cannot be allocated.
 pub fn search_all<S: System>(
     alloc: Global,
     system: &mut S,
@@ -201,8 +202,8 @@ pub fn search_all<S: System>(
     ensures proved { IfOk result (IsProved (S.rules (S.setting system.old)) start.now) }
 {
     let mut search = Search::begin(alloc, start, max_states)?;
-    // Each step follows one state, and there are at most `max_states` states. One more step detects that the frontier is
-    // empty.
+    // Each step follows the choices of one state, and there are at most `max_states` states. One more step detects that
+    // the frontier is empty.
     match search.resume(system, max_states + 1) {
         Ok(Some(verdict)) => Ok(verdict),
         Ok(None) => Ok(Verdict::TooMany),

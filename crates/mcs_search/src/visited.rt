@@ -47,8 +47,8 @@ fn next_slot(count: usize, at: usize) -> usize
     if at + 1 < count { at + 1 } else { 0 }
 }
 
-/// Looks up a key. Returns `None` if the arena has the key, and otherwise a slot for the key. A slot holds the index
-/// of a key plus 1, or 0 if it is free.
+/// Looks up a key. Returns `None` if it finds the key in the arena, and otherwise the index of a slot for the key. A
+/// free slot holds 0. Any other slot holds 1 plus the index of a key in the arena.
 fn slot_if_new(slots: &[u32], arena: &Arena, key: &[u8]) -> Option<usize>
     requires { 0 < length slots.now }
     ensures { MatchOption result (Contains arena.now.keys key.now) (λ at. at < length slots.now) }
@@ -68,7 +68,7 @@ fn slot_if_new(slots: &[u32], arena: &Arena, key: &[u8]) -> Option<usize>
     Some(at)
 }
 
-/// Returns a free slot for a key that is not in the table, if the table has one.
+/// Returns the first free slot for a key that is not in the table, or an occupied slot if no slot is free.
 fn free_slot(slots: &[u32], key: &[u8]) -> usize
     requires { 0 < length slots.now }
     ensures { result < length slots.now }
@@ -151,8 +151,8 @@ impl VisitedSet {
         self.arena.parent(i)
     }
 
-    /// Rebuilds the table if it is at least half full. The new table has at least four slots per key. The old table
-    /// is freed first: it is not needed, because the arena has all keys. Fails if memory cannot be allocated.
+    /// Rebuilds the hash table if it is at least half full. The new table has at least four slots per key. The arena
+    /// has all keys, so the old table is freed first. Fails if memory cannot be allocated.
     fn make_room(&mut self) -> Result<(), AllocError>
         requires few { length self.old.keys < 4294967295 }
         ensures { self.new ≡ self.old }
@@ -169,8 +169,8 @@ impl VisitedSet {
         Ok(())
     }
 
-    /// Adds a key unless it is present or the set already has `max_states` keys. Fails if memory cannot be allocated; no
-    /// key is then lost.
+    /// Adds a key unless the key is present or the set already has `max_states` keys. Fails if memory cannot be
+    /// allocated; the set then keeps all its keys.
     pub(crate) fn add(
         &mut self,
         key: &[u8],

@@ -1,20 +1,20 @@
 -- The state that a session's disk represents after the session was created or opened.
 use Rattle.std.proofs.Common.{◌≡◌, inl, inr, ⊎_elim, None, ap, List, [], ◌∷◌, ℕ, sym, ◌∙◌, subst, refl, arith}
-use Rattle.mcs_disk.proofs.CallLaws.{lawful, size_of-bytes}
+use Rattle.mcs_disk.proofs.CallLaws.{disk_is_lawful, length-bytes_of}
 use Rattle.mcs_disk.specs.Disk.{DiskState, bytes_of, time_of, images_of}
 use Rattle.mcs_disk.specs.Stretches.{AddsNoImage, SatisfiesEither, LeavesOnly}
 use Rattle.mcs_disk.specs.PowerCut.{IsDurable}
 use Rattle.mcs_journal.specs.StoreCalls.{CreatesStore, OpensStore, OpenErrorImplies}
-use Rattle.mcs_journal.specs.File.{Holds, IsNoSession}
+use Rattle.mcs_journal.specs.File.{Holds, IsNotSessionFile}
 use Rattle.mcs_journal.specs.declared.fault.StoreFault.{StoreFault}
 use Rattle.mcs_journal.specs.declared.fault.StoreFault.TheVariants.{NotASession, Damaged, Device, NotBlank, NoMemory}
-use Rattle.mcs_journal.proofs.UniqueContents.{same_snap, same_records}
+use Rattle.mcs_journal.proofs.UniqueContents.{snapshot_is_unique, records_are_unique}
 use Rattle.mcs_model.specs.BenchState.{BenchState, new_bench_state}
 use Rattle.mcs_codec.specs.Codec.{EncodesState, EncodesState1}
 use Rattle.mcs_codec.specs.declared.versions.Version.{Version}
 use Rattle.mcs_codec.specs.declared.versions.Version.TheVariants.{One, Two}
-use Rattle.mcs_codec.proofs.StateCodec.{same_state}
-use Rattle.mcs_disk.proofs.StretchComposition.{leaves_map, leaves_then, rests_bytes, rests_since}
+use Rattle.mcs_codec.proofs.StateCodec.{encoded_state_is_unique}
+use Rattle.mcs_disk.proofs.StretchComposition.{leaves_only_weaker_property, leaves_only_in_two_stretches, bytes_unchanged_without_new_image, image_since_is_old_without_new_image}
 use Rattle.mcs_model.specs.declared.command.Command.{Command}
 use Rattle.mcs_model.specs.Command.{refusal, after}
 use Rattle.mcs_model.specs.Fold.{fold}
@@ -25,102 +25,104 @@ use Rattle.mcs_version1.specs.Lift.{lift}
 use Rattle.mcs_version1.proofs.Lifting.{command-lifts}
 use Rattle.mcs_session.specs.Version1.{ReplaysCommands1, RecordsRepresent1, RepresentsConverted}
 use Rattle.mcs_session.specs.Represents.{ReplaysCommands, RecordsRepresent, Represents, RepresentsInEitherVersion, DiskRepresentsSince, HoldsState, DiskRepresents, DiskRepresentsConverted}
-use Rattle.mcs_session.specs.SessionCalls.{CreatesSession, FailsMigrating, LeavesOldOrState, MigratesSession, FailedOpenLeaves}
+use Rattle.mcs_session.specs.SessionCalls.{CreatesSession, FailsMigrating, LeavesOldImageOrState, MigratesSession, FailedOpenLeaves}
 use Rattle.mcs_session.specs.Opening.{OpensSession, SessionErrorImplies}
 use Rattle.mcs_session.specs.Log.{LogHolds}
 use Rattle.mcs_session.specs.Invariant.{IsRecorded, IsReplayed, MayReplaceContents, ReplacedContents}
-use Rattle.mcs_session.proofs.Records.{same_pair_state}
+use Rattle.mcs_session.proofs.Records.{state_of_records_is_unique}
 
 -- no bytes encode both a state of version 1 and a state of version 2
-not_both : (snap : List ℕ) (s : BenchState) (version_1 : BenchState1) → EncodesState snap s → EncodesState1 snap version_1 → ⊥
-not_both snap s version_1 a b =
-    let versions : Two ≡ One = (same_state snap Two One s (lift version_1) a (record { version_1 = version_1; spells = b; lifted = refl })).0 in
+snapshot_has_only_one_version : (snap : List ℕ) (s : BenchState) (version_1 : BenchState1) → EncodesState snap s → EncodesState1 snap version_1 → ⊥
+snapshot_has_only_one_version snap s version_1 a b =
+    let versions : Two ≡ One = (encoded_state_is_unique snap Two One s (lift version_1) a (record { version_1 = version_1; spells = b; lifted = refl })).0 in
     absurd (cc)
 
-pub stands_by : (snap : List ℕ) (records : List (List ℕ)) (s : BenchState) → RecordsRepresent Two snap records s → (c : List ℕ) → Holds c snap records → Represents c s
-stands_by snap records s p c held = record { snap = snap; records = records; holds = held; records_represent = p }
+pub represents_from_records : (snap : List ℕ) (records : List (List ℕ)) (s : BenchState) → RecordsRepresent Two snap records s → (c : List ℕ) → Holds c snap records → Represents c s
+represents_from_records snap records s p c held = record { snap = snap; records = records; holds = held; records_represent = p }
 
-pub at_of : (disk : DiskState) (s : BenchState) → IsDurable disk → Represents (bytes_of disk) s → DiskRepresents disk s
-at_of disk s durable represents image now = subst (λ (f : List ℕ). Represents f s) (sym (durable image now)) represents
+pub durable_disk_represents : (disk : DiskState) (s : BenchState) → IsDurable disk → Represents (bytes_of disk) s → DiskRepresents disk s
+durable_disk_represents disk s durable represents image now = subst (λ (f : List ℕ). Represents f s) (sym (durable image now)) represents
 
 -- a snapshot of a state, with no records after it, represents that state
-stand_new : (snap : List ℕ) (s : BenchState) → EncodesState snap s → RecordsRepresent Two snap [] s
-stand_new snap s spells = record { start = s; snapshot = spells; commands = []; replays = tt; bounded = omega arith; state = refl }
+snapshot_represents_its_state : (snap : List ℕ) (s : BenchState) → EncodesState snap s → RecordsRepresent Two snap [] s
+snapshot_represents_its_state snap s spells = record { start = s; snapshot = spells; commands = []; replays = tt; bounded = omega arith; state = refl }
 
-pub stands_new : (file snap : List ℕ) (s : BenchState) → EncodesState snap s → Holds file snap [] → Represents file s
-stands_new file snap s spells held = record { snap = snap; records = []; holds = held; records_represent = stand_new snap s spells }
+pub file_of_snapshot_represents_its_state : (file snap : List ℕ) (s : BenchState) → EncodesState snap s → Holds file snap [] → Represents file s
+file_of_snapshot_represents_its_state file snap s spells held = record { snap = snap; records = []; holds = held; records_represent = snapshot_represents_its_state snap s spells }
 
-pub recorded_new : (disk : DiskState) (snap : List ℕ) (s : BenchState) → EncodesState snap s → Holds (bytes_of disk) snap [] → IsDurable disk → IsRecorded disk 0 s
-unfolding stands_new stand_new
-recorded_new disk snap s spells held durable = record { durable = durable; represents = stands_new (bytes_of disk) snap s spells held; count = refl }
+pub recorded_with_only_snapshot : (disk : DiskState) (snap : List ℕ) (s : BenchState) → EncodesState snap s → Holds (bytes_of disk) snap [] → IsDurable disk → IsRecorded disk 0 s
+unfolding file_of_snapshot_represents_its_state snapshot_represents_its_state
+recorded_with_only_snapshot disk snap s spells held durable = record { durable = durable; represents = file_of_snapshot_represents_its_state (bytes_of disk) snap s spells held; count = refl }
 
 -- if a file has a snapshot and no records, its log has no commands
-pub empty_held : (file : List ℕ) (s : BenchState) → HoldsState file s → LogHolds file []
-unfolding stands_new stand_new
-empty_held file s held = record { state = s; represents = stands_new file held.snap s held.spells held.holds; commands = refl }
+pub log_is_empty_with_only_snapshot : (file : List ℕ) (s : BenchState) → HoldsState file s → LogHolds file []
+unfolding file_of_snapshot_represents_its_state snapshot_represents_its_state
+log_is_empty_with_only_snapshot file s held = record { state = s; represents = file_of_snapshot_represents_its_state file held.snap s held.spells held.holds; commands = refl }
 
-pub created : (old new : DiskState) (snap : List ℕ) (s : BenchState) → EncodesState snap s → s ≡ new_bench_state → CreatesStore old new snap → CreatesSession old new
-created old new snap s spells is made =
-    let represents : Represents (bytes_of new) new_bench_state = subst (λ (t : BenchState). Represents (bytes_of new) t) is (stands_new (bytes_of new) snap s spells made.holds) in
-    record { blank = made.blank; represents = at_of new new_bench_state made.durable represents; ticks = made.ticks; later = made.later }
+pub creates_session : (old new : DiskState) (snap : List ℕ) (s : BenchState) → EncodesState snap s → s ≡ new_bench_state → CreatesStore old new snap → CreatesSession old new
+creates_session old new snap s spells is made =
+    let represents : Represents (bytes_of new) new_bench_state = subst (λ (t : BenchState). Represents (bytes_of new) t) is (file_of_snapshot_represents_its_state (bytes_of new) snap s spells made.holds) in
+    record { blank = made.blank; represents = durable_disk_represents new new_bench_state made.durable represents; ticks = made.ticks; later = made.later }
 
-pub recorded_opened : (old new : DiskState) (snap : List ℕ) (records : List (List ℕ)) (cycles : ℕ) (s : BenchState) → OpensStore old new snap records → IsReplayed Two snap records cycles s → IsRecorded new cycles s
-recorded_opened old new snap records cycles s opened replayed =
-    let held : Holds (bytes_of new) snap records = subst (λ (f : List ℕ). Holds f snap records) (sym (rests_bytes old new opened.adds_no_image)) opened.holds in
+pub recorded_after_open : (old new : DiskState) (snap : List ℕ) (records : List (List ℕ)) (cycles : ℕ) (s : BenchState) → OpensStore old new snap records → IsReplayed Two snap records cycles s → IsRecorded new cycles s
+recorded_after_open old new snap records cycles s opened replayed =
+    let held : Holds (bytes_of new) snap records = subst (λ (f : List ℕ). Holds f snap records) (sym (bytes_unchanged_without_new_image old new opened.adds_no_image)) opened.holds in
     record { durable = opened.durable; represents = record { snap = snap; records = records; holds = held; records_represent = replayed.records_represent }; count = replayed.count }
 
 -- after a successful `open` of the store, the disk holds the same contents as before
-pub held_on : (old new : DiskState) (snap : List ℕ) (records : List (List ℕ)) → OpensStore old new snap records → Holds (bytes_of new) snap records
-held_on old new snap records opened = subst (λ (f : List ℕ). Holds f snap records) (sym (rests_bytes old new opened.adds_no_image)) opened.holds
+pub opened_store_keeps_contents : (old new : DiskState) (snap : List ℕ) (records : List (List ℕ)) → OpensStore old new snap records → Holds (bytes_of new) snap records
+opened_store_keeps_contents old new snap records opened = subst (λ (f : List ℕ). Holds f snap records) (sym (bytes_unchanged_without_new_image old new opened.adds_no_image)) opened.holds
 
 -- reads and syncs leave only images that the disk had before
-rests_may : (old new : DiskState) (s : BenchState) → AddsNoImage old new → LeavesOldOrState old new s
-rests_may old new s adds_no_image = record {
+leaves_old_images_if_none_added : (old new : DiskState) (s : BenchState) → AddsNoImage old new → LeavesOldImageOrState old new s
+leaves_old_images_if_none_added old new s adds_no_image = record {
   later = adds_no_image.later;
-  each = λ c left. inl ((lawful old).only_now c (rests_since old new adds_no_image (time_of old) c left));
+  each = λ c left. inl ((disk_is_lawful old).only_now c (image_since_is_old_without_new_image old new adds_no_image (time_of old) c left));
 }
 
 -- a file of version 2 is opened in the state that it represents
-pub opened_session : (old new : DiskState) (snap : List ℕ) (records : List (List ℕ)) (cycles : ℕ) (s : BenchState) → OpensStore old new snap records → IsReplayed Two snap records cycles s → OpensSession old new s
-opened_session old new snap records cycles s opened replayed = record {
-  represented_before = inl (stands_by snap records s replayed.records_represent (bytes_of old) opened.holds);
-  represents = at_of new s opened.durable (stands_by snap records s replayed.records_represent (bytes_of new) (held_on old new snap records opened));
+pub opens_session_of_version_2 : (old new : DiskState) (snap : List ℕ) (records : List (List ℕ)) (cycles : ℕ) (s : BenchState) → OpensStore old new snap records → IsReplayed Two snap records cycles s → OpensSession old new s
+opens_session_of_version_2 old new snap records cycles s opened replayed = record {
+  represented_before = inl (represents_from_records snap records s replayed.records_represent (bytes_of old) opened.holds);
+  represents = durable_disk_represents new s opened.durable (represents_from_records snap records s replayed.records_represent (bytes_of new) (opened_store_keeps_contents old new snap records opened));
 }
 
-pub rested_session : (old new : DiskState) (snap : List ℕ) (records : List (List ℕ)) (cycles : ℕ) (s : BenchState) → OpensStore old new snap records → IsReplayed Two snap records cycles s → MigratesSession old new s
-rested_session old new snap records cycles s opened replayed = record {
-  leaves = rests_may old new s opened.adds_no_image;
+pub migrates_session_of_version_2 : (old new : DiskState) (snap : List ℕ) (records : List (List ℕ)) (cycles : ℕ) (s : BenchState) → OpensStore old new snap records → IsReplayed Two snap records cycles s → MigratesSession old new s
+migrates_session_of_version_2 old new snap records cycles s opened replayed = record {
+  leaves = leaves_old_images_if_none_added old new s opened.adds_no_image;
   adds_no_image = λ _. opened.adds_no_image;
-  migrated = λ version_1. absurd (not_both snap replayed.records_represent.start version_1.records_represent.start replayed.records_represent.snapshot (subst (λ (x : List ℕ). EncodesState1 x version_1.records_represent.start) (same_snap _ _ _ _ _ version_1.holds opened.holds) version_1.records_represent.snapshot));
+  migrated = λ version_1. absurd (snapshot_has_only_one_version snap replayed.records_represent.start version_1.records_represent.start replayed.records_represent.snapshot (subst (λ (x : List ℕ). EncodesState1 x version_1.records_represent.start) (snapshot_is_unique _ _ _ _ _ version_1.holds opened.holds) version_1.records_represent.snapshot));
 }
 
 -- ---- version 1
 
--- the commands have the same effects in version 1 as in version 2 from the converted state
-replays_first : (s : BenchState) (version_1 : BenchState1) (rs : List (List ℕ)) (cs : List Command) → s ≡ lift version_1 → ReplaysCommands One s rs cs → ReplaysCommands1 version_1 rs cs × (fold s cs ≡ lift (fold_1 version_1 cs))
-replays_first s version_1 [] [] e h = (tt, e)
-replays_first s version_1 [] (c ∷ cs) e h = absurd h
-replays_first s version_1 (r ∷ rs) [] e h = absurd h
-replays_first s version_1 (r ∷ rs) (c ∷ cs) e h =
+-- If records replay commands from a converted state, the same records replay the same commands from
+-- the state of version 1. The state reached in version 1 is converted to the one reached in
+-- version 2.
+replays_in_version_1 : (s : BenchState) (version_1 : BenchState1) (rs : List (List ℕ)) (cs : List Command) → s ≡ lift version_1 → ReplaysCommands One s rs cs → ReplaysCommands1 version_1 rs cs × (fold s cs ≡ lift (fold_1 version_1 cs))
+replays_in_version_1 s version_1 [] [] e h = (tt, e)
+replays_in_version_1 s version_1 [] (c ∷ cs) e h = absurd h
+replays_in_version_1 s version_1 (r ∷ rs) [] e h = absurd h
+replays_in_version_1 s version_1 (r ∷ rs) (c ∷ cs) e h =
     let lifts = command-lifts version_1 c h.0.1 in
-    let rest = replays_first (after s c) (after_1 version_1 c) rs cs (ap (λ (x : BenchState). after x c) e ∙ sym lifts.after) (h.2) in
+    let rest = replays_in_version_1 (after s c) (after_1 version_1 c) rs cs (ap (λ (x : BenchState). after x c) e ∙ sym lifts.after) (h.2) in
     ((h.0, sym lifts.refusal ∙ subst (λ (x : BenchState). refusal x c ≡ None) e h.1, rest.0), rest.1)
 
-first_replays : (version_1 : BenchState1) (rs : List (List ℕ)) (cs : List Command) → ReplaysCommands1 version_1 rs cs → ReplaysCommands One (lift version_1) rs cs × (fold (lift version_1) cs ≡ lift (fold_1 version_1 cs))
-first_replays version_1 [] [] h = (tt, refl)
-first_replays version_1 [] (c ∷ cs) h = absurd h
-first_replays version_1 (r ∷ rs) [] h = absurd h
-first_replays version_1 (r ∷ rs) (c ∷ cs) h =
+replays_after_conversion : (version_1 : BenchState1) (rs : List (List ℕ)) (cs : List Command) → ReplaysCommands1 version_1 rs cs → ReplaysCommands One (lift version_1) rs cs × (fold (lift version_1) cs ≡ lift (fold_1 version_1 cs))
+replays_after_conversion version_1 [] [] h = (tt, refl)
+replays_after_conversion version_1 [] (c ∷ cs) h = absurd h
+replays_after_conversion version_1 (r ∷ rs) [] h = absurd h
+replays_after_conversion version_1 (r ∷ rs) (c ∷ cs) h =
     let lifts = command-lifts version_1 c h.0.1 in
-    let rest = first_replays (after_1 version_1 c) rs cs (h.2) in (
+    let rest = replays_after_conversion (after_1 version_1 c) rs cs (h.2) in (
       (h.0, lifts.refusal ∙ h.1, subst (λ (x : BenchState). ReplaysCommands One x rs cs) lifts.after rest.0),
       ap (λ (x : BenchState). fold x cs) (sym lifts.after) ∙ rest.1,
     )
 
--- if the records represent a converted state, the file represents it in version 1
-pub by_first : (file snap : List ℕ) (records : List (List ℕ)) (s : BenchState) → Holds file snap records → RecordsRepresent One snap records s → RepresentsConverted file s
-by_first file snap records s holds records_represent =
-    let both = replays_first records_represent.start records_represent.snapshot.version_1 records records_represent.commands records_represent.snapshot.lifted records_represent.replays in
+-- if the snapshot and the records of a file represent the state `s` in version 1, so does the file
+pub converted_from_records : (file snap : List ℕ) (records : List (List ℕ)) (s : BenchState) → Holds file snap records → RecordsRepresent One snap records s → RepresentsConverted file s
+converted_from_records file snap records s holds records_represent =
+    let both = replays_in_version_1 records_represent.start records_represent.snapshot.version_1 records records_represent.commands records_represent.snapshot.lifted records_represent.replays in
     record {
       snap = snap;
       records = records;
@@ -130,10 +132,10 @@ by_first file snap records s holds records_represent =
       lifted = records_represent.state ∙ both.1;
     }
 
--- if the records represent a state in version 1, they represent its conversion
-pub first_by : (snap : List ℕ) (records : List (List ℕ)) (version_1 : BenchState1) → RecordsRepresent1 snap records version_1 → RecordsRepresent One snap records (lift version_1)
-first_by snap records version_1 records_represent =
-    let both = first_replays records_represent.start records records_represent.commands records_represent.replays in
+-- `RecordsRepresent1` for a state of version 1 implies `RecordsRepresent One` for its conversion
+pub records_represent_after_conversion : (snap : List ℕ) (records : List (List ℕ)) (version_1 : BenchState1) → RecordsRepresent1 snap records version_1 → RecordsRepresent One snap records (lift version_1)
+records_represent_after_conversion snap records version_1 records_represent =
+    let both = replays_after_conversion records_represent.start records records_represent.commands records_represent.replays in
     record {
       start = lift records_represent.start;
       snapshot = record { version_1 = records_represent.start; spells = records_represent.snapshot; lifted = refl };
@@ -143,157 +145,158 @@ first_by snap records version_1 records_represent =
       state = ap lift records_represent.state ∙ sym both.1;
     }
 
-holds_state : (file : List ℕ) (s : BenchState) → HoldsState file s → Represents file s
-holds_state file s held = stands_new file held.snap s held.spells held.holds
+held_state_is_represented : (file : List ℕ) (s : BenchState) → HoldsState file s → Represents file s
+held_state_is_represented file s held = file_of_snapshot_represents_its_state file held.snap s held.spells held.holds
 
--- after the store was opened, its contents were kept or replaced by a snapshot of the same state
-migrates : (old mid new : DiskState) (snap : List ℕ) (records : List (List ℕ)) (s : BenchState) → OpensStore old mid snap records → RecordsRepresent One snap records s
-    → LeavesOnly mid new (SatisfiesEither (λ c. Holds c snap records) (λ c. HoldsState c s)) → LeavesOldOrState old new s
-migrates old mid new snap records s opened records_represent moments =
-    leaves_then old mid new (SatisfiesEither (images_of old) (λ file. RepresentsInEitherVersion file s)) (rests_may old mid s opened.adds_no_image)
-    (leaves_map mid new (SatisfiesEither (λ c. Holds c snap records) (λ c. HoldsState c s)) (SatisfiesEither (images_of old) (λ file. RepresentsInEitherVersion file s))
-    (λ c. ⊎_elim (λ there. inr (inr (by_first c snap records s there records_represent))) (λ here. inr (inl (holds_state c s here)))) moments)
+-- while a snapshot of the store's state replaces the contents of the store, each image is an old
+-- image or represents that state
+leaves_old_image_or_state_while_migrating : (old mid new : DiskState) (snap : List ℕ) (records : List (List ℕ)) (s : BenchState) → OpensStore old mid snap records → RecordsRepresent One snap records s
+    → LeavesOnly mid new (SatisfiesEither (λ c. Holds c snap records) (λ c. HoldsState c s)) → LeavesOldImageOrState old new s
+leaves_old_image_or_state_while_migrating old mid new snap records s opened records_represent moments =
+    leaves_only_in_two_stretches old mid new (SatisfiesEither (images_of old) (λ file. RepresentsInEitherVersion file s)) (leaves_old_images_if_none_added old mid s opened.adds_no_image)
+    (leaves_only_weaker_property mid new (SatisfiesEither (λ c. Holds c snap records) (λ c. HoldsState c s)) (SatisfiesEither (images_of old) (λ file. RepresentsInEitherVersion file s))
+    (λ c. ⊎_elim (λ there. inr (inr (converted_from_records c snap records s there records_represent))) (λ here. inr (inl (held_state_is_represented c s here)))) moments)
 
 -- a file of version 1 is opened in its converted state, once a durable snapshot of that state has
 -- replaced its contents
-lifted_session : (old mid new : DiskState) (snap : List ℕ) (records : List (List ℕ)) (cycles : ℕ) (s : BenchState) → OpensStore old mid snap records → IsReplayed One snap records cycles s
+opens_session_of_version_1 : (old mid new : DiskState) (snap : List ℕ) (records : List (List ℕ)) (cycles : ℕ) (s : BenchState) → OpensStore old mid snap records → IsReplayed One snap records cycles s
     → HoldsState (bytes_of new) s → IsDurable new → OpensSession old new s
-lifted_session old mid new snap records cycles s opened replayed held durable = record {
-  represented_before = inr (by_first (bytes_of old) snap records s opened.holds replayed.records_represent);
-  represents = at_of new s durable (holds_state (bytes_of new) s held);
+opens_session_of_version_1 old mid new snap records cycles s opened replayed held durable = record {
+  represented_before = inr (converted_from_records (bytes_of old) snap records s opened.holds replayed.records_represent);
+  represents = durable_disk_represents new s durable (held_state_is_represented (bytes_of new) s held);
 }
 
 -- a file of version 1 is migrated once a snapshot of its converted state has replaced its contents
-pub migrated_session : (old mid new : DiskState) (snap : List ℕ) (records : List (List ℕ)) (cycles : ℕ) (s : BenchState) → OpensStore old mid snap records → IsReplayed One snap records cycles s
+pub migrates_session_of_version_1 : (old mid new : DiskState) (snap : List ℕ) (records : List (List ℕ)) (cycles : ℕ) (s : BenchState) → OpensStore old mid snap records → IsReplayed One snap records cycles s
     → LeavesOnly mid new (SatisfiesEither (λ c. Holds c snap records) (λ c. HoldsState c s)) → HoldsState (bytes_of new) s → MigratesSession old new s
-migrated_session old mid new snap records cycles s opened replayed moments held = record {
-  leaves = migrates old mid new snap records s opened replayed.records_represent moments;
+migrates_session_of_version_1 old mid new snap records cycles s opened replayed moments held = record {
+  leaves = leaves_old_image_or_state_while_migrating old mid new snap records s opened replayed.records_represent moments;
   adds_no_image = λ last. absurd (of_last last);
   migrated = λ _. held;
 }
   where
     of_last : Represents (bytes_of old) s → ⊥
-    of_last last = not_both last.snap last.records_represent.start replayed.records_represent.snapshot.version_1 last.records_represent.snapshot (subst (λ (x : List ℕ). EncodesState1 x replayed.records_represent.snapshot.version_1) (sym (same_snap _ _ _ _ _ last.holds opened.holds)) replayed.records_represent.snapshot.spells)
+    of_last last = snapshot_has_only_one_version last.snap last.records_represent.start replayed.records_represent.snapshot.version_1 last.records_represent.snapshot (subst (λ (x : List ℕ). EncodesState1 x replayed.records_represent.snapshot.version_1) (sym (snapshot_is_unique _ _ _ _ _ last.holds opened.holds)) replayed.records_represent.snapshot.spells)
 
 pub fails_migrating : (old mid new : DiskState) (snap : List ℕ) (records : List (List ℕ)) (cycles : ℕ) (s : BenchState) → OpensStore old mid snap records → IsReplayed One snap records cycles s
     → LeavesOnly mid new (SatisfiesEither (λ c. Holds c snap records) (λ c. HoldsState c s)) → FailsMigrating old new
 fails_migrating old mid new snap records cycles s opened replayed moments = record {
   state = s;
-  represents = by_first (bytes_of old) snap records s opened.holds replayed.records_represent;
-  leaves = migrates old mid new snap records s opened replayed.records_represent moments;
+  represents = converted_from_records (bytes_of old) snap records s opened.holds replayed.records_represent;
+  leaves = leaves_old_image_or_state_while_migrating old mid new snap records s opened replayed.records_represent moments;
 }
 
 -- ---- errors of `open`
 
--- a file represents the state that its snapshot and records represent
-pub pair_of : (file snap : List ℕ) (records : List (List ℕ)) (s : BenchState) → Holds file snap records → Represents file s → RecordsRepresent Two snap records s
-pair_of file snap records s held represents =
-    subst (λ (x : List (List ℕ)). RecordsRepresent Two snap x s) (same_records _ _ _ _ _ represents.holds held)
-    (subst (λ (x : List ℕ). RecordsRepresent Two x represents.records s) (same_snap _ _ _ _ _ represents.holds held) represents.records_represent)
+-- if a file represents a state in version 2, so do the snapshot and the records that it holds
+pub records_represent_state_of_file : (file snap : List ℕ) (records : List (List ℕ)) (s : BenchState) → Holds file snap records → Represents file s → RecordsRepresent Two snap records s
+records_represent_state_of_file file snap records s held represents =
+    subst (λ (x : List (List ℕ)). RecordsRepresent Two snap x s) (records_are_unique _ _ _ _ _ represents.holds held)
+    (subst (λ (x : List ℕ). RecordsRepresent Two x represents.records s) (snapshot_is_unique _ _ _ _ _ represents.holds held) represents.records_represent)
 
-first_of : (file snap : List ℕ) (records : List (List ℕ)) (s : BenchState) → Holds file snap records → RepresentsConverted file s → RecordsRepresent One snap records s
-first_of file snap records s held version_1 =
+records_represent_converted_state : (file snap : List ℕ) (records : List (List ℕ)) (s : BenchState) → Holds file snap records → RepresentsConverted file s → RecordsRepresent One snap records s
+records_represent_converted_state file snap records s held version_1 =
     subst (λ (x : BenchState). RecordsRepresent One snap records x) (sym version_1.lifted)
-    (subst (λ (x : List (List ℕ)). RecordsRepresent One snap x (lift version_1.version_1)) (same_records _ _ _ _ _ version_1.holds held)
-    (subst (λ (x : List ℕ). RecordsRepresent One x version_1.records (lift version_1.version_1)) (same_snap _ _ _ _ _ version_1.holds held) (first_by version_1.snap version_1.records version_1.version_1 version_1.records_represent)))
+    (subst (λ (x : List (List ℕ)). RecordsRepresent One snap x (lift version_1.version_1)) (records_are_unique _ _ _ _ _ version_1.holds held)
+    (subst (λ (x : List ℕ). RecordsRepresent One x version_1.records (lift version_1.version_1)) (snapshot_is_unique _ _ _ _ _ version_1.holds held) (records_represent_after_conversion version_1.snap version_1.records version_1.version_1 version_1.records_represent)))
 
 -- a file that represents a state in version 2 represents no other state in either version
-pub one_state : (file : List ℕ) (s t : BenchState) → Represents file s → RepresentsInEitherVersion file t → s ≡ t
-one_state file s t a (inl b) = same_pair_state Two a.snap b.snap a.records b.records s t (same_snap _ _ _ _ _ a.holds b.holds) (same_records _ _ _ _ _ a.holds b.holds) a.records_represent b.records_represent
-one_state file s t a (inr b) = absurd (not_both a.snap a.records_represent.start b.records_represent.start a.records_represent.snapshot (subst (λ (x : List ℕ). EncodesState1 x b.records_represent.start) (same_snap _ _ _ _ _ b.holds a.holds) b.records_represent.snapshot))
+pub version_2_state_is_unique : (file : List ℕ) (s t : BenchState) → Represents file s → RepresentsInEitherVersion file t → s ≡ t
+version_2_state_is_unique file s t a (inl b) = state_of_records_is_unique Two a.snap b.snap a.records b.records s t (snapshot_is_unique _ _ _ _ _ a.holds b.holds) (records_are_unique _ _ _ _ _ a.holds b.holds) a.records_represent b.records_represent
+version_2_state_is_unique file s t a (inr b) = absurd (snapshot_has_only_one_version a.snap a.records_represent.start b.records_represent.start a.records_represent.snapshot (subst (λ (x : List ℕ). EncodesState1 x b.records_represent.start) (snapshot_is_unique _ _ _ _ _ b.holds a.holds) b.records_represent.snapshot))
 
--- a disk that holds a snapshot and records has the size and the name of a session file
-pub is_session : (disk : DiskState) (snap : List ℕ) (records : List (List ℕ)) → Holds (bytes_of disk) snap records → IsNoSession disk → ⊥
+-- a disk that holds a snapshot and records has the size and the first eight bytes of a session file
+pub is_session : (disk : DiskState) (snap : List ℕ) (records : List (List ℕ)) → Holds (bytes_of disk) snap records → IsNotSessionFile disk → ⊥
 is_session disk snap records holds other = elim other [
-  | inl wrong ↦ wrong (sym (size_of-bytes disk) ∙ holds.size)
+  | inl wrong ↦ wrong (sym (length-bytes_of disk) ∙ holds.size)
   | inr unnamed ↦ unnamed holds.name
 ]
 
--- if the snapshot and the records represent no state, `open` returns `Damaged` and has only read
--- and synced
-pub refuses_pair : (old new : DiskState) (snap : List ℕ) (records : List (List ℕ)) → OpensStore old new snap records → ((v : Version) (s : BenchState) → RecordsRepresent v snap records s → ⊥) → SessionErrorImplies Damaged old × AddsNoImage old new
-refuses_pair old new snap records opened none = (
+-- if the snapshot and the records represent no state, the guarantee of the error `Damaged` holds,
+-- and opening the store added no image
+pub damaged_if_no_state_is_represented : (old new : DiskState) (snap : List ℕ) (records : List (List ℕ)) → OpensStore old new snap records → ((v : Version) (s : BenchState) → RecordsRepresent v snap records s → ⊥) → SessionErrorImplies Damaged old × AddsNoImage old new
+damaged_if_no_state_is_represented old new snap records opened none = (
   (
     is_session old snap records opened.holds,
-    λ s. ⊎_elim (λ represents. none Two s (pair_of (bytes_of old) snap records s opened.holds represents)) (λ version_1. none One s (first_of (bytes_of old) snap records s opened.holds version_1)),
+    λ s. ⊎_elim (λ represents. none Two s (records_represent_state_of_file (bytes_of old) snap records s opened.holds represents)) (λ version_1. none One s (records_represent_converted_state (bytes_of old) snap records s opened.holds version_1)),
   ),
   opened.adds_no_image,
 )
 
-pub refuses_store : (fault : StoreFault) (disk : DiskState) → OpenErrorImplies fault disk → SessionErrorImplies fault disk
-refuses_store NotASession disk h = h
-refuses_store Damaged disk h = (h.0, λ s. ⊎_elim (λ represents. h.1 represents.snap represents.records represents.holds) (λ version_1. h.1 version_1.snap version_1.records version_1.holds))
-refuses_store Device disk h = tt
-refuses_store NoMemory disk h = tt
-refuses_store NotBlank disk h = h
+pub session_error_from_store_error : (fault : StoreFault) (disk : DiskState) → OpenErrorImplies fault disk → SessionErrorImplies fault disk
+session_error_from_store_error NotASession disk h = h
+session_error_from_store_error Damaged disk h = (h.0, λ s. ⊎_elim (λ represents. h.1 represents.snap represents.records represents.holds) (λ version_1. h.1 version_1.snap version_1.records version_1.holds))
+session_error_from_store_error Device disk h = tt
+session_error_from_store_error NoMemory disk h = tt
+session_error_from_store_error NotBlank disk h = h
 
-pub left_store : (fault : StoreFault) (old new : DiskState) → AddsNoImage old new → FailedOpenLeaves fault old new
-left_store NotASession old new h = h
-left_store Damaged old new h = h
-left_store Device old new h = inl h
-left_store NoMemory old new h = h
-left_store NotBlank old new h = h
+pub failed_open_leaves_if_no_image_added : (fault : StoreFault) (old new : DiskState) → AddsNoImage old new → FailedOpenLeaves fault old new
+failed_open_leaves_if_no_image_added NotASession old new h = h
+failed_open_leaves_if_no_image_added Damaged old new h = h
+failed_open_leaves_if_no_image_added Device old new h = inl h
+failed_open_leaves_if_no_image_added NoMemory old new h = h
+failed_open_leaves_if_no_image_added NotBlank old new h = h
 
 -- the session that `start_session` started has the state that the opened store represents
-pub opened_by : (v : Version) (old mid new : DiskState) (snap : List ℕ) (records : List (List ℕ)) (cycles : ℕ) (s : BenchState) → OpensStore old mid snap records → IsReplayed v snap records cycles s
+pub opens_session_of_either_version : (v : Version) (old mid new : DiskState) (snap : List ℕ) (records : List (List ℕ)) (cycles : ℕ) (s : BenchState) → OpensStore old mid snap records → IsReplayed v snap records cycles s
     → (v ≡ Two → OpensSession old mid s → OpensSession old new s) → (v ≡ One → ReplacedContents mid new snap records s) → OpensSession old new s
-opened_by Two old mid new snap records cycles s opened replayed same replaced = same refl (opened_session old mid snap records cycles s opened replayed)
-opened_by One old mid new snap records cycles s opened replayed same replaced =
-    let now = replaced refl in lifted_session old mid new snap records cycles s opened replayed now.held now.durable
+opens_session_of_either_version Two old mid new snap records cycles s opened replayed same replaced = same refl (opens_session_of_version_2 old mid snap records cycles s opened replayed)
+opens_session_of_either_version One old mid new snap records cycles s opened replayed same replaced =
+    let now = replaced refl in opens_session_of_version_1 old mid new snap records cycles s opened replayed now.held now.durable
 
-pub migrated_by : (v : Version) (old mid new : DiskState) (snap : List ℕ) (records : List (List ℕ)) (cycles : ℕ) (s : BenchState) → OpensStore old mid snap records → IsReplayed v snap records cycles s
+pub migrates_session_of_either_version : (v : Version) (old mid new : DiskState) (snap : List ℕ) (records : List (List ℕ)) (cycles : ℕ) (s : BenchState) → OpensStore old mid snap records → IsReplayed v snap records cycles s
     → (v ≡ Two → MigratesSession old mid s → MigratesSession old new s) → (v ≡ One → ReplacedContents mid new snap records s) → MigratesSession old new s
-migrated_by Two old mid new snap records cycles s opened replayed same replaced = same refl (rested_session old mid snap records cycles s opened replayed)
-migrated_by One old mid new snap records cycles s opened replayed same replaced =
-    let now = replaced refl in migrated_session old mid new snap records cycles s opened replayed now.leaves now.held
+migrates_session_of_either_version Two old mid new snap records cycles s opened replayed same replaced = same refl (migrates_session_of_version_2 old mid snap records cycles s opened replayed)
+migrates_session_of_either_version One old mid new snap records cycles s opened replayed same replaced =
+    let now = replaced refl in migrates_session_of_version_1 old mid new snap records cycles s opened replayed now.leaves now.held
 
-pub failed_by : (v : Version) (old mid new : DiskState) (snap : List ℕ) (records : List (List ℕ)) (cycles : ℕ) (s : BenchState) → v ≡ One → OpensStore old mid snap records → IsReplayed v snap records cycles s
+pub fails_migrating_if_version_1 : (v : Version) (old mid new : DiskState) (snap : List ℕ) (records : List (List ℕ)) (cycles : ℕ) (s : BenchState) → v ≡ One → OpensStore old mid snap records → IsReplayed v snap records cycles s
     → MayReplaceContents mid new snap records s → FailsMigrating old new
-failed_by Two old mid new snap records cycles s e opened replayed moments = absurd (cc)
-failed_by One old mid new snap records cycles s e opened replayed moments = fails_migrating old mid new snap records cycles s opened replayed moments
+fails_migrating_if_version_1 Two old mid new snap records cycles s e opened replayed moments = absurd (cc)
+fails_migrating_if_version_1 One old mid new snap records cycles s e opened replayed moments = fails_migrating old mid new snap records cycles s opened replayed moments
 
-pub refused_by : (fault : StoreFault) (old new : DiskState) → fault ≡ Device → FailsMigrating old new → SessionErrorImplies fault old × FailedOpenLeaves fault old new
-refused_by fault old new e fails = rw e (tt, inr fails)
+pub device_error_if_migration_fails : (fault : StoreFault) (old new : DiskState) → fault ≡ Device → FailsMigrating old new → SessionErrorImplies fault old × FailedOpenLeaves fault old new
+device_error_if_migration_fails fault old new e fails = rw e (tt, inr fails)
 
-pub recorded_by : (v : Version) (old new : DiskState) (snap : List ℕ) (records : List (List ℕ)) (cycles : ℕ) (s : BenchState) → v ≡ Two → OpensStore old new snap records → IsReplayed v snap records cycles s → IsRecorded new cycles s
-recorded_by Two old new snap records cycles s e opened replayed = recorded_opened old new snap records cycles s opened replayed
-recorded_by One old new snap records cycles s e opened replayed = absurd (cc)
+pub recorded_after_open_if_version_2 : (v : Version) (old new : DiskState) (snap : List ℕ) (records : List (List ℕ)) (cycles : ℕ) (s : BenchState) → v ≡ Two → OpensStore old new snap records → IsReplayed v snap records cycles s → IsRecorded new cycles s
+recorded_after_open_if_version_2 Two old new snap records cycles s e opened replayed = recorded_after_open old new snap records cycles s opened replayed
+recorded_after_open_if_version_2 One old new snap records cycles s e opened replayed = absurd (cc)
 
 -- a file represents at most one state in version 1
-pub one_first : (file : List ℕ) (s t : BenchState) → RepresentsConverted file s → RepresentsConverted file t → s ≡ t
-one_first file s t a b = same_pair_state One a.snap b.snap a.records b.records s t (same_snap _ _ _ _ _ a.holds b.holds) (same_records _ _ _ _ _ a.holds b.holds) (first_of file a.snap a.records s a.holds a) (first_of file b.snap b.records t b.holds b)
+pub version_1_state_is_unique : (file : List ℕ) (s t : BenchState) → RepresentsConverted file s → RepresentsConverted file t → s ≡ t
+version_1_state_is_unique file s t a b = state_of_records_is_unique One a.snap b.snap a.records b.records s t (snapshot_is_unique _ _ _ _ _ a.holds b.holds) (records_are_unique _ _ _ _ _ a.holds b.holds) (records_represent_converted_state file a.snap a.records s a.holds a) (records_represent_converted_state file b.snap b.records t b.holds b)
 
 -- a file represents at most one state in either version
-pub one_either : (file : List ℕ) (s t : BenchState) → RepresentsInEitherVersion file s → RepresentsInEitherVersion file t → s ≡ t
-one_either file s t (inl a) b = one_state file s t a b
-one_either file s t (inr a) (inl b) = sym (one_state file t s b (inr a))
-one_either file s t (inr a) (inr b) = one_first file s t a b
+pub represented_state_is_unique : (file : List ℕ) (s t : BenchState) → RepresentsInEitherVersion file s → RepresentsInEitherVersion file t → s ≡ t
+represented_state_is_unique file s t (inl a) b = version_2_state_is_unique file s t a b
+represented_state_is_unique file s t (inr a) (inl b) = sym (version_2_state_is_unique file t s b (inr a))
+represented_state_is_unique file s t (inr a) (inr b) = version_1_state_is_unique file s t a b
 
 -- if every image represented a state in version 1, and each later image is an old image or
 -- represents that state, no power cut loses the state
-pub stays_first : (old new : DiskState) (s u : BenchState) → LeavesOldOrState old new u → u ≡ s → DiskRepresentsConverted old s → DiskRepresentsSince (time_of old) new s
-stays_first old new s u moments same each image left = ⊎_elim (λ before. inr (each image before)) (λ now. subst (λ (x : BenchState). RepresentsInEitherVersion image x) same now) (moments.each image left)
+pub version_1_state_is_kept : (old new : DiskState) (s u : BenchState) → LeavesOldImageOrState old new u → u ≡ s → DiskRepresentsConverted old s → DiskRepresentsSince (time_of old) new s
+version_1_state_is_kept old new s u moments same each image left = ⊎_elim (λ before. inr (each image before)) (λ now. subst (λ (x : BenchState). RepresentsInEitherVersion image x) same now) (moments.each image left)
 
-pub opens_first : (old new : DiskState) (s u : BenchState) → DiskRepresentsConverted old s → OpensSession old new u → MigratesSession old new u
+pub opening_version_1_keeps_state : (old new : DiskState) (s u : BenchState) → DiskRepresentsConverted old s → OpensSession old new u → MigratesSession old new u
     → (u ≡ s) × (HoldsState (bytes_of new) s × DiskRepresentsSince (time_of old) new s)
-opens_first old new s u each opens does =
-    let here : RepresentsConverted (bytes_of old) s = each (bytes_of old) (lawful old).current in
-    let same : u ≡ s = one_either (bytes_of old) u s opens.represented_before (inr here) in
-    (same, (subst (HoldsState (bytes_of new)) same (does.migrated (subst (RepresentsConverted (bytes_of old)) (sym same) here)), stays_first old new s u does.leaves same each))
+opening_version_1_keeps_state old new s u each opens does =
+    let here : RepresentsConverted (bytes_of old) s = each (bytes_of old) (disk_is_lawful old).current in
+    let same : u ≡ s = represented_state_is_unique (bytes_of old) u s opens.represented_before (inr here) in
+    (same, (subst (HoldsState (bytes_of new)) same (does.migrated (subst (RepresentsConverted (bytes_of old)) (sym same) here)), version_1_state_is_kept old new s u does.leaves same each))
 
-fails_first : (old new : DiskState) (s : BenchState) → DiskRepresentsConverted old s → FailsMigrating old new → DiskRepresentsSince (time_of old) new s
-fails_first old new s each fails =
-    let here : RepresentsConverted (bytes_of old) s = each (bytes_of old) (lawful old).current in
-    stays_first old new s fails.state fails.leaves (one_first (bytes_of old) fails.state s fails.represents here) each
+failed_migration_keeps_state : (old new : DiskState) (s : BenchState) → DiskRepresentsConverted old s → FailsMigrating old new → DiskRepresentsSince (time_of old) new s
+failed_migration_keeps_state old new s each fails =
+    let here : RepresentsConverted (bytes_of old) s = each (bytes_of old) (disk_is_lawful old).current in
+    version_1_state_is_kept old new s fails.state fails.leaves (version_1_state_is_unique (bytes_of old) fails.state s fails.represents here) each
 
 -- reads and syncs of a disk of version 1 leave only images that represent its converted state
-rests_first : (old new : DiskState) (s : BenchState) → DiskRepresentsConverted old s → AddsNoImage old new → DiskRepresentsSince (time_of old) new s
-rests_first old new s each adds_no_image image left = inr (each image ((lawful old).only_now image (rests_since old new adds_no_image (time_of old) image left)))
+version_1_state_kept_if_no_image_added : (old new : DiskState) (s : BenchState) → DiskRepresentsConverted old s → AddsNoImage old new → DiskRepresentsSince (time_of old) new s
+version_1_state_kept_if_no_image_added old new s each adds_no_image image left = inr (each image ((disk_is_lawful old).only_now image (image_since_is_old_without_new_image old new adds_no_image (time_of old) image left)))
 
-pub refused_first : (fault : StoreFault) (old new : DiskState) (s : BenchState) → DiskRepresentsConverted old s → FailedOpenLeaves fault old new → DiskRepresentsSince (time_of old) new s
-refused_first NotASession old new s each adds_no_image = rests_first old new s each adds_no_image
-refused_first Damaged old new s each adds_no_image = rests_first old new s each adds_no_image
-refused_first Device old new s each (inl adds_no_image) = rests_first old new s each adds_no_image
-refused_first Device old new s each (inr fails) = fails_first old new s each fails
-refused_first NoMemory old new s each adds_no_image = rests_first old new s each adds_no_image
-refused_first NotBlank old new s each adds_no_image = rests_first old new s each adds_no_image
+pub failed_open_keeps_version_1_state : (fault : StoreFault) (old new : DiskState) (s : BenchState) → DiskRepresentsConverted old s → FailedOpenLeaves fault old new → DiskRepresentsSince (time_of old) new s
+failed_open_keeps_version_1_state NotASession old new s each adds_no_image = version_1_state_kept_if_no_image_added old new s each adds_no_image
+failed_open_keeps_version_1_state Damaged old new s each adds_no_image = version_1_state_kept_if_no_image_added old new s each adds_no_image
+failed_open_keeps_version_1_state Device old new s each (inl adds_no_image) = version_1_state_kept_if_no_image_added old new s each adds_no_image
+failed_open_keeps_version_1_state Device old new s each (inr fails) = failed_migration_keeps_state old new s each fails
+failed_open_keeps_version_1_state NoMemory old new s each adds_no_image = version_1_state_kept_if_no_image_added old new s each adds_no_image
+failed_open_keeps_version_1_state NotBlank old new s each adds_no_image = version_1_state_kept_if_no_image_added old new s each adds_no_image

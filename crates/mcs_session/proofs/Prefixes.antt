@@ -16,117 +16,117 @@ use Rattle.mcs_session.proofs.LogCommands.{AreRising}
 
 -- ---- moments
 
-pub rising_le : (clock : ℕ) (ms : List ℕ) → AreRising clock ms → clock ≤ last_moment clock ms
-rising_le clock [] h = omega arith
-rising_le clock (m ∷ ms) h = let first = h.0 in let rest : m ≤ last_moment m ms = rising_le m ms h.1 in omega (arith, first, rest)
+pub clock_at_most_last_moment : (clock : ℕ) (ms : List ℕ) → AreRising clock ms → clock ≤ last_moment clock ms
+clock_at_most_last_moment clock [] h = omega arith
+clock_at_most_last_moment clock (m ∷ ms) h = let first = h.0 in let rest : m ≤ last_moment m ms = clock_at_most_last_moment m ms h.1 in omega (arith, first, rest)
 
-pub last_append : (clock : ℕ) (ms ns : List ℕ) → last_moment clock (ms ++ ns) ≡ last_moment (last_moment clock ms) ns
-last_append clock [] ns = refl
-last_append clock (m ∷ ms) ns = last_append m ms ns
+pub last_moment_of_append : (clock : ℕ) (ms ns : List ℕ) → last_moment clock (ms ++ ns) ≡ last_moment (last_moment clock ms) ns
+last_moment_of_append clock [] ns = refl
+last_moment_of_append clock (m ∷ ms) ns = last_moment_of_append m ms ns
 
-abbrev one_by : ℕ → ℕ → ℕ
-one_by t m = cond (nat_le m t) 1 0
+abbrev one_if_acknowledged_by : ℕ → ℕ → ℕ
+one_if_acknowledged_by t m = cond (nat_le m t) 1 0
 
-one_by-later : (t m : ℕ) → t < m → one_by t m ≡ 0
-one_by-later t m h = ap (λ (b : Bool). cond b 1 0) (lt-leb m t h)
+zero_if_moment_is_later : (t m : ℕ) → t < m → one_if_acknowledged_by t m ≡ 0
+zero_if_moment_is_later t m h = ap (λ (b : Bool). cond b 1 0) (lt-leb m t h)
 
-one_by-past : (t m : ℕ) → m ≤ t → one_by t m ≡ 1
-one_by-past t m h = ap (λ (b : Bool). cond b 1 0) (le-leb m t h)
+one_if_moment_is_past : (t m : ℕ) → m ≤ t → one_if_acknowledged_by t m ≡ 1
+one_if_moment_is_past t m h = ap (λ (b : Bool). cond b 1 0) (le-leb m t h)
 
-acknowledged-cons : (t m : ℕ) (ms : List ℕ) → acknowledged_by t (m ∷ ms) ≡ one_by t m + acknowledged_by t ms
-acknowledged-cons t m ms = sum_by-cons (one_by t) m ms
+acknowledged-cons : (t m : ℕ) (ms : List ℕ) → acknowledged_by t (m ∷ ms) ≡ one_if_acknowledged_by t m + acknowledged_by t ms
+acknowledged-cons t m ms = sum_by-cons (one_if_acknowledged_by t) m ms
 
 pub acknowledged-append : (t : ℕ) (ms ns : List ℕ) → acknowledged_by t (ms ++ ns) ≡ acknowledged_by t ms + acknowledged_by t ns
-acknowledged-append t ms ns = sum_by-append (one_by t) ms ns
+acknowledged-append t ms ns = sum_by-append (one_if_acknowledged_by t) ms ns
 
-pub acknowledged_few : (t : ℕ) (ms : List ℕ) → acknowledged_by t ms ≤ length ms
-acknowledged_few t ms = count_by-le-length (λ m. nat_le m t) ms
+pub acknowledged_at_most_all : (t : ℕ) (ms : List ℕ) → acknowledged_by t ms ≤ length ms
+acknowledged_at_most_all t ms = count_by-le-length (λ m. nat_le m t) ms
 
--- by a time that is not after the start, no command was acknowledged
-pub acknowledged_none : (t clock : ℕ) (ms : List ℕ) → t ≤ clock → AreRising clock ms → acknowledged_by t ms ≡ 0
-acknowledged_none t clock [] le h = refl
-acknowledged_none t clock (m ∷ ms) le h =
+-- no command was acknowledged by a time that is not later than the clock at the start
+pub none_acknowledged_before_run : (t clock : ℕ) (ms : List ℕ) → t ≤ clock → AreRising clock ms → acknowledged_by t ms ≡ 0
+none_acknowledged_before_run t clock [] le h = refl
+none_acknowledged_before_run t clock (m ∷ ms) le h =
     let rises = h.0 in
     let later : t < m = omega (arith, rises, le) in
-    let first = one_by-later t m later in
-    let rest = acknowledged_none t m ms (omega (arith, later)) h.1 in
+    let first = zero_if_moment_is_later t m later in
+    let rest = none_acknowledged_before_run t m ms (omega (arith, later)) h.1 in
     let whole = acknowledged-cons t m ms in omega (arith, first, rest, whole)
 
-pub acknowledged_before : (t m : ℕ) → t < m → acknowledged_by t (m ∷ []) ≡ 0
-acknowledged_before t m h = acknowledged-cons t m [] ∙ ap (λ (n : ℕ). n + 0) (one_by-later t m h)
+pub none_acknowledged_before_moment : (t m : ℕ) → t < m → acknowledged_by t (m ∷ []) ≡ 0
+none_acknowledged_before_moment t m h = acknowledged-cons t m [] ∙ ap (λ (n : ℕ). n + 0) (zero_if_moment_is_later t m h)
 
 -- by the last moment, all commands were acknowledged
-pub acknowledged_all : (t clock : ℕ) (ms : List ℕ) → last_moment clock ms ≤ t → AreRising clock ms → acknowledged_by t ms ≡ length ms
-acknowledged_all t clock [] le h = refl
-acknowledged_all t clock (m ∷ ms) le h =
-    let behind = rising_le m ms h.1 in
-    let first = one_by-past t m (omega (arith, le, behind)) in
-    let rest = acknowledged_all t m ms le h.1 in
+pub all_acknowledged_by_last_moment : (t clock : ℕ) (ms : List ℕ) → last_moment clock ms ≤ t → AreRising clock ms → acknowledged_by t ms ≡ length ms
+all_acknowledged_by_last_moment t clock [] le h = refl
+all_acknowledged_by_last_moment t clock (m ∷ ms) le h =
+    let behind = clock_at_most_last_moment m ms h.1 in
+    let first = one_if_moment_is_past t m (omega (arith, le, behind)) in
+    let rest = all_acknowledged_by_last_moment t m ms le h.1 in
     let whole = acknowledged-cons t m ms in omega (arith, first, rest, whole)
 
 -- by the moment with index j, at least j + 1 commands were acknowledged
-pub acknowledged_at : (clock : ℕ) (ms : List ℕ) (j m : ℕ) → slice_get ms j ≡ Some m → AreRising clock ms → (clock ≤ m) × (j + 1 ≤ acknowledged_by m ms)
-acknowledged_at clock [] j m e h = absurd (cc e)
-acknowledged_at clock (n ∷ ms) zero m e h =
+pub acknowledged_by_moment_at_index : (clock : ℕ) (ms : List ℕ) (j m : ℕ) → slice_get ms j ≡ Some m → AreRising clock ms → (clock ≤ m) × (j + 1 ≤ acknowledged_by m ms)
+acknowledged_by_moment_at_index clock [] j m e h = absurd (cc e)
+acknowledged_by_moment_at_index clock (n ∷ ms) zero m e h =
     let same : n ≡ m = cc e in
-    let first = one_by-past m n (omega (arith, same)) in
+    let first = one_if_moment_is_past m n (omega (arith, same)) in
     let whole = acknowledged-cons m n ms in
     let rises = h.0 in
     (omega (arith, rises, same), omega (arith, first, whole))
-acknowledged_at clock (n ∷ ms) (suc j) m e h =
-    let rest = acknowledged_at n ms j m e h.1 in
-    let first = one_by-past m n rest.0 in
+acknowledged_by_moment_at_index clock (n ∷ ms) (suc j) m e h =
+    let rest = acknowledged_by_moment_at_index n ms j m e h.1 in
+    let first = one_if_moment_is_past m n rest.0 in
     let whole = acknowledged-cons m n ms in
     let rises = h.0 in
     (omega (arith, rises, rest.0), omega (arith, first, whole, rest.1))
 
 -- ---- prefixes
 
-take_front : (cs ds : List Command) (n : ℕ) → n ≤ length cs → take n (cs ++ ds) ≡ take n cs
-take_front cs ds n h = grind (arith, common_steps)
+take_within_first_list : (cs ds : List Command) (n : ℕ) → n ≤ length cs → take n (cs ++ ds) ≡ take n cs
+take_within_first_list cs ds n h = grind (arith, common_steps)
 
-take_past : (cs ds : List Command) (n : ℕ) → take (length cs + n) (cs ++ ds) ≡ cs ++ take n ds
-take_past cs ds n = take-append-add cs ds n
+take_past_first_list : (cs ds : List Command) (n : ℕ) → take (length cs + n) (cs ++ ds) ≡ cs ++ take n ds
+take_past_first_list cs ds n = take-append-add cs ds n
 
 -- a prefix of the first commands is a prefix of all commands
-after_more : (s : BenchState) (cs ds : List Command) (j : ℕ) (t : BenchState) → IsAfterPrefix s cs j t → IsAfterPrefix s (cs ++ ds) j t
-after_more s cs ds j t h = record {
+after_prefix_of_longer_list : (s : BenchState) (cs ds : List Command) (j : ℕ) (t : BenchState) → IsAfterPrefix s cs j t → IsAfterPrefix s (cs ++ ds) j t
+after_prefix_of_longer_list s cs ds j t h = record {
   count = h.count;
   at_least = h.at_least;
   at_most = omega (arith, h.at_most, length-append cs ds);
-  state = h.state ∙ ap (fold s) (sym (take_front cs ds h.count h.at_most));
+  state = h.state ∙ ap (fold s) (sym (take_within_first_list cs ds h.count h.at_most));
 }
 
 -- all of the first commands and a prefix of the later commands are a prefix of all commands
-after_past : (s t : BenchState) (cs ds : List Command) (i j : ℕ) (u : BenchState) → t ≡ fold s cs → i ≤ length cs + j → IsAfterPrefix t ds j u → IsAfterPrefix s (cs ++ ds) i u
-after_past s t cs ds i j u e few h = record {
+after_prefix_of_both_lists : (s t : BenchState) (cs ds : List Command) (i j : ℕ) (u : BenchState) → t ≡ fold s cs → i ≤ length cs + j → IsAfterPrefix t ds j u → IsAfterPrefix s (cs ++ ds) i u
+after_prefix_of_both_lists s t cs ds i j u e few h = record {
   count = length cs + h.count;
   at_least = omega (arith, few, h.at_least);
   at_most = omega (arith, h.at_most, length-append cs ds);
-  state = h.state ∙ ap (λ (v : BenchState). fold v (take h.count ds)) e ∙ sym (fold-append s cs (take h.count ds)) ∙ ap (fold s) (sym (take_past cs ds h.count));
+  state = h.state ∙ ap (λ (v : BenchState). fold v (take h.count ds)) e ∙ sym (fold-append s cs (take h.count ds)) ∙ ap (fold s) (sym (take_past_first_list cs ds h.count));
 }
 
-after_fewer : (s : BenchState) (cs : List Command) (i j : ℕ) (t : BenchState) → i ≤ j → IsAfterPrefix s cs j t → IsAfterPrefix s cs i t
-after_fewer s cs i j t le h = record { count = h.count; at_least = omega (arith, le, h.at_least); at_most = h.at_most; state = h.state }
+after_prefix_with_lower_minimum : (s : BenchState) (cs : List Command) (i j : ℕ) (t : BenchState) → i ≤ j → IsAfterPrefix s cs j t → IsAfterPrefix s cs i t
+after_prefix_with_lower_minimum s cs i j t le h = record { count = h.count; at_least = omega (arith, le, h.at_least); at_most = h.at_most; state = h.state }
 
-pub prefix_more : (s : BenchState) (cs ds : List Command) (j : ℕ) (file : List ℕ) → RepresentsPrefix s cs j file → RepresentsPrefix s (cs ++ ds) j file
-prefix_more s cs ds j file h = record { state = h.state; represents = h.represents; after = after_more s cs ds j h.state h.after }
+pub represents_prefix_of_longer_list : (s : BenchState) (cs ds : List Command) (j : ℕ) (file : List ℕ) → RepresentsPrefix s cs j file → RepresentsPrefix s (cs ++ ds) j file
+represents_prefix_of_longer_list s cs ds j file h = record { state = h.state; represents = h.represents; after = after_prefix_of_longer_list s cs ds j h.state h.after }
 
-pub prefix_past : (s t : BenchState) (cs ds : List Command) (i j : ℕ) (file : List ℕ) → t ≡ fold s cs → i ≤ length cs + j → RepresentsPrefix t ds j file → RepresentsPrefix s (cs ++ ds) i file
-prefix_past s t cs ds i j file e few h = record { state = h.state; represents = h.represents; after = after_past s t cs ds i j h.state e few h.after }
+pub represents_prefix_of_both_lists : (s t : BenchState) (cs ds : List Command) (i j : ℕ) (file : List ℕ) → t ≡ fold s cs → i ≤ length cs + j → RepresentsPrefix t ds j file → RepresentsPrefix s (cs ++ ds) i file
+represents_prefix_of_both_lists s t cs ds i j file e few h = record { state = h.state; represents = h.represents; after = after_prefix_of_both_lists s t cs ds i j h.state e few h.after }
 
-pub prefix_fewer : (s : BenchState) (cs : List Command) (i j : ℕ) (file : List ℕ) → i ≤ j → RepresentsPrefix s cs j file → RepresentsPrefix s cs i file
-prefix_fewer s cs i j file le h = record { state = h.state; represents = h.represents; after = after_fewer s cs i j h.state le h.after }
+pub represents_prefix_with_lower_minimum : (s : BenchState) (cs : List Command) (i j : ℕ) (file : List ℕ) → i ≤ j → RepresentsPrefix s cs j file → RepresentsPrefix s cs i file
+represents_prefix_with_lower_minimum s cs i j file le h = record { state = h.state; represents = h.represents; after = after_prefix_with_lower_minimum s cs i j h.state le h.after }
 
--- a prefix with at least as many commands as there are has all commands
-pub prefix_all : (s : BenchState) (cs : List Command) (j : ℕ) (file : List ℕ) → length cs ≤ j → RepresentsPrefix s cs j file → Represents file (fold s cs)
-prefix_all s cs j file all h =
+-- if the prefix must have at least as many commands as the list, the prefix is the whole list
+pub represents_state_after_all_commands : (s : BenchState) (cs : List Command) (j : ℕ) (file : List ℕ) → length cs ≤ j → RepresentsPrefix s cs j file → Represents file (fold s cs)
+represents_state_after_all_commands s cs j file all h =
     let same : h.state ≡ fold s cs = h.after.state ∙ ap (fold s) (take_all h.after.count cs (omega (arith, all, h.after.at_least))) in
     rw (← same) h.represents
 
 -- the empty prefix leaves the state unchanged
-pub prefix_none : (s : BenchState) (cs : List Command) (file : List ℕ) → Represents file s → RepresentsPrefix s cs 0 file
-prefix_none s cs file h = record { state = s; represents = h; after = record { count = 0; at_least = omega arith; at_most = omega arith; state = refl } }
+pub represents_empty_prefix : (s : BenchState) (cs : List Command) (file : List ℕ) → Represents file s → RepresentsPrefix s cs 0 file
+represents_empty_prefix s cs file h = record { state = s; represents = h; after = record { count = 0; at_least = omega arith; at_most = omega arith; state = refl } }
 
-pub prefix_one : (s t : BenchState) (c : Command) (j : ℕ) (file : List ℕ) → t ≡ fold s (c ∷ []) → j ≤ 1 → Represents file t → RepresentsPrefix s (c ∷ []) j file
-prefix_one s t c j file e le h = record { state = t; represents = h; after = record { count = 1; at_least = le; at_most = omega arith; state = e } }
+pub represents_prefix_of_one_command : (s t : BenchState) (c : Command) (j : ℕ) (file : List ℕ) → t ≡ fold s (c ∷ []) → j ≤ 1 → Represents file t → RepresentsPrefix s (c ∷ []) j file
+represents_prefix_of_one_command s t c j file e le h = record { state = t; represents = h; after = record { count = 1; at_least = le; at_most = omega arith; state = e } }

@@ -1,4 +1,4 @@
--- The results of a session's `apply` and `settle`, and the effect of both on the disk.
+-- The results of a session's `apply` and `settle`, and the effect of these calls on the disk.
 use Rattle.std.specs.Prelude.{◌≡◌, ◌+◌, min, Bool, true, false, ℕ, List, None, Some, Result, Ok, Err}
 use Rattle.mcs_disk.specs.Disk.{DiskState, max_fault_count, bytes_of, time_of}
 use Rattle.mcs_disk.specs.Stretches.{SatisfiesEither, LeavesOnly}
@@ -23,8 +23,8 @@ AppliesCommand true s c (Err Device) new = (refusal s c ≡ None) × (new ≡ s)
 AppliesCommand false s c (Err Closed) new = new ≡ s
 AppliesCommand live s c result new = ⊥
 
--- Holds if a device fault closed the session and increased the fault count, or if any other result
--- left both unchanged.
+-- For a device fault, holds if the call closed the session and increased the fault count by 1, up
+-- to the maximum. For any other result, holds if `live` and the fault count are unchanged.
 abbrev pub ClosesAtDeviceFault : {T : Type 0} → Bool → ℕ → Result T SessionFault → Bool → ℕ → Type 0
 ClosesAtDeviceFault live faults (Ok r) new_live new_faults =
     (new_live ≡ live) × (new_faults ≡ faults)
@@ -39,9 +39,9 @@ abbrev pub LeavesEitherState : DiskState → DiskState → BenchState → BenchS
 LeavesEitherState old new s other =
     LeavesOnly old new (SatisfiesEither (λ file. Represents file s) (λ file. Represents file other))
 
--- Holds if a command was acknowledged. Until then, a power cut leaves the state before the command
--- or the state after it. From then on, a power cut leaves the state after it. The log now has the
--- command's record, which took `recording_ticks` ticks.
+-- Holds if the command `c` was acknowledged. Until then, a power cut leaves the state before the
+-- command or the state after the command. From then on, a power cut leaves the state after the
+-- command. The recording took `recording_ticks` ticks. The log now has the command's record.
 pub record AcknowledgesCommand (old new : DiskState) (s : BenchState) (c : Command) : Type 0 where
   pub leaves : LeavesEitherState old new s (after s c)
   pub log : List Command
@@ -61,11 +61,11 @@ RecordsOrFails (Err fault) old new s c = new.calls ≡ old.calls
 
 -- holds if `settle` can return this result: Ok or a device fault from an open session, or `Closed`
 -- from a closed session
-abbrev pub MayAnswerSettle : {T : Type 0} → Bool → Result T SessionFault → Type 0
-MayAnswerSettle true (Ok x) = Unit {0}
-MayAnswerSettle true (Err Device) = Unit {0}
-MayAnswerSettle false (Err Closed) = Unit {0}
-MayAnswerSettle live result = ⊥
+abbrev pub IsSettleResult : {T : Type 0} → Bool → Result T SessionFault → Type 0
+IsSettleResult true (Ok x) = Unit {0}
+IsSettleResult true (Err Device) = Unit {0}
+IsSettleResult false (Err Closed) = Unit {0}
+IsSettleResult live result = ⊥
 
 -- holds if a power cut at any moment between the two disk states leaves a file that represents this
 -- bench state

@@ -3,8 +3,8 @@ use Rattle.std.specs.Prelude.{ℕ, List, sum_by}
 use Rattle.mcs_model.specs.declared.command.Command.{Command}
 use Rattle.mcs_model.specs.declared.command.Command.TheVariants.{Run, Step}
 
--- The cycle count of a command: the number of instruction cycles that its replay can need. (Our own
--- choice: n for a run of n cycles, 2 for a step, 0 for any other command.)
+-- The cycle count of a command: the number of instruction cycles that its replay can need. It is
+-- `n` for a run of `n` cycles, 2 for a step, and 0 for any other command.
 abbrev pub replay_cycles : Command → ℕ
 replay_cycles (Run n) = n
 replay_cycles Step = 2

@@ -15,14 +15,14 @@ use Rattle.mcs_session.specs.Log.{LogHolds, has_room_for, recording_ticks}
 use Rattle.mcs_session.specs.Represents.{HoldsState, RecordsRepresent, Represents}
 
 -- The invariant of the honest disk of an open session. The disk is durable, and its bytes represent
--- the state `s` of the bench. `cycles` is the cycle count of its log.
+-- the state `s` of the bench. `cycles` is the cycle count of the log on the disk.
 pub record IsRecorded (disk : DiskState) (cycles : ℕ) (s : BenchState) : Type 0 where
   pub durable : IsDurable disk
   pub represents : Represents (bytes_of disk) s
   pub count : cycles ≡ log_cycles represents.records_represent.commands
 
--- holds if the buffers have the sizes of a record and of a snapshot, and the cycle count is within
--- the limit of a log
+-- Holds if the buffers have the sizes of the longest record and of the longest snapshot. The cycle
+-- count must be within the limit of a log.
 pub record IsReady (cycles : ℕ) (payload snapshot : List ℕ) : Type 0 where
   pub payload_size : length payload ≡ MOST_RECORD
   pub snapshot_size : length snapshot ≡ MOST_SNAPSHOT
@@ -46,7 +46,7 @@ pub record IsReplayed
 
 -- Holds if the log has room for the record of the command `c`. If there was room before, no ticks
 -- have passed. Otherwise, a snapshot of the state replaced all records in four ticks. The disk
--- still represents the same state, and `cycles` is the cycle count of its log.
+-- still represents the same state, and `cycles` is the cycle count of the log on the disk `new`.
 pub record HasMadeRoom (old new : DiskState) (c : Command) (cycles : ℕ) (s : BenchState) : Type 0 where
   pub log : List Command
   pub held : LogHolds (bytes_of old) log
@@ -60,8 +60,8 @@ pub record HasContents (disk : DiskState) : Type 0 where
   pub records : List (List ℕ)
   pub holds : Holds (bytes_of disk) snap records
 
--- Holds if each image that a power cut between the two disk states can leave holds the old snapshot
--- and records, or a snapshot of this bench state and no records.
+-- Holds if a power cut between the two disk states leaves either the old snapshot and records, or a
+-- snapshot of this bench state and no records.
 abbrev pub MayReplaceContents : DiskState → DiskState → List ℕ → List (List ℕ) → BenchState → Type 0
 MayReplaceContents old new snap records s =
     LeavesOnly old new (SatisfiesEither (λ c. Holds c snap records) (λ c. HoldsState c s))
@@ -74,20 +74,20 @@ pub record ReplacedContents
   pub held : HoldsState (bytes_of new) s
   pub durable : IsDurable new
 
--- holds if a call that returns Ok replaces whatever the disk holds with a snapshot of this state,
--- in four ticks
+-- Holds if a call that returns Ok replaces any snapshot and records on the disk with a snapshot of
+-- this state, in four ticks. A power cut during the call leaves the old or the new contents.
 abbrev pub ReplacesAnyContents : {T E : Type 0} → DiskState → DiskState → BenchState → Result T E → Type 0
 ReplacesAnyContents old new s result =
     (snap : List ℕ) (records : List (List ℕ)) → Holds (bytes_of old) snap records
     → Changes 4 old new (λ c. Holds c snap records) (λ c. HoldsState c s) result
 
--- holds if `MayReplaceContents` holds for whatever snapshot and records the disk held
+-- holds if `MayReplaceContents` holds for any snapshot and records that the disk `old` holds
 abbrev pub MayReplaceAnyContents : DiskState → DiskState → BenchState → Type 0
 MayReplaceAnyContents old new s =
     (snap : List ℕ) (records : List (List ℕ)) → Holds (bytes_of old) snap records
     → MayReplaceContents old new snap records s
 
--- holds if `ReplacedContents` holds for whatever snapshot and records the disk held
+-- holds if `ReplacedContents` holds for any snapshot and records that the disk `old` holds
 abbrev pub ReplacedAnyContents : DiskState → DiskState → BenchState → Type 0
 ReplacedAnyContents old new s =
     (snap : List ℕ) (records : List (List ℕ)) → Holds (bytes_of old) snap records

@@ -20,8 +20,7 @@ pub record IsAfterPrefix
   pub at_most : count ≤ length commands
   pub state : found ≡ fold s (take count commands)
 
--- holds if the file represents a state after a prefix of these commands, as `IsAfterPrefix` defines
--- it
+-- holds if the file represents a state for which `IsAfterPrefix` holds
 pub record RepresentsPrefix
     (s : BenchState) (commands : List Command) (least : ℕ) (file : List ℕ) : Type 0 where
   pub state : BenchState
@@ -31,10 +30,9 @@ pub record RepresentsPrefix
 -- ---- a run
 
 -- The commands that a disk keeps, executed from the state `s` on. `done` are the acknowledged
--- commands, each with its moment. `failed` are commands after them that can also have reached the
--- disk. `reached` is `done` followed by `failed`. (Definitions that use this record state which
--- commands these are. In `KeepsAllCommands`, `failed` is empty. In `ClosesSession` of mcs_shell, it
--- is the command at which the device failed.)
+-- commands, each with its moment. `failed` are the commands after `done` that can also have reached
+-- the disk. `reached` is `done` followed by `failed`. (In `KeepsAllCommands`, `failed` is empty. In
+-- `ClosesSession` of mcs_shell, `failed` is the command at which the device failed.)
 pub record KeepsCommands
     (old new : DiskState) (s : BenchState) (done reached : List Command) : Type 0 where
   pub acknowledged : Acknowledgements old new done
@@ -46,8 +44,8 @@ pub record KeepsCommands
       → RepresentsPrefix s reached (acknowledged_by time acknowledged.moments) image
   pub later : IsLater old new
 
--- `KeepsCommands` for a run in which no call failed. At the end, the disk's clock is at the last of
--- the moments, and the log holds the commands that `log_after_all` gives.
+-- `KeepsCommands` for a run in which no call failed. At the end of the run, the disk's clock is at
+-- the last of the moments, and the log holds the commands that `log_after_all` gives.
 pub record KeepsAllCommands
     (old new : DiskState) (s : BenchState) (commands : List Command) : Type 0 where
   pub kept : KeepsCommands old new s commands commands

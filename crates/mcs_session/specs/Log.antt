@@ -30,6 +30,7 @@ abbrev pub log_after_all : List Command → List Command → List Command
 log_after_all log [] = log
 log_after_all log (c ∷ cs) = log_after_all (log_after log c) cs
 
--- the number of ticks of the disk's clock that it takes to record a command
+-- the number of ticks of the disk's clock that recording a command takes: 4 if the log has room for
+-- the command, otherwise 8
 abbrev pub recording_ticks : List Command → Command → ℕ
 recording_ticks log c = if has_room_for log c then 4 else 8

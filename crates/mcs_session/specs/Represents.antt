@@ -1,10 +1,10 @@
 -- The state that a session file represents. For a file of version 1, the definitions of version 1
--- determine the state, which is then converted to version 2 (`RepresentsConverted` in Version1). Some
--- definitions here have a version as an argument. If it is version 1, the state of the snapshot is
--- converted first, and the records can only have commands of version 1. The commands are then
--- rejected and executed as in version 2.
+-- determine the state. This state is then converted to version 2 (`RepresentsConverted` in
+-- Version1). Some definitions here have a version as an argument. For version 1, the state of the
+-- snapshot is converted first, and the records can only have commands of version 1. The rules of
+-- version 2 then determine whether each command is accepted, and what it does.
 use Rattle.std.specs.Prelude.{◌≡◌, ◌⊎◌, ◌≤◌, ℕ, List, [], ◌∷◌, None}
-use Rattle.mcs_codec.specs.Codec.{EncodesBy, EncodesState, EncodesStateBy}
+use Rattle.mcs_codec.specs.Codec.{EncodesCommandBy, EncodesState, EncodesStateBy}
 use Rattle.mcs_codec.specs.declared.versions.Version.{Version}
 use Rattle.mcs_codec.specs.declared.versions.Version.TheVariants.{Two}
 use Rattle.mcs_disk.specs.Disk.{DiskState, images_of, images_since}
@@ -24,7 +24,7 @@ ReplaysCommands version s [] [] = Unit {0}
 ReplaysCommands version s [] (c ∷ cs) = ⊥
 ReplaysCommands version s (r ∷ rs) [] = ⊥
 ReplaysCommands version s (r ∷ rs) (c ∷ cs) =
-    EncodesBy version r c × (refusal s c ≡ None) × ReplaysCommands version (after s c) rs cs
+    EncodesCommandBy version r c × (refusal s c ≡ None) × ReplaysCommands version (after s c) rs cs
 
 -- holds if a snapshot and the records after it represent the state `s`
 pub record RecordsRepresent

@@ -17,26 +17,26 @@ pub record CreatesSession (old new : DiskState) : Type 0 where
   pub ticks : time_of new ≡ time_of old + 5
   pub later : IsLater old new
 
--- Holds if each image that a power cut between the two disk states can leave is an image of the
--- first disk state, or represents this bench state in either version.
-abbrev pub LeavesOldOrState : DiskState → DiskState → BenchState → Type 0
-LeavesOldOrState old new s =
+-- Holds if a power cut between the two disk states leaves an image of `old`, or a file that
+-- represents this bench state in either version.
+abbrev pub LeavesOldImageOrState : DiskState → DiskState → BenchState → Type 0
+LeavesOldImageOrState old new s =
     LeavesOnly old new (SatisfiesEither (images_of old) (λ file. RepresentsInEitherVersion file s))
 
 -- The effect that opening a session in the state `s` has on the disk. No call writes to a file of
 -- version 2. In a file of version 1, a snapshot of version 2 replaces the contents.
 pub record MigratesSession (old new : DiskState) (s : BenchState) : Type 0 where
-  pub leaves : LeavesOldOrState old new s
+  pub leaves : LeavesOldImageOrState old new s
   pub adds_no_image : Represents (bytes_of old) s → AddsNoImage old new
   pub migrated : RepresentsConverted (bytes_of old) s → HoldsState (bytes_of new) s
 
--- Holds if the file on `old` represents a state in version 1, and each image since then is an image
--- of `old` or represents that state in either version. (`FailedOpenLeaves` uses this record if the
--- device failed while the contents were replaced.)
+-- Holds if the file on `old` represents a state in version 1. A power cut since then leaves an
+-- image of `old`, or a file that represents the same state in either version. (`FailedOpenLeaves`
+-- uses this record if the device failed while the contents were replaced.)
 pub record FailsMigrating (old new : DiskState) : Type 0 where
   pub state : BenchState
   pub represents : RepresentsConverted (bytes_of old) state
-  pub leaves : LeavesOldOrState old new state
+  pub leaves : LeavesOldImageOrState old new state
 
 -- The effect of a failed `open` on the disk. Only reads and syncs were made, unless the device
 -- failed while the contents of a file of version 1 were replaced.

@@ -4,7 +4,7 @@ use Rattle.std.specs.Prelude.{Bool}
 use Rattle.mcs_disk.specs.Disk.{DiskState}
 use Rattle.mcs_model.specs.BenchState.{BenchState}
 
--- the contents of a session as contracts see them, with a disk of type D
+-- a session as contracts see it: its disk of type D, whether it is open, and the state of its bench
 pub record SessionView (D : Type 0) : Type 0 where
   pub disk : D
   -- true if the session is open: no call on it has returned a device fault

@@ -16,15 +16,15 @@ ghost use Rattle.mcs_session.specs.Represents.{HoldsState, DiskRepresentsConvert
 use mcs_disk::Disk;
 use mcs_journal::StoreFault;
 
-/// Shows that a file represents at most one state, in whichever version.
+/// Shows that a file represents at most one state, whether it has version 1 or version 2.
 pub fn file_represents_one_state()
     ensures { (file : List ℕ) (s other : BenchState)
         → RepresentsInEitherVersion file s → RepresentsInEitherVersion file other → s ≡ other }
 {}
 
-/// Shows the state of a session that is opened after a power cut during a run, at time `time` or
-/// later. It is the state after a prefix of the commands that can have reached the disk. The prefix
-/// includes each command that was acknowledged by `time`.
+/// Shows the state in which a session opens after a power cut during a run. The power is cut when
+/// the disk's clock is at `time` or later. The state is that after a prefix of the commands that
+/// can have reached the disk. The prefix includes each command that was acknowledged by `time`.
 pub fn reopened_session_has_acknowledged_commands<D: Disk, E: Disk>()
     ensures { (time : ℕ) (old new : D) (found opened : E) (s state : BenchState)
         (done reached : List Command)
@@ -35,8 +35,8 @@ pub fn reopened_session_has_acknowledged_commands<D: Disk, E: Disk>()
         → IsAfterPrefix s reached (acknowledged_by time kept.acknowledged.moments) state }
 {}
 
-/// Shows that the disk that a power cut during a run left can be opened. Only a lack of memory or a
-/// device fault can prevent this.
+/// Shows that a session can be opened on the disk that a power cut during a run left. Only a lack
+/// of memory or a device fault can prevent this.
 pub fn disk_left_by_cut_can_be_opened<D: Disk, E: Disk>()
     ensures { (time : ℕ) (old new : D) (found : E) (s : BenchState) (done reached : List Command)
         (fault : StoreFault)
@@ -70,8 +70,8 @@ pub fn run_end_keeps_all_commands<D: Disk>()
 ///
 /// The opened session has the state that the file represents, converted to version 2. Each image
 /// that a power cut can leave since the start of the call represents that state, in either version.
-/// This also holds if the call fails, be it before, during or after its writes. Once the session is
-/// open, the disk holds a snapshot of version 2 and no records.
+/// This also holds if the call fails, whether before, during or after its writes. Once the session
+/// is open, the disk holds a snapshot of version 2 and no records.
 pub fn version_1_file_keeps_its_state<D: Disk>()
     ensures opened { (old new : D) (s state : BenchState) → (D.state old).honest
         → DiskRepresentsConverted (D.state old) s → OpensSession (D.state old) (D.state new) state

@@ -45,7 +45,7 @@ pub(crate) fn log_buffers(alloc: Global) -> Result<(Vec<u8>, Vec<u8>), AllocErro
     Ok((payload, snapshot))
 }
 
-/// Encodes a command at the start of a buffer, and returns the number of bytes that it wrote.
+/// Encodes a command at the start of a buffer, and returns the length of the encoding in bytes.
 fn encode_command(payload: &mut Vec<u8>, command: &Command) -> usize
     requires { length payload.old.items ≡ MOST_RECORD }
     ensures buffer_size { length payload.new.items ≡ MOST_RECORD }
@@ -56,8 +56,8 @@ fn encode_command(payload: &mut Vec<u8>, command: &Command) -> usize
     command_bytes(command, payload.as_mut_slice())
 }
 
-/// Encodes the state of a bench at the start of a buffer, and returns the number of bytes of the
-/// snapshot.
+/// Encodes the state of a bench at the start of a buffer, and returns the length of the encoding in
+/// bytes.
 pub(crate) fn encode_state(snapshot: &mut Vec<u8>, bench: &Bench) -> usize
     requires { length snapshot.old.items ≡ MOST_SNAPSHOT }
     ensures buffer_size { length snapshot.new.items ≡ MOST_SNAPSHOT }

@@ -12,7 +12,8 @@ use mcs_model::command::Command;
 use mcs_model::limits::REPLAY_CYCLES;
 use std::alloc::{AllocError, Global};
 
-/// A bench after the commands of a log, the cycle count of the log, and its version.
+/// The result of a replay: the bench after the commands of a log, and the cycle count and the
+/// version of the log.
 #[derive(Drop)]
 pub struct Replayed {
     pub bench: Bench,

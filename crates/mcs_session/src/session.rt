@@ -6,7 +6,7 @@ ghost use Rattle.mcs_disk.specs.Stretches.{WritesNothing};
 ghost use Rattle.mcs_journal.specs.StoreCalls.{IsCreateFault, IsOpenFault, CreateErrorImplies};
 ghost use Rattle.mcs_model.specs.BenchState.{new_bench_state};
 ghost use Rattle.mcs_session.specs.Represents.{Represents, DiskRepresents};
-ghost use Rattle.mcs_session.specs.CommandCalls.{AppliesCommand, ClosesAtDeviceFault, MayAnswerSettle, RecordsOrFails, SettlesOrFails};
+ghost use Rattle.mcs_session.specs.CommandCalls.{AppliesCommand, ClosesAtDeviceFault, IsSettleResult, RecordsOrFails, SettlesOrFails};
 ghost use Rattle.mcs_session.specs.SessionCalls.{CreatesSession, MigratesSession, FailedOpenLeaves};
 ghost use Rattle.mcs_session.specs.Opening.{OpensSession, SessionErrorImplies};
 ghost use Rattle.mcs_session.specs.Invariant.{HasContents, IsReady, IsRecorded, MayReplaceAnyContents, ReplacedAnyContents};
@@ -46,11 +46,11 @@ impl<D: Disk + Drop> Model for Session<D> {
 }
 
 impl<D: Disk + Drop> Session<D> {
-    /// Creates a session with a new bench on a blank disk. An error returns the disk.
+    /// Creates a session with a new bench on a blank disk. On an error, it also returns the disk.
     ///
-    /// It fails if memory runs out (90), or if the disk is not blank (55). In both cases nothing is
-    /// written. It also fails if a call on the disk fails (53). In this case nothing is promised
-    /// about the contents of the disk.
+    /// It fails if memory runs out (refusal 90), or if the disk is not blank (refusal 55). In both
+    /// cases it writes nothing. It also fails if a call on the disk fails (refusal 53). In this
+    /// case, the contents of the disk are unspecified.
     pub fn create(alloc: Global, disk: D) -> Result<Session<D>, (StoreFault, D)>
         // the next clauses hold on any disk
         ensures open { IfOk result (λ s. IsTrue s.live) }
@@ -99,13 +99,14 @@ impl<D: Disk + Drop> Session<D> {
         }
     }
 
-    /// Opens the session that a disk holds. It writes nothing to a file of version 2. In a file of
+    /// Opens the session that a disk holds. `open` writes nothing to a file of version 2. In a file of
     /// version 1, a snapshot of version 2 replaces the contents, after all memory was allocated.
     /// The file represents the same state at every moment.
     ///
-    /// It fails if memory runs out (90), or if the size or the name is not that of a session file
-    /// (50). It also fails if the bytes represent no state for another reason (51), or if a call on
-    /// the disk fails (53). An error returns the disk.
+    /// It fails if memory runs out (refusal 90), or if the size or the first eight bytes are not
+    /// those of a session file (refusal 50). It also fails if the file is damaged and represents no
+    /// state (refusal 51), or if a call on the disk fails (refusal 53). On an error, it also
+    /// returns the disk.
     pub fn open(alloc: Global, disk: D) -> Result<Session<D>, (StoreFault, D)>
         // the next clauses hold on any disk
         ensures open { IfOk result (λ s. IsTrue s.live) }
@@ -180,11 +181,13 @@ impl<D: Disk + Drop> Session<D> {
     /// Records a command on the disk and then executes it. `Ok` acknowledges the command: from then
     /// on, no power cut loses it.
     ///
-    /// If the log has no room for the record or for the cycles of the command, a snapshot of the
-    /// state before the command first replaces the old snapshot and all records.
+    /// If the log has no room for the record or for the cycles of the command, `apply` first writes
+    /// a snapshot of the state before the command. This snapshot replaces the old snapshot and all
+    /// records.
     ///
-    /// It fails on a closed session (54), if the bench rejects the command (41 to 47), or if a call
-    /// on the disk fails (53). The first two errors leave the disk untouched.
+    /// It fails on a closed session (refusal 54), or if the bench rejects the command (refusals 41 to
+    /// 47). Both errors leave the disk untouched. It also fails if a call on the disk fails
+    /// (refusal 53).
     pub fn apply(&mut self, command: &Command) -> Result<Reply, SessionFault>
         // the next clauses hold on any disk
         ensures applied { AppliesCommand self.old.live self.old.state command.now result
@@ -214,14 +217,14 @@ impl<D: Disk + Drop> Session<D> {
     }
 
     /// Replaces the contents of the disk with a snapshot of the bench, so that a later `open` has
-    /// no commands to replay. The state of the bench does not change, and the disk represents it at
-    /// every moment.
+    /// no commands to replay. The state of the bench does not change, and the disk represents this
+    /// state at every moment.
     ///
-    /// It fails on a closed session (54), or if a call on the disk fails (53).
+    /// It fails on a closed session (refusal 54), or if a call on the disk fails (refusal 53).
     pub fn settle(&mut self) -> Result<(), SessionFault>
         // the next clauses hold on any disk
         ensures state { self.new.state ≡ self.old.state }
-        ensures answers { MayAnswerSettle self.old.live result }
+        ensures answers { IsSettleResult self.old.live result }
         ensures closes { ClosesAtDeviceFault self.old.live (D.state self.old.disk).faults result
             self.new.live (D.state self.new.disk).faults }
         ensures start { (D.state self.new.disk).start ≡ (D.state self.old.disk).start }
@@ -244,8 +247,8 @@ impl<D: Disk + Drop> Session<D> {
         }
     }
 
-    /// Ends the session and returns its disk. If the session was open, the disk represents the
-    /// state of its bench.
+    /// Ends the session and returns its disk. If the session was open and the disk is honest, the
+    /// disk represents the state of the session's bench.
     pub fn into_disk(self) -> D
         ensures is { result ≡ self.disk }
         ensures represents { IsTrue self.live → (D.state result).honest

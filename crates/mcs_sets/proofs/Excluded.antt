@@ -1,4 +1,4 @@
--- An entry excludes mistakes and conditions.
+-- An entry that passes the checks excludes mistakes and conditions.
 use Rattle.std.proofs.Common.{◌≡◌, ◌<◌, ◌+◌, ◌-◌, ◌*◌, ◌/◌, ◌%◌, ◌&&◌, ℕ, zero, suc, List, [], ◌∷◌, Bool, true, false, not, Option, Some, None, is_none, nat_lt, length, get_or, slice_index, refl, subst, sym, ap, ◌∙◌, arith, eqb}
 use Rattle.std.proofs.lemmas.Bool.{and_left, and_right, or_from, not_from_true, ne_eqb, lt-ltb, le-ltb}
 use Rattle.mcs_model.specs.declared.board.BoardParts.{BoardParts}
@@ -17,78 +17,78 @@ use Rattle.mcs_sets.specs.declared.entries.Entry.{Entry}
 use Rattle.mcs_sets.specs.Entries.{has, value_at, Covers}
 use Rattle.mcs_sets.specs.Excluding.{ForAllIn, HasChipsOfBank, MakesNoMistake, reads_next_address}
 use Rattle.mcs_sets.specs.Landing.{CallsAllow}
-use Rattle.mcs_sets.proofs.Memory.{has-lt}
+use Rattle.mcs_sets.proofs.Memory.{member-below-16}
 
--- a conjunction of three is false if c is false whenever a and b are true
-guarded : (a b c : Bool) → (a ≡ true → b ≡ true → c ≡ false) → (a && b && c) ≡ false
-guarded false b c h = refl
-guarded true false c h = refl
-guarded true true c h = h refl refl
+-- a conjunction of `a`, `b` and `c` is false if `c` is false whenever `a` and `b` are true
+false-under-two-guards : (a b c : Bool) → (a ≡ true → b ≡ true → c ≡ false) → (a && b && c) ≡ false
+false-under-two-guards false b c h = refl
+false-under-two-guards true false c h = refl
+false-under-two-guards true true c h = h refl refl
 
-guarded-once : (a c : Bool) → (a ≡ true → c ≡ false) → (a && c) ≡ false
-guarded-once false c h = refl
-guarded-once true c h = h refl
+false-under-one-guard : (a c : Bool) → (a ≡ true → c ≡ false) → (a && c) ≡ false
+false-under-one-guard false c h = refl
+false-under-one-guard true c h = h refl
 
 -- ---- calls
 
-no-fourth : (op : Op) (calls : ℕ) → CallsAllow op calls → is_fourth_call op calls ≡ false
-no-fourth (Jms h b) calls fits = let few : calls < 3 = fits in le-ltb 2 calls (omega arith)
-no-fourth _ calls fits = refl
+no-fourth-call-if-calls-allow : (op : Op) (calls : ℕ) → CallsAllow op calls → is_fourth_call op calls ≡ false
+no-fourth-call-if-calls-allow (Jms h b) calls fits = let few : calls < 3 = fits in le-ltb 2 calls (omega arith)
+no-fourth-call-if-calls-allow _ calls fits = refl
 
-no-lone : (op : Op) (calls : ℕ) → CallsAllow op calls → is_unmatched_return op calls ≡ false
-no-lone (Bbl d) calls fits = let some : 0 < calls = fits in ne_eqb calls 0 (λ e. omega arith)
-no-lone _ calls fits = refl
+no-unmatched-return-if-calls-allow : (op : Op) (calls : ℕ) → CallsAllow op calls → is_unmatched_return op calls ≡ false
+no-unmatched-return-if-calls-allow (Bbl d) calls fits = let some : 0 < calls = fits in ne_eqb calls 0 (λ e. omega arith)
+no-unmatched-return-if-calls-allow _ calls fits = refl
 
-calls-kept : (mistakes : Mistakes) (op : Op) (s : TrackedMachine) → CallsAllow op s.2.calls → makes_call_mistake mistakes op s ≡ false
-calls-kept mistakes op s fits =
-    or_from _ _ (and_right mistakes.fourth_call _ (no-fourth op s.2.calls fits)) (and_right mistakes.unmatched_return _ (no-lone op s.2.calls fits))
+no-call-mistake-if-calls-allow : (mistakes : Mistakes) (op : Op) (s : TrackedMachine) → CallsAllow op s.2.calls → makes_call_mistake mistakes op s ≡ false
+no-call-mistake-if-calls-allow mistakes op s fits =
+    or_from _ _ (and_right mistakes.fourth_call _ (no-fourth-call-if-calls-allow op s.2.calls fits)) (and_right mistakes.unmatched_return _ (no-unmatched-return-if-calls-allow op s.2.calls fits))
 
 -- ---- RAM
 
-value_at-src : (s : TrackedMachine) (k bank : ℕ) → k ≡ 18 + bank → value_at s k ≡ slice_index s.1.ram_src bank / 16
-value_at-src s k bank e =
+value_at-of-bank-src-byte : (s : TrackedMachine) (k bank : ℕ) → k ≡ 18 + bank → value_at s k ≡ slice_index s.1.ram_src bank / 16
+value_at-of-bank-src-byte s k bank e =
     let a : eqb k 16 ≡ false = ne_eqb k 16 (λ x. omega arith) in
     let b : nat_lt k 16 ≡ false = le-ltb k 16 (omega arith) in
     let c : eqb k 17 ≡ false = ne_eqb k 17 (λ x. omega arith) in
     let d : k - 18 ≡ bank = omega arith in
     rw (a, b, c, d) refl
 
-quarter : (n chips : ℕ) → n / 16 / 4 < chips → n / 64 < chips
-quarter n chips h = omega arith
+chip-below-from-upper-nibble : (n chips : ℕ) → n / 16 / 4 < chips → n / 64 < chips
+chip-below-from-upper-nibble n chips h = omega arith
 
-ram-kept : (board : BoardParts) (e : Entry) (s : TrackedMachine) → s.1.board ≡ board → Covers e s → ForAllIn (slice_index e.sets 16) (HasChipsOfBank board e) → lacks_selected_ram s.0 s.1 ≡ false
-ram-kept board e s same is all =
+no-absent-ram-selected : (board : BoardParts) (e : Entry) (s : TrackedMachine) → s.1.board ≡ board → Covers e s → ForAllIn (slice_index e.sets 16) (HasChipsOfBank board e) → lacks_selected_ram s.0 s.1 ≡ false
+no-absent-ram-selected board e s same is all =
     let bank = all s.0.dcl (is.locations 16 (omega arith)) in
     let n = slice_index s.1.ram_src s.0.dcl in
     let bank_exists = bank.bank_exists in
     let set = slice_index e.sets (18 + s.0.dcl) in
-    let inside : has set (n / 16) ≡ true = subst (λ (x : ℕ). has set x ≡ true) (value_at-src s (18 + s.0.dcl) s.0.dcl refl) (is.locations (18 + s.0.dcl) (omega arith)) in
-    let chip : n / 64 < slice_index board.banks s.0.dcl = quarter n (slice_index board.banks s.0.dcl) (bank.chips (n / 16) inside) in
+    let inside : has set (n / 16) ≡ true = subst (λ (x : ℕ). has set x ≡ true) (value_at-of-bank-src-byte s (18 + s.0.dcl) s.0.dcl refl) (is.locations (18 + s.0.dcl) (omega arith)) in
+    let chip : n / 64 < slice_index board.banks s.0.dcl = chip-below-from-upper-nibble n (slice_index board.banks s.0.dcl) (bank.chips (n / 16) inside) in
     let there : n / 64 < slice_index s.1.board.banks s.0.dcl = subst (λ (b : BoardParts). n / 64 < slice_index b.banks s.0.dcl) (sym same) chip in
     not_from_true _ (lt-ltb (n / 64) (slice_index s.1.board.banks s.0.dcl) there)
 
 -- ---- ROM
 
-on-page : (p a b : ℕ) → a < 16 → b < 16 → (256 * p + (a * 16 + b)) / 256 ≡ p
-on-page p a b u v = omega arith
+page-of-fin-address : (p a b : ℕ) → a < 16 → b < 16 → (256 * p + (a * 16 + b)) / 256 ≡ p
+page-of-fin-address p a b u v = omega arith
 
-last-there : (board : BoardParts) (op : Op) (s : Regs) → slice_index s.r 0 < 16 → slice_index s.r 1 < 16 → lacks_rom board s.pc ≡ false → (reads_next_address op ≡ true → lacks_rom board ((s.pc + 1) % 4096) ≡ false) → lacks_rom board (last_address_read op s) ≡ false
-last-there board (Jcn c b) s u v here next = next refl
-last-there board (Fim k b) s u v here next = next refl
-last-there board (Fin k) s u v here next =
-    ap (λ (p : ℕ). is_none (rom_masks board p)) (on-page ((s.pc + 1) % 4096 / 256) (slice_index s.r 0) (slice_index s.r 1) u v) ∙ next refl
-last-there board (Jun h b) s u v here next = next refl
-last-there board (Jms h b) s u v here next = next refl
-last-there board (Isz r b) s u v here next = next refl
-last-there board _ s u v here next = here
+rom-at-last_address_read : (board : BoardParts) (op : Op) (s : Regs) → slice_index s.r 0 < 16 → slice_index s.r 1 < 16 → lacks_rom board s.pc ≡ false → (reads_next_address op ≡ true → lacks_rom board ((s.pc + 1) % 4096) ≡ false) → lacks_rom board (last_address_read op s) ≡ false
+rom-at-last_address_read board (Jcn c b) s u v here next = next refl
+rom-at-last_address_read board (Fim k b) s u v here next = next refl
+rom-at-last_address_read board (Fin k) s u v here next =
+    ap (λ (p : ℕ). is_none (rom_masks board p)) (page-of-fin-address ((s.pc + 1) % 4096 / 256) (slice_index s.r 0) (slice_index s.r 1) u v) ∙ next refl
+rom-at-last_address_read board (Jun h b) s u v here next = next refl
+rom-at-last_address_read board (Jms h b) s u v here next = next refl
+rom-at-last_address_read board (Isz r b) s u v here next = next refl
+rom-at-last_address_read board _ s u v here next = here
 
-words-kept : (board : BoardParts) (e : Entry) (op : Op) (s : TrackedMachine) → Covers e s → lacks_rom board e.at ≡ false → (reads_next_address op ≡ true → lacks_rom board ((e.at + 1) % 4096) ≡ false) → reads_absent_rom op s.0 board ≡ false
-words-kept board e op s is here next =
-    let first = has-lt (slice_index e.sets 0) (slice_index s.0.r 0) (is.locations 0 (omega arith)) in
-    let second = has-lt (slice_index e.sets 1) (slice_index s.0.r 1) (is.locations 1 (omega arith)) in
+no-absent-rom-read : (board : BoardParts) (e : Entry) (op : Op) (s : TrackedMachine) → Covers e s → lacks_rom board e.at ≡ false → (reads_next_address op ≡ true → lacks_rom board ((e.at + 1) % 4096) ≡ false) → reads_absent_rom op s.0 board ≡ false
+no-absent-rom-read board e op s is here next =
+    let first = member-below-16 (slice_index e.sets 0) (slice_index s.0.r 0) (is.locations 0 (omega arith)) in
+    let second = member-below-16 (slice_index e.sets 1) (slice_index s.0.r 1) (is.locations 1 (omega arith)) in
     let at : lacks_rom board s.0.pc ≡ false = subst (λ (a : ℕ). lacks_rom board a ≡ false) (sym is.at) here in
     let behind : reads_next_address op ≡ true → lacks_rom board ((s.0.pc + 1) % 4096) ≡ false = subst (λ (a : ℕ). reads_next_address op ≡ true → lacks_rom board ((a + 1) % 4096) ≡ false) (sym is.at) next in
-    or_from _ _ at (last-there board op s.0 first second at behind)
+    or_from _ _ at (rom-at-last_address_read board op s.0 first second at behind)
 
 -- ---- all mistakes
 
@@ -101,36 +101,36 @@ pub record PassesChecks (board : BoardParts) (e : Entry) (op : Op) (mistakes : M
   pub inputs : mistakes.port_without_inputs ≡ true → is_rdr op ≡ true → ForAllIn (slice_index e.sets 17) (λ n. has_input board n ≡ true)
   pub outputs : mistakes.port_without_outputs ≡ true → is_wrr op ≡ true → ForAllIn (slice_index e.sets 17) (λ n. has_output board n ≡ true)
 
-chips-kept : (board : BoardParts) (e : Entry) (op : Op) (mistakes : Mistakes) (s : TrackedMachine) → s.1.board ≡ board → Covers e s → PassesChecks board e op mistakes → makes_chip_mistake mistakes op s ≡ false
-chips-kept board e op mistakes s same is h =
+no-chip-mistake-if-checks-pass : (board : BoardParts) (e : Entry) (op : Op) (mistakes : Mistakes) (s : TrackedMachine) → s.1.board ≡ board → Covers e s → PassesChecks board e op mistakes → makes_chip_mistake mistakes op s ≡ false
+no-chip-mistake-if-checks-pass board e op mistakes s same is h =
     or_from _ _
-    (guarded mistakes.absent_ram (uses_ram op) (lacks_selected_ram s.0 s.1) (λ a u. ram-kept board e s same is (h.ram a u)))
-    (guarded-once mistakes.absent_rom (reads_absent_rom op s.0 s.1.board)
-    (λ a. subst (λ (b : BoardParts). reads_absent_rom op s.0 b ≡ false) (sym same) (words-kept board e op s is (h.here a) (h.next a))))
+    (false-under-two-guards mistakes.absent_ram (uses_ram op) (lacks_selected_ram s.0 s.1) (λ a u. no-absent-ram-selected board e s same is (h.ram a u)))
+    (false-under-one-guard mistakes.absent_rom (reads_absent_rom op s.0 s.1.board)
+    (λ a. subst (λ (b : BoardParts). reads_absent_rom op s.0 b ≡ false) (sym same) (no-absent-rom-read board e op s is (h.here a) (h.next a))))
 
-lines-kept : (board : BoardParts) (e : Entry) (op : Op) (mistakes : Mistakes) (s : TrackedMachine) → s.1.board ≡ board → Covers e s → PassesChecks board e op mistakes → makes_port_mistake mistakes op s ≡ false
-lines-kept board e op mistakes s same is h =
+no-port-mistake-if-checks-pass : (board : BoardParts) (e : Entry) (op : Op) (mistakes : Mistakes) (s : TrackedMachine) → s.1.board ≡ board → Covers e s → PassesChecks board e op mistakes → makes_port_mistake mistakes op s ≡ false
+no-port-mistake-if-checks-pass board e op mistakes s same is h =
     let n = s.1.rom_src / 16 in
     let inside : has (slice_index e.sets 17) n ≡ true = is.locations 17 (omega arith) in
     or_from _ _
-    (guarded mistakes.port_without_inputs (is_rdr op) (not (has_input s.1.board n)) (λ a r. not_from_true _ (subst (λ (b : BoardParts). has_input b n ≡ true) (sym same) (h.inputs a r n inside))))
-    (guarded mistakes.port_without_outputs (is_wrr op) (not (has_output s.1.board n)) (λ a r. not_from_true _ (subst (λ (b : BoardParts). has_output b n ≡ true) (sym same) (h.outputs a r n inside))))
+    (false-under-two-guards mistakes.port_without_inputs (is_rdr op) (not (has_input s.1.board n)) (λ a r. not_from_true _ (subst (λ (b : BoardParts). has_input b n ≡ true) (sym same) (h.inputs a r n inside))))
+    (false-under-two-guards mistakes.port_without_outputs (is_wrr op) (not (has_output s.1.board n)) (λ a r. not_from_true _ (subst (λ (b : BoardParts). has_output b n ≡ true) (sym same) (h.outputs a r n inside))))
 
-pub no-mistake-made : (board : BoardParts) (e : Entry) (op : Op) (mistakes : Mistakes) → PassesChecks board e op mistakes → MakesNoMistake board e op mistakes
-no-mistake-made board e op mistakes h = λ s same is.
+pub no-mistake-if-checks-pass : (board : BoardParts) (e : Entry) (op : Op) (mistakes : Mistakes) → PassesChecks board e op mistakes → MakesNoMistake board e op mistakes
+no-mistake-if-checks-pass board e op mistakes h = λ s same is.
     or_from _ _
-    (or_from _ _ (calls-kept mistakes op s (subst (CallsAllow op) (sym is.calls) h.calls)) (chips-kept board e op mistakes s same is h))
-    (lines-kept board e op mistakes s same is h)
+    (or_from _ _ (no-call-mistake-if-calls-allow mistakes op s (subst (CallsAllow op) (sym is.calls) h.calls)) (no-chip-mistake-if-checks-pass board e op mistakes s same is h))
+    (no-port-mistake-if-checks-pass board e op mistakes s same is h)
 
-mistaken-when : (b : Bool) (o : Option Op) (mistakes : Mistakes) (op : Op) (s : TrackedMachine) → o ≡ Some op → op_makes_mistake mistakes op s ≡ false → (b && elim o as (λ _. Bool) [ Some op ↦ op_makes_mistake mistakes op s | None ↦ mistakes.invalid_opcode ]) ≡ false
-mistaken-when b o mistakes op s there none = rw there (and_right b _ none)
+no-mistake-at-given-op : (b : Bool) (o : Option Op) (mistakes : Mistakes) (op : Op) (s : TrackedMachine) → o ≡ Some op → op_makes_mistake mistakes op s ≡ false → (b && elim o as (λ _. Bool) [ Some op ↦ op_makes_mistake mistakes op s | None ↦ mistakes.invalid_opcode ]) ≡ false
+no-mistake-at-given-op b o mistakes op s there none = rw there (and_right b _ none)
 
-pub not-mistaken : (mistakes : Mistakes) (op : Op) (s : TrackedMachine) → instruction_at s.0 s.1 ≡ Some op → op_makes_mistake mistakes op s ≡ false → cycle_makes_mistake mistakes s ≡ false
-not-mistaken mistakes op s there none = mistaken-when (not (eqb s.0.owed 1)) (instruction_at s.0 s.1) mistakes op s there none
+pub cycle-makes-no-mistake : (mistakes : Mistakes) (op : Op) (s : TrackedMachine) → instruction_at s.0 s.1 ≡ Some op → op_makes_mistake mistakes op s ≡ false → cycle_makes_mistake mistakes s ≡ false
+cycle-makes-no-mistake mistakes op s there none = no-mistake-at-given-op (not (eqb s.0.owed 1)) (instruction_at s.0 s.1) mistakes op s there none
 
 -- ---- conditions
 
-pub unmet : (t : TrackedMachine) (cs : List Condition) (i : ℕ) (d : Condition) → i < length cs → is_met t (get_or cs i d) ≡ false → are_met t cs ≡ false
-unmet t [] i d inside h = absurd (omega arith)
-unmet t (c ∷ cs) zero d inside h = and_left (is_met t c) (are_met t cs) h
-unmet t (c ∷ cs) (suc i) d inside h = and_right (is_met t c) (are_met t cs) (unmet t cs i d (omega arith) h)
+pub conjunction-unmet : (t : TrackedMachine) (cs : List Condition) (i : ℕ) (d : Condition) → i < length cs → is_met t (get_or cs i d) ≡ false → are_met t cs ≡ false
+conjunction-unmet t [] i d inside h = absurd (omega arith)
+conjunction-unmet t (c ∷ cs) zero d inside h = and_left (is_met t c) (are_met t cs) h
+conjunction-unmet t (c ∷ cs) (suc i) d inside h = and_right (is_met t c) (are_met t cs) (conjunction-unmet t cs i d (omega arith) h)

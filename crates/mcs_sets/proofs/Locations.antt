@@ -5,17 +5,18 @@ use Rattle.std.proofs.lemmas.List.{get_or-set_same, get_or-set_other, length-set
 use Rattle.mcs_drive.specs.TrackedMachine.{TrackedMachine}
 use Rattle.mcs_sets.specs.declared.landing.Landing.{Landing}
 use Rattle.mcs_sets.specs.Entries.{value_at}
-use Rattle.mcs_sets.specs.Landing.{value_after, LandingLeads}
+use Rattle.mcs_sets.specs.Landing.{value_after, LandingDescribes}
 
--- the value at a location after a landing, except the bank number
+-- the value at location `k` after a landing, if the value was `v` before; `k` is not 16, the
+-- location of the bank number
 abbrev pub written : Landing → ℕ → ℕ → ℕ
 written o k v = cond (eqb k o.first_location) o.first_value (cond (eqb k o.second_location) o.second_value v)
 
-pub locations-from : (s t : TrackedMachine) (o : Landing) → t.0.dcl ≡ o.regs.dcl → t.1.rom_src ≡ s.1.rom_src → t.1.ram_src ≡ s.1.ram_src →
+pub locations-agree-from-registers : (s t : TrackedMachine) (o : Landing) → t.0.dcl ≡ o.regs.dcl → t.1.rom_src ≡ s.1.rom_src → t.1.ram_src ≡ s.1.ram_src →
     ((k : ℕ) → k < 16 → slice_index t.0.r k ≡ written o k (slice_index s.0.r k)) →
     ((k : ℕ) → 16 < k → k < 26 → (k ≢ o.first_location) × (k ≢ o.second_location)) →
     (k : ℕ) → k < 26 → value_at t k ≡ value_after o k (value_at s k)
-locations-from s t o bank src srcs regs beyond k h =
+locations-agree-from-registers s t o bank src srcs regs beyond k h =
     elim (cases_eq k 16) [
       | inl e ↦ let is : eqb k 16 ≡ true = eq-eqb k 16 e in rw is bank
       | inr ne ↦
@@ -31,22 +32,23 @@ locations-from s t o bank src srcs regs beyond k h =
           ]
     ]
 
--- the value at each location after an instruction that changes no location
-kept-locations : (s t : TrackedMachine) (o : Landing) → t.0.dcl ≡ o.regs.dcl → t.1.rom_src ≡ s.1.rom_src → t.1.ram_src ≡ s.1.ram_src → t.0.r ≡ s.0.r → o.first_location ≡ 26 → o.second_location ≡ 26 →
+-- after an instruction that changes no location, each location has the value that the landing gives
+locations-agree-if-none-changes : (s t : TrackedMachine) (o : Landing) → t.0.dcl ≡ o.regs.dcl → t.1.rom_src ≡ s.1.rom_src → t.1.ram_src ≡ s.1.ram_src → t.0.r ≡ s.0.r → o.first_location ≡ 26 → o.second_location ≡ 26 →
     (k : ℕ) → k < 26 → value_at t k ≡ value_after o k (value_at s k)
-kept-locations s t o bank src srcs r first second =
-    locations-from s t o bank src srcs
+locations-agree-if-none-changes s t o bank src srcs r first second =
+    locations-agree-from-registers s t o bank src srcs
     (λ k low.
     let f : eqb k o.first_location ≡ false = ne_eqb k o.first_location (λ e. omega arith) in
     let g : eqb k o.second_location ≡ false = ne_eqb k o.second_location (λ e. omega arith) in
     rw (f, g) (ap (λ (l : List ℕ). slice_index l k) r))
     (λ k up below. (λ e. omega arith, λ e. omega arith))
 
--- the value at each location after an instruction that changes one register
-one-location : (s t : TrackedMachine) (o : Landing) (i : ℕ) → i < 16 → length s.0.r ≡ 16 → t.0.dcl ≡ o.regs.dcl → t.1.rom_src ≡ s.1.rom_src → t.1.ram_src ≡ s.1.ram_src → t.0.r ≡ slice_set s.0.r i o.first_value → o.first_location ≡ i → o.second_location ≡ 26 →
+-- after an instruction that changes one register, each location has the value that the landing
+-- gives
+locations-agree-if-one-register-changes : (s t : TrackedMachine) (o : Landing) (i : ℕ) → i < 16 → length s.0.r ≡ 16 → t.0.dcl ≡ o.regs.dcl → t.1.rom_src ≡ s.1.rom_src → t.1.ram_src ≡ s.1.ram_src → t.0.r ≡ slice_set s.0.r i o.first_value → o.first_location ≡ i → o.second_location ≡ 26 →
     (k : ℕ) → k < 26 → value_at t k ≡ value_after o k (value_at s k)
-one-location s t o i small len bank src srcs r first second =
-    locations-from s t o bank src srcs
+locations-agree-if-one-register-changes s t o i small len bank src srcs r first second =
+    locations-agree-from-registers s t o bank src srcs
     (λ k low.
     let g : eqb k o.second_location ≡ false = ne_eqb k o.second_location (λ e. omega arith) in
     let moved : slice_index t.0.r k ≡ slice_index (slice_set s.0.r i o.first_value) k = ap (λ (l : List ℕ). slice_index l k) r in
@@ -61,12 +63,13 @@ one-location s t o i small len bank src srcs r first second =
     ])
     (λ k up below. (λ e. omega arith, λ e. omega arith))
 
--- the value at each location after an instruction that changes both registers of a pair
-two-locations : (s t : TrackedMachine) (o : Landing) (i : ℕ) → i < 8 → length s.0.r ≡ 16 → t.0.dcl ≡ o.regs.dcl → t.1.rom_src ≡ s.1.rom_src → t.1.ram_src ≡ s.1.ram_src → t.0.r ≡ slice_set (slice_set s.0.r (2 * i) o.first_value) (2 * i + 1) o.second_value → o.first_location ≡ 2 * i → o.second_location ≡ 2 * i + 1 →
+-- after an instruction that changes a register pair, each location has the value that the landing
+-- gives
+locations-agree-if-pair-changes : (s t : TrackedMachine) (o : Landing) (i : ℕ) → i < 8 → length s.0.r ≡ 16 → t.0.dcl ≡ o.regs.dcl → t.1.rom_src ≡ s.1.rom_src → t.1.ram_src ≡ s.1.ram_src → t.0.r ≡ slice_set (slice_set s.0.r (2 * i) o.first_value) (2 * i + 1) o.second_value → o.first_location ≡ 2 * i → o.second_location ≡ 2 * i + 1 →
     (k : ℕ) → k < 26 → value_at t k ≡ value_after o k (value_at s k)
-two-locations s t o i small len bank src srcs r first second =
+locations-agree-if-pair-changes s t o i small len bank src srcs r first second =
     let upper = slice_set s.0.r (2 * i) o.first_value in
-    locations-from s t o bank src srcs
+    locations-agree-from-registers s t o bank src srcs
     (λ k low.
     let moved : slice_index t.0.r k ≡ slice_index (slice_set upper (2 * i + 1) o.second_value) k = ap (λ (l : List ℕ). slice_index l k) r in
     elim (cases_eq k (2 * i + 1)) [
@@ -93,8 +96,8 @@ two-locations s t o i small len bank src srcs r first second =
 
 -- ---- the landings of these instructions
 
--- holds if a machine has the addresses, accumulator, carry and bank of a landing
-pub record Agrees (t : TrackedMachine) (o : Landing) : Type 0 where
+-- holds if a machine has the addresses, open calls, accumulator, carry and bank of a landing
+pub record AgreesWithLanding (t : TrackedMachine) (o : Landing) : Type 0 where
   pub pc : t.0.pc ≡ o.regs.pc
   pub calls : t.2.calls ≡ o.calls
   pub ret : (k : ℕ) → k < 3 → k < o.calls → slice_index t.0.ret k ≡ slice_index o.regs.ret k
@@ -103,42 +106,42 @@ pub record Agrees (t : TrackedMachine) (o : Landing) : Type 0 where
   pub dcl : t.0.dcl ≡ o.regs.dcl
 
 -- holds if two machines have the same SRC bytes
-pub record KeepsSrc (s t : TrackedMachine) : Type 0 where
+pub record HaveSameSrcBytes (s t : TrackedMachine) : Type 0 where
   pub rom : t.1.rom_src ≡ s.1.rom_src
   pub ram : t.1.ram_src ≡ s.1.ram_src
 
-pub lands-kept : (s t : TrackedMachine) (o : Landing) → length s.0.r ≡ 16 → length s.1.ram_src ≡ 8 → Agrees t o → KeepsSrc s t → t.0.r ≡ s.0.r → o.first_location ≡ 26 → o.second_location ≡ 26 → LandingLeads s t o
-lands-kept s t o registers banks a src r first second = record {
+pub landing-describes-if-none-changes : (s t : TrackedMachine) (o : Landing) → length s.0.r ≡ 16 → length s.1.ram_src ≡ 8 → AgreesWithLanding t o → HaveSameSrcBytes s t → t.0.r ≡ s.0.r → o.first_location ≡ 26 → o.second_location ≡ 26 → LandingDescribes s t o
+landing-describes-if-none-changes s t o registers banks a src r first second = record {
   pc = a.pc;
   calls = a.calls;
   ret = a.ret;
   acc = a.acc;
   cy = a.cy;
-  locations = kept-locations s t o a.dcl src.rom src.ram r first second;
+  locations = locations-agree-if-none-changes s t o a.dcl src.rom src.ram r first second;
   registers = ap (λ (l : List ℕ). length l) r ∙ registers;
   banks = ap (λ (l : List ℕ). length l) src.ram ∙ banks;
 }
 
-pub lands-one : (s t : TrackedMachine) (o : Landing) (i : ℕ) → i < 16 → length s.0.r ≡ 16 → length s.1.ram_src ≡ 8 → Agrees t o → KeepsSrc s t → t.0.r ≡ slice_set s.0.r i o.first_value → o.first_location ≡ i → o.second_location ≡ 26 → LandingLeads s t o
-lands-one s t o i small registers banks a src r first second = record {
+pub landing-describes-if-one-register-changes : (s t : TrackedMachine) (o : Landing) (i : ℕ) → i < 16 → length s.0.r ≡ 16 → length s.1.ram_src ≡ 8 → AgreesWithLanding t o → HaveSameSrcBytes s t → t.0.r ≡ slice_set s.0.r i o.first_value → o.first_location ≡ i → o.second_location ≡ 26 → LandingDescribes s t o
+landing-describes-if-one-register-changes s t o i small registers banks a src r first second = record {
   pc = a.pc;
   calls = a.calls;
   ret = a.ret;
   acc = a.acc;
   cy = a.cy;
-  locations = one-location s t o i small registers a.dcl src.rom src.ram r first second;
+  locations = locations-agree-if-one-register-changes s t o i small registers a.dcl src.rom src.ram r first second;
   registers = ap (λ (l : List ℕ). length l) r ∙ length-set s.0.r i o.first_value ∙ registers;
   banks = ap (λ (l : List ℕ). length l) src.ram ∙ banks;
 }
 
-pub lands-two : (s t : TrackedMachine) (o : Landing) (i : ℕ) → i < 8 → length s.0.r ≡ 16 → length s.1.ram_src ≡ 8 → Agrees t o → KeepsSrc s t → t.0.r ≡ slice_set (slice_set s.0.r (2 * i) o.first_value) (2 * i + 1) o.second_value → o.first_location ≡ 2 * i → o.second_location ≡ 2 * i + 1 → LandingLeads s t o
-lands-two s t o i small registers banks a src r first second = record {
+pub landing-describes-if-pair-changes : (s t : TrackedMachine) (o : Landing) (i : ℕ) → i < 8 → length s.0.r ≡ 16 → length s.1.ram_src ≡ 8 → AgreesWithLanding t o → HaveSameSrcBytes s t → t.0.r ≡ slice_set (slice_set s.0.r (2 * i) o.first_value) (2 * i + 1) o.second_value → o.first_location ≡ 2 * i → o.second_location ≡ 2 * i + 1 → LandingDescribes s t o
+landing-describes-if-pair-changes s t o i small registers banks a src r first second = record {
   pc = a.pc;
   calls = a.calls;
   ret = a.ret;
   acc = a.acc;
   cy = a.cy;
-  locations = two-locations s t o i small registers a.dcl src.rom src.ram r first second;
+  locations = locations-agree-if-pair-changes s t o i small registers a.dcl src.rom src.ram r first second;
   registers = ap (λ (l : List ℕ). length l) r ∙ length-set (slice_set s.0.r (2 * i) o.first_value) (2 * i + 1) o.second_value ∙ length-set s.0.r (2 * i) o.first_value ∙ registers;
   banks = ap (λ (l : List ℕ). length l) src.ram ∙ banks;
 }

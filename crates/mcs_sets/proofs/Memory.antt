@@ -1,4 +1,5 @@
--- A cycle keeps the board and the ROM bytes, and all RAM values are nibbles after it.
+-- A cycle changes neither the board nor the ROM bytes. If all RAM values are nibbles before a
+-- cycle, they are also nibbles after the cycle.
 use Rattle.std.proofs.Common.{◌≡◌, ◌<◌, ◌/◌, ℕ, List, Bool, true, false, cond, Option, Some, None, unwrap_or, nat_lt, eqb}
 use Rattle.std.proofs.lemmas.Bool.{and_parts, ltb-true}
 use Rattle.std.proofs.lemmas.List.Elements.{All-set}
@@ -18,8 +19,8 @@ use Rattle.mcs_sets.specs.Entries.{has}
 use Rattle.mcs_sets.specs.Closure.{IsBusOf}
 
 -- each member of a set of nibbles is below 16
-pub has-lt : (set n : ℕ) → has set n ≡ true → n < 16
-has-lt set n h = ltb-true n 16 (and_parts (nat_lt n 16) _ h).0
+pub member-below-16 : (set n : ℕ) → has set n ≡ true → n < 16
+member-below-16 set n h = ltb-true n 16 (and_parts (nat_lt n 16) _ h).0
 
 module _ (board : BoardParts) (rom : List ℕ) where
   either-of : (b : Bool) (m n : BusState) → IsBusOf board rom m → IsBusOf board rom n → IsBusOf board rom (cond b m n)

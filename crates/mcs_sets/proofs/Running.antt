@@ -1,4 +1,5 @@
--- One cycle: it executes the instruction at the program counter, and keeps ROM and board.
+-- A cycle executes the instruction at the program counter, and changes neither the ROM bytes nor
+-- the board.
 use Rattle.std.proofs.Common.{◌≡◌, ◌/◌, ℕ, List, Bool, true, false, cond, Option, Some, None, unwrap_or, nat_lt, refl, ap, ◌∙◌, eqb}
 use Rattle.mcs_nibble.specs.declared.lines.LineMask.{LineMask}
 use Rattle.mcs_nibble.specs.Ports.{latch_value}
@@ -11,59 +12,59 @@ use Rattle.mcs_model.specs.Levels.{clock_levels, after_chain_clocks, with_rom_po
 use Rattle.mcs_model.specs.Effect.{bus_after, cycle_of, effect, instruction_at}
 use Rattle.mcs_sets.specs.Landing.{op_at}
 
--- the instruction at the program counter, read from the ROM bytes
-pub instruction-in : (s : Regs) (m : BusState) → instruction_at s m ≡ op_at m.rom s.pc
+-- the instruction at the program counter depends only on the ROM bytes and the program counter
+pub instruction_at-is-op_at : (s : Regs) (m : BusState) → instruction_at s m ≡ op_at m.rom s.pc
 unfolding fetch_of
-instruction-in s m = refl
+instruction_at-is-op_at s m = refl
 
-pub cycle-does : (op : Op) (s : Regs) (m : BusState) → s.owed ≡ 0 → op_at m.rom s.pc ≡ Some op → cycle_of s m ≡ Some (effect op s m)
+pub cycle_of-is-effect : (op : Op) (s : Regs) (m : BusState) → s.owed ≡ 0 → op_at m.rom s.pc ≡ Some op → cycle_of s m ≡ Some (effect op s m)
 unfolding cycle_of fetch_of
-cycle-does op s m free there = let works : eqb s.owed 1 ≡ false = ap (λ n. eqb n 1) free in rw (works, there) refl
+cycle_of-is-effect op s m free there = let works : eqb s.owed 1 ≡ false = ap (λ n. eqb n 1) free in rw (works, there) refl
 
 -- holds if two buses have the same ROM and the same board
 pub record SameProgram (m n : BusState) : Type 0 where
   pub rom : n.rom ≡ m.rom
   pub board : n.board ≡ m.board
 
-either-same : (b : Bool) (m x y : BusState) → SameProgram m x → SameProgram m y → SameProgram m (cond b x y)
-either-same true m x y h k = h
-either-same false m x y h k = k
+program-unchanged-in-either-case : (b : Bool) (m x y : BusState) → SameProgram m x → SameProgram m y → SameProgram m (cond b x y)
+program-unchanged-in-either-case true m x y h k = h
+program-unchanged-in-either-case false m x y h k = k
 
-ram-same : (m : BusState) (bank src n : ℕ) → SameProgram m (with_ram m bank src n)
+program-unchanged-by-ram-write : (m : BusState) (bank src n : ℕ) → SameProgram m (with_ram m bank src n)
 unfolding with_ram
-ram-same m bank src n = either-same (has_chip m bank src) m _ m (record { rom = refl; board = refl }) (record { rom = refl; board = refl })
+program-unchanged-by-ram-write m bank src n = program-unchanged-in-either-case (has_chip m bank src) m _ m (record { rom = refl; board = refl }) (record { rom = refl; board = refl })
 
-status-same : (m : BusState) (bank high k n : ℕ) → SameProgram m (with_status m bank high k n)
+program-unchanged-by-status-write : (m : BusState) (bank high k n : ℕ) → SameProgram m (with_status m bank high k n)
 unfolding with_status
-status-same m bank high k n = either-same (nat_lt (high / 4) (chips_of m bank)) m _ m (record { rom = refl; board = refl }) (record { rom = refl; board = refl })
+program-unchanged-by-status-write m bank high k n = program-unchanged-in-either-case (nat_lt (high / 4) (chips_of m bank)) m _ m (record { rom = refl; board = refl }) (record { rom = refl; board = refl })
 
-src-same : (m : BusState) (bank byte : ℕ) → SameProgram m (after_src m bank byte)
+program-unchanged-by-src : (m : BusState) (bank byte : ℕ) → SameProgram m (after_src m bank byte)
 unfolding after_src
-src-same m bank byte = either-same (nat_lt 0 (chips_of m bank)) m _ _ (record { rom = refl; board = refl }) (record { rom = refl; board = refl })
+program-unchanged-by-src m bank byte = program-unchanged-in-either-case (nat_lt 0 (chips_of m bank)) m _ _ (record { rom = refl; board = refl }) (record { rom = refl; board = refl })
 
-ram_port-same : (m : BusState) (bank n : ℕ) → SameProgram m (after_ram_port m bank n)
+program-unchanged-by-ram_port-write : (m : BusState) (bank n : ℕ) → SameProgram m (after_ram_port m bank n)
 unfolding after_ram_port after_chain_clocks
-ram_port-same m bank n = either-same (has_chip m bank (src_of m bank)) m _ m (record { rom = refl; board = refl }) (record { rom = refl; board = refl })
+program-unchanged-by-ram_port-write m bank n = program-unchanged-in-either-case (has_chip m bank (src_of m bank)) m _ m (record { rom = refl; board = refl }) (record { rom = refl; board = refl })
 
-rom_port-same-when : (m : BusState) (n : ℕ) (o : Option (List LineMask)) → SameProgram m (elim o as (λ _. BusState) [ Some mask ↦ after_chain_clocks (clock_levels m) (with_rom_ports_at m (m.rom_src / 16) (latch_value mask n)) | None ↦ m ])
+program-unchanged-by-rom_port-write : (m : BusState) (n : ℕ) (o : Option (List LineMask)) → SameProgram m (elim o as (λ _. BusState) [ Some mask ↦ after_chain_clocks (clock_levels m) (with_rom_ports_at m (m.rom_src / 16) (latch_value mask n)) | None ↦ m ])
 unfolding after_chain_clocks
-rom_port-same-when m n (Some mask) = record { rom = refl; board = refl }
-rom_port-same-when m n None = record { rom = refl; board = refl }
+program-unchanged-by-rom_port-write m n (Some mask) = record { rom = refl; board = refl }
+program-unchanged-by-rom_port-write m n None = record { rom = refl; board = refl }
 
-pub bus-same : (op : Op) (s : Regs) (m : BusState) → SameProgram m (bus_after op s m)
+pub program-unchanged-by-bus_after : (op : Op) (s : Regs) (m : BusState) → SameProgram m (bus_after op s m)
 unfolding after_ram after_status after_rom_port
-bus-same (Src k) s m = src-same m s.dcl _
-bus-same Wrm s m = ram-same m s.dcl (src_of m s.dcl) s.acc
-bus-same Wmp s m = ram_port-same m s.dcl s.acc
-bus-same Wrr s m = rom_port-same-when m s.acc (rom_masks m.board (m.rom_src / 16))
-bus-same Wr0 s m = status-same m s.dcl (src_of m s.dcl / 16) 0 s.acc
-bus-same Wr1 s m = status-same m s.dcl (src_of m s.dcl / 16) 1 s.acc
-bus-same Wr2 s m = status-same m s.dcl (src_of m s.dcl / 16) 2 s.acc
-bus-same Wr3 s m = status-same m s.dcl (src_of m s.dcl / 16) 3 s.acc
-bus-same _ s m = record { rom = refl; board = refl }
+program-unchanged-by-bus_after (Src k) s m = program-unchanged-by-src m s.dcl _
+program-unchanged-by-bus_after Wrm s m = program-unchanged-by-ram-write m s.dcl (src_of m s.dcl) s.acc
+program-unchanged-by-bus_after Wmp s m = program-unchanged-by-ram_port-write m s.dcl s.acc
+program-unchanged-by-bus_after Wrr s m = program-unchanged-by-rom_port-write m s.acc (rom_masks m.board (m.rom_src / 16))
+program-unchanged-by-bus_after Wr0 s m = program-unchanged-by-status-write m s.dcl (src_of m s.dcl / 16) 0 s.acc
+program-unchanged-by-bus_after Wr1 s m = program-unchanged-by-status-write m s.dcl (src_of m s.dcl / 16) 1 s.acc
+program-unchanged-by-bus_after Wr2 s m = program-unchanged-by-status-write m s.dcl (src_of m s.dcl / 16) 2 s.acc
+program-unchanged-by-bus_after Wr3 s m = program-unchanged-by-status-write m s.dcl (src_of m s.dcl / 16) 3 s.acc
+program-unchanged-by-bus_after _ s m = record { rom = refl; board = refl }
 
--- the result of a cycle is the effect of the instruction
+-- the result of a cycle is the effect of the instruction, if no second cycle is pending
 pub ran : (op : Op) (cpu regs : Regs) (rig m : BusState) (x : Regs × BusState) → x ≡ unwrap_or (cycle_of cpu rig) (cpu, rig) → cpu ≡ regs → rig ≡ m → regs.owed ≡ 0 → op_at m.rom regs.pc ≡ Some op → x ≡ effect op regs m
 ran op cpu regs rig m x state e f free there =
     state ∙ ap (λ (r : Regs). unwrap_or (cycle_of r rig) (r, rig)) e ∙ ap (λ (b : BusState). unwrap_or (cycle_of regs b) (regs, b)) f
-    ∙ ap (λ (o : Option (Regs × BusState)). unwrap_or o (regs, m)) (cycle-does op regs m free there)
+    ∙ ap (λ (o : Option (Regs × BusState)). unwrap_or o (regs, m)) (cycle_of-is-effect op regs m free there)

@@ -1,5 +1,5 @@
--- Closure of a certificate: if the certificate covers a machine, it also covers the machine after one
--- cycle. It therefore covers every machine that can be reached.
+-- Closure of a certificate: if the certificate covers a machine, it also covers the machine after
+-- one cycle. It therefore covers every machine that can be reached.
 use Rattle.std.specs.Prelude.{◌≡◌, ◌<◌, ℕ, List, All}
 use Rattle.std.specs.List.{Contains}
 use Rattle.mcs_model.specs.declared.board.BoardParts.{BoardParts}
@@ -9,8 +9,8 @@ use Rattle.mcs_drive.specs.TrackedMachine.{TrackedMachine, cycled, driven, no_ob
 use Rattle.mcs_sets.specs.declared.entries.Entry.{Entry}
 use Rattle.mcs_sets.specs.Entries.{Covers, IsCovered}
 
--- holds if a bus has this board and these ROM bytes, its RAM values are nibbles, and its TEST level is 0
--- or 1
+-- holds if a bus has this board and these ROM bytes, its RAM values are nibbles, and its TEST level
+-- is 0 or 1
 pub record IsBusOf (parts : BoardParts) (program : List ℕ) (m : BusState) : Type 0 where
   pub board : m.board ≡ parts
   pub rom : m.rom ≡ program
@@ -18,7 +18,7 @@ pub record IsBusOf (parts : BoardParts) (program : List ℕ) (m : BusState) : Ty
   pub status : All (λ n. n < 16) m.status
   pub test : m.test < 2
 
--- holds if the certificate covers each machine of an entry after one more cycle
+-- holds if every machine that entry `e` covers is covered by the certificate after one more cycle
 abbrev pub StaysCoveredOneCycle : BoardParts → List ℕ → List Entry → Entry → Type 0
 StaysCoveredOneCycle board rom entries e =
     (s : TrackedMachine) → IsBusOf board rom s.1 → Covers e s → Contains entries e → IsCovered entries (cycled no_observer s)
@@ -28,8 +28,8 @@ abbrev pub StaysCovered : List Entry → TrackedMachine → Type 0
 StaysCovered entries s =
     (f : ℕ → Levels) → ((k : ℕ) → FitsBoard s.1.board (f k)) → (k : ℕ) → IsCovered entries (driven no_observer f k s)
 
--- the induction: if the certificate covers the machines of each entry after one more cycle, it covers the
--- machine at every moment
+-- the induction: if the certificate covers the machines of each entry after one more cycle, a
+-- covered machine stays covered at every moment
 abbrev pub ClosureSuffices : Type 0
 ClosureSuffices =
     (board : BoardParts) (rom : List ℕ) (entries : List Entry) (s : TrackedMachine) →

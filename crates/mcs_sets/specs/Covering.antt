@@ -11,8 +11,8 @@ use Rattle.mcs_sets.specs.Entries.{has, acc_values_of}
 use Rattle.mcs_sets.specs.Closure.{StaysCoveredOneCycle}
 use Rattle.mcs_sets.specs.Landing.{op_at, first_operand_set, second_operand_set, value_after, landing, CallsAllow, IsValidOp, CoversLanding}
 
--- holds if the target entry allows the value at location k of every machine that a landing reaches
--- from the source entry
+-- holds if the target entry allows every value that location `k` can have after a landing from the
+-- source entry
 abbrev pub CoversLocation : Entry → Entry → Landing → ℕ → Type 0
 CoversLocation source target o k = (v : ℕ) → has (slice_index source.sets k) v ≡ true → has (slice_index target.sets k) (value_after o k v) ≡ true
 
@@ -20,13 +20,13 @@ CoversLocation source target o k = (v : ℕ) → has (slice_index source.sets k)
 abbrev pub AgreeOnOpenCalls : List ℕ → List ℕ → ℕ → Type 0
 AgreeOnOpenCalls a b calls = (k : ℕ) → k < 3 → k < calls → slice_index a k ≡ slice_index b k
 
--- holds if some entry covers every machine that a landing reaches from the source entry
+-- holds if a single entry covers every machine that a landing reaches from the source entry
 pub record IsLandingCovered (entries : List Entry) (source : Entry) (o : Landing) : Type 0 where
   pub target : Entry
   pub target_is_entry : Contains entries target
   pub covers_landing : CoversLanding source target o
 
--- the choice with these values, with accumulator and carry in one number: accumulator + 16 * carry
+-- the choice with these values. `flags` is the accumulator plus 16 times the carry.
 abbrev pub choice_at : ℕ → ℕ → ℕ → ℕ → Choice
 choice_at flags bank first second = record { acc = flags % 16; cy = flags / 16 % 2; bank = bank; first_operand = first; second_operand = second }
 
@@ -37,8 +37,8 @@ pub record AllowsChoice (e : Entry) (op : Op) (c : Choice) : Type 0 where
   pub first_operand : has (first_operand_set op e) c.first_operand ≡ true
   pub second_operand : has (second_operand_set op e) c.second_operand ≡ true
 
--- holds if the certificate covers the landing of a choice, computed on a bus with this ROM and this
--- board
+-- Holds if the certificate covers the landing of a choice. The landing is computed on a bus with
+-- this ROM and this board.
 pub record IsChoiceCovered (rom : List ℕ) (board : BoardParts) (entries : List Entry) (e : Entry) (op : Op) (c : Choice) : Type 0 where
   pub bus : BusState
   pub same_rom : bus.rom ≡ rom
@@ -52,8 +52,8 @@ AllChoicesCovered rom board entries e op =
     (flags bank first second : ℕ) → flags < 32 → bank < 16 → first < 16 → second < 16 →
     AllowsChoice e op (choice_at flags bank first second) → IsChoiceCovered rom board entries e op (choice_at flags bank first second)
 
--- the law: if the certificate covers the landings of all choices of an entry, it covers the machines of
--- the entry after one more cycle
+-- the law: if the certificate covers the landings of all choices of an entry, it covers the
+-- machines of the entry after one more cycle
 abbrev pub LandingsSuffice : Type 0
 LandingsSuffice =
     (board : BoardParts) (rom : List ℕ) (entries : List Entry) (op : Op) (e : Entry) →

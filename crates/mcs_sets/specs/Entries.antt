@@ -1,12 +1,13 @@
--- The meaning of a certificate. An entry covers all machines at its address with its open calls, if the
--- machine's value at each location is in the entry's set for this location. (Our own choice.)
+-- The meaning of a certificate. An entry covers a machine at the entry's address with the entry's
+-- open calls, if the machine's value at each location is in the entry's set for this location.
+-- (Defined by Fethsaim, not by Intel.)
 use Rattle.std.specs.Prelude.{◌≡◌, ◌<◌, ◌-◌, ◌/◌, ◌%◌, ◌^◌, ◌&&◌, ◌==◌, ℕ, List, length, Bool, true, nat_lt, slice_index, if◌then◌else◌}
 use Rattle.std.specs.List.{Contains}
 use Rattle.mcs_model.specs.declared.regs.Regs.{Regs}
 use Rattle.mcs_drive.specs.TrackedMachine.{TrackedMachine}
 use Rattle.mcs_sets.specs.declared.entries.Entry.{Entry}
 
--- true if a set of nibbles contains the number n: bit n of the set is 1
+-- true if a set of nibbles contains the number `n`: bit `n` of the set is 1
 abbrev pub has : ℕ → ℕ → Bool
 has set n = nat_lt n 16 && (set / 2 ^ n % 2 == 1)
 
@@ -18,9 +19,9 @@ IsSubset subset superset = (n : ℕ) → has subset n ≡ true → has superset 
 abbrev pub acc_values_of : Entry → ℕ → ℕ
 acc_values_of e carry = if carry == 0 then e.acc_if_carry_0 else if carry == 1 then e.acc_if_carry_1 else 0
 
--- the value that a machine holds at location k. Locations 0 to 15 are the index registers, 16 is the
--- bank number, and 17 is the upper nibble of the SRC byte that the ROMs store. Locations 18 to 25 are
--- the upper nibbles of the SRC bytes that the banks store.
+-- The value that a machine holds at location `k`. Locations 0 to 15 are the index registers, 16 is
+-- the bank number, and 17 is the upper nibble of the SRC byte that the ROMs store. Locations 18 to
+-- 25 are the upper nibbles of the SRC bytes that banks 0 to 7 store.
 abbrev pub value_at : TrackedMachine → ℕ → ℕ
 value_at s k =
     if k == 16 then s.0.dcl

@@ -1,5 +1,5 @@
--- The conditions that a certificate excludes. For each list of conditions that must never all be met,
--- every entry excludes at least one condition of the list.
+-- The conditions that a certificate excludes. For each list of conditions that must never all be
+-- met, every entry excludes at least one condition of the list.
 use Rattle.std.specs.Prelude.{◌≡◌, ◌+◌, ◌/◌, ◌<◌, ℕ, List, Bool, true, false, slice_index}
 use Rattle.std.specs.List.{Contains}
 use Rattle.mcs_model.specs.declared.board.BoardParts.{BoardParts}
@@ -26,8 +26,8 @@ Excludes board rom c e = (s : TrackedMachine) → IsBusOf board rom s.1 → Cove
 abbrev pub ExcludesConjunction : BoardParts → List ℕ → List Condition → Entry → Type 0
 ExcludesConjunction board rom cs e = (s : TrackedMachine) → IsBusOf board rom s.1 → Covers e s → are_met s cs ≡ false
 
--- the theorem: a property that holds in each entry of a certificate holds for all inputs, if the machine
--- stays in the certificate
+-- the theorem: a property that holds in each entry of a certificate holds for all inputs, if the
+-- certificate covers the machine at every moment
 abbrev pub EntriesSuffice : Type 0
 EntriesSuffice =
     (p : TrackedMachine → Bool) (entries : List Entry) (s : TrackedMachine) →
@@ -38,12 +38,13 @@ EntriesSuffice =
 abbrev pub ForAllIn : ℕ → (ℕ → Type 0) → Type 0
 ForAllIn set p = (n : ℕ) → has set n ≡ true → p n
 
--- holds if the board has each chip of a bank that a SRC byte can select. The set has the upper nibbles
--- of these SRC bytes.
+-- holds if a bank has each chip that its SRC byte can select. `set` has the possible upper nibbles
+-- of the SRC byte.
 abbrev pub HasSelectableChips : BoardParts → ℕ → ℕ → Type 0
 HasSelectableChips board bank set = ForAllIn set (λ n. n / 4 < slice_index board.banks bank)
 
--- holds if a bank number is below 8 and the board has each chip of the bank that the entry may select
+-- holds if a bank number is below 8 and the board has each chip that a machine of the entry may
+-- select in the bank
 pub record HasChipsOfBank (board : BoardParts) (e : Entry) (bank : ℕ) : Type 0 where
   pub bank_exists : bank < 8
   pub chips : HasSelectableChips board bank (slice_index e.sets (18 + bank))
@@ -59,7 +60,7 @@ reads_next_address (Jms h b) = true
 reads_next_address (Isz r b) = true
 reads_next_address _ = false
 
--- holds if no machine that an entry covers makes a mistake that `mistakes` includes when it executes
--- `op`
+-- holds if no machine that an entry covers makes a mistake that `mistakes` includes when it
+-- executes `op`
 abbrev pub MakesNoMistake : BoardParts → Entry → Op → Mistakes → Type 0
 MakesNoMistake board e op mistakes = (s : TrackedMachine) → s.1.board ≡ board → Covers e s → op_makes_mistake mistakes op s ≡ false

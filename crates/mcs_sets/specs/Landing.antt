@@ -1,6 +1,6 @@
--- The effect of an instruction on one choice of values. A stand-in processor gets the values that the
--- instruction uses, and arbitrary values in its other registers. It then executes the instruction, as
--- Effect of mcs_model defines it.
+-- The effect of an instruction on one choice of values. A stand-in processor gets the values that
+-- the instruction uses, and arbitrary values in its other registers. It then executes the
+-- instruction, as Effect of mcs_model defines it.
 use Rattle.std.specs.Prelude.{◌≡◌, ◌<◌, ◌+◌, ◌-◌, ◌*◌, ◌%◌, ◌==◌, ℕ, List, length, true, replicate, Option, Some, nat_lt, slice_index, slice_set, if◌then◌else◌}
 use Rattle.mcs_model.specs.declared.op.Op.{Op}
 use Rattle.mcs_model.specs.declared.op.Op.TheVariants.{Jcn, Fim, Src, Fin, Jin, Jms, Inc, Isz, Add, Sub, Ld, Xch, Bbl, Sbm, Rdm, Rdr, Adm, Rd0, Rd1, Rd2, Rd3}
@@ -44,7 +44,8 @@ second_operand_of (Fin k) s m = register_of s 1
 second_operand_of (Jin k) s m = register_of s (2 * k + 1)
 second_operand_of _ s m = 0
 
--- the set of possible values of the first operand. A value from RAM or a port may be any nibble.
+-- The values that the first operand may have, as a bit mask. A value from RAM or a port may be any
+-- nibble. The set contains only 0 if there is no operand.
 abbrev pub first_operand_set : Op → Entry → ℕ
 first_operand_set (Src k) e = slice_index e.sets (2 * k)
 first_operand_set (Fin k) e = slice_index e.sets 0
@@ -65,7 +66,8 @@ first_operand_set Rd2 e = 65535
 first_operand_set Rd3 e = 65535
 first_operand_set _ e = 1
 
--- the set of possible values of the second operand. For a JCN, these are the two levels of TEST.
+-- The values that the second operand may have. For a JCN, these are the two levels of TEST. The set
+-- contains only 0 if there is no second operand.
 abbrev pub second_operand_set : Op → Entry → ℕ
 second_operand_set (Jcn c b) e = 3
 second_operand_set (Fin k) e = slice_index e.sets 1
@@ -78,7 +80,7 @@ second_operand_set _ e = 1
 abbrev pub op_at : List ℕ → ℕ → Option Op
 op_at rom at = instruction_of (slice_index rom at) (slice_index rom ((at + 1) % 4096))
 
--- index registers in which the instruction finds both of its operand values
+-- index registers that give the instruction the operand values `first` and `second`
 abbrev pub stand_in_registers : Op → ℕ → ℕ → List ℕ
 stand_in_registers (Fin k) first second = slice_set (replicate 16 first) 1 second
 stand_in_registers (Jin k) first second = slice_set (replicate 16 first) (2 * k + 1) second
@@ -87,8 +89,8 @@ stand_in_registers _ first second = replicate 16 first
 abbrev pub stand_in_before : Op → ℕ → List ℕ → Choice → Regs
 stand_in_before op at ret c = record { acc = c.acc; cy = c.cy; r = stand_in_registers op c.first_operand c.second_operand; pc = at; ret = ret; dcl = c.bank; owed = 0 }
 
--- the registers t after an instruction, corrected if the instruction reads the value x from RAM or a port.
--- s are the registers before the instruction.
+-- The registers `t` after an instruction, corrected if the instruction reads the value `x` from RAM
+-- or a port. `s` has the registers before the instruction.
 abbrev pub with_value_read : Op → ℕ → Regs → Regs → Regs
 with_value_read Sbm x s t = with_sum t (s.acc + (15 - x) + (1 - s.cy))
 with_value_read Rdm x s t = with_acc t x
@@ -157,8 +159,8 @@ IsValidOp (Ld r) = r < 16
 IsValidOp (Xch r) = r < 16
 IsValidOp _ = Unit {0}
 
--- holds if the number of open calls allows an instruction: JMS needs fewer than three open calls, and BBL
--- at least one
+-- holds if the number of open calls allows an instruction: JMS needs fewer than three open calls,
+-- and BBL at least one
 abbrev pub CallsAllow : Op → ℕ → Type 0
 CallsAllow (Jms h b) calls = calls < 3
 CallsAllow (Bbl d) calls = 0 < calls
@@ -182,7 +184,7 @@ choice_of op s = record { acc = s.0.acc; cy = s.0.cy; bank = s.0.dcl; first_oper
 
 -- ---- the meaning of a landing
 
--- the value at location k after a landing, if it was v before
+-- the value at location `k` after a landing, if the value was `v` before
 abbrev pub value_after : Landing → ℕ → ℕ → ℕ
 value_after o k v =
     if k == 16 then o.regs.dcl
@@ -190,8 +192,8 @@ value_after o k v =
     else if k == o.second_location then o.second_value
     else v
 
--- holds if a landing leads from machine s to machine t
-pub record LandingLeads (s t : TrackedMachine) (o : Landing) : Type 0 where
+-- holds if machine `t`, reached from machine `s`, has the values that the landing `o` gives
+pub record LandingDescribes (s t : TrackedMachine) (o : Landing) : Type 0 where
   pub pc : t.0.pc ≡ o.regs.pc
   pub calls : t.2.calls ≡ o.calls
   pub ret : (k : ℕ) → k < 3 → k < o.calls → slice_index t.0.ret k ≡ slice_index o.regs.ret k
@@ -212,8 +214,8 @@ pub record CoversLanding (source target : Entry) (o : Landing) : Type 0 where
 
 -- ---- the laws
 
--- holds if the premises of the law below are met: the bus m and the return addresses `rets` of the
--- stand-in processor fit the machine s
+-- holds if the premises of the law below are met: the bus `m` and the return addresses `rets` of
+-- the stand-in processor fit the machine `s`
 pub record StandInFits (op : Op) (s : TrackedMachine) (m : BusState) (rets : List ℕ) : Type 0 where
   pub valid : IsValidOp op
   pub calls : CallsAllow op s.2.calls
@@ -226,8 +228,9 @@ pub record StandInFits (op : Op) (s : TrackedMachine) (m : BusState) (rets : Lis
   pub ret : (k : ℕ) → k < 3 → k < s.2.calls → slice_index s.0.ret k ≡ slice_index rets k
   pub nibbles : (k : ℕ) → k < 16 → slice_index s.0.r k < 16
 
--- the law of one step: the landing of a machine's own choice describes the machine after the instruction
+-- the law of one step: the landing of a machine's own choice describes the machine after the
+-- instruction
 abbrev pub LandingIsCorrect : Type 0
 LandingIsCorrect =
     (op : Op) (s : TrackedMachine) (m : BusState) (rets : List ℕ) → StandInFits op s m rets →
-    LandingLeads s (machine_after op s) (landing op s.0.pc rets s.2.calls m (choice_of op s))
+    LandingDescribes s (machine_after op s) (landing op s.0.pc rets s.2.calls m (choice_of op s))

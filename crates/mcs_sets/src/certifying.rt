@@ -41,7 +41,7 @@ fn op_is_valid(op: &Op)
     }
 }
 
-/// Returns true only if the certificate covers the machines of an entry after one more cycle.
+/// Returns true only if every machine that `entry` covers is covered by the certificate after one more cycle.
 fn stays_covered_one_cycle(
     rig: &mut BenchRig,
     entries: &[Entry],
@@ -61,7 +61,7 @@ fn stays_covered_one_cycle(
     }
 }
 
-/// Returns the value that a machine holds at a location.
+/// Returns a machine's value at a location, 0 to 25. Locations are numbered as in `Entry::sets`.
 fn value_at(cpu: &Cpu, rig: &BenchRig, location: u8) -> u8
     requires { location < 26 }
     ensures { result ≡ value_at (with_zero_counts (cpu.now, rig.now)) location }
@@ -78,8 +78,7 @@ fn value_at(cpu: &Cpu, rig: &BenchRig, location: u8) -> u8
     }
 }
 
-/// Returns the entry that covers only this machine, which has no open calls. The entry has a single value for each
-/// location.
+/// Returns the entry that has only this machine's value for each location, and no open calls.
 pub(crate) fn entry_of(cpu: &Cpu, rig: &BenchRig) -> Entry {
     let regs = cpu.regs();
     let acc = singleton(regs.acc.get());
@@ -122,7 +121,7 @@ fn allows_all_values(entry: &Entry, cpu: &Cpu, rig: &BenchRig) -> bool
     true
 }
 
-/// Proves that a machine has 16 registers, 8 banks and a carry of 0 or 1.
+/// Proves that a machine has 16 index registers, 8 banks and a carry of 0 or 1.
 fn machine_is_sized(cpu: &Cpu, rig: &BenchRig)
     ensures registers { length cpu.now.r ≡ 16 }
     ensures banks { length rig.now.ram_src ≡ 8 }
@@ -169,14 +168,14 @@ fn first_covers(cpu: &Cpu, rig: &BenchRig, entries: &[Entry]) -> bool
     !entries.is_empty() && covers(&entries[0], cpu, rig)
 }
 
-/// Proves that each value in a rig's RAM is a nibble, and that its TEST level is 0 or 1.
+/// Proves that each value in a rig's RAM is a nibble, and that the TEST level is 0 or 1.
 pub(crate) fn rig_is_valid(rig: &BenchRig)
     ensures { IsBusOf rig.now.board rig.now.rom rig.now }
 {
     rig.show_state_is_valid();
 }
 
-/// Returns true only if the certificate covers the machines of entry `i` after one more cycle.
+/// Returns true only if every machine that entry `i` covers is covered by the certificate after one more cycle.
 fn stays_covered_one_cycle_at(
     rig: &mut BenchRig,
     entries: &[Entry],
@@ -193,7 +192,7 @@ fn stays_covered_one_cycle_at(
 }
 
 /// Returns true only if a certificate covers this machine at every moment, for all inputs. The machine has no open
-/// calls. The first entry must cover the machine in its present state.
+/// calls now. Returns false if the first entry does not cover the machine in its current state.
 pub fn stays_covered(cpu: &Cpu, rig: &mut BenchRig, entries: &[Entry], links: &[usize]) -> bool
     ensures { IsTrue result → StaysCovered entries.now (with_zero_counts (cpu.now, rig.old)) }
 {

@@ -9,8 +9,7 @@ use mcs_board::BenchRig;
 use mcs_model::op::Op;
 use mcs_nibble::{Addr, Bit, Nibble};
 
-/// Returns whether `target` allows the value at one location of every machine that this landing reaches from
-/// `source`.
+/// Returns whether `target` allows every value that `location` can have after this landing from `source`.
 fn covers_location(source: &Entry, target: &Entry, landing: &Landing, location: u8) -> bool
     requires { location < 26 }
     ensures { IsTrue result → CoversLocation source.now target.now landing.now location }
@@ -28,7 +27,7 @@ fn covers_location(source: &Entry, target: &Entry, landing: &Landing, location: 
     is_subset(source.sets[k], target.sets[k])
 }
 
-/// Returns whether `target` allows the values at all locations of every machine that this landing reaches from
+/// Returns whether `target` allows, at each location, every value that the location can have after this landing from
 /// `source`.
 fn covers_locations(source: &Entry, target: &Entry, landing: &Landing) -> bool
     ensures { IsTrue result → (k : ℕ) → k < 26 → CoversLocation source.now target.now landing.now k }
@@ -41,7 +40,8 @@ fn covers_locations(source: &Entry, target: &Entry, landing: &Landing) -> bool
     true
 }
 
-/// Returns true only if two call stacks have the same return addresses for the open calls.
+/// Returns true only if two call stacks have the same return addresses for the open calls. `calls` is the number of
+/// open calls.
 fn agree_on_open_calls(a: &[Addr; 3], b: &[Addr; 3], calls: u8) -> bool
     ensures { IsTrue result → AgreeOnOpenCalls a.now b.now calls }
 {
@@ -65,8 +65,7 @@ fn covers_landing(source: &Entry, target: &Entry, landing: &Landing) -> bool
         && covers_locations(source, target, landing)
 }
 
-/// Returns true only if one of the entries that `source` links to covers every machine that this landing reaches from
-/// `source`.
+/// Returns true only if an entry linked from `source` covers every machine that this landing reaches from `source`.
 fn is_landing_covered(entries: &[Entry], links: &[usize], source: &Entry, landing: &Landing) -> bool
     ensures { IsTrue result → IsLandingCovered entries.now source.now landing.now }
 {

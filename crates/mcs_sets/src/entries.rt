@@ -4,8 +4,8 @@ ghost use Rattle.mcs_sets.specs.Entries.{IsSubset, acc_values_of, has};
 
 use mcs_nibble::Addr;
 
-/// The values that a machine may hold at one address with the same open calls. A set of nibbles is a bit mask: bit n
-/// is 1 if n is in the set.
+/// The values that a machine may hold at one address with given open calls. A set of nibbles is a bit mask: bit `n` is
+/// 1 if `n` is in the set.
 #[derive(Clone, Copy, Debug)]
 pub struct Entry {
     /// The program counter.

@@ -1,4 +1,5 @@
-//! Determines the conditions that an entry excludes. An entry excludes a condition if none of its machines meets it.
+//! Determines the conditions that an entry excludes. An entry excludes a condition if no machine that the entry covers
+//! meets the condition.
 ghost use Rattle.std.specs.Prelude.{◌≡◌, ◌<◌, ◌/◌, ◌%◌, ◌+◌, IsTrue, false, true, slice_index, map};
 ghost use Rattle.mcs_model.specs.Command.{lacks_rom};
 ghost use Rattle.mcs_check.specs.declared.conditions.Condition.TheVariants.{Mistaken};
@@ -86,15 +87,16 @@ fn has_output(board: &Board, chip: u8) -> bool
             && board.is_input(chip, 3))
 }
 
-/// Returns whether a bank has the chip that a SRC byte with upper nibble `n` selects. Returns true if `n` is not in
-/// `set`.
+/// Returns whether a bank has the chip that an SRC byte with upper nibble `n` selects. Also returns true if `n` is not
+/// in `set`.
 fn has_chip_if_member(board: &Board, bank: u8, set: u16, n: u8) -> bool
     ensures { IsTrue result → has set n ≡ true → n / 4 < slice_index board.now.banks bank }
 {
     !has(set, n) || n / 4 < board.bank_chips(bank)
 }
 
-/// Returns whether a bank has each chip that a SRC byte can select. `set` has the upper nibbles of these SRC bytes.
+/// Returns whether a bank has each chip that its SRC byte can select. `set` has the possible upper nibbles of the SRC
+/// byte.
 fn has_selectable_chips(board: &Board, bank: u8, set: u16) -> bool
     ensures { IsTrue result → HasSelectableChips board.now bank set }
 {
@@ -106,8 +108,8 @@ fn has_selectable_chips(board: &Board, bank: u8, set: u16) -> bool
     true
 }
 
-/// Returns whether a bank number is below 8 and the board has each chip of that bank that the entry may select.
-/// Returns true if the entry does not allow the bank.
+/// Returns whether a bank number is below 8 and the board has each chip that a machine of the entry may select in that
+/// bank. Also returns true if the entry does not allow the bank.
 fn has_chips_of_bank(board: &Board, entry: &Entry, bank: u8) -> bool
     ensures bank_exists { IsTrue result → has (slice_index entry.now.sets 16) bank ≡ true → bank < 8 }
     ensures chips { IsTrue result → has (slice_index entry.now.sets 16) bank ≡ true →
@@ -129,7 +131,7 @@ fn has_selectable_ram(board: &Board, entry: &Entry) -> bool
     true
 }
 
-/// Returns whether ROM `n` has an input line. Returns true if `n` is not in the set.
+/// Returns whether ROM `n` has an input line. Also returns true if `n` is not in the set.
 fn has_input_if_member(board: &Board, set: u16, n: u8) -> bool
     ensures { IsTrue result → has set n ≡ true → has_input board.now n ≡ true }
 {
@@ -148,7 +150,7 @@ fn has_inputs(board: &Board, set: u16) -> bool
     true
 }
 
-/// Returns whether ROM `n` has an output line. Returns true if `n` is not in the set.
+/// Returns whether ROM `n` has an output line. Also returns true if `n` is not in the set.
 fn has_output_if_member(board: &Board, set: u16, n: u8) -> bool
     ensures { IsTrue result → has set n ≡ true → has_output board.now n ≡ true }
 {
@@ -239,8 +241,8 @@ fn excludes_mistakes(rig: &BenchRig, entry: &Entry, mistakes: &Mistakes) -> bool
     }
 }
 
-/// Returns true only if no machine of an entry meets a condition. Returns false for each comparison, without
-/// evaluating it.
+/// Returns true only if no machine of an entry meets a condition. If the condition is a comparison, returns false
+/// without evaluating the comparison.
 fn excludes(rig: &BenchRig, entry: &Entry, condition: &Condition) -> bool
     ensures { IsTrue result → Excludes rig.now.board rig.now.rom condition.now entry.now }
 {
@@ -278,7 +280,7 @@ pub(crate) fn avoids_all_lists(
     true
 }
 
-/// Returns whether sets of values can decide a condition: whether it looks for mistakes.
+/// Returns whether sets of values can decide a condition: true for common mistakes, false for comparisons.
 fn is_decidable_by_sets(condition: &Condition) -> bool {
     match condition {
         Condition::Compare(_) => false,
@@ -286,8 +288,8 @@ fn is_decidable_by_sets(condition: &Condition) -> bool {
     }
 }
 
-/// Returns whether each list in `never_lists` has a condition that sets of values can decide. Otherwise no certificate can
-/// prove the property.
+/// Returns whether each list in `never_lists` has a condition that sets of values can decide. Otherwise no certificate
+/// can prove the property.
 pub(crate) fn are_decidable(never_lists: &[Vec<Condition>]) -> bool {
     for i in 0..never_lists.len() {
         if !never_lists[i]

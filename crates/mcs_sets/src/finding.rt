@@ -1,7 +1,7 @@
 //! Finds a certificate. Nothing is proved about the result; `stays_covered` checks it.
 //!
-//! A search begins with the entry for the machine's present state. It follows each entry, which gives successor
-//! entries. It joins each successor into the stored entry with the same address, return addresses and exact
+//! A search begins with the entry for the machine's current state. The search follows each entry to find the entry's
+//! successors. It joins each successor into the stored entry with the same address, return addresses and exact
 //! registers. The search ends when no entry grows, or at an entry whose machines may meet the conditions.
 ghost use Rattle.std.specs.Prelude.{◌≡◌};
 
@@ -76,7 +76,7 @@ impl From<AllocError> for Stop {
     }
 }
 
-/// Returns the landing of a choice, or `None` if its bank is above 7 or there is no instruction at the entry's
+/// Returns the landing of a choice, or `None` if the choice's bank is above 7 or there is no instruction at the entry's
 /// address.
 fn landing_of(rig: &mut BenchRig, entry: &Entry, choice: &Choice) -> Option<Landing> {
     if choice.bank >= 8 {
@@ -95,9 +95,9 @@ struct Finder {
     /// For each entry, true if the entry is new or grew since the search last followed it.
     pending: Vec<bool>,
     index: HashMap<Key, usize>,
-    /// The indexes of the successors of the entry that the search followed last.
+    /// The indices of the successors of the entry that the search followed last.
     successors: Vec<usize>,
-    /// The exact registers at each address. Register r is bit r.
+    /// The exact registers at each address, as a bit mask: bit `r` is 1 if register `r` is exact.
     exact: Vec<u16>,
     max_entries: usize,
 }
@@ -114,7 +114,7 @@ impl Finder {
         }
     }
 
-    /// Returns the exact registers at an address. Register r is bit r.
+    /// Returns the exact registers at an address, as a bit mask: bit `r` is 1 if register `r` is exact.
     fn exact_at(&self, at: Addr) -> u16 {
         let i = usize::from(at.get());
         if i < self.exact.len() {
@@ -222,8 +222,8 @@ impl Finder {
         Ok(())
     }
 
-    /// Returns true only if no machine of entry `i` meets all conditions of a list in `never_lists`, or there is no entry
-    /// `i`.
+    /// Returns true only if no machine that entry `i` covers meets all conditions of a list in `never_lists`, or if
+    /// there is no entry `i`.
     fn avoids_all_at(&self, rig: &BenchRig, never_lists: &[Vec<Condition>], i: usize) -> bool {
         i >= self.entries.len() || avoids_all_lists(rig, &self.entries[i], never_lists)
     }
@@ -308,9 +308,9 @@ impl Finder {
     }
 }
 
-/// Finds a certificate of at most `max_entries` entries. It covers the machines of the entry `begin`, and none of its
-/// machines meets all conditions of a list in `never_lists`. `exact` has the exact registers at each address, with
-/// register r as bit r. Each exact register must have a single value in `begin`.
+/// Finds a certificate of at most `max_entries` entries that covers the machines of the entry `begin`. No machine that
+/// the certificate covers meets all conditions of a list in `never_lists`. `exact` has the exact registers at each
+/// address: bit `r` is 1 if register `r` is exact. Each exact register must have a single value in `begin`.
 pub(crate) fn find_certificate(
     alloc: Global,
     rig: &mut BenchRig,

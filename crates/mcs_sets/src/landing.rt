@@ -11,8 +11,9 @@ use mcs_model::op::Op;
 use mcs_model::regs::Regs;
 use mcs_nibble::{Bit, Nibble};
 
-/// The effect of an instruction on one choice of values. It has the new registers except the index registers, the
-/// number of open calls, and up to two changed locations with their new values. Location 26 means no location.
+/// The effect of an instruction on one choice of values: the new registers, the number of open calls, and up to two
+/// changed locations with their new values. Location 26 means no location. The index registers in `regs` are those of
+/// the stand-in processor, not of the machine.
 #[derive(Clone, Copy)]
 pub(crate) struct Landing {
     pub(crate) regs: Regs,
@@ -26,7 +27,7 @@ pub(crate) struct Landing {
 /// The set of all nibbles.
 const ALL_NIBBLES: u16 = 65535;
 
-/// Returns the set of possible values of an instruction's first operand.
+/// Returns the values that an instruction's first operand may have. The set contains only 0 if there is no operand.
 pub(crate) fn first_operand_set(op: &Op, entry: &Entry) -> u16
     ensures { result ≡ first_operand_set op.now entry.now }
 {
@@ -41,7 +42,8 @@ pub(crate) fn first_operand_set(op: &Op, entry: &Entry) -> u16
     }
 }
 
-/// Returns the set of possible values of an instruction's second operand. For a JCN these are the levels of TEST.
+/// Returns the values that an instruction's second operand may have. For a JCN, the values are the levels of TEST.
+/// The set contains only 0 if there is no second operand.
 pub(crate) fn second_operand_set(op: &Op, entry: &Entry) -> u16
     ensures { result ≡ second_operand_set op.now entry.now }
 {
@@ -53,7 +55,7 @@ pub(crate) fn second_operand_set(op: &Op, entry: &Entry) -> u16
     }
 }
 
-/// Returns index registers in which the instruction finds both of its operand values.
+/// Returns index registers that give `op` the operand values `first` and `second`.
 pub(crate) fn stand_in_registers(op: &Op, first: Nibble, second: Nibble) -> [Nibble; 16]
     ensures { result ≡ stand_in_registers op.now first second }
 {
@@ -93,7 +95,8 @@ pub(crate) fn first_location_written(op: &Op) -> u8
     }
 }
 
-/// Returns the second location that an instruction changes, or 26 if there is none. The bank has `chips` chips.
+/// Returns the second location that an instruction changes, or 26 if there is none. `bank` is the
+/// designated bank, and `chips` is the number of its chips.
 pub(crate) fn second_location_written(op: &Op, chips: u8, bank: u8) -> u8
     requires { bank < 8 }
     ensures { result ≡ second_location_written op.now chips bank }
@@ -105,7 +108,8 @@ pub(crate) fn second_location_written(op: &Op, chips: u8, bank: u8) -> u8
     }
 }
 
-/// Returns the value that an instruction leaves at a location. `first` is the value of its first operand.
+/// Returns the value that an instruction leaves at a location that it changes. `first` is the value of the
+/// instruction's first operand.
 pub(crate) fn value_written(op: &Op, first: Nibble, after: &Regs, location: u8) -> u8
     ensures { result ≡ value_written op.now first after.now location }
 {
@@ -160,7 +164,8 @@ fn processor(regs: &Regs) -> Cpu
     cpu
 }
 
-/// Returns the stand-in processor's registers before an instruction. The index registers hold the operand values.
+/// Returns the registers of the stand-in processor before an instruction. The index registers hold the operand
+/// values, and the other registers hold the values of `choice` and `entry`.
 fn stand_in_before(op: &Op, entry: &Entry, choice: &Choice) -> Regs
     ensures { result ≡ stand_in_before op.now entry.now.at entry.now.ret choice.now }
 {
@@ -175,8 +180,8 @@ fn stand_in_before(op: &Op, entry: &Entry, choice: &Choice) -> Regs
     }
 }
 
-/// Runs the instruction at the program counter for one cycle, with TEST at a level, and returns the registers after
-/// it.
+/// Runs the instruction at the program counter for one cycle, with TEST at `level`. Returns the registers after the
+/// cycle.
 fn run_instruction(rig: &mut BenchRig, op: &Op, regs: &Regs, level: Bit) -> Regs
     requires bank { regs.now.dcl < 8 }
     requires not_owed { regs.now.owed ≡ 0 }
@@ -191,7 +196,7 @@ fn run_instruction(rig: &mut BenchRig, op: &Op, regs: &Regs, level: Bit) -> Regs
     cpu.regs()
 }
 
-/// Returns the landing of a choice: the effect of the instruction on it.
+/// Returns the landing of a choice: the effect of the instruction on that choice.
 pub(crate) fn compute_landing(
     rig: &mut BenchRig,
     op: &Op,

@@ -4,25 +4,26 @@ ghost use Rattle.mcs_sets.specs.Closure.{ClosureSuffices};
 ghost use Rattle.mcs_sets.specs.Landing.{LandingIsCorrect};
 ghost use Rattle.mcs_sets.specs.Covering.{LandingsSuffice};
 
-/// Proves that a certificate that is closed under one cycle covers, for all inputs, every machine that can be reached
-/// from a covered machine.
+/// Proves that a covered machine stays covered at every moment, for all inputs. The premise is that one more cycle
+/// leads from each covered machine to a covered machine.
 pub fn closure_suffices()
     ensures { ClosureSuffices }
 {}
 
-/// Proves that the landing of a machine's choice describes the machine after the instruction.
+/// Proves that a landing describes the machine after the instruction, if the choice consists of the machine's own
+/// values.
 pub fn landing_is_correct()
     ensures { LandingIsCorrect }
 {}
 
 /// Proves that a certificate covers the machines of an entry after one more cycle, if it covers the landings of all
-/// choices of the entry.
+/// choices that the entry allows.
 pub fn landings_suffice()
     ensures { LandingsSuffice }
 {}
 
-/// Proves that a property that holds in each entry holds for all inputs, if the certificate covers all machines that
-/// can be reached.
+/// Proves that a property holds for all inputs, if it holds in each entry and the certificate covers all reachable
+/// machines.
 pub fn entries_suffice()
     ensures { EntriesSuffice }
 {}

@@ -1,8 +1,9 @@
 //! The states that a program can reach for all inputs, as sets of values for each location.
 //!
-//! A certificate lists the nibbles that each register may hold, for each address and each stack of return addresses
-//! that a program can reach. `stays_covered` checks each entry once and trusts nothing in the certificate. If it
-//! returns true, an entry covers the machine at every moment, for all levels of its keys and its TEST pin.
+//! A certificate is a list of entries, one or more for each address and stack of return addresses that a program can
+//! reach. An entry lists the nibbles that each register may hold there. `stays_covered` checks each entry once and
+//! trusts nothing in the certificate. If `stays_covered` returns true, some entry covers the machine at every moment,
+//! for all levels of its keys and its TEST pin.
 #![tactic(auto)]
 
 mod certifying;

@@ -2,8 +2,8 @@
 use mcs_model::op::Op;
 use mcs_nibble::{PairNo, RegNo};
 
-/// A level of precision: the instructions that need exact registers. Each level includes those of the levels before
-/// it.
+/// A level of precision: the instructions that need exact registers. Each level includes the instructions of the
+/// levels before it.
 #[derive(Clone, Copy, Debug, PartialEq, Eq)]
 pub(crate) enum Level {
     /// No instruction.
@@ -14,8 +14,8 @@ pub(crate) enum Level {
     Banks,
     /// SRC, which uses the first register of a pair as a chip number.
     SrcChip,
-    /// SRC, which then needs both registers of its pair. A register that is exact at one address is exact at all
-    /// addresses.
+    /// SRC, which at this level needs both registers of its pair. A register that is exact at one address is exact at
+    /// all addresses.
     SrcEverywhere,
 }
 
@@ -28,7 +28,7 @@ pub(crate) const LEVELS: [Level; 5] = [
     Level::SrcEverywhere,
 ];
 
-/// The bit of the accumulator in a set of registers. Register r is bit r.
+/// The bit of the accumulator in a set of registers. Index register `r` is bit `r`.
 pub(crate) const ACC: u32 = 1 << 16;
 
 /// The bit of the carry in a set of registers.

@@ -21,7 +21,7 @@ use std::alloc::Global;
 /// The maximum number of bytes that an entry needs, with its links and its share of the index.
 const ENTRY_BYTES: usize = 256;
 
-/// Returns true only if no machine of entry `i` meets all conditions of a list in `never_lists`.
+/// Returns true only if no machine that entry `i` covers meets all conditions of a list in `never_lists`.
 fn avoids_all_at(
     rig: &BenchRig,
     entries: &[Entry],
@@ -35,7 +35,7 @@ fn avoids_all_at(
     avoids_all_lists(rig, &entries[i], never_lists)
 }
 
-/// Returns true only if no machine of any entry meets all conditions of a list in `never_lists`.
+/// Returns true only if no machine that any entry covers meets all conditions of a list in `never_lists`.
 fn all_entries_avoid(rig: &BenchRig, entries: &[Entry], never_lists: &[Vec<Condition>]) -> bool
     ensures { IsTrue result → (k : ℕ) (d : Entry) → k < length entries.now →
         HoldsInEntry rig.now.board rig.now.rom (meets_none (map (λ n. n.items) never_lists.now)) (slice_index_or entries.now k d) }
@@ -48,7 +48,8 @@ fn all_entries_avoid(rig: &BenchRig, entries: &[Entry], never_lists: &[Vec<Condi
     true
 }
 
-/// Checks a certificate for this machine, which has no open calls, and returns the outcome.
+/// Checks a certificate for this machine, which has no open calls. Returns `Holds` if the check succeeds, otherwise
+/// `GaveUp`.
 fn outcome_of(
     cpu: &Cpu,
     rig: &mut BenchRig,
@@ -68,10 +69,10 @@ fn outcome_of(
     Outcome::Holds(entries.len())
 }
 
-/// Searches at one level of precision for a certificate whose machines never meet all conditions of a list in
+/// Searches at one level of precision for a certificate in which no covered machine meets all conditions of a list in
 /// `never_lists`. The search runs on `search_rig`, which has the board and the program of `rig`. `exact_before` has the
 /// exact registers of the previous level. If this level has the same exact registers, returns `None` without a
-/// search.
+/// search. Otherwise stores its exact registers in `exact_before`.
 fn find_at_level(
     alloc: Global,
     cpu: &Cpu,
@@ -93,7 +94,8 @@ fn find_at_level(
     Ok(Some(found))
 }
 
-/// Searches, level by level, for a certificate whose machines never meet all conditions of a list in `never_lists`.
+/// Searches, level by level, for a certificate in which no covered machine meets all conditions of a list in
+/// `never_lists`.
 fn find_at_any_level(
     alloc: Global,
     cpu: &Cpu,
@@ -126,8 +128,8 @@ fn find_at_any_level(
 }
 
 /// Tries to prove, with a certificate, that a machine without open calls never meets all conditions of a list in
-/// `never_lists`, for all inputs. The certificate has at most `max_entries` entries and takes about `memory` bytes. The
-/// search runs on `search_rig`, which has the board and the program of `rig`.
+/// `never_lists`, for all inputs. The certificate has at most `max_entries` entries and takes at most about `memory`
+/// bytes. The search runs on `search_rig`, which has the board and the program of `rig`.
 pub fn check_by_sets(
     alloc: Global,
     cpu: &Cpu,

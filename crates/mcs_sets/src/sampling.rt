@@ -17,8 +17,8 @@ fn smallest_of(set: u16) -> u16 {
     singleton(set.trailing_zeros() as u8)
 }
 
-/// Returns whether an instruction leaves the accumulator and the carry unchanged, and writes to no location a value
-/// that depends on them.
+/// Returns whether an instruction leaves the accumulator and the carry unchanged, and sets no location of an entry to a
+/// value that depends on them.
 fn ignores_flags(op: &Op) -> bool {
     match op {
         Op::Nop | Op::Fim(_, _) | Op::Src(_) | Op::Fin(_) | Op::Jin(_) | Op::Jun(_, _) => true,
@@ -38,7 +38,7 @@ fn replaces_acc(op: &Op) -> bool {
     }
 }
 
-/// Returns whether the bank number determines which location of an entry an instruction changes.
+/// Returns whether the location that an instruction changes depends on the bank number.
 fn uses_bank(op: &Op) -> bool {
     match op {
         Op::Src(_) => true,
@@ -54,8 +54,8 @@ fn selects_bank(op: &Op) -> bool {
     }
 }
 
-/// Returns a copy of an entry. Its accumulator, carry and bank are reduced to a single value if the instruction's
-/// effect on an entry does not depend on them.
+/// Returns a copy of an entry with fewer choices. The accumulator, the carry or the bank is reduced to a single value
+/// if the instruction's effect on an entry does not depend on it.
 pub(crate) fn sample(source: &Entry, op: &Op) -> Entry {
     let mut entry = *source;
     if ignores_flags(op) {
@@ -76,7 +76,7 @@ pub(crate) fn sample(source: &Entry, op: &Op) -> Entry {
     entry
 }
 
-/// Returns the return addresses of the open calls, and 0 for the others.
+/// Returns the return addresses of the open calls, followed by zeros.
 fn open_returns(ret: &[Addr; 3], calls: u8) -> [Addr; 3] {
     [
         if calls > 0 { ret[0] } else { Addr::ZERO },

@@ -1,10 +1,10 @@
-//! Determines the exact registers at each address. An entry has a single value for an exact register. Other values of
-//! the register have their own entries.
+//! Determines the exact registers at each address. An entry has a single value for an exact register: each value of
+//! the register has its own entry.
 //!
 //! A register is exact at an address if it is relevant there: its value may reach an instruction that needs an exact
 //! register. The relevant registers form a backward slice of the program. The counter of a loop is also relevant if
-//! the loop changes a register that is relevant at its first instruction. Nothing is proved about a slice, and only
-//! the choice of certificate depends on it.
+//! the loop changes a register that is relevant at the loop's first instruction. Nothing is proved about a slice,
+//! because the slice only affects which certificate the search finds.
 use crate::precision::{ACC, CARRY, Level, needs_exact, pair_bits, register_bit};
 use mcs_board::BenchRig;
 use mcs_cpu4004::Cpu;
@@ -21,7 +21,7 @@ const MAX_PASSES: u16 = 1000;
 /// The maximum number of passes over a loop.
 const MAX_LOOP_PASSES: u16 = 8;
 
-/// The mask of the index registers in a set, without accumulator and carry.
+/// The mask that selects the index registers from a set, without accumulator and carry.
 const REGISTERS: u32 = 65535;
 
 /// Returns whether an instruction has two words.
@@ -32,7 +32,7 @@ fn has_two_words(op: &Op) -> bool {
     }
 }
 
-/// Returns the address after an instruction.
+/// Returns the address of the instruction that follows `op` in ROM. `op` is at the address `at`.
 fn next_address(op: &Op, at: Addr) -> Addr {
     at.plus(if has_two_words(op) { 2 } else { 1 })
 }
@@ -45,8 +45,7 @@ fn falls_through(op: &Op) -> bool {
     }
 }
 
-/// Returns the address to which an instruction may jump in the same routine. Returns `None` if the instruction does
-/// not contain a jump address.
+/// Returns the address to which a JCN, ISZ or JUN may jump, or `None` for any other instruction.
 fn jump_target(op: &Op, at: Addr) -> Option<Addr> {
     match op {
         Op::Jcn(_, word) | Op::Isz(_, word) => Some(Addr::on_page(at.plus(2).page(), *word)),
@@ -55,7 +54,7 @@ fn jump_target(op: &Op, at: Addr) -> Option<Addr> {
     }
 }
 
-/// Returns the address of the routine that an instruction calls.
+/// Returns the address of the routine that a JMS calls, or `None` for any other instruction.
 fn callee(op: &Op) -> Option<Addr> {
     match op {
         Op::Jms(page, word) => Some(Addr::on_page(*page, *word)),
@@ -99,13 +98,13 @@ impl Table {
         }
     }
 
-    /// Returns the set of an address.
+    /// Returns the set at an address.
     fn get(&self, at: Addr) -> u32 {
         let i = usize::from(at.get());
         if i < self.sets.len() { self.sets[i] } else { 0 }
     }
 
-    /// Adds members to the set of an address. Returns whether the set grew.
+    /// Adds the members of `more` to the set at an address. Returns whether the set grew.
     fn add(&mut self, at: Addr, more: u32) -> bool {
         let i = usize::from(at.get());
         if i >= self.sets.len() {
@@ -133,7 +132,8 @@ impl Table {
         all
     }
 
-    /// Adds members to the sets of an instruction's successors in the same routine. Returns whether any set grew.
+    /// Adds the members of `more` to the sets of an instruction's successors in the same routine. Returns whether any
+    /// set grew.
     fn add_to_successors(&mut self, op: &Op, at: Addr, more: u32) -> bool {
         let mut grew = false;
         if falls_through(op) {
@@ -160,7 +160,8 @@ fn registers_written(op: &Op) -> u32 {
     }
 }
 
-/// Returns `set` with the members of `old` replaced by those of `new`, if `set` has a member of `old`.
+/// Returns `set` with the members of `old` replaced by those of `new`, if `set` has a member of `old`. Otherwise
+/// returns `set` unchanged.
 fn replace_members(set: u32, old: u32, new: u32) -> u32 {
     if set & old != 0 {
         (set & !old) | new
@@ -194,11 +195,11 @@ fn relevant_before(op: &Op, after: u32) -> u32 {
 struct Slice {
     /// 1 if the address may be reached, and otherwise 0.
     reached: Table,
-    /// The registers that the program may write between the address and the return of its routine.
+    /// The registers that the program may write from the address until the routine that contains the address returns.
     may_write: Table,
-    /// The registers that the loop writes that ends with an ISZ at the address.
+    /// The registers written by the loop that ends with an ISZ at the address.
     loop_writes: Table,
-    /// The registers that are relevant when the routine of the address returns.
+    /// The registers that are relevant when the routine that contains the address returns.
     relevant_on_return: Table,
     /// The registers that are relevant at the address.
     relevant: Table,
@@ -258,8 +259,8 @@ impl Slice {
         }
     }
 
-    /// Makes one pass over all addresses. Adds to each address the registers that the program may write from this
-    /// address on. Returns whether a set grew.
+    /// Makes one pass over all addresses. Adds to `may_write` the registers that the instruction at each address and
+    /// its successors may write. Returns whether a set grew.
     fn add_may_write(&mut self, rig: &BenchRig) -> bool {
         let mut grew = false;
         for n in 0..ADDRESSES {
@@ -273,7 +274,7 @@ impl Slice {
         grew
     }
 
-    /// Computes the registers that the program may write from each address on.
+    /// Computes `may_write` for each address.
     fn find_written(&mut self, rig: &BenchRig) {
         for _ in 0..MAX_PASSES {
             if !self.add_may_write(rig) {
@@ -312,8 +313,8 @@ impl Slice {
         all
     }
 
-    /// Returns the registers that are written in the loop from `head` to `last`, an instruction that jumps back to
-    /// `head`.
+    /// Returns the registers that are written in the loop from `head` to `last`, except by the instruction at `last`.
+    /// That instruction jumps back to `head`. `body` is scratch space.
     fn writes_of_loop(&self, rig: &BenchRig, body: &mut Table, head: Addr, last: Addr) -> u32 {
         body.clear();
         body.add(last, 1);
@@ -340,8 +341,8 @@ impl Slice {
         }
     }
 
-    /// Returns the set with the loop counter of an ISZ, if its loop writes a register that is relevant at the head of
-    /// the loop. Otherwise returns the empty set.
+    /// Returns the set that contains the loop counter of an ISZ, if the loop writes a register that is relevant at the
+    /// head of the loop. Otherwise returns the empty set.
     fn loop_counter(&self, op: &Op, at: Addr) -> u32 {
         match op {
             Op::Isz(r, word) => {
@@ -367,8 +368,8 @@ impl Slice {
         }
     }
 
-    /// Makes one pass over all addresses. Adds to each address the registers that are relevant at this address.
-    /// Returns whether a set grew.
+    /// Makes one pass over all addresses. Adds to `relevant` the registers that are found to be relevant at each
+    /// address. Returns whether a set grew.
     fn add_relevant(&mut self, rig: &BenchRig, level: Level) -> bool {
         let mut grew = false;
         for n in 0..ADDRESSES {
@@ -384,8 +385,8 @@ impl Slice {
         grew
     }
 
-    /// Makes one pass over all addresses. Adds to each address the registers that are relevant when its routine
-    /// returns. Returns whether a set grew.
+    /// Makes one pass over all addresses. Adds to `relevant_on_return`, for each address, the registers that are
+    /// relevant when the routine that contains the address returns. Returns whether a set grew.
     fn add_relevant_on_return(&mut self, rig: &BenchRig) -> bool {
         let mut grew = false;
         for n in 0..ADDRESSES {
@@ -422,7 +423,8 @@ fn relevant_somewhere(slice: &Slice) -> u32 {
     all
 }
 
-/// Returns the exact registers at each address, for a program that begins at `begin`. Register r is bit r.
+/// Returns the exact registers at each address, for a program that begins at `begin`. Bit `r` of a mask is 1 if
+/// register `r` is exact.
 pub(crate) fn exact_registers(
     alloc: Global,
     rig: &BenchRig,

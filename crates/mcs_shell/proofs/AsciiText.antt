@@ -11,11 +11,11 @@ use Rattle.mcs_shell.specs.declared.texts.TextFault.TheVariants.{TextTooLong, Li
 use Rattle.mcs_model.specs.TextLines.{is_line_feed}
 use Rattle.mcs_shell.specs.Inputs.{text_fault_of, is_short_line, is_text_byte}
 
-last_flag : (a b c : Bool) → (let r : Option TextFault = (if a then Some TextTooLong else (if b then (if c then None else Some NotAscii) else Some LineTooLong)) in r) ≡ None → c ≡ true
-last_flag true b c h = absurd (cc h)
-last_flag false true true h = refl
-last_flag false true false h = absurd (cc h)
-last_flag false false c h = absurd (cc h)
+last_check_passed : (a b c : Bool) → (let r : Option TextFault = (if a then Some TextTooLong else (if b then (if c then None else Some NotAscii) else Some LineTooLong)) in r) ≡ None → c ≡ true
+last_check_passed true b c h = absurd (cc h)
+last_check_passed false true true h = refl
+last_check_passed false true false h = absurd (cc h)
+last_check_passed false false c h = absurd (cc h)
 
 text_byte_is_ascii : (b : ℕ) → is_text_byte b ≡ true → b < 128
 text_byte_is_ascii b h = grind (arith, common_steps)
@@ -26,4 +26,4 @@ all_ascii (b ∷ bs) h = let k = and_parts (is_text_byte b) (list_all is_text_by
 
 pub text_is_utf8 : (text : List ℕ) → text_fault_of text ≡ None → IsUtf8 text
 unfolding text_fault_of
-text_is_utf8 text h = IsUtf8-from_ascii text (all_ascii text (last_flag (nat_lt 16384 (length text)) (list_all is_short_line (slice_split is_line_feed text)) (list_all is_text_byte text) h))
+text_is_utf8 text h = IsUtf8-from_ascii text (all_ascii text (last_check_passed (nat_lt 16384 (length text)) (list_all is_short_line (slice_split is_line_feed text)) (list_all is_text_byte text) h))

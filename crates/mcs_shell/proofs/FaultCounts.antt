@@ -1,4 +1,4 @@
--- The number of failures of a reader and of a writer.
+-- Lemmas about the number of failed reads and of failed writes.
 use Rattle.std.proofs.Common.{◌≡◌, ◌≢◌, ℕ, ◌+◌, min, Bool, true, false, List, [], ◌∷◌, ◌++◌, ◌||◌, Option, None, Some, ◌⊎◌, inl, inr, refl, sym, ap, subst, ◌∙◌, append-nil, arith}
 use Rattle.std.specs.Io.KnownBytes.{Appends}
 use Rattle.mcs_disk.specs.Disk.{DiskState, max_fault_count}
@@ -16,80 +16,82 @@ use Rattle.mcs_shell.specs.Shell.{RanShell, ShellRun}
 use Rattle.mcs_shell.specs.ShellState.{ShellState, shell_state}
 use Rattle.mcs_shell.specs.Transcript.{Exchange, acknowledged_commands, end_caused_by_exchanges, end_caused_by, results_in_order, inputs_in, is_device_fault, reached_commands}
 use Rattle.mcs_shell.proofs.RunAnswers.{answers_of_run}
-use Rattle.mcs_shell.proofs.ShellLoop.{either_end}
-use Rattle.mcs_shell.proofs.ExchangeLists.{has_failed}
+use Rattle.mcs_shell.proofs.ShellLoop.{either_is_some_if_option_or_is}
+use Rattle.mcs_shell.proofs.ExchangeLists.{has_device_fault}
 
 -- ---- an exchange that ends the shell is not a failed read
 
-unread_one : (whole : Bool) (o : Outcome) (end : ShellEnd) (faults : KnownFaults) → end_caused_by whole o ≡ Some end → read_faults_after end faults ≡ faults
-unread_one false o end faults e = let is : WriteFault ≡ end = cc e in subst (λ (v : ShellEnd). read_faults_after v faults ≡ faults) is refl
-unread_one true Device end faults e = let is : DeviceFault ≡ end = cc e in subst (λ (v : ShellEnd). read_faults_after v faults ≡ faults) is refl
-unread_one true o end faults e = absurd (cc e)
+no_read_fault_by_exchange : (whole : Bool) (o : Outcome) (end : ShellEnd) (faults : KnownFaults) → end_caused_by whole o ≡ Some end → read_faults_after end faults ≡ faults
+no_read_fault_by_exchange false o end faults e = let is : WriteFault ≡ end = cc e in subst (λ (v : ShellEnd). read_faults_after v faults ≡ faults) is refl
+no_read_fault_by_exchange true Device end faults e = let is : DeviceFault ≡ end = cc e in subst (λ (v : ShellEnd). read_faults_after v faults ≡ faults) is refl
+no_read_fault_by_exchange true o end faults e = absurd (cc e)
 
-pub unread : (xs : List Exchange) (end : ShellEnd) (faults : KnownFaults) → end_caused_by_exchanges xs ≡ Some end → read_faults_after end faults ≡ faults
-unread [] end faults e = absurd (cc e)
-unread (x ∷ xs) end faults e = elim (either_end (end_caused_by x.whole x.outcome) (end_caused_by_exchanges xs) end e) [
-  | inl h ↦ unread_one x.whole x.outcome end faults h
-  | inr h ↦ unread xs end faults h
+pub no_read_fault_by_exchanges : (xs : List Exchange) (end : ShellEnd) (faults : KnownFaults) → end_caused_by_exchanges xs ≡ Some end → read_faults_after end faults ≡ faults
+no_read_fault_by_exchanges [] end faults e = absurd (cc e)
+no_read_fault_by_exchanges (x ∷ xs) end faults e = elim (either_is_some_if_option_or_is (end_caused_by x.whole x.outcome) (end_caused_by_exchanges xs) end e) [
+  | inl h ↦ no_read_fault_by_exchange x.whole x.outcome end faults h
+  | inr h ↦ no_read_fault_by_exchanges xs end faults h
 ]
 
 -- ---- a run without a fault
 
-counted_not : (old new : KnownFaults) → HasNotFailed old new → new ≡ one_more_fault old → ⊥
-counted_not None new h e = h
-counted_not (Some n) new h e = let same : n ≡ min (n + 1) max_fault_count = cc (sym h.0 ∙ e) in omega (arith, same, h.1)
+not_one_more_without_fault : (old new : KnownFaults) → HasNotFailed old new → new ≡ one_more_fault old → ⊥
+not_one_more_without_fault None new h e = h
+not_one_more_without_fault (Some n) new h e = let same : n ≡ min (n + 1) max_fault_count = cc (sym h.0 ∙ e) in omega (arith, same, h.1)
 
-device_one : (whole : Bool) (o : Outcome) → end_caused_by whole o ≡ Some DeviceFault → is_device_fault o ≡ true
-device_one false o e = absurd (cc e)
-device_one true Device e = refl
-device_one true o e = absurd (cc e)
+is_device_fault_if_end_is : (whole : Bool) (o : Outcome) → end_caused_by whole o ≡ Some DeviceFault → is_device_fault o ≡ true
+is_device_fault_if_end_is false o e = absurd (cc e)
+is_device_fault_if_end_is true Device e = refl
+is_device_fault_if_end_is true o e = absurd (cc e)
 
-true_first : (b c : Bool) → b ≡ true → (b || c) ≡ true
-true_first true c e = refl
-true_first false c e = absurd (cc e)
+or_true_left : (b c : Bool) → b ≡ true → (b || c) ≡ true
+or_true_left true c e = refl
+or_true_left false c e = absurd (cc e)
 
-true_later : (b c : Bool) → c ≡ true → (b || c) ≡ true
-true_later true c e = refl
-true_later false c e = e
+or_true_right : (b c : Bool) → c ≡ true → (b || c) ≡ true
+or_true_right true c e = refl
+or_true_right false c e = e
 
-device_failed : (xs : List Exchange) → end_caused_by_exchanges xs ≡ Some DeviceFault → has_failed xs ≡ true
-device_failed [] e = absurd (cc e)
-device_failed (x ∷ xs) e = elim (either_end (end_caused_by x.whole x.outcome) (end_caused_by_exchanges xs) DeviceFault e) [
-  | inl h ↦ true_first (is_device_fault x.outcome) (has_failed xs) (device_one x.whole x.outcome h)
-  | inr h ↦ true_later (is_device_fault x.outcome) (has_failed xs) (device_failed xs h)
+has_device_fault_if_end_is : (xs : List Exchange) → end_caused_by_exchanges xs ≡ Some DeviceFault → has_device_fault xs ≡ true
+has_device_fault_if_end_is [] e = absurd (cc e)
+has_device_fault_if_end_is (x ∷ xs) e = elim (either_is_some_if_option_or_is (end_caused_by x.whole x.outcome) (end_caused_by_exchanges xs) DeviceFault e) [
+  | inl h ↦ or_true_left (is_device_fault x.outcome) (has_device_fault xs) (is_device_fault_if_end_is x.whole x.outcome h)
+  | inr h ↦ or_true_right (is_device_fault x.outcome) (has_device_fault xs) (has_device_fault_if_end_is xs h)
 ]
 
-device_counted : (failed : Bool) (a b : SessionState) (cs rs : List Command) → failed ≡ true → LeavesSession IsOpenOnHonestDisk failed a b cs rs → Some b.disk.faults ≡ one_more_fault (Some a.disk.faults)
-device_counted true a b cs rs e left = ap (λ (n : ℕ). Some n) (left.counts.fault tt)
-device_counted false a b cs rs e left = absurd (cc e)
+device_fault_counted : (failed : Bool) (a b : SessionState) (cs rs : List Command) → failed ≡ true → LeavesSession IsOpenOnHonestDisk failed a b cs rs → Some b.disk.faults ≡ one_more_fault (Some a.disk.faults)
+device_fault_counted true a b cs rs e left = ap (λ (n : ℕ). Some n) (left.counts.fault tt)
+device_fault_counted false a b cs rs e left = absurd (cc e)
 
--- If no call failed, and there was memory to begin, the run reached the end of its input or the input limit.
+-- If no call failed, and the shell could allocate its buffer, the run reached the end of its input
+-- or the input limit.
 ends_without_fault : (end : ShellEnd) (r r' : Option (List ℕ)) (a b : ShellState) (ran : RanShell end r r' a b) (read read' written written' : KnownFaults) → CountsMatchEnd end read read' written written'
     → HasNotFailed read read' → HasNotFailed written written' → HasNotFailed (Some a.session.disk.faults) (Some b.session.disk.faults) → end ≢ NoMemory → (end ≡ End) ⊎ (end ≡ InputLimit)
 ends_without_fault End r r' a b ran read read' written written' counts_match_end no_read no_write no_call memory = inl refl
 ends_without_fault InputLimit r r' a b ran read read' written written' counts_match_end no_read no_write no_call memory = inr refl
-ends_without_fault ReadFault r r' a b ran read read' written written' counts_match_end no_read no_write no_call memory = absurd (counted_not read read' no_read counts_match_end.reader)
-ends_without_fault WriteFault r r' a b ran read read' written written' counts_match_end no_read no_write no_call memory = absurd (counted_not written written' no_write counts_match_end.writer)
+ends_without_fault ReadFault r r' a b ran read read' written written' counts_match_end no_read no_write no_call memory = absurd (not_one_more_without_fault read read' no_read counts_match_end.reader)
+ends_without_fault WriteFault r r' a b ran read read' written written' counts_match_end no_read no_write no_call memory = absurd (not_one_more_without_fault written written' no_write counts_match_end.writer)
 ends_without_fault DeviceFault r r' a b ran read read' written written' counts_match_end no_read no_write no_call memory =
     let s = a.session.state in
-    let failed : has_failed ran.served.exchanges ≡ true = device_failed ran.served.exchanges (ran.served.halts ∙ ran.ends.1) in
-    absurd (counted_not (Some a.session.disk.faults) (Some b.session.disk.faults) no_call
-    (device_counted (has_failed ran.served.exchanges) a.session b.session (results_in_order acknowledged_commands s ran.served.exchanges) (results_in_order reached_commands s ran.served.exchanges) failed ran.served.serves.leaves))
+    let failed : has_device_fault ran.served.exchanges ≡ true = has_device_fault_if_end_is ran.served.exchanges (ran.served.halts ∙ ran.ends.1) in
+    absurd (not_one_more_without_fault (Some a.session.disk.faults) (Some b.session.disk.faults) no_call
+    (device_fault_counted (has_device_fault ran.served.exchanges) a.session b.session (results_in_order acknowledged_commands s ran.served.exchanges) (results_in_order reached_commands s ran.served.exchanges) failed ran.served.serves.leaves))
 ends_without_fault NoMemory r r' a b ran read read' written written' counts_match_end no_read no_write no_call memory = absurd (memory refl)
 
--- A run that reached the end of its input or the input limit was not ended by a write, the device or lack of memory.
-no_fault : (end : ShellEnd) → (end ≡ End) ⊎ (end ≡ InputLimit) → (end ≢ WriteFault) × (end ≢ DeviceFault) × (end ≢ NoMemory)
-no_fault end (inl is) = let P : ShellEnd → Type 0 = λ v. (v ≢ WriteFault) × (v ≢ DeviceFault) × (v ≢ NoMemory) in subst P (sym is) (λ e. absurd (cc e), λ e. absurd (cc e), λ e. absurd (cc e))
-no_fault end (inr is) = let P : ShellEnd → Type 0 = λ v. (v ≢ WriteFault) × (v ≢ DeviceFault) × (v ≢ NoMemory) in subst P (sym is) (λ e. absurd (cc e), λ e. absurd (cc e), λ e. absurd (cc e))
+-- If a run reached the end of its input or the input limit, no failed write, device fault or lack
+-- of memory ended the run.
+no_fault_at_end_or_limit : (end : ShellEnd) → (end ≡ End) ⊎ (end ≡ InputLimit) → (end ≢ WriteFault) × (end ≢ DeviceFault) × (end ≢ NoMemory)
+no_fault_at_end_or_limit end (inl is) = let P : ShellEnd → Type 0 = λ v. (v ≢ WriteFault) × (v ≢ DeviceFault) × (v ≢ NoMemory) in subst P (sym is) (λ e. absurd (cc e), λ e. absurd (cc e), λ e. absurd (cc e))
+no_fault_at_end_or_limit end (inr is) = let P : ShellEnd → Type 0 = λ v. (v ≢ WriteFault) × (v ≢ DeviceFault) × (v ≢ NoMemory) in subst P (sym is) (λ e. absurd (cc e), λ e. absurd (cc e), λ e. absurd (cc e))
 
-pub serves_all : {D : Type 0} (state_of : D → DiskState) (run : ShellRun state_of) → RanWithoutFault run → ServesAllInput run
-serves_all state_of run h =
+pub all_input_served_without_fault : {D : Type 0} (state_of : D → DiskState) (run : ShellRun state_of) → RanWithoutFault run → ServesAllInput run
+all_input_served_without_fault state_of run h =
     let a = shell_state state_of run.before run.out in
     let b = shell_state state_of run.after run.out' in
     let s = run.before.state in
     let exchanges = run.ran.served.exchanges in
     let end = ends_without_fault run.end run.reader run.reader' a b run.ran h.read h.read' h.written h.written' h.counts_match_end h.reader h.writer h.device h.memory in
-    let none = no_fault run.end end in
+    let none = no_fault_at_end_or_limit run.end end in
     let t : AnswersInOrder run.end run.ran.read a b exchanges = answers_of_run run.end run.reader run.reader' a b run.ran in
     let P : List ℕ → Type 0 = λ v. Appends run.out run.out' v in
     record {

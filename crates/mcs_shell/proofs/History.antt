@@ -2,8 +2,8 @@
 use Rattle.std.proofs.Common.{◌≡◌, ◌⊎◌, inl, inr, ◌≤◌, ⊎_elim, ℕ, List, [], ◌∷◌, ◌++◌, length, take, drop, take-append-drop, sym, ap, ◌∙◌, refl, subst, arith}
 use Rattle.std.proofs.lemmas.Bool.{cases_lt}
 use Rattle.std.proofs.lemmas.Grind.{common_steps}
-use Rattle.mcs_disk.proofs.CallLaws.{lawful}
-use Rattle.mcs_disk.proofs.StretchComposition.{durable_since, rests_since, later_before}
+use Rattle.mcs_disk.proofs.CallLaws.{disk_is_lawful}
+use Rattle.mcs_disk.proofs.StretchComposition.{only_image_since_now_if_durable, image_since_is_old_without_new_image, image_since_before_or_in_stretch}
 use Rattle.mcs_disk.specs.Disk.{DiskState, bytes_of, time_of, images_of, images_since}
 use Rattle.mcs_disk.specs.Stretches.{AddsNoImage}
 use Rattle.mcs_disk.specs.PowerCut.{IsLeftByCut, IsDurable}
@@ -18,43 +18,44 @@ use Rattle.mcs_session.specs.SessionCalls.{FailsMigrating, MigratesSession, Fail
 use Rattle.mcs_session.specs.Opening.{SessionErrorImplies}
 use Rattle.mcs_session.specs.SessionState.{session_state}
 use Rattle.mcs_session.specs.Represents.{RepresentsInEitherVersion, Represents}
-use Rattle.mcs_session.proofs.Files.{is_session, one_either}
+use Rattle.mcs_session.proofs.Files.{is_session, represented_state_is_unique}
 use Rattle.mcs_session.proofs.Folds.{fold-append}
-use Rattle.mcs_session.proofs.Prefixes.{acknowledged_none}
+use Rattle.mcs_session.proofs.Prefixes.{none_acknowledged_before_run}
 use Rattle.mcs_session.proofs.LogCommands.{rising}
 use Rattle.mcs_shell.specs.History.{IsSittingOn, History, IsHistory, AreKeptFromSitting, AreKeptFromSittings, AreKeptFromRun, Refused, Served, Sitting, StoppedSitting, SurvivesHistory, disk_after}
-use Rattle.mcs_shell.specs.Headline.{AnswersAndAcknowledges, acknowledged_in, reached_in}
+use Rattle.mcs_shell.specs.Headline.{AnswersAndAcknowledges, acknowledged_commands_of_run, reached_commands_of_run}
 use Rattle.mcs_shell.specs.Program.{OpenBegins, OpenRefusal}
 use Rattle.mcs_shell.specs.RefusalNumbers.{store_fault_number}
 use Rattle.mcs_shell.specs.Shell.{ShellRun}
-use Rattle.mcs_shell.proofs.SurvivingCommands.{answered_by, honest_of_run, kept_of_run}
+use Rattle.mcs_shell.proofs.SurvivingCommands.{answers_and_acknowledges_run, disk_honest_after_run, keeps_commands_of_run}
 
--- Holds if the disk that a stop left represents the state s. The disk is honest, and a power cut leaves the bytes
--- that a read returns.
+-- Holds if a disk is honest and durable, and its bytes represent the state `s`. (On a durable disk,
+-- a power cut leaves the bytes that a read returns.)
 record DurablyRepresents (disk : DiskState) (s : BenchState) : Type 0 where
   pub honest : disk.honest
   pub durable : IsDurable disk
   pub represents : RepresentsInEitherVersion (bytes_of disk) s
 
 -- Holds if every disk that `IsFound` allows after a stop is a possible disk after a power cut.
-abbrev AllowsOnlyCuts : {D : Type 0} → (D → DiskState) → (ℕ → D → D → Type 0) → Type 0
-AllowsOnlyCuts {D = D} state_of IsFound = (t : ℕ) (left found : D) → (state_of left).honest → IsFound t left found → IsLeftByCut t (state_of left) (state_of found)
+abbrev AllowsOnlyPowerCuts : {D : Type 0} → (D → DiskState) → (ℕ → D → D → Type 0) → Type 0
+AllowsOnlyPowerCuts {D = D} state_of IsFound = (t : ℕ) (left found : D) → (state_of left).honest → IsFound t left found → IsLeftByCut t (state_of left) (state_of found)
 
 -- ---- one run
 
-length_first : (cs : List Command) (n : ℕ) → n ≤ length cs → length (take n cs) ≡ n
-length_first cs n few = grind (arith, common_steps)
+length_of_prefix : (cs : List Command) (n : ℕ) → n ≤ length cs → length (take n cs) ≡ n
+length_of_prefix cs n few = grind (arith, common_steps)
 
--- If the disk found represents the state after a prefix of the commands, that prefix consists of the kept commands.
-kept_prefix : {D : Type 0} (state_of : D → DiskState) (run : ShellRun state_of) (t u : ℕ) (s : BenchState) → run.before.state ≡ s → IsOpenOnHonestDisk (session_state state_of run.before)
+-- If the disk found after a stop represents the state after a prefix of a run's commands, these
+-- commands are kept from the run.
+prefix_kept_from_run : {D : Type 0} (state_of : D → DiskState) (run : ShellRun state_of) (t u : ℕ) (s : BenchState) → run.before.state ≡ s → IsOpenOnHonestDisk (session_state state_of run.before)
     → (a : AnswersAndAcknowledges run) → acknowledged_by t a.acknowledged.moments ≤ acknowledged_by u a.acknowledged.moments → (found : DiskState) → found.honest → IsDurable found
-    → RepresentsPrefix run.before.state (reached_in run) (acknowledged_by u a.acknowledged.moments) (bytes_of found)
+    → RepresentsPrefix run.before.state (reached_commands_of_run run) (acknowledged_by u a.acknowledged.moments) (bytes_of found)
     → (kept : List Command) × AreKeptFromRun state_of run t s kept × DurablyRepresents found (fold s kept)
-kept_prefix state_of run t u s same given a fewer found honest durable h =
-    let may : List Command = reached_in run in
+prefix_kept_from_run state_of run t u s same given a fewer found honest durable h =
+    let may : List Command = reached_commands_of_run run in
     let least = h.after.at_least in
     let most = h.after.at_most in
-    let long : length (take h.after.count may) ≡ h.after.count = length_first may h.after.count most in
+    let long : length (take h.after.count may) ≡ h.after.count = length_of_prefix may h.after.count most in
     let is : h.state ≡ fold s (take h.after.count may) = h.after.state ∙ ap (λ (v : BenchState). fold v (take h.after.count may)) same in (
       take h.after.count may,
       record {
@@ -67,46 +68,48 @@ kept_prefix state_of run t u s same given a fewer found honest durable h =
       record { honest = honest; durable = durable; represents = inl (subst (Represents (bytes_of found)) is h.represents) },
     )
 
--- The commands that are kept if the run was stopped after its session had opened.
+-- A run that was stopped after its session had opened: some commands are kept, and the disk found
+-- represents the state after these commands.
 kept_if_stopped_after_opening : {D : Type 0} (state_of : D → DiskState) → (run : ShellRun state_of) (t : ℕ) (s : BenchState) (found : D) → run.before.state ≡ s → IsOpenOnHonestDisk (session_state state_of run.before)
     → time_of (state_of run.before.disk) ≤ t → IsLeftByCut t (state_of run.after.disk) (state_of found)
     → (kept : List Command) × AreKeptFromRun state_of run t s kept × DurablyRepresents (state_of found) (fold s kept)
 kept_if_stopped_after_opening state_of run t s found same given late cut =
-    let kept = kept_of_run state_of run given in
-    kept_prefix state_of run t t s same given (answered_by state_of run kept) (omega arith) (state_of found) cut.honest cut.durable (kept.each t (bytes_of (state_of found)) late cut.found)
+    let kept = keeps_commands_of_run state_of run given in
+    prefix_kept_from_run state_of run t t s same given (answers_and_acknowledges_run state_of run kept) (omega arith) (state_of found) cut.honest cut.durable (kept.each t (bytes_of (state_of found)) late cut.found)
 
--- The commands that are kept if the run was stopped while its session was being opened, or when that ended.
+-- A run that was stopped while its session was being opened, or at the end of the opening: some
+-- commands (perhaps none) are kept, and the disk found represents the state after these commands.
 kept_if_stopped_while_opening : {D : Type 0} (state_of : D → DiskState) → (disk : D) (run : ShellRun state_of) (t : ℕ) (s : BenchState) (found : D) → DurablyRepresents (state_of disk) s → run.before.state ≡ s → IsOpenOnHonestDisk (session_state state_of run.before)
     → MigratesSession (state_of disk) (state_of run.before.disk) run.before.state → time_of (state_of disk) ≤ t → t ≤ time_of (state_of run.before.disk) → IsLeftByCut t (state_of run.after.disk) (state_of found)
     → (kept : List Command) × AreKeptFromRun state_of run t s kept × DurablyRepresents (state_of found) (fold s kept)
 kept_if_stopped_while_opening state_of disk run t s found here same given migrates late early cut =
     let before : DiskState = state_of run.before.disk in
     let image : List ℕ = bytes_of (state_of found) in
-    let kept = kept_of_run state_of run given in
-    let done : List Command = acknowledged_in run in
-    let none : acknowledged_by t kept.acknowledged.moments ≡ 0 = acknowledged_none t (time_of before) kept.acknowledged.moments early (rising before (state_of run.after.disk) done kept.acknowledged) in
-    elim (later_before before (state_of run.after.disk) kept.later t image cut.found) [
+    let kept = keeps_commands_of_run state_of run given in
+    let done : List Command = acknowledged_commands_of_run run in
+    let none : acknowledged_by t kept.acknowledged.moments ≡ 0 = none_acknowledged_before_run t (time_of before) kept.acknowledged.moments early (rising before (state_of run.after.disk) done kept.acknowledged) in
+    elim (image_since_before_or_in_stretch before (state_of run.after.disk) kept.later t image cut.found) [
       | inl left ↦
           let then : RepresentsInEitherVersion image s = ⊎_elim
           (λ (old : images_of (state_of disk) image). subst (λ (file : List ℕ). RepresentsInEitherVersion file s) (sym (here.durable image old)) here.represents)
           (λ (new : RepresentsInEitherVersion image run.before.state). subst (RepresentsInEitherVersion image) same new)
-          (migrates.leaves.each image ((lawful before).longer (time_of (state_of disk)) t image late left)) in (
+          (migrates.leaves.each image ((disk_is_lawful before).longer (time_of (state_of disk)) t image late left)) in (
             [],
-            record { began = same; answered = answered_by state_of run kept; lost = reached_in run; parts = refl; holds = omega (arith, none) },
+            record { began = same; answered = answers_and_acknowledges_run state_of run kept; lost = reached_commands_of_run run; parts = refl; holds = omega (arith, none) },
             record { honest = cut.honest; durable = cut.durable; represents = then },
           )
       | inr now ↦
-          kept_prefix state_of run t (time_of before) s same given (answered_by state_of run kept) (omega (arith, none)) (state_of found) cut.honest cut.durable (kept.each (time_of before) image (omega arith) now)
+          prefix_kept_from_run state_of run t (time_of before) s same given (answers_and_acknowledges_run state_of run kept) (omega (arith, none)) (state_of found) cut.honest cut.durable (kept.each (time_of before) image (omega arith) now)
     ]
 
-kept_served : {D : Type 0} (state_of : D → DiskState) → (disk : D) (run : ShellRun state_of) (t : ℕ) (s : BenchState) (found : D) → DurablyRepresents (state_of disk) s
+kept_from_served_run : {D : Type 0} (state_of : D → DiskState) → (disk : D) (run : ShellRun state_of) (t : ℕ) (s : BenchState) (found : D) → DurablyRepresents (state_of disk) s
     → OpenBegins (state_of disk) (state_of run.before.disk) run.before.live run.before.state → time_of (state_of disk) ≤ t → ((state_of run.after.disk).honest → IsLeftByCut t (state_of run.after.disk) (state_of found))
     → (kept : List Command) × AreKeptFromRun state_of run t s kept × DurablyRepresents (state_of found) (fold s kept)
-kept_served state_of disk run t s found here began late cut =
+kept_from_served_run state_of disk run t s found here began late cut =
     let opens = began.opens here.honest in
-    let same : run.before.state ≡ s = one_either (bytes_of (state_of disk)) run.before.state s opens.represented_before here.represents in
+    let same : run.before.state ≡ s = represented_state_is_unique (bytes_of (state_of disk)) run.before.state s opens.represented_before here.represents in
     let given : IsOpenOnHonestDisk (session_state state_of run.before) = (began.is_open, began.counts.honest.1 here.honest) in
-    let left = cut (honest_of_run state_of run given.1) in
+    let left = cut (disk_honest_after_run state_of run given.1) in
     elim (cases_lt t (time_of (state_of run.before.disk))) [
       | inl early ↦ kept_if_stopped_while_opening state_of disk run t s found here same given (began.migrates here.honest) late (omega (arith, early)) left
       | inr since ↦ kept_if_stopped_after_opening state_of run t s found same given since left
@@ -114,65 +117,65 @@ kept_served state_of disk run t s found here began late cut =
 
 -- ---- a refused opening
 
-holds_session : (disk : DiskState) (s : BenchState) → RepresentsInEitherVersion (bytes_of disk) s → SessionErrorImplies NotASession disk → ⊥
-holds_session disk s (inl represents) none = is_session disk represents.snap represents.records represents.holds none
-holds_session disk s (inr represents) none = is_session disk represents.snap represents.records represents.holds none
+not_a_session_impossible : (disk : DiskState) (s : BenchState) → RepresentsInEitherVersion (bytes_of disk) s → SessionErrorImplies NotASession disk → ⊥
+not_a_session_impossible disk s (inl represents) none = is_session disk represents.snap represents.records represents.holds none
+not_a_session_impossible disk s (inr represents) none = is_session disk represents.snap represents.records represents.holds none
 
-refused_number : (fault : StoreFault) (disk : DiskState) (s : BenchState) → DurablyRepresents disk s → SessionErrorImplies fault disk → (store_fault_number fault ≡ 53) ⊎ (store_fault_number fault ≡ 90)
-refused_number NotASession disk s here h = absurd (holds_session disk s here.represents h)
-refused_number Damaged disk s here h = absurd (h.1 s here.represents)
-refused_number Device disk s here h = inl refl
-refused_number NoMemory disk s here h = inr refl
-refused_number NotBlank disk s here h = absurd h
+fault_number_is_53_or_90 : (fault : StoreFault) (disk : DiskState) (s : BenchState) → DurablyRepresents disk s → SessionErrorImplies fault disk → (store_fault_number fault ≡ 53) ⊎ (store_fault_number fault ≡ 90)
+fault_number_is_53_or_90 NotASession disk s here h = absurd (not_a_session_impossible disk s here.represents h)
+fault_number_is_53_or_90 Damaged disk s here h = absurd (h.1 s here.represents)
+fault_number_is_53_or_90 Device disk s here h = inl refl
+fault_number_is_53_or_90 NoMemory disk s here h = inr refl
+fault_number_is_53_or_90 NotBlank disk s here h = absurd h
 
-rests_in : (disk left : DiskState) (image : List ℕ) (s : BenchState) → DurablyRepresents disk s → AddsNoImage disk left → images_since (time_of disk) left image → RepresentsInEitherVersion image s
-rests_in disk left image s here rests now = subst (λ (file : List ℕ). RepresentsInEitherVersion file s) (sym (durable_since disk here.durable image (rests_since disk left rests (time_of disk) image now))) here.represents
+represented_without_new_image : (disk left : DiskState) (image : List ℕ) (s : BenchState) → DurablyRepresents disk s → AddsNoImage disk left → images_since (time_of disk) left image → RepresentsInEitherVersion image s
+represented_without_new_image disk left image s here rests now = subst (λ (file : List ℕ). RepresentsInEitherVersion file s) (sym (only_image_since_now_if_durable disk here.durable image (image_since_is_old_without_new_image disk left rests (time_of disk) image now))) here.represents
 
-fails_in : (disk left : DiskState) (image : List ℕ) (s : BenchState) → DurablyRepresents disk s → FailsMigrating disk left → images_since (time_of disk) left image → RepresentsInEitherVersion image s
-fails_in disk left image s here fails now =
-    let same : fails.state ≡ s = one_either (bytes_of disk) fails.state s (inr fails.represents) here.represents in
+represented_after_failed_migration : (disk left : DiskState) (image : List ℕ) (s : BenchState) → DurablyRepresents disk s → FailsMigrating disk left → images_since (time_of disk) left image → RepresentsInEitherVersion image s
+represented_after_failed_migration disk left image s here fails now =
+    let same : fails.state ≡ s = represented_state_is_unique (bytes_of disk) fails.state s (inr fails.represents) here.represents in
     ⊎_elim
     (λ (old : images_of disk image). subst (λ (file : List ℕ). RepresentsInEitherVersion file s) (sym (here.durable image old)) here.represents)
     (λ (new : RepresentsInEitherVersion image fails.state). subst (RepresentsInEitherVersion image) same new)
     (fails.leaves.each image now)
 
-refused_in : (fault : StoreFault) (disk left : DiskState) (image : List ℕ) (s : BenchState) → DurablyRepresents disk s → FailedOpenLeaves fault disk left → images_since (time_of disk) left image → RepresentsInEitherVersion image s
-refused_in NotASession disk left image s here rests now = rests_in disk left image s here rests now
-refused_in Damaged disk left image s here rests now = rests_in disk left image s here rests now
-refused_in NotBlank disk left image s here rests now = rests_in disk left image s here rests now
-refused_in NoMemory disk left image s here rests now = rests_in disk left image s here rests now
-refused_in Device disk left image s here (inl rests) now = rests_in disk left image s here rests now
-refused_in Device disk left image s here (inr fails) now = fails_in disk left image s here fails now
+represented_after_failed_open : (fault : StoreFault) (disk left : DiskState) (image : List ℕ) (s : BenchState) → DurablyRepresents disk s → FailedOpenLeaves fault disk left → images_since (time_of disk) left image → RepresentsInEitherVersion image s
+represented_after_failed_open NotASession disk left image s here rests now = represented_without_new_image disk left image s here rests now
+represented_after_failed_open Damaged disk left image s here rests now = represented_without_new_image disk left image s here rests now
+represented_after_failed_open NotBlank disk left image s here rests now = represented_without_new_image disk left image s here rests now
+represented_after_failed_open NoMemory disk left image s here rests now = represented_without_new_image disk left image s here rests now
+represented_after_failed_open Device disk left image s here (inl rests) now = represented_without_new_image disk left image s here rests now
+represented_after_failed_open Device disk left image s here (inr fails) now = represented_after_failed_migration disk left image s here fails now
 
-number_refused : {D : Type 0} (state_of : D → DiskState) (disk left : D) (number : ℕ) (s : BenchState) → DurablyRepresents (state_of disk) s → OpenRefusal (state_of disk) (state_of left) number → (number ≡ 53) ⊎ (number ≡ 90)
-number_refused state_of disk left number s here refused =
-    elim (refused_number refused.fault (state_of disk) s here (refused.refuses here.honest).0) [ inl is ↦ inl (refused.number_is ∙ is) | inr is ↦ inr (refused.number_is ∙ is) ]
+refusal_number_is_53_or_90 : {D : Type 0} (state_of : D → DiskState) (disk left : D) (number : ℕ) (s : BenchState) → DurablyRepresents (state_of disk) s → OpenRefusal (state_of disk) (state_of left) number → (number ≡ 53) ⊎ (number ≡ 90)
+refusal_number_is_53_or_90 state_of disk left number s here refused =
+    elim (fault_number_is_53_or_90 refused.fault (state_of disk) s here (refused.refuses here.honest).0) [ inl is ↦ inl (refused.number_is ∙ is) | inr is ↦ inr (refused.number_is ∙ is) ]
 
-stands_refused : {D : Type 0} (state_of : D → DiskState) → (disk left found : D) (number t : ℕ) (s : BenchState) → DurablyRepresents (state_of disk) s → OpenRefusal (state_of disk) (state_of left) number
+durably_represented_after_refusal : {D : Type 0} (state_of : D → DiskState) → (disk left found : D) (number t : ℕ) (s : BenchState) → DurablyRepresents (state_of disk) s → OpenRefusal (state_of disk) (state_of left) number
     → time_of (state_of disk) ≤ t → ((state_of left).honest → IsLeftByCut t (state_of left) (state_of found)) → DurablyRepresents (state_of found) s
-stands_refused state_of disk left found number t s here refused late stopped =
+durably_represented_after_refusal state_of disk left found number t s here refused late stopped =
     let honest = refused.counts.honest.1 here.honest in
     let cut = stopped honest in
     let image : List ℕ = bytes_of (state_of found) in
     record {
       honest = cut.honest;
       durable = cut.durable;
-      represents = refused_in refused.fault (state_of disk) (state_of left) image s here (refused.refuses here.honest).1 ((lawful (state_of left)).longer (time_of (state_of disk)) t image late cut.found);
+      represents = represented_after_failed_open refused.fault (state_of disk) (state_of left) image s here (refused.refuses here.honest).1 ((disk_is_lawful (state_of left)).longer (time_of (state_of disk)) t image late cut.found);
     }
 
 -- ---- all sittings
 
-kept_one : {D : Type 0} (state_of : D → DiskState) → (disk found : D) (x : Sitting state_of) (t : ℕ) (s : BenchState) → DurablyRepresents (state_of disk) s → IsSittingOn disk x → time_of (state_of disk) ≤ t
+kept_from_sitting : {D : Type 0} (state_of : D → DiskState) → (disk found : D) (x : Sitting state_of) (t : ℕ) (s : BenchState) → DurablyRepresents (state_of disk) s → IsSittingOn disk x → time_of (state_of disk) ≤ t
     → ((state_of (disk_after x)).honest → IsLeftByCut t (state_of (disk_after x)) (state_of found)) → (kept : List Command) × AreKeptFromSitting state_of x t s kept × DurablyRepresents (state_of found) (fold s kept)
-kept_one state_of disk found (Served run) t s here came late stopped = kept_served state_of disk run t s found here came late stopped
-kept_one state_of disk found (Refused number left) t s here came late stopped = ([], (refl, number_refused state_of disk left number s here came), stands_refused state_of disk left found number t s here came late stopped)
+kept_from_sitting state_of disk found (Served run) t s here came late stopped = kept_from_served_run state_of disk run t s found here came late stopped
+kept_from_sitting state_of disk found (Refused number left) t s here came late stopped = ([], (refl, refusal_number_is_53_or_90 state_of disk left number s here came), durably_represented_after_refusal state_of disk left found number t s here came late stopped)
 
-kept_each : {D : Type 0} (state_of : D → DiskState) (IsFound : ℕ → D → D → Type 0) → AllowsOnlyCuts state_of IsFound → (disk : D) (xs : List (StoppedSitting state_of)) (last : D) (s : BenchState) → DurablyRepresents (state_of disk) s → IsHistory IsFound disk xs last
+kept_from_sittings : {D : Type 0} (state_of : D → DiskState) (IsFound : ℕ → D → D → Type 0) → AllowsOnlyPowerCuts state_of IsFound → (disk : D) (xs : List (StoppedSitting state_of)) (last : D) (s : BenchState) → DurablyRepresents (state_of disk) s → IsHistory IsFound disk xs last
     → (kept : List Command) × AreKeptFromSittings state_of xs s kept × DurablyRepresents (state_of last) (fold s kept)
-kept_each {D = D} state_of IsFound cuts disk [] last s here came = ([], refl, subst (λ (d : D). DurablyRepresents (state_of d) s) (sym came) here)
-kept_each state_of IsFound cuts disk (x ∷ xs) last s here came =
-    let one = kept_one state_of disk x.found x.sitting x.time s here came.0 came.1 (λ honest. cuts x.time (disk_after x.sitting) x.found honest came.2) in
-    let others = kept_each state_of IsFound cuts x.found xs last (fold s one.0) one.2 came.3 in (
+kept_from_sittings {D = D} state_of IsFound cuts disk [] last s here came = ([], refl, subst (λ (d : D). DurablyRepresents (state_of d) s) (sym came) here)
+kept_from_sittings state_of IsFound cuts disk (x ∷ xs) last s here came =
+    let one = kept_from_sitting state_of disk x.found x.sitting x.time s here came.0 came.1 (λ honest. cuts x.time (disk_after x.sitting) x.found honest came.2) in
+    let others = kept_from_sittings state_of IsFound cuts x.found xs last (fold s one.0) one.2 came.3 in (
       one.0 ++ others.0,
       (one.0, others.0, refl, one.1, others.1),
       subst (DurablyRepresents (state_of last)) (sym (fold-append s one.0 others.0)) others.2,
@@ -180,18 +183,18 @@ kept_each state_of IsFound cuts disk (x ∷ xs) last s here came =
 
 -- ---- the session opened at the end
 
-pub survives_history : {D : Type 0} (state_of : D → DiskState) (IsFound : ℕ → D → D → Type 0) → AllowsOnlyCuts state_of IsFound → (history : History state_of IsFound)
+pub survives_history : {D : Type 0} (state_of : D → DiskState) (IsFound : ℕ → D → D → Type 0) → AllowsOnlyPowerCuts state_of IsFound → (history : History state_of IsFound)
     → IsOpenOnHonestDisk (session_state state_of history.first.before) → SurvivesHistory history
 survives_history state_of IsFound cuts history given =
     let s : BenchState = history.first.before.state in
-    let first = kept_if_stopped_after_opening state_of history.first history.time s history.found refl given history.since (cuts history.time history.first.after.disk history.found (honest_of_run state_of history.first given.1) history.stopped) in
-    let others = kept_each state_of IsFound cuts history.found history.others history.last (fold s first.0) first.2 history.came in
+    let first = kept_if_stopped_after_opening state_of history.first history.time s history.found refl given history.since (cuts history.time history.first.after.disk history.found (disk_honest_after_run state_of history.first given.1) history.stopped) in
+    let others = kept_from_sittings state_of IsFound cuts history.found history.others history.last (fold s first.0) first.2 history.came in
     let here = others.2 in
     record {
       kept = first.0 ++ others.0;
       of_each = (first.0, others.0, refl, first.1, others.1);
       reopened = λ session begun.
-          one_either (bytes_of (state_of history.last)) session.state (fold (fold s first.0) others.0) (begun.opens here.honest).represented_before here.represents ∙ sym (fold-append s first.0 others.0);
+          represented_state_is_unique (bytes_of (state_of history.last)) session.state (fold (fold s first.0) others.0) (begun.opens here.honest).represented_before here.represents ∙ sym (fold-append s first.0 others.0);
       not_refused = λ number refused.
-          number_refused state_of history.last refused.0 number (fold (fold s first.0) others.0) here refused.1;
+          refusal_number_is_53_or_90 state_of history.last refused.0 number (fold (fold s first.0) others.0) here refused.1;
     }

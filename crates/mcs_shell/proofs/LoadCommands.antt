@@ -9,8 +9,8 @@ use Rattle.mcs_shell.specs.declared.texts.TextRefusal.{TextRefusal}
 use Rattle.mcs_shell.specs.TextMeanings.{load_command}
 
 -- the command that loads an image, as the result of parsing a program
-abbrev pub load_image : List (ℕ × ℕ) → Result Command TextRefusal
-load_image image = Ok (command.Load image)
+abbrev pub load_command_of_image : List (ℕ × ℕ) → Result Command TextRefusal
+load_command_of_image image = Ok (command.Load image)
 
-pub loads : (image : List (ℕ × ℕ)) (wanted : Result (List (ℕ × ℕ)) (ℕ × SourceFault)) → Assembles (Ok image) wanted → load_image image ≡ load_command wanted
-loads image wanted h = ap load_image h.2 ∙ ap load_command (sym h.1)
+pub load_command_of_assembled_image : (image : List (ℕ × ℕ)) (wanted : Result (List (ℕ × ℕ)) (ℕ × SourceFault)) → Assembles (Ok image) wanted → load_command_of_image image ≡ load_command wanted
+load_command_of_assembled_image image wanted h = ap load_command_of_image h.2 ∙ ap load_command (sym h.1)

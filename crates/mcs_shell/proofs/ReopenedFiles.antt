@@ -1,22 +1,23 @@
--- The contents found in a file of the host after a stop, as those of a disk.
+-- The contents found in a file of the host after a stop, seen as the bytes of a disk after a power
+-- cut.
 use Rattle.std.proofs.Common.{ℕ, List, sym, subst}
 use Rattle.mcs_disk.specs.Calls.{images_after_since}
 use Rattle.mcs_disk.specs.NotedCalls.{calls_in}
-use Rattle.mcs_disk.proofs.StretchComposition.{fresh_durable}
+use Rattle.mcs_disk.proofs.StretchComposition.{durable_without_calls}
 use Rattle.mcs_disk.specs.PowerCut.{IsLeftByCut}
 use Rattle.mcs_host.specs.Ending.{as_disk, bytes_found_in}
 use Rattle.mcs_host.specs.declared.file_disk.FileDisk.{FileDisk}
-use Rattle.mcs_host.proofs.Leaving.{found_since}
+use Rattle.mcs_host.proofs.Leaving.{found_image_is_image_since}
 use Rattle.mcs_shell.specs.FileHeadline.{IsReopenedFile}
 
 -- The contents found in a file after a stop are possible contents after a power cut.
-pub left_by_cut : (t : ℕ) (file reopened_file : FileDisk) → (as_disk file).honest → IsReopenedFile t file reopened_file → IsLeftByCut t (as_disk file) (as_disk reopened_file)
-left_by_cut t file reopened_file honest h =
+pub reopened_file_left_by_cut : (t : ℕ) (file reopened_file : FileDisk) → (as_disk file).honest → IsReopenedFile t file reopened_file → IsLeftByCut t (as_disk file) (as_disk reopened_file)
+reopened_file_left_by_cut t file reopened_file honest h =
     let start = file.inner_disk.history.start in
     let calls = calls_in file.inner_disk.history.notes in
-    let found = found_since start calls h.left.never_made h.left.made (calls_in file.inner_disk.end.notes) t (bytes_found_in file) h.left.all h.left.calls_before_end h.left.clock_reached honest in
+    let found = found_image_is_image_since start calls h.left.never_made h.left.made (calls_in file.inner_disk.end.notes) t (bytes_found_in file) h.left.all h.left.calls_before_end h.left.clock_reached honest in
     record {
       honest = h.honest;
       found = subst (λ (bytes : List ℕ). images_after_since start calls t bytes) (sym h.bytes) found;
-      durable = fresh_durable (as_disk reopened_file) h.opened.calls;
+      durable = durable_without_calls (as_disk reopened_file) h.opened.calls;
     }

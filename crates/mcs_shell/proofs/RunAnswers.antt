@@ -16,7 +16,8 @@ use Rattle.mcs_shell.specs.Shell.{RanShell}
 use Rattle.mcs_shell.specs.ShellState.{KnownBytes, ShellState}
 use Rattle.mcs_shell.specs.Transcript.{ArePossibleExchanges, Exchange, answer, acknowledged_commands, end_caused_by_exchanges, end_caused_by, results_in_order}
 
--- Holds if a prefix of these bytes was written. It is all of them unless a failed write halted the shell.
+-- Holds if a prefix of these bytes was written. All the bytes were written unless a failed write
+-- halted the shell.
 record AnswersWritten (old new : KnownBytes) (bytes : List ℕ) (halted : Option ShellEnd) : Type 0 where
   pub response : List ℕ
   pub left_out : List ℕ
@@ -24,45 +25,45 @@ record AnswersWritten (old new : KnownBytes) (bytes : List ℕ) (halted : Option
   pub parts : response ++ left_out ≡ bytes
   pub all_sent : halted ≢ Some WriteFault → left_out ≡ []
 
-write_fault_later : (whole : Bool) (o : Outcome) (rest : List Exchange) → (rest ≢ [] → end_caused_by whole o ≡ None) → end_caused_by_exchanges rest ≡ Some WriteFault → option_or (end_caused_by whole o) (end_caused_by_exchanges rest) ≡ Some WriteFault
-write_fault_later whole o [] goes cut = absurd (cc cut)
-write_fault_later whole o (x ∷ rest) goes cut = ap (λ (h : Option ShellEnd). option_or h (end_caused_by_exchanges (x ∷ rest))) (goes (λ e. absurd (cc e))) ∙ cut
+write_fault_from_later_exchange : (whole : Bool) (o : Outcome) (rest : List Exchange) → (rest ≢ [] → end_caused_by whole o ≡ None) → end_caused_by_exchanges rest ≡ Some WriteFault → option_or (end_caused_by whole o) (end_caused_by_exchanges rest) ≡ Some WriteFault
+write_fault_from_later_exchange whole o [] goes cut = absurd (cc cut)
+write_fault_from_later_exchange whole o (x ∷ rest) goes cut = ap (λ (h : Option ShellEnd). option_or h (end_caused_by_exchanges (x ∷ rest))) (goes (λ e. absurd (cc e))) ∙ cut
 
 -- The bytes written are those of the first answer, followed by those of the other answers.
-written_first : (s : BenchState) (whole : Bool) (o : Outcome) (rest : List Exchange) (old middle new : KnownBytes) (bytes : List ℕ) → WroteBytes whole old middle bytes → (rest ≢ [] → end_caused_by whole o ≡ None) → WroteAnswers s rest middle new
+answers_written_with_first : (s : BenchState) (whole : Bool) (o : Outcome) (rest : List Exchange) (old middle new : KnownBytes) (bytes : List ℕ) → WroteBytes whole old middle bytes → (rest ≢ [] → end_caused_by whole o ≡ None) → WroteAnswers s rest middle new
     → AnswersWritten middle new (results_in_order answer s rest) (end_caused_by_exchanges rest) → AnswersWritten old new (bytes ++ results_in_order answer s rest) (option_or (end_caused_by whole o) (end_caused_by_exchanges rest))
-written_first s true o rest old middle new bytes wrote goes others t = record {
+answers_written_with_first s true o rest old middle new bytes wrote goes others t = record {
   response = bytes ++ t.response;
   left_out = t.left_out;
   written = Appends-trans old middle new bytes t.response wrote t.written;
   parts = append_assoc bytes t.response t.left_out ∙ ap (λ v. bytes ++ v) t.parts;
-  all_sent = λ uncut. t.all_sent (λ cut. uncut (write_fault_later true o rest goes cut));
+  all_sent = λ uncut. t.all_sent (λ cut. uncut (write_fault_from_later_exchange true o rest goes cut));
 }
-written_first s false o [] old middle new bytes wrote goes others t = record {
+answers_written_with_first s false o [] old middle new bytes wrote goes others t = record {
   response = take wrote.count bytes;
   left_out = drop wrote.count bytes;
   written = subst (λ (v : KnownBytes). Appends old v (take wrote.count bytes)) (sym others) wrote.received;
   parts = take-append-drop wrote.count bytes ∙ sym (append-nil bytes);
   all_sent = λ uncut. absurd (uncut refl);
 }
-written_first s false o (x ∷ rest) old middle new bytes wrote goes others t = absurd (cc (goes (λ e. absurd (cc e))))
+answers_written_with_first s false o (x ∷ rest) old middle new bytes wrote goes others t = absurd (cc (goes (λ e. absurd (cc e))))
 
-written_all : (live : Bool) (s : BenchState) (exchanges : List Exchange) (old new : KnownBytes) → ArePossibleExchanges live s exchanges → WroteAnswers s exchanges old new → AnswersWritten old new (results_in_order answer s exchanges) (end_caused_by_exchanges exchanges)
-written_all live s [] old new is_possible wrote = record { response = []; left_out = []; written = subst (λ (v : KnownBytes). Appends old v []) (sym wrote) (Appends-nil old); parts = refl; all_sent = λ uncut. refl }
-written_all live s (x ∷ rest) old new is_possible wrote =
+all_answers_written : (live : Bool) (s : BenchState) (exchanges : List Exchange) (old new : KnownBytes) → ArePossibleExchanges live s exchanges → WroteAnswers s exchanges old new → AnswersWritten old new (results_in_order answer s exchanges) (end_caused_by_exchanges exchanges)
+all_answers_written live s [] old new is_possible wrote = record { response = []; left_out = []; written = subst (λ (v : KnownBytes). Appends old v []) (sym wrote) (Appends-nil old); parts = refl; all_sent = λ uncut. refl }
+all_answers_written live s (x ∷ rest) old new is_possible wrote =
     let t = fold s (acknowledged_commands s x.input x.outcome) in
-    written_first t x.whole x.outcome rest old wrote.0 new (answer s x.input x.outcome) wrote.1 is_possible.1 wrote.2 (written_all live t rest wrote.0 new is_possible.2 wrote.2)
+    answers_written_with_first t x.whole x.outcome rest old wrote.0 new (answer s x.input x.outcome) wrote.1 is_possible.1 wrote.2 (all_answers_written live t rest wrote.0 new is_possible.2 wrote.2)
 
 -- ---- a run that wrote its first line completely, and a run that did not
 
-begun : (end : ShellEnd) (r r' : KnownBytes) (a b : ShellState) (ran : RanShell end r r' a b) → ran.began.whole ≡ true → (end ≢ WriteFault → ran.halted ≢ Some WriteFault) → (end ≢ WriteFault → end ≢ DeviceFault → ran.halted ≡ None)
+answers_if_first_line_whole : (end : ShellEnd) (r r' : KnownBytes) (a b : ShellState) (ran : RanShell end r r' a b) → ran.began.whole ≡ true → (end ≢ WriteFault → ran.halted ≢ Some WriteFault) → (end ≢ WriteFault → end ≢ DeviceFault → ran.halted ≡ None)
     → AnswersInOrder end ran.read a b ran.served.exchanges
-begun end r r' a b ran whole uncut none =
+answers_if_first_line_whole end r r' a b ran whole uncut none =
     let s = a.session.state in
     let exchanges = ran.served.exchanges in
     let serves = ran.served.serves in
     let first : Appends a.out ran.began.started (session_text s) = subst (λ (v : Bool). WroteBytes v a.out ran.began.started (session_text s)) whole ran.began.wrote in
-    let t : AnswersWritten ran.began.started b.out (results_in_order answer s exchanges) (end_caused_by_exchanges exchanges) = written_all a.session.live s exchanges ran.began.started b.out serves.is_possible serves.wrote in
+    let t : AnswersWritten ran.began.started b.out (results_in_order answer s exchanges) (end_caused_by_exchanges exchanges) = all_answers_written a.session.live s exchanges ran.began.started b.out serves.is_possible serves.wrote in
     record {
       not_served = ran.served.not_served;
       spelled = ran.served.spelled;
@@ -75,8 +76,8 @@ begun end r r' a b ran whole uncut none =
       all_sent = λ x z. t.all_sent (λ cut. uncut x (sym ran.served.halts ∙ cut));
     }
 
-not_begun : (end : ShellEnd) (r r' : KnownBytes) (a b : ShellState) (ran : RanShell end r r' a b) → ran.began.whole ≡ false → ran.served.exchanges ≡ [] → (end ≢ WriteFault → end ≢ NoMemory → ⊥) → AnswersInOrder end ran.read a b ran.served.exchanges
-not_begun end r r' a b ran cut none by =
+answers_if_first_line_cut_off : (end : ShellEnd) (r r' : KnownBytes) (a b : ShellState) (ran : RanShell end r r' a b) → ran.began.whole ≡ false → ran.served.exchanges ≡ [] → (end ≢ WriteFault → end ≢ NoMemory → ⊥) → AnswersInOrder end ran.read a b ran.served.exchanges
+answers_if_first_line_cut_off end r r' a b ran cut none by =
     let s = a.session.state in
     let some : WroteBytes false a.out ran.began.started (session_text s) = subst (λ (v : Bool). WroteBytes v a.out ran.began.started (session_text s)) cut ran.began.wrote in
     let then : b.out ≡ ran.began.started = subst (λ (v : List Exchange). WroteAnswers s v ran.began.started b.out) none ran.served.serves.wrote in
@@ -93,12 +94,12 @@ not_begun end r r' a b ran cut none by =
     }
 
 pub answers_of_run : (end : ShellEnd) (r r' : KnownBytes) (a b : ShellState) (ran : RanShell end r r' a b) → AnswersInOrder end ran.read a b ran.served.exchanges
-answers_of_run End r r' a b ran = begun End r r' a b ran ran.ends.0 (λ x e. absurd (cc (sym ran.ends.2 ∙ e))) (λ x y. ran.ends.2)
-answers_of_run ReadFault r r' a b ran = begun ReadFault r r' a b ran ran.ends.0 (λ x e. absurd (cc (sym ran.ends.2 ∙ e))) (λ x y. ran.ends.2)
-answers_of_run InputLimit r r' a b ran = begun InputLimit r r' a b ran ran.ends.0 (λ x e. absurd (cc (sym ran.ends.2 ∙ e))) (λ x y. ran.ends.2)
-answers_of_run DeviceFault r r' a b ran = begun DeviceFault r r' a b ran ran.ends.0 (λ x e. absurd (cc (sym ran.ends.1 ∙ e))) (λ x y. absurd (y refl))
-answers_of_run NoMemory r r' a b ran = not_begun NoMemory r r' a b ran ran.ends.0 ran.ends.2 (λ x z. z refl)
+answers_of_run End r r' a b ran = answers_if_first_line_whole End r r' a b ran ran.ends.0 (λ x e. absurd (cc (sym ran.ends.2 ∙ e))) (λ x y. ran.ends.2)
+answers_of_run ReadFault r r' a b ran = answers_if_first_line_whole ReadFault r r' a b ran ran.ends.0 (λ x e. absurd (cc (sym ran.ends.2 ∙ e))) (λ x y. ran.ends.2)
+answers_of_run InputLimit r r' a b ran = answers_if_first_line_whole InputLimit r r' a b ran ran.ends.0 (λ x e. absurd (cc (sym ran.ends.2 ∙ e))) (λ x y. ran.ends.2)
+answers_of_run DeviceFault r r' a b ran = answers_if_first_line_whole DeviceFault r r' a b ran ran.ends.0 (λ x e. absurd (cc (sym ran.ends.1 ∙ e))) (λ x y. absurd (y refl))
+answers_of_run NoMemory r r' a b ran = answers_if_first_line_cut_off NoMemory r r' a b ran ran.ends.0 ran.ends.2 (λ x z. z refl)
 answers_of_run WriteFault r r' a b ran = elim ran.ends [
-  | inl h ↦ begun WriteFault r r' a b ran h.0 (λ x. absurd (x refl)) (λ x y. absurd (x refl))
-  | inr h ↦ not_begun WriteFault r r' a b ran h.0 h.2 (λ x z. x refl)
+  | inl h ↦ answers_if_first_line_whole WriteFault r r' a b ran h.0 (λ x. absurd (x refl)) (λ x y. absurd (x refl))
+  | inr h ↦ answers_if_first_line_cut_off WriteFault r r' a b ran h.0 h.2 (λ x z. x refl)
 ]

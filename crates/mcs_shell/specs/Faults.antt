@@ -1,5 +1,5 @@
--- The number of failures of a reader and of a writer for each way in which a shell can end, and runs
--- without a failure.
+-- The number of failed reads and of failed writes for each end of a shell, and runs without a
+-- failure.
 use Rattle.std.specs.Prelude.{◌≡◌, ◌≢◌, ◌⊎◌, ◌+◌, ◌<◌, ◌++◌, ℕ, min, Option, Some, None, MatchResult, Result}
 use Rattle.std.specs.Io.KnownBytes.{Appends}
 use Rattle.std.specs.Option.{option_map}
@@ -11,7 +11,8 @@ use Rattle.mcs_shell.specs.Shell.{ShellRun, inputs_read}
 use Rattle.mcs_shell.specs.ShellState.{KnownBytes}
 use Rattle.mcs_shell.specs.Transcript.{answer, results_in_order, inputs_in}
 
--- the number of calls that have failed, if it is known; the number never rises above `max_fault_count`
+-- the number of calls that have failed, if it is known; the number never rises above
+-- `max_fault_count`
 abbrev pub KnownFaults : Type 0
 KnownFaults = Option ℕ
 
@@ -19,30 +20,31 @@ KnownFaults = Option ℕ
 abbrev pub one_more_fault : KnownFaults → KnownFaults
 one_more_fault faults = option_map (λ n. min (n + 1) max_fault_count) faults
 
--- Holds if a call that failed increased the count by one, up to its maximum, and a call that succeeded
--- left the count unchanged.
+-- Holds if a call that failed increased the count by one, up to its maximum, and a call that
+-- succeeded left the count unchanged.
 abbrev pub CountsKnownFault : {T E : Type 0} → KnownFaults → KnownFaults → Result T E → Type 0
 CountsKnownFault old new result = MatchResult result (λ x. new ≡ old) (λ e. new ≡ one_more_fault old)
 
--- the reader's number of failures after a shell has ended in the given way
+-- the count of failed reads after a shell has ended for the given reason, from the count before
 abbrev pub read_faults_after : ShellEnd → KnownFaults → KnownFaults
 read_faults_after ReadFault faults = one_more_fault faults
 read_faults_after end faults = faults
 
--- the writer's number of failures after a shell has ended in the given way, or while it continues
+-- the count of failed writes after a shell has ended for the given reason, or while the shell
+-- continues (`None`), from the count before
 abbrev pub write_faults_after : Option ShellEnd → KnownFaults → KnownFaults
 write_faults_after (Some WriteFault) faults = one_more_fault faults
 write_faults_after halted faults = faults
 
--- Holds if the counts of failures match the end of a shell. The reader's count rose by one if and only
--- if a failed read ended the shell. The writer's count rose by one if and only if a failed write did.
--- (A count at its maximum, or one that is not known, does not change.)
+-- Holds if the counts of failures match the end of a shell. The reader's count rose by one if and
+-- only if a failed read ended the shell. The writer's count rose by one if and only if a failed
+-- write ended the shell. (A count at its maximum and an unknown count do not change.)
 pub record CountsMatchEnd (end : ShellEnd) (read read' written written' : KnownFaults) : Type 0 where
   pub reader : read' ≡ read_faults_after end read
   pub writer : written' ≡ write_faults_after (Some end) written
 
--- A reader and a writer, as contracts see them: the bytes that the reader has left, the bytes that the
--- writer has received, and the number of failures of each.
+-- A reader and a writer, as contracts see them: the bytes that the reader can still return, the
+-- bytes that the writer has received, and the number of failures of each.
 pub record StreamsView : Type 0 where
   pub left : KnownBytes
   pub read_faults : KnownFaults
@@ -61,14 +63,14 @@ streams_view remaining read_faults contents write_faults reader writer = record 
 
 -- ---- a run without a failed call
 
--- Holds if both counts are known, and no call failed between the first count and the second.
+-- Holds if both counts are known, and no call failed between the first count and the second count.
 abbrev pub HasNotFailed : KnownFaults → KnownFaults → Type 0
 HasNotFailed None new = ⊥
 HasNotFailed (Some n) new = (new ≡ Some n) × (n < max_fault_count)
 
--- Holds if no call of the reader, the writer or the disk failed in a run, and the shell had memory to
--- begin. The four counts are those of the reader and the writer before and after the run, because a
--- `ShellRun` does not include them.
+-- Holds if no call of the reader, the writer or the disk failed in a run, and the shell could
+-- allocate its buffer. `read` and `read'` are the reader's counts before and after the run, and
+-- `written` and `written'` are the writer's counts. (A `ShellRun` does not include these counts.)
 pub record RanWithoutFault {D : Type 0} {state_of : D → DiskState} (run : ShellRun state_of) : Type 0 where
   pub read : KnownFaults
   pub read' : KnownFaults

@@ -27,8 +27,8 @@ store_fault_number store_fault.Device = DEVICE
 store_fault_number store_fault.NotBlank = NOT_BLANK
 store_fault_number store_fault.NoMemory = NO_MEMORY
 
--- the refusal number for a file that was not opened: NO_MEMORY for lack of memory, and DEVICE for every
--- other reason
+-- the refusal number for a file that was not opened: NO_MEMORY for lack of memory, and DEVICE for
+-- every other reason
 abbrev pub file_fault_number : FileFault → ℕ
 file_fault_number file_fault.InUse = DEVICE
 file_fault_number file_fault.CannotLock = DEVICE
@@ -51,7 +51,8 @@ begin_fault_number (begin_fault.File f) = file_fault_number f
 begin_fault_number (begin_fault.Create f) = store_fault_number f
 begin_fault_number (begin_fault.Open f) = store_fault_number f
 
--- the standard streams that refer to the session's file, if the session did not begin because of them
+-- The standard streams that are the session's file, if no session began because of these streams.
+-- For any other reason, no streams.
 abbrev pub streams_of : BeginFault → Streams
 streams_of (begin_fault.File (file_fault.Stream streams)) = streams
 streams_of fault = no_streams

@@ -1,5 +1,5 @@
--- The serving of a single input, and of inputs that arrive in chunks. Only contracts of private functions
--- use these definitions.
+-- Serving a single input, and serving inputs that arrive in chunks. Only contracts of private
+-- functions use these definitions.
 use Rattle.std.specs.Prelude.{◌≡◌, Bool, ℕ, List, ◌++◌, Option, None}
 use Rattle.mcs_session.specs.declared.fault.SessionFault.{SessionFault}
 use Rattle.mcs_session.specs.declared.fault.SessionFault.TheVariants as session_fault
@@ -16,8 +16,8 @@ use Rattle.mcs_shell.specs.Serving.{LeavesSession, ServesExchanges}
 use Rattle.mcs_shell.specs.ShellState.{ShellState}
 use Rattle.mcs_shell.specs.Transcript.{IsPossibleOutcome, Exchange, acknowledged_commands, answer, end_caused_by_exchanges, inputs_in, is_device_fault, reached_commands}
 
--- The invariant that each input of a run preserves: the session is open on an honest disk, and the disk
--- represents the session's state.
+-- The invariant that each input of a run preserves: the session is open on an honest disk, and the
+-- disk represents the session's state.
 pub record IsIntact (a : SessionState) : Type 0 where
   pub honest : IsOpenOnHonestDisk a
   pub represents : DiskRepresents a.disk a.state
@@ -28,7 +28,8 @@ outcome_of (session_fault.Refused fault) = Answered
 outcome_of session_fault.Device = Device
 outcome_of session_fault.Closed = Closed
 
--- Holds if an input on session a had the outcome o and the answer `response`, and left session b.
+-- Holds if serving the input `i` in the session state `a` led to the session state `b`. `o` is the
+-- outcome of the input, and `response` is the answer.
 pub record AnsweredInput
     (a : SessionState) (i : Input) (o : Outcome) (response : List ℕ)
     (b : SessionState) : Type 0 where
@@ -38,15 +39,16 @@ pub record AnsweredInput
       (acknowledged_commands a.state i o)
       (reached_commands a.state i o)
 
--- Holds if these bytes, read after the unfinished input `p`, were served. The shell served a prefix of the
--- inputs that they form. If nothing halted the shell, it served all of these inputs, and `q` is the
--- unfinished input afterwards.
+-- Holds if these bytes, read after the unfinished input `p`, were served. `p` and the bytes
+-- together form inputs, and the shell served a prefix of these inputs. If nothing halted the shell,
+-- it served all of these inputs, and `q` is the unfinished input afterwards.
 pub record ServesBytes
     (a b : ShellState) (p q : UnfinishedInputView) (bytes : List ℕ) (halted : Option ShellEnd) : Type 0 where
   pub exchanges : List Exchange
   pub serves : ServesExchanges IsIntact a exchanges b
   pub halts : end_caused_by_exchanges exchanges ≡ halted
-  -- the inputs that were not served, depending on the bytes that follow
+  -- the inputs that were not served, as a function of the bytes that follow and of whether input
+  -- ends after them
   pub not_served : List ℕ → Bool → List Input
   pub spelled : (more : List ℕ) (whole : Bool)
       → inputs_after p (bytes ++ more) whole ≡ inputs_in exchanges ++ not_served more whole

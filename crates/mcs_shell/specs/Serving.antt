@@ -1,4 +1,4 @@
--- The serving of inputs, in order: the bytes written, and the session afterwards.
+-- Serving inputs, in order: the bytes written, and the session afterwards.
 use Rattle.std.specs.Prelude.{◌≡◌, ◌<◌, Bool, true, false, ℕ, List, [], ◌∷◌, ◌++◌, length, take, Option, None}
 use Rattle.std.specs.Io.KnownBytes.{Appends}
 use Rattle.std.specs.List.{list_any}
@@ -15,20 +15,21 @@ use Rattle.mcs_session.specs.KeptCommands.{RecordsCommands, KeepsCommands}
 
 -- ---- an answer
 
--- Holds if the writer received only a proper prefix of these bytes, possibly the empty one.
+-- Holds if the writer received only a proper prefix of these bytes, possibly no bytes.
 pub record ReceivedProperPrefix (old new : KnownBytes) (bytes : List ℕ) : Type 0 where
   pub count : ℕ
   pub fewer : count < length bytes
   pub received : Appends old new (take count bytes)
 
--- Holds if the writer received all of these bytes (if the Bool is true), or only a proper prefix of them
--- (if it is false).
+-- Holds if the writer received all of these bytes (for `true`), or only a proper prefix of these
+-- bytes (for `false`).
 abbrev pub WroteBytes : Bool → KnownBytes → KnownBytes → List ℕ → Type 0
 WroteBytes true old new bytes = Appends old new bytes
 WroteBytes false old new bytes = ReceivedProperPrefix old new bytes
 
--- Holds if the writer received the answers of these exchanges, in order. It received an answer completely
--- if `whole` of the exchange is true, and otherwise only a proper prefix of that answer.
+-- Holds if the writer received the answers of these exchanges, in order. `s` is the state before
+-- the first exchange. If `whole` of an exchange is true, the writer received the answer completely,
+-- and otherwise only a proper prefix of the answer.
 abbrev pub WroteAnswers : BenchState → List Exchange → KnownBytes → KnownBytes → Type 0
 WroteAnswers s [] old new = new ≡ old
 WroteAnswers s (x ∷ rest) old new =
@@ -37,9 +38,9 @@ WroteAnswers s (x ∷ rest) old new =
 
 -- ---- the session
 
--- Holds if a device fault closed the session. The commands `done` were answered `ok`. `reached` consists of
--- these commands, followed by the one at which the device failed. All commands in `reached` may have
--- reached the disk.
+-- Holds if a device fault closed the session. The commands `done` were answered `ok`. `reached`
+-- consists of these commands, followed by the command at which the device failed. Any command in
+-- `reached` may be on the disk.
 pub record ClosesSession
     (Given : Premise) (a b : SessionState) (done reached : List Command) : Type 0 where
   pub closed : b.live ≡ false
@@ -50,8 +51,9 @@ pub record ClosesSession
   pub counts : CountsFault a.disk b.disk (Unit {0})
   pub kept : Given a → KeepsCommands a.disk b.disk a.state done reached
 
--- Holds if serving inputs in session a left session b. `done` are the commands that were answered `ok`. If
--- the Bool is true, the device failed at the last input, and the session is closed.
+-- Holds if serving inputs in the session state `a` led to the session state `b`. `done` are the
+-- commands that were answered `ok`. If the Bool is true, the device failed at the last input, and
+-- the session is closed.
 abbrev pub LeavesSession : Premise → Bool → SessionState → SessionState → List Command
     → List Command → Type 0
 LeavesSession Given false a b done reached = RecordsCommands Given a b done
@@ -59,8 +61,8 @@ LeavesSession Given true a b done reached = ClosesSession Given a b done reached
 
 -- ---- inputs in order
 
--- Holds if these exchanges, in this order, led from shell state a to shell state b. `Given` is the premise
--- under which the disk keeps the commands.
+-- Holds if serving these exchanges, in order, led from the shell state `a` to the shell state `b`.
+-- `Given` is the premise under which the disk keeps the commands.
 pub record ServesExchanges
     (Given : Premise) (a : ShellState) (exchanges : List Exchange) (b : ShellState) : Type 0 where
   pub is_possible : ArePossibleExchanges a.session.live a.session.state exchanges
@@ -70,7 +72,8 @@ pub record ServesExchanges
       (results_in_order acknowledged_commands a.session.state exchanges)
       (results_in_order reached_commands a.session.state exchanges)
 
--- Holds if the shell served a prefix of these inputs, and all of them unless something halted the shell.
+-- Holds if the shell served a prefix of the inputs `inputs_to_serve`. It served all of these inputs
+-- if nothing halted the shell (`halted` is `None`).
 pub record ServesInputs
     (Given : Premise) (inputs_to_serve : List Input) (a b : ShellState)
     (halted : Option ShellEnd) : Type 0 where

@@ -1,4 +1,5 @@
--- The reads, the writes and the effects of a shell, for each way in which the shell can end.
+-- The bytes that a shell read and wrote, and the effects of the shell on the session, for each
+-- reason why a shell can end.
 use Rattle.std.specs.Prelude.{◌≡◌, ◌⊎◌, ◌<◌, ◌≤◌, Bool, true, false, ℕ, List, [], ◌++◌, length, Option, Some, None}
 use Rattle.std.specs.Io.KnownBytes.{Consumes, IsAtEnd}
 use Rattle.mcs_shell.specs.declared.ends.ShellEnd.{ShellEnd}
@@ -13,8 +14,8 @@ use Rattle.mcs_answers.specs.AnswerTexts.{session_text}
 use Rattle.mcs_session.specs.KeptCommands.{IsOpenOnHonestDisk}
 use Rattle.mcs_shell.specs.Serving.{ServesInputs, WroteBytes}
 
--- Holds if the shell answered all inputs formed by the bytes read, leaving out at most the last 4,096 of
--- these bytes. (The number is a literal, so the proof fails for a shell with larger chunks.)
+-- Holds if the shell answered at least every input that was complete before the last 4,096 bytes
+-- read. (The number is a literal, so the proof fails for a shell with larger chunks.)
 pub record ReadsLittleAhead (bytes : List ℕ) (answered : List Input) : Type 0 where
   pub before : List ℕ
   pub ahead : List ℕ
@@ -23,35 +24,38 @@ pub record ReadsLittleAhead (bytes : List ℕ) (answered : List Input) : Type 0 
   pub more : List Input
   pub answered_are : answered ≡ inputs before false ++ more
 
--- The bytes that a run read from its reader, at most `INPUT_BYTES` of them.
+-- The bytes that a run read from its reader: at most `INPUT_BYTES` bytes.
 pub record ReadInput (reader reader' : KnownBytes) : Type 0 where
   pub bytes : List ℕ
   pub consumed : Consumes reader reader' bytes
   pub within : length bytes ≤ INPUT_BYTES
-  -- true if input ended after these bytes; then fewer than `INPUT_BYTES` bytes were read, and the reader
-  -- has nothing left
+  -- true if input ended after these bytes. Then fewer than `INPUT_BYTES` bytes were read, and the
+  -- reader has no bytes left.
   pub ended : Bool
   pub input_ended : ended ≡ true → (length bytes < INPUT_BYTES) × IsAtEnd reader'
 
--- the inputs that are formed by the bytes that were read
+-- the inputs that the bytes of a `ReadInput` form
 abbrev pub inputs_read : {reader reader' : KnownBytes} → ReadInput reader reader' → List Input
 inputs_read read = inputs read.bytes read.ended
 
--- The start of a run: the first line was written completely, or only a proper prefix of it, possibly nothing.
+-- The start of a run: the shell wrote its first line completely, or only a proper prefix of the
+-- line, possibly no bytes.
 pub record RunStart (first_line : List ℕ) (out : KnownBytes) : Type 0 where
-  -- `whole` is true if the first line was written completely. `started` has the bytes that the writer had
-  -- received by then.
+  -- `whole` is true if the first line was written completely. `started` has the bytes that the
+  -- writer had received after this write.
   pub whole : Bool
   pub started : KnownBytes
   pub wrote : WroteBytes whole out started first_line
 
--- Holds if the first line was not written completely, no bytes were read, and no inputs were served.
+-- Holds if the first line was not written completely, no bytes were read, and no inputs were
+-- served.
 abbrev pub IsNotBegun : Bool → List ℕ → List Exchange → Type 0
 IsNotBegun begun bytes exchanges = (begun ≡ false) × (bytes ≡ []) × (exchanges ≡ [])
 
--- Holds if a run ended in this way. `begun` is true if the first line was written completely. `bytes` are
--- the bytes that were read, and `ended` is true if input ended after them. `exchanges` are the exchanges of the
--- run. `halted` is the end of the shell that an exchange caused, if one did.
+-- Holds if a run ended for the given reason. `begun` is true if the first line was written
+-- completely. `bytes` are the bytes that were read, and `ended` is true if input ended after them.
+-- `exchanges` are the exchanges of the run. `halted` is the end of the shell that an exchange
+-- caused, or `None`.
 abbrev pub EndsBy : ShellEnd → Bool → List ℕ → Bool → List Exchange → Option ShellEnd → Type 0
 EndsBy End begun bytes ended exchanges halted = (begun ≡ true) × (ended ≡ true) × (halted ≡ None)
 EndsBy ReadFault begun bytes ended exchanges halted =
@@ -64,9 +68,9 @@ EndsBy DeviceFault begun bytes ended exchanges halted =
     (begun ≡ true) × (halted ≡ Some DeviceFault)
 EndsBy NoMemory begun bytes ended exchanges halted = IsNotBegun begun bytes exchanges
 
--- Holds if the shell ran from state a to state b with this end: it wrote the first line, read bytes, and
--- served the inputs that these bytes form, or a prefix of them. `Given` is the premise under which the disk
--- keeps the commands.
+-- Holds if the shell ran from the shell state `a` to `b` and ended for the reason `end`. It wrote
+-- the first line, or only a proper prefix of the line. It read bytes, and served a prefix of the
+-- inputs that these bytes form. `Given` is the premise under which the disk keeps the commands.
 pub record RanShellGiven
     (Given : Premise) (first_line : List ℕ) (end : ShellEnd) (reader reader' : KnownBytes)
     (a b : ShellState) : Type 0 where
@@ -78,14 +82,16 @@ pub record RanShellGiven
   pub ends : EndsBy end began.whole read.bytes read.ended served.exchanges halted
   pub unwritten : end ≡ NoMemory → b.out ≡ a.out
 
--- Holds if the shell ran from state a to state b and its first line was that of the session. The claims
--- about the disk (`kept`) have a premise: the session is open and its disk is honest.
+-- Holds if the shell ran from the shell state `a` to `b`. Its first line reported the number of
+-- commands that the session had accepted (`session_text`). The claims about the disk (`kept`) have
+-- a premise: the session is open and its disk is honest.
 abbrev pub RanShell : ShellEnd → KnownBytes → KnownBytes → ShellState → ShellState → Type 0
 RanShell end reader reader' a b =
     RanShellGiven IsOpenOnHonestDisk (session_text a.session.state) end reader reader' a b
 
--- A run of the shell: its end, and the remaining input, the output and the session, each before and after
--- the run. (`state_of` maps the session's disk to the `DiskState` that contracts use.)
+-- A run of the shell: the reason for its end, and the remaining input, the session and the output,
+-- each before and after the run. (`state_of` maps the session's disk to the `DiskState` that
+-- contracts use.)
 pub record ShellRun {D : Type 0} (state_of : D → DiskState) : Type 0 where
   pub end : ShellEnd
   pub reader : KnownBytes
@@ -97,7 +103,8 @@ pub record ShellRun {D : Type 0} (state_of : D → DiskState) : Type 0 where
   pub ran : RanShell end reader reader'
       (shell_state state_of before out) (shell_state state_of after out')
 
--- Holds if a read of at most `max_count` bytes returned these n bytes. It returns no bytes only at the end of input.
+-- Holds if a read of at most `max_count` bytes returned these `n` bytes. A read returns no bytes
+-- only at the end of input.
 pub record ReadBytes (n max_count : ℕ) (old new : KnownBytes) (bytes : List ℕ) : Type 0 where
   pub within : n ≤ max_count
   pub count : length bytes ≡ n

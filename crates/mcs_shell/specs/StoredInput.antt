@@ -6,21 +6,23 @@ use Rattle.mcs_model.specs.declared.limits.TheConstants.{TEXT_BYTES}
 use Rattle.mcs_model.specs.TextLines.{as_line}
 use Rattle.mcs_shell.specs.UnfinishedInputView.{LineMode, OutsideText, InText, UnfinishedInputView}
 
--- the mode of the unfinished line, given the kind of the open text, if one is open, and its stored bytes
+-- the mode of the unfinished line, given the kind of the open text, if one is open, and its stored
+-- bytes
 abbrev pub mode_of : Option TextKind → List ℕ → LineMode
 mode_of None text = OutsideText
 mode_of (Some kind) text = InText kind text
 
--- Holds if `new` is the text with the line and a line feed appended. If that would be more than
--- `TEXT_BYTES` bytes, `new` may instead be any text with more than `TEXT_BYTES` bytes, because both are
--- refused in the same way, whatever follows.
+-- Holds if `new` is the text with the line and a line feed appended. If this text would have more
+-- than `TEXT_BYTES` bytes, `new` can instead be any text that is too long. The shell refuses both
+-- texts in the same way, whatever follows.
 abbrev pub AppendsLine : List ℕ → List ℕ → List ℕ → Type 0
 AppendsLine text line new =
     (new ≡ text ++ as_line line)
     ⊎ ((TEXT_BYTES < length (text ++ as_line line)) × (TEXT_BYTES < length new))
 
--- Holds if the unfinished line was appended to the open text, without a carriage return at its end. Claims nothing
--- if no text is open.
+-- Holds if the unfinished line `line` was appended to the open text. A carriage return at the end
+-- of `line` was left out. `q` is the unfinished input afterwards. If no text is open, this holds
+-- for every `q`.
 abbrev pub AppendsLineToText : LineMode → List ℕ → UnfinishedInputView → Type 0
 AppendsLineToText OutsideText line q = Unit {0}
 AppendsLineToText (InText kind text) line q =

@@ -23,7 +23,8 @@ use Rattle.mcs_lines.specs.declared.requests.TextKind.TheVariants.{Wire, Asm, Ma
 use Rattle.mcs_asm.specs.Errors.{errors_of_text, errors_text}
 use Rattle.mcs_answers.specs.AnswerTexts.{no_line_text, no_text}
 
--- the command that replaces the board with the board parsed from a text, or the error in the text
+-- the command that replaces the bench's board with the board parsed from a text, or the error in
+-- the text
 abbrev pub wire_command : Result BoardParts WiringFault → Result Command TextRefusal
 wire_command (Ok board) = Ok (command.Wire board)
 wire_command (Err fault) = Err (Wiring fault)
@@ -33,8 +34,8 @@ abbrev pub load_command : Result (List (ℕ × ℕ)) (ℕ × SourceFault) → Re
 load_command (Ok pairs) = Ok (command.Load (by_address pairs))
 load_command (Err at) = Err (Program (at.0) (at.1))
 
--- The meaning of a text: a command to execute (`Executes`), or the bytes of lines to return as the answer, with
--- no other effect (`Reports`).
+-- The meaning of a text: a command to execute (`Executes`), or lines to return as the answer
+-- (`Reports`, with the bytes of the lines). A text that reports lines has no other effect.
 pub data TextMeaning : Type 0 where
   Executes : Command → TextMeaning
   Reports : List ℕ → TextMeaning
@@ -52,7 +53,7 @@ meaning_of_text Map text = program_map (survey_of_text text)
 meaning_of_text Wiring text = Ok (Reports (wiring_text text))
 meaning_of_text Errors text = Ok (Reports (errors_text (errors_of_text text)))
 
--- the meaning that a value of the Rust type `TextMeaning` represents
+-- the meaning that a value of the Rust type `TextMeaning` (`code.TextMeaning`) represents
 abbrev pub meaning_view : code.TextMeaning → TextMeaning
 meaning_view (spelled.Executes c) = Executes c
 meaning_view (spelled.Reports lines) = Reports lines.items

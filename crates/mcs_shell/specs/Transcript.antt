@@ -34,7 +34,8 @@ requested_command (Line (Change c)) = Some c
 requested_command (Text kind text) = text_command (meaning_of_text kind text)
 requested_command i = None
 
--- A list of the requested command. The list is empty if there is no command or the state rejects it.
+-- The requested command as a list of one element. The list is empty if there is no command or the
+-- state rejects it.
 abbrev pub accepted_commands : BenchState → Option Command → List Command
 accepted_commands s (Some c) = elim (refusal s c) [ None ↦ c ∷ [] | Some fault ↦ [] ]
 accepted_commands s None = []
@@ -52,24 +53,25 @@ needs_allocation (Line (Count n)) = true
 needs_allocation (Line (Trace n probes)) = true
 needs_allocation i = false
 
--- Holds if the outcome is possible for the input. `Answered` is possible for an input without a command, and
--- for a command if the session is open. `Device` is possible for a command that the state accepts, if the
--- session is open. `Closed` is possible for a command if the session is closed. `NoMemory` is possible for
--- an input that needs an allocation.
+-- Holds if the outcome is possible for the input. `Answered` is possible for an input without a
+-- command, and for a command if the session is open. `Device` is possible for a command that the
+-- state accepts if the session is open. `Closed` is possible for a command if the session is
+-- closed. `NoMemory` is possible for an input that needs an allocation.
 unfoldable pub IsPossibleOutcome : Bool → BenchState → Input → Outcome → Type 0
 IsPossibleOutcome live s i Answered = (requested_command i ≡ None) ⊎ (live ≡ true)
 IsPossibleOutcome live s i Device = (accepted_commands s (requested_command i) ≢ []) × (live ≡ true)
 IsPossibleOutcome live s i Closed = (requested_command i ≢ None) × (live ≡ false)
 IsPossibleOutcome live s i NoMemory = needs_allocation i ≡ true
 
--- A list of the command that was answered `ok`, even if that answer was not written completely. The list is
--- empty if there is no such command.
+-- The command that was answered `ok`, as a list of one element, even if the answer was not written
+-- completely. The list is empty if no command was answered `ok`.
 unfoldable pub acknowledged_commands : BenchState → Input → Outcome → List Command
 acknowledged_commands s i Answered = accepted_commands s (requested_command i)
 acknowledged_commands s i o = []
 
--- A list of the command that may have reached the disk. It was answered `ok` or, after a device fault,
--- `no 53`. The list is empty if no command may have reached the disk.
+-- The command that may have reached the disk, as a list of one element. The command was answered
+-- `ok` or, after a device fault, `no 53`. The list is empty if no command can have reached the
+-- disk.
 unfoldable pub reached_commands : BenchState → Input → Outcome → List Command
 reached_commands s i Answered = accepted_commands s (requested_command i)
 reached_commands s i Device = accepted_commands s (requested_command i)
@@ -83,8 +85,8 @@ change_answer s c =
       | Some fault ↦ no_text (bench_fault_number fault)
     ]
 
--- The answer to a text with this meaning, from the state before the text: the answer to the text's command,
--- the lines of its report, or the refusal for its error.
+-- The answer to a text with this meaning, from the state before the text: the answer to the text's
+-- command, the lines of its report, or the refusal for its error.
 abbrev pub meaning_answer : BenchState → Result TextMeaning TextRefusal → List ℕ
 meaning_answer s (Ok (Executes c)) = change_answer s c
 meaning_answer s (Ok (Reports lines)) = lines
@@ -113,8 +115,8 @@ answer s i NoMemory = no_text NO_MEMORY
 
 -- ---- inputs in order
 
--- An exchange: an input that was served, its outcome, and `whole`, which is true if the answer was written
--- completely.
+-- An exchange: an input that was served, its outcome, and `whole`, which is true if the answer was
+-- written completely.
 pub record Exchange : Type 0 where
   pub input : Input
   pub outcome : Outcome
@@ -128,22 +130,24 @@ answered_exchanges exchanges = filter (λ (x : Exchange). x.whole) exchanges
 abbrev pub inputs_in : List Exchange → List Input
 inputs_in exchanges = map (λ (x : Exchange). x.input) exchanges
 
--- The concatenated results of f for the exchanges, in order. For each exchange, f gets the state before its
--- input. `results_in_order answer` gives the answers. `results_in_order acknowledged_commands` gives the commands answered
--- `ok`. `results_in_order reached_commands` gives the commands that may have reached the disk.
+-- The concatenated results of `f` for the exchanges, in order. For each exchange, `f` gets the
+-- state before its input. `results_in_order answer` gives the answers. `results_in_order
+-- acknowledged_commands` gives the commands answered `ok`. `results_in_order reached_commands`
+-- gives the commands that may have reached the disk.
 abbrev pub results_in_order : {A : Type 0} → (BenchState → Input → Outcome → List A) → BenchState
     → List Exchange → List A
 results_in_order f s [] = []
 results_in_order f s (x ∷ rest) =
     f s x.input x.outcome ++ results_in_order f (fold s (acknowledged_commands s x.input x.outcome)) rest
 
--- The end of the shell that an exchange causes, if any. The Bool is true if the answer was written completely.
+-- The end of the shell that an exchange with this outcome causes, or `None`. The Bool is true if
+-- the answer was written completely.
 abbrev pub end_caused_by : Bool → Outcome → Option ShellEnd
 end_caused_by false o = Some WriteFault
 end_caused_by true Device = Some DeviceFault
 end_caused_by true o = None
 
--- the end of the shell that the first halting exchange among these causes, if any
+-- the end of the shell that the first halting exchange in this list causes, or `None`
 abbrev pub end_caused_by_exchanges : List Exchange → Option ShellEnd
 end_caused_by_exchanges [] = None
 end_caused_by_exchanges (x ∷ rest) = option_or (end_caused_by x.whole x.outcome) (end_caused_by_exchanges rest)
@@ -153,8 +157,8 @@ abbrev pub is_device_fault : Outcome → Bool
 is_device_fault Device = true
 is_device_fault o = false
 
--- Holds if each outcome is possible for its input, in the state before that input, and no exchange but the
--- last halts the shell.
+-- Holds if each outcome is possible for its input, in the state before that input, and only the
+-- last exchange can halt the shell.
 abbrev pub ArePossibleExchanges : Bool → BenchState → List Exchange → Type 0
 ArePossibleExchanges live s [] = Unit {0}
 ArePossibleExchanges live s (x ∷ rest) =

@@ -1,5 +1,6 @@
--- Input that is unfinished because it arrives in chunks, and the inputs that it forms with the bytes that
--- follow. Only contracts of private functions use these definitions.
+-- Unfinished input: the last line and the open text while input arrives in chunks. Also the inputs
+-- that unfinished input forms together with the bytes that follow. Only contracts of private
+-- functions use these definitions.
 use Rattle.std.specs.Prelude.{Bool, ℕ, List, [], ◌∷◌, ◌++◌, if◌then◌else◌, Some, None}
 use Rattle.mcs_lines.specs.declared.requests.TextKind.{TextKind}
 use Rattle.mcs_lines.specs.LineRequests.{request_of}
@@ -7,7 +8,8 @@ use Rattle.mcs_model.specs.TextLines.{as_line, lines}
 use Rattle.mcs_shell.specs.declared.texts.TextFault.TheVariants.{NoEnd}
 use Rattle.mcs_shell.specs.Inputs.{BadText, Input, Line, is_dot_line, input_of_text, kind_of_begun_text}
 
--- The mode in which a line is read: as a command, or as a line of a text after the given bytes of that text.
+-- The mode in which a line is read: as a command (`OutsideText`), or as a line of a text of this
+-- kind that already has the given bytes (`InText`).
 pub data LineMode : Type 0 where
   OutsideText : LineMode
   InText : TextKind → List ℕ → LineMode

@@ -28,7 +28,7 @@ use mcs_session::session::Session;
 use std::alloc::{AllocError, Global};
 use std::marker::Model;
 
-/// The answer to one input: a short text, followed by a long one if the answer needs allocated memory.
+/// The answer to one input: bytes stored inline, followed by allocated bytes if the answer needs allocated memory.
 #[derive(Drop)]
 pub struct Answer {
     inline_bytes: ArrayVec<u8, ANSWER_BYTES>,
@@ -72,7 +72,8 @@ impl Answer {
         self.set_number(b"no ", u32::from(number));
     }
 
-    /// Sets the answer to the refusal of a text: the refusal number and, for a program, the line number of the error.
+    /// Sets the answer to the refusal of a text. The answer has the refusal number and, for a program, the number of
+    /// the line with the error.
     pub(crate) fn set_text_refusal(&mut self, refusal: TextRefusal)
         ensures { self.new ≡ text_refusal_answer refusal }
     {
@@ -105,7 +106,7 @@ impl Answer {
         put_query(&mut self.inline_bytes, query, bench);
     }
 
-    /// Makes this the answer to `list`, with the given number of lines from address `from` of the ROM. Fails if
+    /// Makes this the answer to `list`: the listing of at most `lines` lines of ROM from address `from`. Fails if
     /// memory runs out; the answer is then unspecified.
     pub(crate) fn set_listing(
         &mut self,
@@ -121,8 +122,8 @@ impl Answer {
         Ok(())
     }
 
-    /// Makes this the answer to `board`, which gives the board's text. Fails if memory runs out; the answer is then
-    /// unspecified.
+    /// Makes this the answer to `board`: the text that describes the board. Fails if memory runs out; the answer is
+    /// then unspecified.
     pub(crate) fn set_board(&mut self, alloc: Global, bench: &Bench) -> Result<(), AllocError>
         ensures { OnOk result (self.new ≡ board_answer bench.now) }
     {
@@ -146,8 +147,9 @@ impl Answer {
         Ok(())
     }
 
-    /// Makes this the answer to `trace`: the changes that a run of at most `n` cycles would make at the probed
-    /// locations. There may be at most `MAX_PROBES` probes. Fails if memory runs out; the answer is then unspecified.
+    /// Makes this the answer to `trace`: the changes that a run of at most `n` cycles would make at the locations of
+    /// the probes. `probes` must have at most `MAX_PROBES` entries. Fails if memory runs out; the answer is then
+    /// unspecified.
     pub(crate) fn set_trace(
         &mut self,
         alloc: Global,
@@ -171,8 +173,8 @@ impl Answer {
         self.allocated_bytes = Some(lines);
     }
 
-    /// Writes the whole answer. The answer must be one that the shell may write now: the session has recorded what
-    /// the answer acknowledges. On an `Err`, the writer received only a proper prefix of the answer, possibly
+    /// Writes the whole answer. Before the call, the session must have recorded the command that the answer
+    /// acknowledges, if there is one. On an `Err`, the writer received only a proper prefix of the answer, possibly
     /// nothing.
     pub(crate) fn send<W: AnswerSink, D: Disk + Drop>(
         &self,

@@ -19,7 +19,7 @@ use mcs_session::fault::SessionFault;
 use mcs_session::session::Session;
 use std::alloc::{AllocError, Global};
 
-/// Returns the outcome of an input whose command was not recorded, for the given reason.
+/// Returns the outcome of an input whose command was not recorded, from the error of the session.
 fn outcome_of(fault: SessionFault) -> Outcome
     ensures { result ≡ outcome_of fault }
 {
@@ -30,7 +30,7 @@ fn outcome_of(fault: SessionFault) -> Outcome
     }
 }
 
-/// Executes a command on a session and sets the answer to the command. Returns the outcome.
+/// Executes a command on a session and sets the answer to the command: `ok` or a refusal. Returns the outcome.
 fn answer_change<D: Disk + Drop>(
     command: &Command,
     session: &mut Session<D>,
@@ -51,8 +51,8 @@ fn answer_change<D: Disk + Drop>(
     }
 }
 
-/// Returns the outcome of a request whose answer needs memory. `put` is the result of the allocation. If it failed,
-/// sets the answer to the refusal `NO_MEMORY`.
+/// Returns the outcome of a request whose answer needs memory. `put` is the result of putting the answer into `answer`.
+/// If an allocation failed, sets the answer to the refusal `NO_MEMORY` (90).
 fn outcome_of_allocation(put: Result<(), AllocError>, answer: &mut Answer) -> Outcome
     ensures put { OnOk put ((result ≡ Outcome.Answered) × (answer.new ≡ answer.old)) }
     ensures refused { OnErr put ((result ≡ Outcome.NoMemory) × (answer.new ≡ no_text NO_MEMORY)) }
@@ -67,7 +67,7 @@ fn outcome_of_allocation(put: Result<(), AllocError>, answer: &mut Answer) -> Ou
 }
 
 /// Executes the request of a line outside a text, sets the answer, and returns the outcome. The answer must be empty
-/// before the call. It stays empty for a line without a request and for a line that begins a text.
+/// before the call. The answer stays empty for a line without a request and for a line that begins a text.
 pub(crate) fn answer_request<D: Disk + Drop>(
     alloc: Global,
     request: &Request,

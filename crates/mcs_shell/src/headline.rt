@@ -1,5 +1,6 @@
-//! The headline, as laws. Each law combines the contracts of `run_shell` and `Session::open` with a power cut between
-//! them. It is the contract of a function with an empty body.
+//! The headline of docs/PROOF.md, as laws. Each law is the contract of a function with an empty body. The laws about
+//! power cuts and stops combine the contracts of `run_shell` and `Session::open`. The last law is about a run in which
+//! no call failed.
 ghost use Rattle.mcs_host.specs.Ending.{as_disk};
 ghost use Rattle.mcs_session.specs.KeptCommands.{IsOpenOnHonestDisk};
 ghost use Rattle.mcs_session.specs.SessionState.{session_state};
@@ -13,27 +14,28 @@ use mcs_disk::Disk;
 
 /// Proves the headline for a run on an open session with an honest disk, for every end of the run. The run wrote the
 /// answers to the inputs that it served, in order. Each answer follows from the state after the commands that were
-/// answered `ok` before that answer. Power may be cut at any moment since the run began. A session opened after the
-/// cut has executed a prefix of a list: the commands answered `ok`, followed by the one answered `no 53`. The prefix
-/// includes each command that was acknowledged by the moment of the cut.
+/// answered `ok` before that answer. The power can be cut at any moment since the run began. A session opened after the
+/// cut has executed a prefix of a list: the commands answered `ok`, followed by the one answered `no 53` (device
+/// failed), if there is one. The prefix includes each command that was acknowledged by the moment of the cut.
 pub fn a_run_answers_and_survives_power_cuts<D: Disk, E: Disk>()
     ensures { (run : ShellRun D.state) → IsOpenOnHonestDisk (session_state D.state run.before)
         → AnswersAndSurvives D.state E.state run }
 {}
 
-/// Proves the headline for a run on a file of the host. A close, a kill or a power cut stops the run, and the law
-/// covers all contents that are possible in the file after the stop. The session opened afterwards is the one that
-/// the program's `open` begins on these contents.
+/// Proves the headline for a run on a file of the host. A close, a kill or a power cut stops the run. The law covers
+/// all contents that are possible in the file after the stop. The session opened afterwards is the one that the
+/// program's `open` begins on these contents.
 pub fn a_file_survives_power_cuts()
     ensures { (run : ShellRun as_disk) → IsOpenOnHonestDisk (session_state as_disk run.before)
         → SurvivesInFile run }
 {}
 
-/// Proves the headline for any number of runs. A power cut ends each run, and the next run opens a session on the
-/// disk that the cut left. A cut may happen at any moment, even while a session is opened or converted from version
-/// 1. A refused opening counts as one more run. The session opened at the end has executed the commands kept from
-/// each run, in order. The commands kept from a run are a prefix of a list: those answered `ok`, followed by the one
-/// answered `no 53`. The prefix includes every command that was acknowledged before the power cut.
+/// Proves the headline for any number of runs. A power cut ends each run, and the next run opens a session on the disk
+/// that the cut left. A cut can happen at any moment, even while a session is opened or converted from version 1. A
+/// refused opening counts as a run, too. The session opened at the end has executed the commands kept from each run, in
+/// order. The commands kept from a run are a prefix of a list: those answered `ok`, followed by the one answered
+/// `no 53` (device failed), if there is one. The prefix includes every command that was acknowledged before the power
+/// cut.
 pub fn any_number_of_runs_survive_power_cuts<D: Disk>()
     ensures { (history : History D.state (IsFoundByCut D.state))
         → IsOpenOnHonestDisk (session_state D.state history.first.before)
@@ -48,9 +50,9 @@ pub fn a_file_survives_any_number_of_stops()
         → SurvivesHistory history }
 {}
 
-/// Proves that a run without a failed call answers all inputs. The premises are that no call of the reader, the
-/// writer or the disk failed, and that the shell had memory to begin. Then the run reached the end of its input or
-/// the input limit. It served each input that it read, in order, and wrote each answer completely.
+/// Proves that a run without a failed call answers all inputs. The premises are that no call of the reader, the writer
+/// or the disk failed, and that the shell could allocate its buffer. Then the run reached the end of its input or the
+/// input limit. It served each input that it read, in order, and wrote each answer completely.
 pub fn a_run_without_a_fault_answers_all<D: Disk>()
     ensures { (run : ShellRun D.state) → RanWithoutFault run → ServesAllInput run }
 {}

@@ -1,5 +1,5 @@
 //! The shell of the bench, and the program that runs the shell. The shell reads lines and writes answers. It records
-//! each accepted command before it writes the command's answer.
+//! each accepted command on the disk before it writes the command's answer.
 #![tactic(auto)]
 
 mod answer;

@@ -1,19 +1,19 @@
-//! Messages for the user on standard error: the usage, and the reason why a session is refused or ends early. A
-//! message that cannot be written is lost. Standard output and the exit status do not depend on these messages.
+//! Messages for the user on standard error: the usage, and the reason why a session is refused or ends early. The
+//! program ignores an error in writing a message. Standard output and the exit status do not depend on these messages.
 use crate::ends::ShellEnd;
 use crate::faults::BeginFault;
 use mcs_host::{Choice, FileDisk, FileFault, StreamsError, StreamsFault};
 use mcs_journal::StoreFault;
 use std::path::Path;
 
-/// The reason why a session was refused, and facts about its file.
+/// The reason why a session was refused, and facts about its file that the message needs.
 #[derive(Clone, Copy)]
 pub struct Refusal {
     /// The reason for the refusal.
     pub fault: BeginFault,
     /// True if the device has no space left.
     pub is_full: bool,
-    /// True if the file has the size of a session file and starts with the name of the session format.
+    /// True if the file has as many bytes as a session file and starts with the name of the session format.
     pub is_named_session: bool,
 }
 
@@ -26,7 +26,7 @@ pub fn print_usage(rt: &HostRuntime) {
     );
 }
 
-/// Prints why the standard streams are refused, unless standard error may be a session file.
+/// Prints why the standard streams are refused. Prints nothing if standard error may be a session file.
 pub fn print_streams_refusal(rt: &HostRuntime, refused: StreamsError) {
     if refused.unusable.errors {
         return;
@@ -45,7 +45,8 @@ pub fn print_streams_refusal(rt: &HostRuntime, refused: StreamsError) {
     let _ = eprintln!(rt; "mcs4: {words}");
 }
 
-/// Prints a warning if a file was opened but a power cut may undo the file's name. Otherwise prints nothing.
+/// Prints a warning if a file was opened but its folder was not synced. A power cut can then remove the name of a new
+/// file. Otherwise prints nothing.
 pub fn print_name_warning(rt: &HostRuntime, file: &str, opened: &Result<FileDisk, FileFault>) {
     if let Ok(disk) = opened {
         if !disk.is_name_stable() {
@@ -147,7 +148,7 @@ fn device_message(is_full: bool) -> &'static str {
     }
 }
 
-// Returns true if the host finds the folder that would contain a file, or if the path names no folder.
+// Returns true if the host finds the folder that would contain a file, or if the file's path names no folder.
 fn has_folder(rt: &HostRuntime, file: &str) -> bool {
     match Path::new(file).parent() {
         Some(folder) => folder.as_str().is_empty() || folder.is_dir(rt),
@@ -155,8 +156,8 @@ fn has_folder(rt: &HostRuntime, file: &str) -> bool {
     }
 }
 
-/// Prints why a session ended, unless it reached the end of its input. `ended` has the end of the shell, and true if
-/// the session's device is full. Prints nothing if `ended` is `None`.
+/// Prints why a session ended. Prints nothing if the session reached the end of its input. `ended` has the reason for
+/// the end of the shell, and a Bool that is true if the session's device is full. Prints nothing if `ended` is `None`.
 pub fn print_end_reason(rt: &HostRuntime, file: &str, ended: Option<(ShellEnd, bool)>) {
     let Some((end, is_full)) = ended else {
         return;

@@ -1,4 +1,4 @@
-//! The program: it reads the arguments, opens the file, begins the session, runs the shell, and returns the exit
+//! The program. It reads the arguments, opens the file, begins the session, runs the shell, and returns the exit
 //! status.
 ghost use Rattle.std.specs.Prelude.{◌≡◌, ◌⊎◌, IfOk, IfErr, IfSome, IfNone, IsErrAnd, IsSomeAnd, OnErr, None, true, map};
 ghost use Rattle.std.specs.Process.{exit_status};
@@ -8,7 +8,7 @@ ghost use Rattle.mcs_host.specs.FileDisk.{HasNoCalls};
 ghost use Rattle.mcs_host.specs.declared.file_disk.FileDisk.{FileDisk};
 ghost use Rattle.mcs_host.specs.declared.file_fault.FileFault.{FileFault};
 ghost use Rattle.mcs_shell.specs.Faults.{streams_view};
-ghost use Rattle.mcs_shell.specs.Program.{IsBegunOn, IsRefusedBy, RanWithStreams, ServedChosenSession, ServedBySomeArguments, ServedSession};
+ghost use Rattle.mcs_shell.specs.Program.{IsBegunOn, IsChoiceRefused, RanWithStreams, ServedChosenSession, ServedBySomeArguments, ServedSession};
 ghost use Rattle.mcs_shell.specs.RefusalNumbers.{begin_fault_number};
 ghost use Rattle.mcs_shell.specs.Shell.{exit_status_of};
 
@@ -67,8 +67,8 @@ fn refuse_on_usable_output(rt: &HostRuntime, number: u8, unusable: Streams) -> E
     }
 }
 
-/// Reports that the program cannot run with these standard streams, and returns exit status 3. Writes nothing to a
-/// stream that may be a session file.
+/// Prints `no NN` and the reason why the program cannot run with these standard streams, and returns exit status 3.
+/// Writes nothing to a stream that may be a session file.
 pub fn refuse_streams(rt: &HostRuntime, refused: StreamsError) -> ExitCode
     ensures { exit_status result ≡ 3 }
 {
@@ -77,8 +77,9 @@ pub fn refuse_streams(rt: &HostRuntime, refused: StreamsError) -> ExitCode
     status
 }
 
-/// Reports that the arguments are invalid and returns exit status 2, or that there was no memory to read them and
-/// returns exit status 3. The exit status is the same if the message cannot be written.
+/// If the arguments are invalid, reports this error and returns exit status 2. If there was no memory to read the
+/// arguments, reports this error and returns exit status 3. The exit status is the same if the message cannot be
+/// written.
 pub fn refuse_arguments(rt: &HostRuntime, fault: WordsFault) -> ExitCode
     ensures usage { fault ≡ WordsFault.Usage → exit_status result ≡ 2 }
     ensures no_memory { fault ≡ WordsFault.NoMemory → exit_status result ≡ 3 }
@@ -101,12 +102,12 @@ pub fn refuse_arguments(rt: &HostRuntime, fault: WordsFault) -> ExitCode
 pub struct BeginFailure<D: Disk + Drop> {
     /// The reason why no session began.
     pub fault: BeginFault,
-    /// The disk that was opened for the session, as the refusal left it, or `None` if no disk was opened.
+    /// The disk that was opened for the session, as the refused call left it, or `None` if no disk was opened.
     pub disk: Option<D>,
 }
 
-/// Creates or opens a session, as the choice requests, on the disk that was opened for its file. Fails with the
-/// reason if the disk was not opened or no session began on it.
+/// Creates or opens a session, as `choice` requests. `opened` is the disk that was opened for the chosen file, or the
+/// error of opening it. Fails with the reason if no session began.
 pub fn begin_session_on<D: Disk + Drop>(
     alloc: Global,
     choice: &Choice,
@@ -115,7 +116,7 @@ pub fn begin_session_on<D: Disk + Drop>(
     ensures begun { IfOk opened (λ disk. IfOk result (λ session.
         IsBegunOn D.state choice.now disk session)) }
     ensures refused { IfOk opened (λ disk. IfErr result (λ refused.
-        IsSomeAnd refused.disk (λ left. IsRefusedBy choice.now (D.state disk) (D.state left)
+        IsSomeAnd refused.disk (λ left. IsChoiceRefused choice.now (D.state disk) (D.state left)
         (begin_fault_number refused.fault)))) }
     ensures unopened { IfErr opened (λ fault.
         IsErrAnd result (λ refused. refused.fault ≡ BeginFault.File fault)) }
@@ -157,7 +158,7 @@ pub fn begin_session_in(
     ensures refused { IfErr result (λ refused.
         ((fault : FileFault) × (refused.fault ≡ BeginFault.File fault))
         ⊎ ((disk : FileDisk) × HasNoCalls (as_disk disk)
-        × IsSomeAnd refused.disk (λ left. IsRefusedBy choice.now (as_disk disk) (as_disk left)
+        × IsSomeAnd refused.disk (λ left. IsChoiceRefused choice.now (as_disk disk) (as_disk left)
         (begin_fault_number refused.fault)))) }
 {
     let alloc = rt.alloc();
@@ -167,7 +168,7 @@ pub fn begin_session_in(
     begin_session_on(alloc, choice, opened)
 }
 
-/// Serves a session with a reader and a writer, and returns the end of the shell and its exit status.
+/// Serves a session with a reader and a writer. Returns the reason for the end of the shell, and the exit status.
 pub fn serve<R: InputSource, W: AnswerSink, D: Disk + Drop>(
     rt: &HostRuntime,
     reader: &mut R,
@@ -194,12 +195,12 @@ pub struct ProgramResult<D: Disk + Drop> {
     pub status: ExitCode,
     /// The session that was served, as its shell left it, or `None` if no session began.
     pub session: Option<Session<D>>,
-    /// The end of the session's shell, or `None` if no shell ran.
+    /// The reason for the end of the session's shell, or `None` if no shell ran.
     pub end: Option<ShellEnd>,
 }
 
-/// Serves a session with a reader and a writer. If no session began, prints the refusal number and returns exit
-/// status 3.
+/// Serves the session that began, with a reader and a writer. If no session began, prints the refusal number and
+/// returns exit status 3.
 pub fn serve_if_begun<R: InputSource, W: AnswerSink, D: Disk + Drop>(
     rt: &HostRuntime,
     reader: &mut R,
@@ -255,8 +256,8 @@ fn refusal_of(begun: &Result<Session<FileDisk>, BeginFailure<FileDisk>>) -> Opti
     }
 }
 
-/// Returns the end of the shell, and a Bool that is true if the session's device is full. Returns `None` if no shell
-/// ran.
+/// Returns the reason for the end of the shell, and a Bool that is true if the session's device is full. Returns `None`
+/// if no shell ran.
 fn shell_end_of(ended: &ProgramResult<FileDisk>) -> Option<(ShellEnd, bool)> {
     match (ended.end, &ended.session) {
         (Some(end), Some(session)) => Some((end, session.disk().is_full())),
@@ -265,7 +266,8 @@ fn shell_end_of(ended: &ProgramResult<FileDisk>) -> Option<(ShellEnd, bool)> {
 }
 
 /// Runs the program with the given arguments, a reader and a writer. The first argument is the program's name. If no
-/// session begins, the exit status is 2 or 3, nothing is read from the reader, and nothing is written to the writer.
+/// session begins, the exit status is 2 (invalid arguments) or 3. In that case, the program reads nothing from the
+/// reader and writes nothing to the writer.
 pub fn run_arguments<S: AsStr, R: InputSource, W: AnswerSink>(
     rt: &HostRuntime,
     arguments: &[S],
@@ -326,15 +328,15 @@ fn run_given_arguments(rt: &HostRuntime) -> ProgramResult<FileDisk>
 }
 
 /// Runs the program with the command-line arguments, standard input and standard output. Returns the exit status, and
-/// the session as its shell left it. The exit status is 3 if a standard stream may go into a session file, or if a
-/// closed stream gets no stand-in.
+/// the session as its shell left it. The exit status is 3 if a standard stream may go into a session file, or if
+/// `/dev/null` cannot replace a closed stream.
 pub fn run_program(rt: &HostRuntime) -> ProgramResult<FileDisk>
     ensures served { IfSome result.session (λ after.
         ServedBySomeArguments as_disk (exit_status result.status) after) }
     ensures unserved { IfNone result.session
         ((exit_status result.status ≡ 2) ⊎ (exit_status result.status ≡ 3)) }
 {
-    // The stand-ins for closed standard streams stay open until this function returns.
+    // The stand-ins (`/dev/null`) for closed standard streams stay open until this function returns.
     let _stand_ins = match StandIns::open(rt) {
         Ok(stand_ins) => stand_ins,
         Err(refused) => {

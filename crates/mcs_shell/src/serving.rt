@@ -1,4 +1,4 @@
-//! Functions that serve lines that arrive in chunks.
+//! Functions that serve input line by line, while the input arrives in chunks.
 ghost use Rattle.std.specs.Prelude.{◌≡◌, ◌∷◌, ◌++◌, Bool, [], MatchOption, OnOk, length};
 ghost use Rattle.std.specs.Result.{result_err};
 ghost use Rattle.mcs_shell.specs.declared.texts.TextFault.TheVariants.{NoEnd};
@@ -24,8 +24,8 @@ use mcs_model::text_lines::without_carriage_return;
 use mcs_session::session::Session;
 use std::alloc::Global;
 
-/// Writes the answer to an input that had this outcome. `session` is the session after the input. Fails with the end
-/// of the shell if the write failed or the outcome is a device fault.
+/// Writes the answer to an input. `outcome` is the outcome of the input, and `session` is the session after the input.
+/// Fails with the reason why the shell ends, if the write failed or the outcome is a device fault.
 fn deliver<W: AnswerSink, D: Disk + Drop>(
     outcome: Outcome,
     answer: &Answer,
@@ -47,8 +47,8 @@ fn deliver<W: AnswerSink, D: Disk + Drop>(
     }
 }
 
-/// Serves a line outside a text: executes its request, then writes the answer. Fails with the end of the shell if
-/// that ends the shell.
+/// Serves a line outside a text: executes its request, then writes the answer. Fails with the reason why the shell
+/// ends, if a write or the device fails.
 fn serve_request<W: AnswerSink, D: Disk + Drop>(
     alloc: Global,
     request: Request,
@@ -67,8 +67,8 @@ fn serve_request<W: AnswerSink, D: Disk + Drop>(
     deliver(outcome, &answer, writer, session)
 }
 
-/// Serves a complete text: executes its command, if it has one, then writes the answer. Fails with the end of the
-/// shell if that ends the shell.
+/// Serves a complete text: executes its command, if it has one, then writes the answer. Fails with the reason why the
+/// shell ends, if a write or the device fails.
 fn serve_text<W: AnswerSink, D: Disk + Drop>(
     alloc: Global,
     kind: TextKind,
@@ -88,7 +88,8 @@ fn serve_text<W: AnswerSink, D: Disk + Drop>(
     deliver(outcome, &answer, writer, session)
 }
 
-/// Answers an open text with a refusal, because input ended inside the text.
+/// Answers an open text with refusal 15, because input ended inside the text. Fails with the reason why the shell ends,
+/// if the write fails.
 pub(crate) fn serve_unended_text<W: AnswerSink, D: Disk + Drop>(
     writer: &mut W,
     session: &mut Session<D>,
@@ -104,7 +105,8 @@ pub(crate) fn serve_unended_text<W: AnswerSink, D: Disk + Drop>(
     deliver(Outcome::Answered, &answer, writer, session)
 }
 
-/// Ends the unfinished line, as a line feed would. If the line completes an input, serves that input.
+/// Ends the unfinished line, as a line feed would. If the line completes an input, serves that input. Fails with the
+/// reason why the shell ends, if a write or the device fails.
 pub(crate) fn end_line<W: AnswerSink, D: Disk + Drop>(
     alloc: Global,
     unfinished: &mut UnfinishedInput,
@@ -163,7 +165,8 @@ fn split_line(bytes: &[u8]) -> Option<(&[u8], &[u8])>
     None
 }
 
-/// Serves the bytes of a chunk, which continue the unfinished line and the open text.
+/// Serves the bytes of a chunk, which continue the unfinished line and the open text. The bytes after the last line
+/// feed become the unfinished line. Fails with the reason why the shell ends, if a write or the device fails.
 pub(crate) fn serve_chunk<W: AnswerSink, D: Disk + Drop>(
     alloc: Global,
     chunk: &[u8],

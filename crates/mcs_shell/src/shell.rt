@@ -21,7 +21,7 @@ use mcs_model::limits::INPUT_BYTES;
 use mcs_session::session::Session;
 use std::alloc::Global;
 
-/// The maximum number of bytes that one read requests.
+/// The maximum number of bytes that the shell requests in one read.
 const CHUNK_BYTES: usize = 4_096;
 
 /// Reads at most `max_count` bytes into the front of the buffer and returns their number. Returns 0 only if input has
@@ -41,8 +41,8 @@ fn read_some<R: InputSource>(
     reader.read_some(&mut buffer[..max_count])
 }
 
-/// Answers the open text, if there is one, with a refusal, because input has ended. The line must be empty. Fails
-/// with the end of the shell if the answer cannot be written.
+/// If a text is open, answers it with refusal 15, because input has ended inside the text. The unfinished line must be
+/// empty. Fails with the reason why the shell ends, if the answer cannot be written.
 fn finish_text<W: AnswerSink, D: Disk + Drop>(
     unfinished: &UnfinishedInput,
     writer: &mut W,
@@ -60,8 +60,8 @@ fn finish_text<W: AnswerSink, D: Disk + Drop>(
     }
 }
 
-/// Serves the unfinished line and the open text after input has ended. Fails with the end of the shell if serving
-/// them ends the shell.
+/// Serves the unfinished line and the open text after input has ended. Fails with the reason why the shell ends, if a
+/// write or the device fails.
 fn finish<W: AnswerSink, D: Disk + Drop>(
     alloc: Global,
     unfinished: &mut UnfinishedInput,
@@ -83,7 +83,7 @@ fn finish<W: AnswerSink, D: Disk + Drop>(
     }
 }
 
-/// Reads chunks of input and serves them until the shell ends. Returns the reason for the end.
+/// Reads chunks of input, and serves each chunk, until the shell ends. Returns the reason for the end of the shell.
 fn run_loop<R: InputSource, W: AnswerSink, D: Disk + Drop>(
     alloc: Global,
     buffer: &mut [u8],
@@ -126,11 +126,11 @@ fn run_loop<R: InputSource, W: AnswerSink, D: Disk + Drop>(
     ShellEnd::InputLimit
 }
 
-/// Serves the lines of a reader on a session until input ends, a call fails, or the input limit is reached. Returns
-/// the reason for the end.
+/// Serves the lines of a reader on a session until input ends, a call fails, or the input limit is reached. Returns the
+/// reason for the end of the shell.
 ///
-/// The shell records each accepted command before it writes the command's answer. The machine may stop at any moment.
-/// A session that is then opened on the disk has executed a prefix of the accepted commands. The prefix includes each
+/// The shell records each accepted command before it writes the command's answer. The machine can stop at any moment. A
+/// session that is then opened on the disk has executed a prefix of the accepted commands. The prefix includes each
 /// acknowledged command.
 pub fn run_shell<R: InputSource, W: AnswerSink, D: Disk + Drop>(
     alloc: Global,

@@ -1,4 +1,4 @@
-//! The input of a shell, and the sink of its answers.
+//! The input of a shell, and the sink that receives its answers.
 ghost use Rattle.std.specs.Prelude.{◌<◌, ◌++◌, ℕ, List, Option, None, length, take, IfOk, OnErr, OnOk};
 ghost use Rattle.std.specs.Io.KnownBytes.{Appends, Keeps};
 ghost use Rattle.mcs_shell.specs.Answers.{MayAnswer};
@@ -15,8 +15,8 @@ use std::io::{Read, Write};
 #[derive(Clone, Copy)]
 pub struct ReadFailed;
 
-/// The input of a shell. Every type that implements `Read` also implements this trait, with an unknown number of
-/// failures.
+/// The input of a shell. Every type that implements `Read` also implements this trait. For such a type, the number of
+/// failed reads is unknown.
 pub trait InputSource {
     /// The bytes that later reads return, if they are known.
     ghost remaining: { Self → Option (List ℕ) };
@@ -25,7 +25,7 @@ pub trait InputSource {
     ghost faults: { Self → Option ℕ };
 
     /// Reads bytes into the front of the buffer, which must not be empty, and returns their number. Returns 0 only if
-    /// input has ended. On an `Err`, no bytes were taken from the source.
+    /// input has ended. On an `Err`, takes no bytes from the source.
     fn read_some(&mut self, buffer: &mut [u8]) -> Result<usize, ReadFailed>
         requires { 0 < length buffer.old }
         ensures ok { IfOk result (λ n. ReadBytes n (length buffer.old)
@@ -47,8 +47,8 @@ impl<R: Read> InputSource for R {
     }
 }
 
-/// The sink of a shell's answers. Every type that implements `Write` also implements this trait, with an unknown
-/// number of failures.
+/// The sink that receives a shell's answers. Every type that implements `Write` also implements this trait. For such a
+/// type, the number of incomplete answers is unknown.
 pub trait AnswerSink {
     /// The bytes that the sink has received, if they are known.
     ghost contents: { Self → Option (List ℕ) };
@@ -56,9 +56,10 @@ pub trait AnswerSink {
     /// The number of answers that the sink did not accept completely, if it is known.
     ghost faults: { Self → Option ℕ };
 
-    /// Writes an answer that is given in two byte slices. The session must have recorded what the answer
-    /// acknowledges. If the session is open and its disk is honest, the disk must represent the session's state. On
-    /// an `Err`, the sink received only a proper prefix of the answer, possibly nothing.
+    /// Writes an answer that is given in two byte slices. Before the call, the session must have recorded the command
+    /// that the answer acknowledges, if there is one. If the session is open and its disk is honest, the disk must
+    /// represent the session's state. On an `Err`, the sink received only a proper prefix of the answer, possibly
+    /// nothing.
     fn write_answer<D: Disk + Drop>(
         &mut self,
         session: &Session<D>,

@@ -1,5 +1,5 @@
-//! Texts: the line that ends a text, the errors that do not depend on the meaning of its lines, and the meaning of a
-//! text without these errors.
+//! Texts: the line that ends a text, the errors in a text, and the meaning of a valid text. Some errors (`TextFault`)
+//! do not depend on the meaning of the text's lines.
 ghost use Rattle.std.specs.Prelude.{◌≡◌, None, IfOk};
 ghost use Rattle.std.specs.List.{list_all, slice_split};
 ghost use Rattle.std.specs.Result.{result_map_both};
@@ -24,7 +24,7 @@ use std::alloc::{AllocError, Global};
 use std::str;
 use thiserror::Error;
 
-/// An error in a text that does not depend on the meaning of its lines.
+/// An error in a text. The errors of this type do not depend on the meaning of the text's lines.
 #[derive(Clone, Copy, Debug, Error)]
 pub enum TextFault {
     /// Input ended inside the text.
@@ -84,7 +84,8 @@ fn has_text_bytes(text: &[u8]) -> bool
     text.iter().all(|b| *b == b'\n' || is_allowed_byte(*b))
 }
 
-/// Returns the first error in a complete text that does not depend on the meaning of its lines, or `None`.
+/// Returns the first error in a complete text, or `None`. Does not check errors that depend on the meaning of the
+/// text's lines.
 #[tactic(auto, unfolding(crate::specs::Inputs::text_fault_of))]
 pub fn text_fault(text: &[u8]) -> Option<TextFault>
     ensures { result ≡ text_fault_of text.now }
@@ -100,7 +101,7 @@ pub fn text_fault(text: &[u8]) -> Option<TextFault>
     }
 }
 
-/// Converts the bytes of a text to a string. The text must have no `TextFault`.
+/// Converts the bytes of a text to a string. `text_fault` must return `None` for the text.
 pub fn as_text(text: &[u8]) -> &str
     requires { text_fault_of text.now ≡ None }
     ensures { result.now ≡ text.now }
@@ -117,7 +118,8 @@ pub enum TextRefusal {
     /// The text does not describe a board.
     #[error("{0}")]
     Wiring(WiringFault),
-    /// The text is not a program. The fields are the number of the line with the error, from 1, and the error.
+    /// The text is not a program. The fields are the number of the line with the error (the first line has number 1)
+    /// and the error.
     #[error("line {0}: {1}")]
     Program(usize, SourceFault),
 }
@@ -127,12 +129,12 @@ pub enum TextRefusal {
 pub enum TextMeaning {
     /// A command to execute.
     Executes(Command),
-    /// Lines to return as the answer, each with its line feed. The text has no other effect.
+    /// Lines to return as the answer, each with its line feed. A text with this meaning has no other effect.
     Reports(Vec<u8>),
 }
 
-/// Parses the text of a board. Returns the command that replaces the board with the parsed one, or the error in the
-/// text. Fails if memory runs out.
+/// Parses the text of a board. Returns the command that replaces the bench's board with the parsed board, or the error
+/// in the text. Fails if memory runs out.
 fn read_board(alloc: Global, text: &str) -> Result<Result<Command, TextRefusal>, AllocError>
     ensures { IfOk result (λ spelled. spelled ≡ wire_command (board_of_text text.now)) }
 {
@@ -143,8 +145,8 @@ fn read_board(alloc: Global, text: &str) -> Result<Result<Command, TextRefusal>,
     }
 }
 
-/// Assembles the text of a program. Returns the command that loads its bytes, or the error in the text. Fails if
-/// memory runs out.
+/// Assembles the text of a program. Returns the command that loads the program's bytes, or the error in the text. Fails
+/// if memory runs out.
 fn read_program(alloc: Global, text: &str) -> Result<Result<Command, TextRefusal>, AllocError>
     ensures { IfOk result (λ spelled. spelled ≡ load_command (assembly_of_text text.now)) }
 {

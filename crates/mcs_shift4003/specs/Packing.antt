@@ -1,14 +1,14 @@
--- The bits of a chain, packed into words of ten bits. (Our own choice.)
+-- The bits of a chain, packed into words of ten bits.
 use Rattle.std.specs.Prelude.{◌≡◌, ℕ, zero, suc, ◌+◌, ◌/◌, ◌%◌, ◌<◌, ◌≤◌, List, length, slice_index}
 use Rattle.mcs_nibble.specs.Bits.{bit_of}
 use Rattle.mcs_nibble.specs.Tables.{table_of}
 
--- bit i of the chain that the words store: bit i % 10 of word i / 10
+-- bit `i` of the chain that the words store: bit `i % 10` of word `i / 10`
 abbrev pub packed_bit : List ℕ → ℕ → ℕ
 packed_bit words i = bit_of (slice_index words (i / 10)) (i % 10)
 
--- the value that a shift moves into bit i: the level of the data line if i is 0, otherwise bit i -
--- 1
+-- the value that a shift moves into bit `i`: the level of the data line for bit 0, otherwise the
+-- value of the bit before bit `i`
 abbrev pub bit_after_shift : ℕ → List ℕ → ℕ → ℕ
 bit_after_shift level words zero = level
 bit_after_shift level words (suc i) = packed_bit words i

@@ -1,6 +1,6 @@
 //! The 4003 shift register: ten bits for each chip. Chips in a row form a chain, which is one sequence of bits.
 //!
-//! A chain stores ten bits in each word, as many as a chip has. It is shifted word by word.
+//! A chain stores ten bits in each word, because a chip has ten bits. A shift processes the chain word by word.
 #![tactic(auto)]
 
 ghost use Rattle.std.specs.Prelude.{◌≡◌, ◌≢◌, ℕ, ◌+◌, ◌*◌, ◌/◌, ◌%◌, ◌<◌, ◌≤◌, All, length, replicate, slice_index, slice_get, slice_set};
@@ -20,7 +20,7 @@ const WORD_BITS: usize = 10;
 #[derive(Drop)]
 pub struct Chain<const MAX: usize> {
     bits: usize,
-    // Bit i of the chain is bit i % 10 of word i / 10. Word bits past the end of the chain are 0.
+    // Bit `i` of the chain is bit `i % 10` of word `i / 10`. Word bits past the end of the chain are 0.
     words: ArrayVec<u16, MAX>,
 }
 
@@ -50,7 +50,8 @@ fn with_bit(word: u16, j: usize, level: Bit) -> u16
     }
 }
 
-/// Returns a ten-bit word shifted up by one bit, with `level` as the new bit 0, and the bit that was shifted out.
+/// Shifts a ten-bit word up by one bit, with `level` as the new bit 0. Returns the new word and the bit that was
+/// shifted out.
 fn shift_word(word: u16, level: u16) -> (u16, u16)
     requires word { word < 1024 }
     requires level { level < 2 }
@@ -60,7 +61,7 @@ fn shift_word(word: u16, level: u16) -> (u16, u16)
     ((2 * word + level) % 1024, word / 512)
 }
 
-/// Sets bit `i` of a chain, stored in ten-bit words, to `level`.
+/// Sets bit `i` of a chain to `level`. The chain is stored in ten-bit words.
 fn set_packed_bit(words: &mut [u16], i: usize, level: Bit)
     requires there { i / 10 < length words.old }
     requires ten { (k : ℕ) → slice_index words.old k < 1024 }
@@ -114,7 +115,7 @@ fn copy_words<const MAX: usize>(words: &ArrayVec<u16, MAX>) -> ArrayVec<u16, MAX
     copy
 }
 
-/// Returns word `k`, or 0 if there are at most `k` words.
+/// Returns the word at index `k`, or 0 if the list has no word at this index.
 fn word_at(words: &[u16], k: usize) -> u16
     ensures { result ≡ slice_index words.now k }
 {
@@ -167,8 +168,8 @@ impl<const MAX: usize> Chain<MAX> {
         }
     }
 
-    /// Returns ten bits of the chain, from bit `first` on. Bit j of the result is bit `first` + j of the chain, or 0
-    /// past its end.
+    /// Returns ten bits of the chain, from bit `first` on. Bit `j` of the result is bit `first + j` of the chain, or
+    /// 0 past the end of the chain.
     pub fn ten_bits_from(&self, first: usize) -> u16
         ensures bits { (j : ℕ) → j < 10 → bit_of result j ≡ slice_index self.now (first + j) }
         ensures ten { result < 1024 }

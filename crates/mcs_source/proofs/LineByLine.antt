@@ -1,4 +1,4 @@
--- Lemmas about the definitions for line i: the step to the next line, and the first line with an
+-- Lemmas about the definitions for line `i`: the step to the next line, and the first line with an
 -- error.
 use Rattle.std.proofs.Common.{◌≡◌, ℕ, zero, suc, ◌+◌, ◌<◌, ◌≤◌, Bool, false, cond, List, [], ◌∷◌, ◌++◌, length, drop, find, filter_map, flat_map, map, Option, Some, None, is_some, inl, inr, refl, sym, ap, subst, ◌∙◌, append-nil, arith, Ok}
 use Rattle.std.specs.List.{range_with_len, cons_option}
@@ -14,40 +14,40 @@ use Rattle.mcs_source.specs.Survey.{span, spans_before}
 use Rattle.mcs_model.proofs.ListLemmas.{range-one-more, find_at}
 use Rattle.mcs_model.specs.Options.{◌>>=◌}
 
--- ---- the step from line i to line i + 1
+-- ---- the step from line `i` to line `i + 1`
 
-range_next : (i : ℕ) → range_with_len 0 (i + 1) ≡ range_with_len 0 i ++ i ∷ []
-range_next i =
+range_with_next_number : (i : ℕ) → range_with_len 0 (i + 1) ≡ range_with_len 0 i ++ i ∷ []
+range_with_next_number i =
     let up : i + 1 ≡ suc i = omega arith in
     let e : 0 + i ≡ i = omega arith in
     ap (range_with_len 0) up ∙ (range-one-more 0 i ∙ ap (λ (k : ℕ). range_with_len 0 i ++ k ∷ []) e)
 
-pub address_next : (lines : List (Option SourceLine)) (i : ℕ) → address_of lines (i + 1) ≡ next_at (ith_line lines i) (address_of lines i)
+pub address_of_next_line : (lines : List (Option SourceLine)) (i : ℕ) → address_of lines (i + 1) ≡ next_at (ith_line lines i) (address_of lines i)
 unfolding address_of
-address_next lines i =
+address_of_next_line lines i =
     let up : i + 1 ≡ suc i = omega arith in
     ap (address_of lines) up
 
-pub names_next : (lines : List (Option SourceLine)) (i : ℕ) → names_before lines (i + 1) ≡ names_before lines i ++ cons_option (definition (ith_line lines i) (address_of lines i)) []
+pub names_before_next_line : (lines : List (Option SourceLine)) (i : ℕ) → names_before lines (i + 1) ≡ names_before lines i ++ cons_option (definition (ith_line lines i) (address_of lines i)) []
 unfolding names_before
-names_next lines i =
+names_before_next_line lines i =
     let define : ℕ → Option (List ℕ × ℕ) = λ j. definition (ith_line lines j) (address_of lines j) in
-    ap (filter_map define) (range_next i) ∙ filter_map-append define (range_with_len 0 i) (i ∷ [])
+    ap (filter_map define) (range_with_next_number i) ∙ filter_map-append define (range_with_len 0 i) (i ∷ [])
 
-pub pairs_next : (lines : List (Option SourceLine)) (names : Names) (i : ℕ) → pairs_before lines names (i + 1) ≡ pairs_before lines names i ++ line_pairs lines names i
+pub pairs_before_next_line : (lines : List (Option SourceLine)) (names : Names) (i : ℕ) → pairs_before lines names (i + 1) ≡ pairs_before lines names i ++ line_pairs lines names i
 unfolding pairs_before
-pairs_next lines names i =
-    ap (flat_map (line_pairs lines names)) (range_next i)
+pairs_before_next_line lines names i =
+    ap (flat_map (line_pairs lines names)) (range_with_next_number i)
     ∙ (flat_map-append (line_pairs lines names) (range_with_len 0 i) (i ∷ []) ∙ ap (λ (l : List (ℕ × ℕ)). flat_map (line_pairs lines names) (range_with_len 0 i) ++ l) (append-nil (line_pairs lines names i)))
 
-pub spans_next : (lines : List (Option SourceLine)) (names : Names) (i : ℕ) → spans_before lines names (i + 1) ≡ spans_before lines names i ++ span lines names i ∷ []
+pub spans_before_next_line : (lines : List (Option SourceLine)) (names : Names) (i : ℕ) → spans_before lines names (i + 1) ≡ spans_before lines names i ++ span lines names i ∷ []
 unfolding spans_before
-spans_next lines names i =
-    ap (map (span lines names)) (range_next i) ∙ map_push (span lines names) (range_with_len 0 i) i
+spans_before_next_line lines names i =
+    ap (map (span lines names)) (range_with_next_number i) ∙ map_push (span lines names) (range_with_len 0 i) i
 
 -- ---- the first line with an error
 
--- Holds if no line before line i has an error.
+-- Holds if no line before line `i` has an error.
 abbrev pub NoFaultBefore : (ℕ → Option SourceFault) → ℕ → Type 0
 NoFaultBefore fault i = (j : ℕ) → j < i → fault j ≡ None
 
@@ -57,51 +57,52 @@ no_fault_before_next fault i before here j lt = elim (cases_eq j i) [
   | inr other ↦ before j (omega (arith, lt, other))
 ]
 
-find_none : (p : ℕ → Bool) (a n : ℕ) → ((j : ℕ) → j < a + n → p j ≡ false) → find p (range_with_len a n) ≡ None
-find_none p a zero h = refl
-find_none p a (suc n) h =
+find_is_none_if_test_false : (p : ℕ → Bool) (a n : ℕ) → ((j : ℕ) → j < a + n → p j ≡ false) → find p (range_with_len a n) ≡ None
+find_is_none_if_test_false p a zero h = refl
+find_is_none_if_test_false p a (suc n) h =
     let here : p a ≡ false = h a (omega arith) in
-    rw here (find_none p (a + 1) n (λ j lt. h j (omega (arith, lt))))
+    rw here (find_is_none_if_test_false p (a + 1) n (λ j lt. h j (omega (arith, lt))))
 
-abbrev with_number : (ℕ → Option SourceFault) → ℕ → Option (ℕ × SourceFault)
-with_number fault i = fault i >>= λ f. Some (i + 1, f)
+abbrev fault_and_line_number : (ℕ → Option SourceFault) → ℕ → Option (ℕ × SourceFault)
+fault_and_line_number fault i = fault i >>= λ f. Some (i + 1, f)
 
 pub no_first_fault : (fault : ℕ → Option SourceFault) (n : ℕ) → NoFaultBefore fault n → first_fault fault n ≡ None
 no_first_fault fault n none =
-    let e : find (λ i. is_some (fault i)) (range_with_len 0 n) ≡ None = find_none (λ i. is_some (fault i)) 0 n (λ j lt. ap is_some (none j (omega (arith, lt)))) in
-    ap (λ (o : Option ℕ). o >>= with_number fault) e
+    let e : find (λ i. is_some (fault i)) (range_with_len 0 n) ≡ None = find_is_none_if_test_false (λ i. is_some (fault i)) 0 n (λ j lt. ap is_some (none j (omega (arith, lt)))) in
+    ap (λ (o : Option ℕ). o >>= fault_and_line_number fault) e
 
 pub first_fault_at : (fault : ℕ → Option SourceFault) (n i : ℕ) (f : SourceFault) → i < n → NoFaultBefore fault i → fault i ≡ Some f → first_fault fault n ≡ Some (i + 1, f)
 first_fault_at fault n i f lt before here =
     let e : find (λ i. is_some (fault i)) (range_with_len 0 n) ≡ Some i = find_at (λ i. is_some (fault i)) 0 n i (omega arith) (omega (arith, lt)) (λ j less. ap is_some (before j less)) (ap is_some here) in
-    ap (λ (o : Option ℕ). o >>= with_number fault) e ∙ ap (λ (o : Option SourceFault). o >>= λ g. Some (i + 1, g)) here
+    ap (λ (o : Option ℕ). o >>= fault_and_line_number fault) e ∙ ap (λ (o : Option SourceFault). o >>= λ g. Some (i + 1, g)) here
 
-none_from : (fault : ℕ → Option SourceFault) (a n : ℕ) → (find (λ i. is_some (fault i)) (range_with_len a n) >>= with_number fault) ≡ None → (j : ℕ) → a ≤ j → j < a + n → fault j ≡ None
-none_from fault a zero e j low high = absurd (omega (arith, low, high))
-none_from fault a (suc n) e j low high =
-    let Q : Option SourceFault → Type 0 = λ o. fault a ≡ o → (cond (is_some o) (Some a) (find (λ i. is_some (fault i)) (range_with_len (a + 1) n)) >>= with_number fault) ≡ None → fault j ≡ None in
+no_fault_if_none_found_in_range : (fault : ℕ → Option SourceFault) (a n : ℕ) → (find (λ i. is_some (fault i)) (range_with_len a n) >>= fault_and_line_number fault) ≡ None → (j : ℕ) → a ≤ j → j < a + n → fault j ≡ None
+no_fault_if_none_found_in_range fault a zero e j low high = absurd (omega (arith, low, high))
+no_fault_if_none_found_in_range fault a (suc n) e j low high =
+    let Q : Option SourceFault → Type 0 = λ o. fault a ≡ o → (cond (is_some o) (Some a) (find (λ i. is_some (fault i)) (range_with_len (a + 1) n)) >>= fault_and_line_number fault) ≡ None → fault j ≡ None in
     (elim (fault a) as Q [
       | Some f ↦ λ is h. absurd (let more : Some (a + 1, f) ≡ None = ap (λ (o : Option SourceFault). o >>= λ g. Some (a + 1, g)) (sym is) ∙ h in cc)
       | None ↦ λ is h. elim (cases_eq j a) [
         | inl same ↦ rw same is
-        | inr other ↦ none_from fault (a + 1) n h j (omega (arith, low, other)) (omega (arith, high))
+        | inr other ↦ no_fault_if_none_found_in_range fault (a + 1) n h j (omega (arith, low, other)) (omega (arith, high))
       ]
     ]) refl e
 
--- if `first_fault` finds no error in the lines below n, none of these lines has an error
-pub no_fault_below : (fault : ℕ → Option SourceFault) (n : ℕ) → first_fault fault n ≡ None → NoFaultBefore fault n
-no_fault_below fault n e j lt = none_from fault 0 n e j (omega arith) (omega (arith, lt))
+-- if `first_fault` finds no error in the lines before line `n`, none of these lines has an error
+pub no_fault_before_if_first_fault_is_none : (fault : ℕ → Option SourceFault) (n : ℕ) → first_fault fault n ≡ None → NoFaultBefore fault n
+no_fault_before_if_first_fault_is_none fault n e j lt = no_fault_if_none_found_in_range fault 0 n e j (omega arith) (omega (arith, lt))
 
 -- ---- the whole text
 
--- the first of the lines that are left is line i, and the others start at line i + 1
-pub line_at_rest : (lines : List (Option SourceLine)) (i : ℕ) (line : Option SourceLine) (more : List (Option SourceLine)) → drop i lines ≡ line ∷ more → (i < length lines) × (ith_line lines i ≡ line) × (drop (i + 1) lines ≡ more)
-line_at_rest lines i line more e =
+-- If the lines from index `i` are `line` followed by the lines `more`, `line` is line `i`, and
+-- `more` are the lines from index `i + 1`.
+pub ith_line_of_remaining_lines : (lines : List (Option SourceLine)) (i : ℕ) (line : Option SourceLine) (more : List (Option SourceLine)) → drop i lines ≡ line ∷ more → (i < length lines) × (ith_line lines i ≡ line) × (drop (i + 1) lines ≡ more)
+ith_line_of_remaining_lines lines i line more e =
     let lt : i < length lines = omega (arith, length-drop i lines, ap length e) in
     let parts : ith_line lines i ∷ drop (i + 1) lines ≡ line ∷ more = sym (drop_more lines i None lt) ∙ e in
     (lt, cc, cc)
 
--- a text in which neither pass finds an error assembles to the pairs of all its lines
+-- if neither pass finds an error in a text, the text assembles to the pairs of all its lines
 pub assembles_if_no_fault : (text : List ℕ) (ls : List (List ℕ)) (names : Names) → ls ≡ lines_of text → earliest_first_pass_fault (read ls) ≡ None → names ≡ all_names (read ls) → earliest_second_pass_fault (read ls) names ≡ None
     → assembly_of_text text ≡ Ok (pairs_before (read ls) names (length (read ls)))
 unfolding assembly_of

@@ -4,7 +4,7 @@ use Rattle.std.specs.List.{before_first, flat_map, list_all, prefix_len}
 use Rattle.std.proofs.lemmas.Bool.{and_parts, eqb-true, true≢false}
 use Rattle.mcs_model.specs.TextLines.{is_blank, words_of}
 use Rattle.mcs_model.specs.Cutting.{IsAtPieceEnd, HasNoSeparator}
-use Rattle.mcs_model.proofs.LineWords.{words_of-blank, words_of-word}
+use Rattle.mcs_model.proofs.LineWords.{words_of-blank, words_of-word_and_rest}
 use Rattle.mcs_source.specs.Lexical.{Token, Word, is_word_byte, with_symbol_spaced, symbol, token_of, tokens}
 
 -- a word token in front of some tokens, or only these tokens if the word is empty
@@ -12,8 +12,7 @@ abbrev pub word_token_before : List ℕ → List Token → List Token
 word_token_before [] more = more
 word_token_before (b ∷ word) more = Word (b ∷ word) ∷ more
 
--- the tokens of the bytes that follow, if the bytes of `word` have been read and the word can
--- continue
+-- the tokens of `word` followed by the given bytes; these bytes can continue the word
 unfoldable pub tokens_after : List ℕ → List ℕ → List Token
 tokens_after word [] = word_token_before word []
 tokens_after word (b ∷ bytes) =
@@ -28,42 +27,42 @@ spaced_line line = flat_map with_symbol_spaced (before_first (λ b. eqb b 59) li
 
 -- ---- a word
 
-word_or_blank : (b : ℕ) → (b ≡ 32) ⊎ (b ≡ 9) → is_word_byte b ≡ false
-word_or_blank b (inl e) = rw e refl
-word_or_blank b (inr e) = rw e refl
+space_or_tab_is_no_word_byte : (b : ℕ) → (b ≡ 32) ⊎ (b ≡ 9) → is_word_byte b ≡ false
+space_or_tab_is_no_word_byte b (inl e) = rw e refl
+space_or_tab_is_no_word_byte b (inr e) = rw e refl
 
-either_blank : (s t : Bool) (b : ℕ) → eqb b 32 ≡ s → eqb b 9 ≡ t → (s || t) ≡ true → (b ≡ 32) ⊎ (b ≡ 9)
-either_blank true t b p q e = inl (eqb-true _ _ p)
-either_blank false true b p q e = inr (eqb-true _ _ q)
-either_blank false false b p q e = absurd cc
+space_or_tab_if_test_true : (s t : Bool) (b : ℕ) → eqb b 32 ≡ s → eqb b 9 ≡ t → (s || t) ≡ true → (b ≡ 32) ⊎ (b ≡ 9)
+space_or_tab_if_test_true true t b p q e = inl (eqb-true _ _ p)
+space_or_tab_if_test_true false true b p q e = inr (eqb-true _ _ q)
+space_or_tab_if_test_true false false b p q e = absurd cc
 
 -- a blank is not a word byte
 pub blank_is_no_word_byte : (b : ℕ) → is_blank b ≡ true → is_word_byte b ≡ false
-blank_is_no_word_byte b e = word_or_blank b (either_blank (eqb b 32) (eqb b 9) b refl refl e)
+blank_is_no_word_byte b e = space_or_tab_is_no_word_byte b (space_or_tab_if_test_true (eqb b 32) (eqb b 9) b refl refl e)
 
 word_byte_is_no_blank : (b : ℕ) → is_word_byte b ≡ true → is_blank b ≡ false
 word_byte_is_no_blank b e =
     let Q : Bool → Type 0 = λ t. is_blank b ≡ t → t ≡ false in
     (elim (is_blank b) as Q [ true ↦ λ yes. absurd (true≢false (sym e ∙ blank_is_no_word_byte b yes)) | false ↦ λ no. refl ]) refl
 
-no_blanks : (word : List ℕ) → list_all is_word_byte word ≡ true → HasNoSeparator is_blank word
-no_blanks [] all = tt
-no_blanks (b ∷ word) all =
+word_contains_no_blanks : (word : List ℕ) → list_all is_word_byte word ≡ true → HasNoSeparator is_blank word
+word_contains_no_blanks [] all = tt
+word_contains_no_blanks (b ∷ word) all =
     let (here, more) = and_parts (is_word_byte b) (list_all is_word_byte word) all in
-    (word_byte_is_no_blank b here, no_blanks word more)
+    (word_byte_is_no_blank b here, word_contains_no_blanks word more)
 
-all_more : (word : List ℕ) (b : ℕ) → list_all is_word_byte word ≡ true → is_word_byte b ≡ true → list_all is_word_byte (word ++ b ∷ []) ≡ true
-all_more [] b all e = rw e refl
-all_more (x ∷ word) b all e =
+all_word_bytes_after_append : (word : List ℕ) (b : ℕ) → list_all is_word_byte word ≡ true → is_word_byte b ≡ true → list_all is_word_byte (word ++ b ∷ []) ≡ true
+all_word_bytes_after_append [] b all e = rw e refl
+all_word_bytes_after_append (x ∷ word) b all e =
     let (here, more) = and_parts (is_word_byte x) (list_all is_word_byte word) all in
-    rw here (all_more word b more e)
+    rw here (all_word_bytes_after_append word b more e)
 
 -- the tokens of a word followed by a blank or by nothing: the word, then the tokens of the rest
 tokens_of_ended_word : (word rest : List ℕ) → list_all is_word_byte word ≡ true → IsAtPieceEnd is_blank rest → map token_of (words_of (word ++ rest)) ≡ word_token_before word (map token_of (words_of rest))
 tokens_of_ended_word [] rest all ends = refl
 tokens_of_ended_word (b ∷ word) rest all ends =
     let (here, more) = and_parts (is_word_byte b) (list_all is_word_byte word) all in
-    ap (map token_of) (words_of-word b word rest (no_blanks (b ∷ word) all, ends))
+    ap (map token_of) (words_of-word_and_rest b word rest (word_contains_no_blanks (b ∷ word) all, ends))
     ∙ ap (λ (t : Token). t ∷ map token_of (words_of rest)) (ap (λ v. cond v (Word (b ∷ word)) (symbol b)) here)
 
 no_words : words_of [] ≡ []
@@ -72,25 +71,25 @@ no_words = refl
 
 -- ---- a line
 
--- a byte `;` and the bytes after it are a comment and give nothing
+-- a byte `;` begins a comment, and `spaced_line` keeps no byte of a comment
 spaced_line_of_comment : (b : ℕ) (bytes : List ℕ) → eqb b 59 ≡ true → spaced_line (b ∷ bytes) ≡ []
 spaced_line_of_comment b bytes e = rw e refl
 
-spread_more : (b : ℕ) (bytes : List ℕ) → eqb b 59 ≡ false → spaced_line (b ∷ bytes) ≡ with_symbol_spaced b ++ spaced_line bytes
-spread_more b bytes e =
+spaced_line_of_byte_before_others : (b : ℕ) (bytes : List ℕ) → eqb b 59 ≡ false → spaced_line (b ∷ bytes) ≡ with_symbol_spaced b ++ spaced_line bytes
+spaced_line_of_byte_before_others b bytes e =
     let n : ℕ = prefix_len (λ x. not (eqb x 59)) bytes in
     let up : 1 + n ≡ suc n = omega arith in
     rw (e, up) refl
 
-apart : (b : ℕ) (rest : List ℕ) → is_word_byte b ≡ false → is_blank b ≡ false → map token_of (words_of (32 ∷ b ∷ 32 ∷ rest)) ≡ symbol b ∷ map token_of (words_of rest)
-apart b rest w k =
-    ap (map token_of) (words_of-blank 32 (b ∷ 32 ∷ rest) refl ∙ words_of-word b [] (32 ∷ rest) ((k, tt), refl) ∙ ap (λ ws. (b ∷ []) ∷ ws) (words_of-blank 32 rest refl))
+tokens_of_spaced_symbol : (b : ℕ) (rest : List ℕ) → is_word_byte b ≡ false → is_blank b ≡ false → map token_of (words_of (32 ∷ b ∷ 32 ∷ rest)) ≡ symbol b ∷ map token_of (words_of rest)
+tokens_of_spaced_symbol b rest w k =
+    ap (map token_of) (words_of-blank 32 (b ∷ 32 ∷ rest) refl ∙ words_of-word_and_rest b [] (32 ∷ rest) ((k, tt), refl) ∙ ap (λ ws. (b ∷ []) ∷ ws) (words_of-blank 32 rest refl))
     ∙ ap (λ (t : Token). t ∷ map token_of (words_of rest)) (ap (λ v. cond v (Word (b ∷ [])) (symbol b)) w)
 
-within : (word bytes : List ℕ) → list_all is_word_byte word ≡ true → map token_of (words_of (word ++ spaced_line bytes)) ≡ tokens_after word bytes
+tokens_of_word_before_spaced_line : (word bytes : List ℕ) → list_all is_word_byte word ≡ true → map token_of (words_of (word ++ spaced_line bytes)) ≡ tokens_after word bytes
 unfolding tokens_after
-within word [] all = tokens_of_ended_word word [] all tt ∙ ap (λ ws. word_token_before word (map token_of ws)) no_words
-within word (b ∷ bytes) all =
+tokens_of_word_before_spaced_line word [] all = tokens_of_ended_word word [] all tt ∙ ap (λ ws. word_token_before word (map token_of ws)) no_words
+tokens_of_word_before_spaced_line word (b ∷ bytes) all =
     let Q : Bool → Bool → Bool → Type 0 = λ c w k. eqb b 59 ≡ c → is_word_byte b ≡ w → is_blank b ≡ k → map token_of (words_of (word ++ spaced_line (b ∷ bytes))) ≡ cond w (tokens_after (word ++ b ∷ []) bytes) (word_token_before word (cond k (tokens_after [] bytes) (cond c [] (symbol b ∷ tokens_after [] bytes)))) in
     (elim (eqb b 59) as (λ c. Q c (is_word_byte b) (is_blank b)) [
       | true ↦ λ ec ew ek.
@@ -99,23 +98,23 @@ within word (b ∷ bytes) all =
           ∙ ap (λ ws. word_token_before word (map token_of ws)) no_words ∙ rw same refl
       | false ↦ λ ec. (elim (is_word_byte b) as (λ w. is_word_byte b ≡ w → is_blank b ≡ is_blank b → map token_of (words_of (word ++ spaced_line (b ∷ bytes))) ≡ cond w (tokens_after (word ++ b ∷ []) bytes) (word_token_before word (cond (is_blank b) (tokens_after [] bytes) (symbol b ∷ tokens_after [] bytes)))) [
         | true ↦ λ ew ek.
-            ap (λ v. map token_of (words_of (word ++ v))) (spread_more b bytes ec ∙ ap (λ v. v ++ spaced_line bytes) (ap (λ v. cond (v || is_blank b) (b ∷ []) (32 ∷ b ∷ 32 ∷ [])) ew))
+            ap (λ v. map token_of (words_of (word ++ v))) (spaced_line_of_byte_before_others b bytes ec ∙ ap (λ v. v ++ spaced_line bytes) (ap (λ v. cond (v || is_blank b) (b ∷ []) (32 ∷ b ∷ 32 ∷ [])) ew))
             ∙ ap (λ v. map token_of (words_of v)) (sym (append_assoc word (b ∷ []) (spaced_line bytes)))
-            ∙ within (word ++ b ∷ []) bytes (all_more word b all ew)
+            ∙ tokens_of_word_before_spaced_line (word ++ b ∷ []) bytes (all_word_bytes_after_append word b all ew)
         | false ↦ λ ew ek. (elim (is_blank b) as (λ k. is_blank b ≡ k → map token_of (words_of (word ++ spaced_line (b ∷ bytes))) ≡ word_token_before word (cond k (tokens_after [] bytes) (symbol b ∷ tokens_after [] bytes))) [
           | true ↦ λ yes.
-              ap (λ v. map token_of (words_of (word ++ v))) (spread_more b bytes ec ∙ ap (λ v. v ++ spaced_line bytes) (ap (λ v. cond (v || is_blank b) (b ∷ []) (32 ∷ b ∷ 32 ∷ [])) ew ∙ ap (λ v. cond v (b ∷ []) (32 ∷ b ∷ 32 ∷ [])) yes))
+              ap (λ v. map token_of (words_of (word ++ v))) (spaced_line_of_byte_before_others b bytes ec ∙ ap (λ v. v ++ spaced_line bytes) (ap (λ v. cond (v || is_blank b) (b ∷ []) (32 ∷ b ∷ 32 ∷ [])) ew ∙ ap (λ v. cond v (b ∷ []) (32 ∷ b ∷ 32 ∷ [])) yes))
               ∙ tokens_of_ended_word word (b ∷ spaced_line bytes) all yes
               ∙ ap (λ ws. word_token_before word (map token_of ws)) (words_of-blank b (spaced_line bytes) yes)
-              ∙ ap (word_token_before word) (within [] bytes refl)
+              ∙ ap (word_token_before word) (tokens_of_word_before_spaced_line [] bytes refl)
           | false ↦ λ no.
-              ap (λ v. map token_of (words_of (word ++ v))) (spread_more b bytes ec ∙ ap (λ v. v ++ spaced_line bytes) (ap (λ v. cond (v || is_blank b) (b ∷ []) (32 ∷ b ∷ 32 ∷ [])) ew ∙ ap (λ v. cond v (b ∷ []) (32 ∷ b ∷ 32 ∷ [])) no))
+              ap (λ v. map token_of (words_of (word ++ v))) (spaced_line_of_byte_before_others b bytes ec ∙ ap (λ v. v ++ spaced_line bytes) (ap (λ v. cond (v || is_blank b) (b ∷ []) (32 ∷ b ∷ 32 ∷ [])) ew ∙ ap (λ v. cond v (b ∷ []) (32 ∷ b ∷ 32 ∷ [])) no))
               ∙ tokens_of_ended_word word (32 ∷ b ∷ 32 ∷ spaced_line bytes) all refl
-              ∙ ap (word_token_before word) (apart b (spaced_line bytes) ew no ∙ ap (λ ts. symbol b ∷ ts) (within [] bytes refl))
+              ∙ ap (word_token_before word) (tokens_of_spaced_symbol b (spaced_line bytes) ew no ∙ ap (λ ts. symbol b ∷ ts) (tokens_of_word_before_spaced_line [] bytes refl))
         ]) refl
       ])
     ]) refl refl refl
 
 pub byte_by_byte : (line : List ℕ) → tokens line ≡ tokens_after [] line
 unfolding tokens
-byte_by_byte line = within [] line refl
+byte_by_byte line = tokens_of_word_before_spaced_line [] line refl

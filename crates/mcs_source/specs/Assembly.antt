@@ -1,6 +1,7 @@
 -- The result of assembling a source text: the (address, byte) pairs that its lines emit, or its
--- first error. (Our own choice.) Most definitions are about line i of the text. Lines are numbered
--- from 0 here, and from 1 in an error report. Errors have the numbers 30 to 37 (`RefusalNumbers`).
+-- first error. (Defined by Fethsaim, not by Intel.) Most definitions are about line `i` of the
+-- text. Lines are numbered from 0 here, and from 1 in an error report. Errors have the refusal
+-- numbers 30 to 37 (module `RefusalNumbers`).
 use Rattle.std.specs.Prelude.{ℕ, zero, suc, ◌+◌, slice_index_or, ◌/◌, ◌%◌, Bool, true, false, not, ◌&&◌, ◌||◌, List, [], ◌∷◌, length, map, find, Option, Some, None, is_some, option_map, Result, Ok, Err, nat_lt, nat_le, ◌==◌, if◌then◌else◌}
 use Rattle.std.specs.List.{list_any, list_all, flat_map, filter_map, range_with_len}
 use Rattle.std.specs.Str.{bytes_eq}
@@ -24,7 +25,7 @@ use Rattle.mcs_model.specs.WordTables.{lookup_entry}
 abbrev pub read : List (List ℕ) → List (Option SourceLine)
 read lines = map (λ line. line_of (tokens line)) lines
 
--- the parsed line i, or `None` if it does not parse or there is no line i
+-- the parsed line `i`, or `None` if it does not parse or there is no line `i`
 abbrev pub ith_line : List (Option SourceLine) → ℕ → Option SourceLine
 ith_line lines i = slice_index_or lines i None
 
@@ -58,7 +59,7 @@ next_at (Some (Code label s)) at = next_statement s at
 next_at (Some (Define w n)) at = at
 next_at None at = at
 
--- the address at which line i starts; line 0 starts at address 0
+-- the address at which line `i` starts; line 0 starts at address 0
 unfoldable pub address_of : List (Option SourceLine) → ℕ → ℕ
 address_of lines zero = 0
 address_of lines (suc i) = next_at (ith_line lines i) (address_of lines i)
@@ -76,7 +77,7 @@ definition (Some (Code label s)) at = option_map (λ w. (w, at)) label
 definition (Some (Define w n)) at = Some (w, n)
 definition None at = None
 
--- the names that the lines before line i define, with their values
+-- the names that the lines before line `i` define, with their values
 unfoldable pub names_before : List (Option SourceLine) → ℕ → Names
 names_before lines i =
     filter_map (λ j. definition (ith_line lines j) (address_of lines j)) (range_with_len 0 i)
@@ -85,10 +86,11 @@ names_before lines i =
 abbrev pub all_names : List (Option SourceLine) → Names
 all_names lines = names_before lines (length lines)
 
--- ---- errors of the first pass: 30, 31, 36, 37, and 33 in `ORG` and `=`. They depend only on the
--- line and the lines before it.
+-- ---- errors of the first pass: a bad statement (30), a name that is already defined (31), an
+-- address past the end (36), too many names (37), and a number out of range in `ORG` or
+-- `NAME = NUMBER` (33). They depend only on the line and the lines before it.
 
--- error 31: an earlier line defines the same name
+-- true if a name is in the list of defined names; a line that defines it again has error 31
 abbrev pub is_defined : List ℕ → Names → Bool
 is_defined w names = list_any (λ n. bytes_eq n.0 w) names
 
@@ -100,7 +102,8 @@ abbrev pub is_defined_name : Option (List ℕ) → Names → Bool
 is_defined_name None names = false
 is_defined_name (Some w) names = is_defined w names
 
--- error 33 in the first pass: the number in `ORG` or `NAME = NUMBER` is above 4095
+-- true if the number in an `ORG` (`is_bad_origin`), or in an `ORG` or `NAME = NUMBER`
+-- (`has_bad_number`), is above 4095 (error 33)
 abbrev pub is_bad_origin : Option Statement → Bool
 is_bad_origin (Some (Origin n)) = not (nat_lt n 4096)
 is_bad_origin s = false
@@ -109,16 +112,16 @@ abbrev pub has_bad_number : SourceLine → Bool
 has_bad_number (Define w n) = not (nat_lt n 4096)
 has_bad_number (Code label s) = is_bad_origin s
 
--- Error 36: the line has a label at 4096 or above, or emits a byte at 4096 or above. The address
--- `at` is above 4096 only if an earlier line has an error.
+-- True if a line at address `at` has a label at 4096 or above, or emits a byte at 4096 or above
+-- (error 36). The address `at` is above 4096 only if an earlier line has an error.
 abbrev pub passes_end : SourceLine → ℕ → Bool
 passes_end (Define w n) at = false
 passes_end (Code label s) at =
     (is_some label && nat_le 4096 at) || nat_lt 4096 (at + statement_size s)
 
--- The error that the first pass finds in a line, if any: the first of 30, 33, 31, 37 and 36, in
--- this order. The line starts at address `at`, and `names` are the names that earlier lines define.
--- Error 37: the line defines a name after `NAMES` names are defined.
+-- The error that the first pass finds in a line, if any. If several errors apply, the first in this
+-- order: 30 (the line does not parse), 33, 31, 37 (earlier lines define `NAMES` names already), 36.
+-- The line starts at address `at`, and `names` are the names that earlier lines define.
 abbrev pub first_pass_line_fault : ℕ → Names → Option SourceLine → Option SourceFault
 first_pass_line_fault at names None = Some BadStatement
 first_pass_line_fault at names (Some line) =
@@ -127,8 +130,8 @@ first_pass_line_fault at names (Some line) =
     if is_some (defined_name line) && nat_le NAMES (length names) then Some TooManyNames else
     if passes_end line at then Some PastEnd else None
 
--- the error that the first pass finds in line i, if any; it depends only on this line and the lines
--- before it
+-- the error that the first pass finds in line `i`, if any; it depends only on this line and the
+-- lines before it
 unfoldable pub first_pass_fault : List (Option SourceLine) → ℕ → Option SourceFault
 first_pass_fault lines i = first_pass_line_fault (address_of lines i) (names_before lines i) (ith_line lines i)
 
@@ -146,18 +149,19 @@ abbrev pub values_in : Names → List Operand → Option (List ℕ)
 values_in names [] = Some []
 values_in names (v ∷ vs) = value_in names v >>= λ n. values_in names vs >>= λ ns. Some (n ∷ ns)
 
--- error 32 if there is no value, else the result of the next step with the value
+-- error 32 (undefined name) if there is no value, else the result of the function `next` for the
+-- value
 abbrev pub with_known_value : {A B : Type 0} → Option A → (A → Result B SourceFault) → Result B SourceFault
 with_known_value None next = Err UnknownName
 with_known_value (Some x) next = next x
 
--- error 33 if the condition is false (a value is out of range), else the result of the next step
+-- error 33 (value out of range) if the condition is false, else the result `next`
 abbrev pub if_in_range : {B : Type 0} → Bool → Result B SourceFault → Result B SourceFault
 if_in_range false next = Err OutOfRange
 if_in_range true next = next
 
--- error 34 if the condition is false (the instruction cannot reach the page of an address), else
--- the result of the next step
+-- error 34 (the instruction cannot reach the page of an address) if the condition is false, else
+-- the result `next`
 abbrev pub if_on_page : {B : Type 0} → Bool → Result B SourceFault → Result B SourceFault
 if_on_page false next = Err WrongPage
 if_on_page true next = next
@@ -170,7 +174,8 @@ reachable_page at = page_of (at + 2)
 abbrev pub is_on_reachable_page : ℕ → ℕ → Bool
 is_on_reachable_page at t = t / 256 == reachable_page at
 
--- the bytes that a statement at an address emits, or its first error among 32, 33 and 34
+-- the bytes that a statement at address `at` emits, or its first error in this order: 32 (undefined
+-- name), 33 (value out of range), 34 (wrong page)
 abbrev pub statement_bytes : ℕ → Names → Statement → Result (List ℕ) SourceFault
 statement_bytes at names (Origin n) = Ok []
 statement_bytes at names (Data vs) =
@@ -197,7 +202,7 @@ statement_bytes at names (Isz r w) =
     with_known_value (value_in names w) (λ t.
     if_in_range (nat_lt t 4096) (if_on_page (is_on_reachable_page at t) (Ok (spelling (op.Isz r (t % 256))))))
 
--- the bytes that a line emits if it starts at an address, or the error of its statement
+-- the bytes that a line at address `at` emits, or the error of its statement
 abbrev pub line_bytes : ℕ → Names → Option SourceLine → Result (List ℕ) SourceFault
 line_bytes at names (Some (Code label (Some s))) = statement_bytes at names s
 line_bytes at names line = Ok []
@@ -206,27 +211,28 @@ abbrev pub bytes_or_none : Result (List ℕ) SourceFault → List ℕ
 bytes_or_none (Ok bytes) = bytes
 bytes_or_none (Err f) = []
 
--- the (address, byte) pairs that line i emits; empty if the line has error 32, 33 or 34
+-- the (address, byte) pairs that line `i` emits; empty if the line has error 32, 33 or 34
 abbrev pub line_pairs : List (Option SourceLine) → Names → ℕ → List (ℕ × ℕ)
 line_pairs lines names i =
     from_address (address_of lines i)
     (bytes_or_none (line_bytes (address_of lines i) names (ith_line lines i)))
 
--- the (address, byte) pairs that the lines before line i emit, in line order
+-- the (address, byte) pairs that the lines before line `i` emit, in line order
 unfoldable pub pairs_before : List (Option SourceLine) → Names → ℕ → List (ℕ × ℕ)
 pairs_before lines names i = flat_map (line_pairs lines names) (range_with_len 0 i)
 
--- ---- errors of the second pass: 32 to 35. They depend on the values of all names, and are reported
--- only if the first pass finds no error.
+-- ---- errors of the second pass: an undefined name (32), a value out of range (33), the wrong page
+-- (34) and an overlap (35). They depend on the values of all names, and are reported only if the
+-- first pass finds no error.
 
--- The error that the second pass finds in a line, if any. It is the error in the line's bytes. If
--- the bytes have no error, it is 35 if `pairs`, the pairs of earlier lines, contain one of the
--- line's addresses.
+-- The error that the second pass finds in a line at address `at`, if any. The last argument is the
+-- bytes of the line, or an error, which is then the result. The result is error 35 (overlap) if
+-- `pairs`, the pairs of earlier lines, contain an address of these bytes.
 abbrev pub second_pass_line_fault : ℕ → List (ℕ × ℕ) → Result (List ℕ) SourceFault → Option SourceFault
 second_pass_line_fault at pairs (Err f) = Some f
 second_pass_line_fault at pairs (Ok bytes) = if overlaps pairs at (length bytes) then Some Overlap else None
 
--- the error that the second pass finds in line i, if any; it depends on this line, on the lines
+-- the error that the second pass finds in line `i`, if any; it depends on this line, on the lines
 -- before it and on the values of all names
 unfoldable pub second_pass_fault : List (Option SourceLine) → Names → ℕ → Option SourceFault
 second_pass_fault lines names i =
@@ -235,7 +241,7 @@ second_pass_fault lines names i =
 
 -- ---- the whole text
 
--- the first error in the lines below n, with its line number, counted from 1
+-- the first error in the lines before line `n`, with its line number, counted from 1
 abbrev pub first_fault : (ℕ → Option SourceFault) → ℕ → Option (ℕ × SourceFault)
 first_fault fault n =
     find (λ i. is_some (fault i)) (range_with_len 0 n) >>= λ i. fault i >>= λ f. Some (i + 1, f)

@@ -1,11 +1,11 @@
--- The tokens of a line of a source text. (Our own choice.)
+-- The tokens of a line of a source text. (Defined by Fethsaim, not by Intel.)
 use Rattle.std.specs.Prelude.{ℕ, Bool, ◌||◌, List, [], ◌∷◌, ◌==◌, map, if◌then◌else◌}
 use Rattle.std.specs.List.{before_first, flat_map}
 use Rattle.std.specs.Char.{is_ascii_digit, is_ascii_uppercase, is_ascii_lowercase}
 use Rattle.mcs_model.specs.TextLines.{is_blank, words_of}
 
--- A token of a source line. A word is a run of letters, digits and `_`. `Other` is a byte that no
--- token can contain, for example a non-ASCII byte.
+-- A token of a source line. A word is a run of letters, digits and `_`. `Other` is any other byte,
+-- for example a non-ASCII byte.
 pub data Token : Type 0 where
   Word : List ℕ → Token
   Comma : Token
@@ -13,7 +13,7 @@ pub data Token : Type 0 where
   Equals : Token
   Other : Token
 
--- true for a letter, a digit and `_`
+-- true for a letter, a digit or `_`
 abbrev pub is_word_byte : ℕ → Bool
 is_word_byte b = ((is_ascii_digit b || is_ascii_uppercase b) || is_ascii_lowercase b) || b == 95
 

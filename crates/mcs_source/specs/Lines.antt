@@ -1,6 +1,6 @@
 -- The syntax of a source line: an optional label and an optional statement, or the definition of a
--- name. The tokens of a line do not include its comment. (Our own choice, with the operands of the
--- MCS-4 Users Manual.)
+-- name. The tokens of a line do not include its comment. (The operands of the instructions are from
+-- the MCS-4 Users Manual; the rest is defined by Fethsaim.)
 use Rattle.std.specs.Prelude.{ℕ, ◌-◌, Bool, false, not, ◌&&◌, ◌||◌, List, [], ◌∷◌, Option, Some, None, is_some, nat_le, ◌==◌, if◌then◌else◌, codes, length}
 use Rattle.std.specs.Str.{str_eq_ignore_ascii_case}
 use Rattle.std.specs.Char.{is_ascii_digit, is_ascii_uppercase, is_ascii_lowercase}
@@ -67,8 +67,8 @@ is_name w = (begins_name w && nat_le (length w) NAME_BYTES) && not (is_reserved 
 abbrev pub name_of : List ℕ → Option Operand
 name_of w = if is_name w then Some (Name w) else None
 
--- the operand for a number, limited to 2^32, if there is a number, else the operand for a name; no
--- word is both
+-- the first argument as an operand, capped at 2^32, if it is a number; else the second argument. No
+-- word is both a number and a name.
 abbrev pub number_or_name : Option ℕ → Option Operand → Option Operand
 number_or_name (Some n) name = Some (Number (capped_number n))
 number_or_name None name = name
@@ -111,7 +111,8 @@ first_register ts = word_first ts >>= λ x. register_named x.0 >>= λ r. Some (r
 abbrev pub first_pair : List Token → Option (ℕ × List Token)
 first_pair ts = word_first ts >>= λ x. pair_named x.0 >>= λ p. Some (p, x.1)
 
--- the operands in a list of one or more operands, separated by commas
+-- the operands in a list of one or more operands, separated by commas; `None` if the tokens have
+-- another form
 unfoldable pub operands_of : List Token → Option (List Operand)
 operands_of (Word w ∷ []) = operand_of w >>= λ v. Some (v ∷ [])
 operands_of (Word w ∷ Comma ∷ more) = operand_of w >>= λ v. operands_of more >>= λ vs. Some (v ∷ vs)
@@ -122,7 +123,8 @@ abbrev pub bare_statement : Op → List Token → Option Statement
 bare_statement o [] = Some (Whole o)
 bare_statement o (t ∷ ts) = None
 
--- the statement for a mnemonic and the tokens after it, or `None` if the operands do not fit
+-- the statement for a mnemonic and the tokens after it, or `None` if the operands do not have the
+-- form that the mnemonic requires
 abbrev pub statement_after_mnemonic : Mnemonic → List Token → Option Statement
 statement_after_mnemonic m.Org ts = one_number ts >>= λ n. Some (Origin n)
 statement_after_mnemonic m.Db ts = operands_of ts >>= λ vs. Some (Data vs)
@@ -154,14 +156,14 @@ pub data SourceLine : Type 0 where
   Code : Option (List ℕ) → Option Statement → SourceLine
   Define : List ℕ → ℕ → SourceLine
 
--- the line with the given label, if any, and the statement that the tokens form; the line has no
--- statement if there are no tokens
+-- the line with the given label, if any, and the statement that the tokens form; if there are no
+-- tokens, the line has no statement; `None` if the tokens do not form a statement
 abbrev pub code_line : Option (List ℕ) → List Token → Option SourceLine
 code_line label [] = Some (Code label None)
 code_line label (t ∷ ts) = statement_of (t ∷ ts) >>= λ s. Some (Code label (Some s))
 
--- the line that the tokens form, if they do not begin with a label: the definition of a name, or a
--- statement
+-- the line that the tokens form, if they do not begin with a label: the definition of a name, or an
+-- optional statement; `None` if they have no valid form
 abbrev pub unlabelled : List Token → Option SourceLine
 unlabelled (Word w ∷ Equals ∷ ts) =
     if is_name w then (one_number ts >>= λ n. Some (Define w n)) else None

@@ -1,5 +1,5 @@
 -- The answer to `map`: a header row, a row for each line of the source, and a row for each name.
--- (Our own choice.)
+-- (Defined by Fethsaim, not by Intel.)
 use Rattle.std.specs.Prelude.{ℕ, ◌+◌, List, [], ◌∷◌, ◌++◌, length, map, codes, nat_lt, if◌then◌else◌}
 use Rattle.std.specs.Fmt.{decimal}
 use Rattle.mcs_model.specs.QueryText.{address_text}
@@ -15,7 +15,8 @@ address_or_end_text at = if nat_lt at 4096 then address_text at else codes "1000
 abbrev pub header_row : ℕ → ℕ → List ℕ
 header_row lines names = codes "map lines " ++ decimal lines ++ codes " names " ++ decimal names
 
--- the row of a source line: its number, its address and the number of bytes that it emits
+-- the row of a source line: the line number, the address of the line, and the number of bytes that
+-- the line emits
 abbrev pub line_row : ℕ → Span → List ℕ
 line_row number s =
     codes "line " ++ decimal number ++ codes " " ++ address_or_end_text s.at ++ codes " " ++ decimal s.size

@@ -1,5 +1,6 @@
--- The words that begin a statement: the mnemonics of the 45 instructions, `ORG` and `DB`. (Names:
--- MCS-4 Users Manual, instruction set. `ORG` and `DB`: our own choice.)
+-- The words that begin a statement: the mnemonics of the 45 instructions, `ORG` and `DB`. (The
+-- mnemonics are from the MCS-4 Users Manual, instruction set. `ORG` and `DB` are defined by
+-- Fethsaim.)
 use Rattle.std.specs.Prelude.{ℕ, List, [], ◌∷◌, Option, codes}
 use Rattle.std.specs.Option.{option_or}
 use Rattle.std.specs.Str.{str_eq_ignore_ascii_case}
@@ -10,8 +11,8 @@ use Rattle.mcs_source.specs.InstructionNames.{name}
 use Rattle.mcs_source.specs.declared.mnemonic.Mnemonic.{Mnemonic}
 use Rattle.mcs_source.specs.declared.mnemonic.Mnemonic.TheVariants as m
 
--- The entry for a word in a table; upper and lower case are equal. The operands of the instructions
--- in a table have no effect, because only the names of the instructions are used.
+-- The entry for a word in a table, regardless of case. The operands of the instructions in the
+-- tables below are 0, but only the names of the instructions are used.
 abbrev pub mnemonic_lookup : List ℕ → List (List ℕ × Mnemonic) → Option Mnemonic
 mnemonic_lookup w rows = lookup_entry (str_eq_ignore_ascii_case w) rows
 

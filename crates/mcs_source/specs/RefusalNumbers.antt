@@ -1,4 +1,4 @@
--- The refusal numbers of source text errors. (Our own choice.)
+-- The refusal numbers of source text errors. (Defined by Fethsaim, not by Intel.)
 use Rattle.std.specs.Prelude.{ℕ}
 use Rattle.mcs_model.specs.declared.refusal_numbers.TheConstants.{BAD_STATEMENT, DOUBLE_NAME, UNKNOWN_NAME, OUT_OF_RANGE, WRONG_PAGE, OVERLAP, PAST_END, TOO_MANY_NAMES}
 use Rattle.mcs_source.specs.declared.fault.SourceFault.{SourceFault}

@@ -10,8 +10,8 @@ one_word code = code ∷ []
 abbrev pub two_words : ℕ → ℕ → List ℕ
 two_words code second = code ∷ second ∷ []
 
--- the words that encode an instruction; if its operands are in range, `instruction_of` of `Table`
--- decodes these words to the same instruction
+-- the words that encode an instruction; if its operands are in range, `instruction_of` (module
+-- `Table`) decodes these words to the same instruction
 abbrev pub spelling : Op → List ℕ
 spelling Nop = one_word 0x00
 spelling (Jcn c b) = two_words (0x10 + c) b

@@ -1,5 +1,5 @@
--- The address of each source line, the number of bytes that it emits, and the values of the names.
--- (Our own choice.) Lines are numbered from 0, as in `Assembly`.
+-- The address of each source line, the number of bytes that the line emits, and the values of the
+-- names. (Defined by Fethsaim, not by Intel.) Lines are numbered from 0, as in `Assembly`.
 use Rattle.std.specs.Prelude.{ℕ, List, length, map, Option, Result}
 use Rattle.std.specs.Result.{result_map_both}
 use Rattle.std.specs.List.{range_with_len}
@@ -9,11 +9,11 @@ use Rattle.mcs_source.specs.Lines.{SourceLine}
 use Rattle.mcs_source.specs.Assembly.{Names, read, address_of, all_names, line_pairs, assembly_of_text}
 use Rattle.mcs_model.specs.TextLines.{lines_of}
 
--- the span of line i: the address at which the line starts, and the number of bytes that it emits
+-- the span of line `i`: the address at which the line starts, and the number of bytes that it emits
 abbrev pub span : List (Option SourceLine) → Names → ℕ → Span
 span lines names i = record { at = address_of lines i; size = length (line_pairs lines names i) }
 
--- the spans of the lines before line i
+-- the spans of the lines before line `i`
 unfoldable pub spans_before : List (Option SourceLine) → Names → ℕ → List Span
 spans_before lines names i = map (span lines names) (range_with_len 0 i)
 

@@ -1,5 +1,5 @@
--- The text of an instruction at an address, and the listing of a ROM. (Names and operands: MCS-4
--- Users Manual, instruction set. Their format: our own choice.)
+-- The text of an instruction at an address, and the listing of a ROM. (The names and operands are
+-- from the MCS-4 Users Manual, instruction set. Their format is defined by Fethsaim.)
 use Rattle.std.specs.Prelude.{ℕ, zero, suc, ◌+◌, ◌-◌, ◌/◌, ◌%◌, List, [], ◌∷◌, ◌++◌, length, drop, codes, Option, Some, None, nat_lt, nat_le, if◌then◌else◌}
 use Rattle.std.specs.Fmt.{decimal}
 use Rattle.mcs_model.specs.declared.op.Op.{Op}
@@ -45,8 +45,9 @@ operands at o = []
 abbrev pub instruction_text : ℕ → Op → List ℕ
 instruction_text at o = name o ++ operands at o
 
--- The decoded instruction, if the byte b and the bytes `rest` contain all its words. Otherwise
--- `None`, and b is listed as a single byte: b is not an opcode, or the second word is past the end.
+-- The decoded instruction, if the byte `b` and the bytes `rest` contain all its words. Otherwise
+-- `None`, and `b` is listed as a single byte: `b` is not an opcode, or the second word is past the
+-- end.
 abbrev pub complete_op : Option Op → ℕ → List ℕ → Option Op
 complete_op None b rest = None
 complete_op (Some o) b rest = if nat_le (word_count_of o) (1 + length rest) then Some o else None
@@ -57,13 +58,13 @@ abbrev pub second_word : List ℕ → ℕ
 second_word [] = 0
 second_word (c ∷ rest) = c
 
--- the instruction whose first word is b and whose second word, if any, is the first byte of `rest`,
--- or `None` if b is listed as a single byte
+-- the instruction with the first word `b` and, if it has two words, the first byte of `rest` as its
+-- second word; `None` if `b` is listed as a single byte
 unfoldable pub op_at : ℕ → List ℕ → Option Op
 op_at b rest = complete_op (instruction_of b (second_word rest)) b rest
 
--- the text of a piece of a listing: an instruction, or `DB` and the byte if it is not an
--- instruction
+-- the text of a piece of a listing: an instruction, or `DB` and the byte `b` if there is no
+-- instruction (`None`)
 abbrev pub piece_text : ℕ → ℕ → Option Op → List ℕ
 piece_text at b None = byte_text b
 piece_text at b (Some o) = instruction_text at o
@@ -96,7 +97,7 @@ columns at first second = address_digits (at / 256) (at % 256) ++ word_columns f
 abbrev pub listing_line : ℕ → ℕ → List ℕ → Option Op → List ℕ
 listing_line at b rest piece = columns at b (second_word_of_piece piece rest) ++ piece_text at b piece
 
--- the listing lines for the bytes from an address on, at most `most` lines
+-- the listing lines for bytes that start at address `at`, at most `most` lines
 unfoldable pub listing_lines : ℕ → ℕ → List ℕ → List (List ℕ)
 listing_lines zero at bytes = []
 listing_lines (suc most) at [] = []
@@ -105,7 +106,7 @@ listing_lines (suc most) at (b ∷ rest) =
     ∷ listing_lines most (at + piece_size (op_at b rest))
     (drop (piece_size (op_at b rest) - 1) rest)
 
--- the listing of a ROM from an address on: at most `lines` lines, each ended by LF; it stops after
--- address FFF
+-- the listing of a ROM from address `from` on: at most `lines` lines, each ended by LF; the listing
+-- stops after address FFF
 abbrev pub listing_text : List ℕ → ℕ → ℕ → List ℕ
 listing_text rom from lines = text_of (listing_lines lines from (drop from rom))

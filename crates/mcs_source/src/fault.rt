@@ -8,28 +8,28 @@ use thiserror::Error;
 /// An error in a line of a source text.
 #[derive(Clone, Copy, Debug, PartialEq, Eq, Error)]
 pub enum SourceFault {
-    /// The line does not parse as a source line (no 30).
+    /// The line does not parse as a source line (refusal 30).
     #[error("the line is not a statement")]
     BadStatement,
-    /// The line defines a name that an earlier line defined (no 31).
+    /// The line defines a name that an earlier line defined (refusal 31).
     #[error("an earlier line defines the name")]
     DoubleName,
-    /// The line uses a name that no line defines (no 32).
+    /// The line uses a name that no line defines (refusal 32).
     #[error("no line defines the name")]
     UnknownName,
-    /// A value is out of its range (no 33).
+    /// A value is out of its range (refusal 33).
     #[error("a value is out of its range")]
     OutOfRange,
-    /// The address in a JCN or ISZ is not on the page that the instruction can reach (no 34).
+    /// The address in a JCN or ISZ is not on the page that the instruction can reach (refusal 34).
     #[error("the address is on another page")]
     WrongPage,
-    /// The line emits a byte at an address that an earlier line has filled (no 35).
+    /// The line emits a byte at an address that an earlier line has filled (refusal 35).
     #[error("an earlier line fills the address")]
     Overlap,
-    /// The line has a label at address 4096, or emits a byte at address 4096 or above (no 36).
+    /// The line has a label at address 4096, or emits a byte at address 4096 or above (refusal 36).
     #[error("the address is past the end of the ROM")]
     PastEnd,
-    /// The line defines a 513th name (no 37).
+    /// The line defines a 513th name (refusal 37).
     #[error("the text defines too many names")]
     TooManyNames,
 }

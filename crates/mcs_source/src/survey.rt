@@ -16,7 +16,7 @@ pub struct Span {
 
 /// Proves the law of surveys: the addresses in the spans of a text, in line order, are the
 /// addresses of the bytes that the text emits. The law covers every text that assembles. The
-/// function does nothing.
+/// function has an empty body.
 pub fn spans_law()
     ensures { (text : List ℕ) (pairs : List (ℕ × ℕ)) (survey : Survey) → assembly_of_text text ≡ Ok pairs
         → survey_of_text text ≡ Ok survey → map (λ p. p.0) pairs ≡ flat_map addresses_of_span survey.spans }

@@ -16,10 +16,11 @@ use Rattle.mcs_trace.specs.RunCounts.{IsTally, incremented_if}
 abbrev pub instruction_begun_at : Machine → ℕ → List BegunInstruction
 instruction_begun_at s k = cond (begins (cycle_at s k)) (cycle_at s k ∷ []) []
 
--- k + 1 cycles begin the instructions of k cycles, then the instruction of the last cycle, if it begins one
-pub begun-more : (k : ℕ) (s : Machine) → instructions_begun_within (k + 1) s ≡ instructions_begun_within k s ++ instruction_begun_at s k
+-- k + 1 cycles begin the instructions that the first k cycles begin, and then the instruction that
+-- cycle k begins, if any
+pub instructions_begun-in_one_more_cycle : (k : ℕ) (s : Machine) → instructions_begun_within (k + 1) s ≡ instructions_begun_within k s ++ instruction_begun_at s k
 unfolding instructions_begun_within
-begun-more k s =
+instructions_begun-in_one_more_cycle k s =
     let more : range_with_len 0 (k + 1) ≡ range_with_len 0 k ++ k ∷ [] = (let one : k + 1 ≡ suc k = omega arith in let same : 0 + k ≡ k = omega arith in ap (range_with_len 0) one ∙ range-one-more 0 k ∙ ap (λ (j : ℕ). range_with_len 0 k ++ j ∷ []) same) in
     ap (λ l. filter begins (map (cycle_at s) l)) more
     ∙ ap (filter begins) (map-append (cycle_at s) (range_with_len 0 k) (k ∷ []))
@@ -32,9 +33,9 @@ length-filter p (x ∷ xs) =
     elim (p x) as (λ v. length (cond v (x ∷ filter p xs) (filter p xs)) ≤ length (x ∷ xs)) [ true ↦ omega arith | false ↦ omega arith ]
 
 -- k cycles begin at most k instructions
-pub begun-few : (k : ℕ) (s : Machine) → length (instructions_begun_within k s) ≤ k
+pub instruction_count-at_most_cycles : (k : ℕ) (s : Machine) → length (instructions_begun_within k s) ≤ k
 unfolding instructions_begun_within
-begun-few k s =
+instruction_count-at_most_cycles k s =
     let f = length-filter begins (map (cycle_at s) (range_with_len 0 k)) in
     let m = length-map (range_with_len 0 k) (cycle_at s) in
     let r = length-range_with_len 0 k in
@@ -44,39 +45,41 @@ begun-few k s =
 abbrev pub one-when : Bool → ℕ
 one-when b = cond b 1 0
 
-and-one : (b x : Bool) (e : BegunInstruction) (p : BegunInstruction → Bool) → p e ≡ x → count_by p (cond b (e ∷ []) []) ≡ one-when (b && x)
-and-one true true e p h = rw h refl
-and-one true false e p h = rw h refl
-and-one false true e p h = refl
-and-one false false e p h = refl
+count_by-of_optional_instruction : (b x : Bool) (e : BegunInstruction) (p : BegunInstruction → Bool) → p e ≡ x → count_by p (cond b (e ∷ []) []) ≡ one-when (b && x)
+count_by-of_optional_instruction true true e p h = rw h refl
+count_by-of_optional_instruction true false e p h = rw h refl
+count_by-of_optional_instruction false true e p h = refl
+count_by-of_optional_instruction false false e p h = refl
 
--- if the m cycles begin one instruction more than the k cycles, the count increases by 1 if p is true for that
--- instruction
-pub counted-more : (k m : ℕ) (s : Machine) (p : BegunInstruction → Bool) → instructions_begun_within m s ≡ instructions_begun_within k s ++ instruction_begun_at s k → count_by p (instructions_begun_within m s) ≡ count_by p (instructions_begun_within k s) + one-when (begins (cycle_at s k) && p (cycle_at s k))
-counted-more k m s p e =
+-- suppose that m cycles begin the instructions that k cycles begin, and then the instruction that
+-- cycle k begins, if any. The count for m cycles is then 1 higher than the count for k cycles if
+-- cycle k begins an instruction for which p is true. Otherwise the counts are equal.
+pub count_by-in_one_more_cycle : (k m : ℕ) (s : Machine) (p : BegunInstruction → Bool) → instructions_begun_within m s ≡ instructions_begun_within k s ++ instruction_begun_at s k → count_by p (instructions_begun_within m s) ≡ count_by p (instructions_begun_within k s) + one-when (begins (cycle_at s k) && p (cycle_at s k))
+count_by-in_one_more_cycle k m s p e =
     ap (count_by p) e
     ∙ sum_by-append (λ x. cond (p x) 1 0) (instructions_begun_within k s) (instruction_begun_at s k)
-    ∙ ap (λ m. count_by p (instructions_begun_within k s) + m) (and-one (begins (cycle_at s k)) (p (cycle_at s k)) (cycle_at s k) p refl)
+    ∙ ap (λ m. count_by p (instructions_begun_within k s) + m) (count_by-of_optional_instruction (begins (cycle_at s k)) (p (cycle_at s k)) (cycle_at s k) p refl)
 
-pub counted-few : (k : ℕ) (s : Machine) (p : BegunInstruction → Bool) → count_by p (instructions_begun_within k s) ≤ k
-counted-few k s p = let a = count_by-le-length p (instructions_begun_within k s) in let b = begun-few k s in omega arith
+pub count_by-at_most_cycles : (k : ℕ) (s : Machine) (p : BegunInstruction → Bool) → count_by p (instructions_begun_within k s) ≤ k
+count_by-at_most_cycles k s p = let a = count_by-le-length p (instructions_begun_within k s) in let b = instruction_count-at_most_cycles k s in omega arith
 
 -- `incremented_if` adds 1 to the number at index `place` if b is true, and changes no other number
-with-one-at : (xs : List ℕ) (b : Bool) (place at : ℕ) → place < length xs → get_or (incremented_if xs b place) at 0 ≡ get_or xs at 0 + one-when (b && eqb place at)
-with-one-at xs false place at l = omega arith
-with-one-at xs true place at l =
+number-after_increment : (xs : List ℕ) (b : Bool) (place at : ℕ) → place < length xs → get_or (incremented_if xs b place) at 0 ≡ get_or xs at 0 + one-when (b && eqb place at)
+number-after_increment xs false place at l = omega arith
+number-after_increment xs true place at l =
     elim (cases_eq at place) [
       | inl e ↦ (let t : eqb place at ≡ true = eq-eqb place at (sym e) in rw (t, e) (get_or-set_same xs place (get_or xs place 0 + 1) 0 l))
       | inr ne ↦ (let f : eqb place at ≡ false = grind (arith, nat_tests) in rw f (get_or-set_other xs place at (get_or xs place 0 + 1) 0 ne ∙ omega arith))
     ]
 
-with-one-length : (xs : List ℕ) (b : Bool) (place : ℕ) → length (incremented_if xs b place) ≡ length xs
-with-one-length xs true place = length-set xs place (get_or xs place 0 + 1)
-with-one-length xs false place = refl
+length-incremented_if : (xs : List ℕ) (b : Bool) (place : ℕ) → length (incremented_if xs b place) ≡ length xs
+length-incremented_if xs true place = length-set xs place (get_or xs place 0 + 1)
+length-incremented_if xs false place = refl
 
--- `incremented_if` keeps a tally if the counts increase by 1 at the same address
-pub tally-more : (xs : List ℕ) (b : Bool) (place : ℕ) (f g : ℕ → ℕ) → place < 4096 → IsTally xs f → ((at : ℕ) → at < 4096 → g at ≡ f at + one-when (b && eqb place at)) → IsTally (incremented_if xs b place) g
-tally-more xs b place f g l t more = record {
-  len = with-one-length xs b place ∙ t.len;
-  each = λ at h. with-one-at xs b place at (let len = t.len in omega arith) ∙ ap (λ m. m + one-when (b && eqb place at)) (t.each at h) ∙ sym (more at h);
+-- suppose that g equals f, except that g is 1 higher at `place` if b is true. If xs is a tally of
+-- f, `incremented_if` then gives a tally of g.
+pub tally-after_increment : (xs : List ℕ) (b : Bool) (place : ℕ) (f g : ℕ → ℕ) → place < 4096 → IsTally xs f → ((at : ℕ) → at < 4096 → g at ≡ f at + one-when (b && eqb place at)) → IsTally (incremented_if xs b place) g
+tally-after_increment xs b place f g l t more = record {
+  len = length-incremented_if xs b place ∙ t.len;
+  each = λ at h. number-after_increment xs b place at (let len = t.len in omega arith) ∙ ap (λ m. m + one-when (b && eqb place at)) (t.each at h) ∙ sym (more at h);
 }

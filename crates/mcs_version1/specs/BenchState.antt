@@ -1,4 +1,4 @@
--- The flat state of a bench in version 1. There are no watches.
+-- The flat state of a bench in version 1, which has no watches.
 use Rattle.std.specs.Prelude.{ℕ, List}
 use Rattle.mcs_model.specs.declared.regs.Regs.{Regs}
 use Rattle.mcs_model.specs.Bus.{BusState}

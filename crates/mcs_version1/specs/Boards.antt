@@ -1,5 +1,6 @@
--- The conditions under which parts form a valid board in version 1, which has fewer and shorter
--- chains. Version 1 and version 2 share the definitions of lines.
+-- The conditions under which parts form a valid board in version 1, which allows fewer and shorter
+-- chains than version 2. The tests that all lines exist and have the right direction are those of
+-- version 2.
 use Rattle.std.specs.Prelude.{◌≡◌, ◌≤◌, ◌↔◌, Bool, true, false, ◌&&◌, ◌||◌, not, Option, Some, None, length, nat_lt, nat_le, if◌then◌else◌}
 use Rattle.std.specs.List.{list_any}
 use Rattle.mcs_model.specs.declared.board.BoardFault.{BoardFault}
@@ -13,7 +14,7 @@ use Rattle.mcs_model.specs.declared.limits.TheConstants.{ROMS, BANKS, BANK_CHIPS
 use Rattle.mcs_model.specs.Boards.{HasDeclaredLengths, any_line, has_wrong_direction, lacks_line}
 use Rattle.mcs_model.specs.Validity.{IsValidBoard}
 
--- true if each number that names the line (bank, chip, chain, line or bit) is in range in version 1
+-- true if each number in a line (bank, chip, chain, line or bit) is in its range in version 1
 abbrev pub in_range_1 : Line → Bool
 in_range_1 (Rom chip k) = nat_lt chip ROMS && nat_lt k 4
 in_range_1 (Ram bank chip k) = nat_lt bank BANKS && nat_lt chip BANK_CHIPS && nat_lt k 4
@@ -56,14 +57,14 @@ pub record IsValidBoard1 (b : BoardParts) : Type 0 where
   pub few : length b.chains.items ≤ 2
   pub valid : board_fault_of_1 b ≡ None
 
--- true if a board has at most 2 chains of at most 4 chips
+-- true if a board has at most 2 chains, and each chain has at most 4 chips
 abbrev pub is_small_board : BoardParts → Bool
 is_small_board b =
     nat_le (length b.chains.items) 2
     && not (list_any (λ chain. nat_lt 4 chain.chips) b.chains.items)
 
--- Holds if the valid boards of version 1 are exactly the small valid boards of version 2. All other
--- range limits of version 1 then follow, because the lines and the chain bits of key rows must
--- exist.
+-- Holds if the valid boards of version 1 are exactly the small valid boards of version 2. The other
+-- range limits of version 1 follow, because all lines of a board, and the chain bits of its key
+-- rows, must exist.
 abbrev pub Version1BoardsAreSmall : Type 0
 Version1BoardsAreSmall = (b : BoardParts) → IsValidBoard1 b ↔ (IsValidBoard b × (is_small_board b ≡ true))

@@ -1,5 +1,5 @@
--- The effects of commands in version 1, which has no watches and only small boards. The other
--- definitions have no meaning for a command that version 1 does not have (`in_version_1` is false).
+-- The effects of commands in version 1, which has no watches and only small boards. For a command
+-- that version 1 does not have (`in_version_1` is false), the other definitions have no meaning.
 use Rattle.std.specs.Prelude.{Bool, true, false, ◌+◌, ◌==◌, ◌&&◌, ◌||◌, length, Option, Some, None, nat_lt, nat_le, slice_set, if◌then◌else◌}
 use Rattle.std.specs.List.{list_any}
 use Rattle.mcs_model.specs.declared.command.Command.{Command}
@@ -17,7 +17,7 @@ use Rattle.mcs_model.specs.Listed.{is_listed, with_listed, without_listed}
 use Rattle.mcs_model.specs.Bus.{BusState, with_ram, with_status}
 use Rattle.mcs_model.specs.Command.{lacks_rom, place_refusal}
 use Rattle.mcs_model.specs.BenchState.{new_regs}
-use Rattle.mcs_model.specs.ChipWrites.{with_rom_byte, with_rom_bytes, with_key, after_reset, after_wire}
+use Rattle.mcs_model.specs.ChipWrites.{with_rom_byte, with_rom_bytes, with_key, after_reset, after_board_change}
 use Rattle.mcs_model.specs.Running.{Machine, step_length, after_step, step_stop_reason}
 use Rattle.mcs_version1.specs.Boards.{is_small_board}
 use Rattle.mcs_version1.specs.BenchState.{BenchState1}
@@ -35,7 +35,7 @@ is_place_1 (Rom at byte) = true
 is_place_1 (Ram bank src n) = true
 is_place_1 (Status bank high k n) = true
 
--- true for the commands of version 1
+-- true if version 1 has this command
 abbrev pub in_version_1 : Command → Bool
 in_version_1 (Wire board) = is_small_board board
 in_version_1 (Poke place) = is_place_1 place
@@ -45,8 +45,8 @@ in_version_1 _ = true
 
 -- ---- which commands are accepted
 
--- The reason why a state rejects a command, or none. This definition ignores the limit on the
--- number of commands.
+-- The reason why a state rejects a command, or `None`. This definition ignores the limit on the
+-- number of accepted commands.
 abbrev pub refusal_of_command_1 : BenchState1 → Command → Option BenchFault
 refusal_of_command_1 s (Load image) =
     if list_any (λ p. lacks_rom s.bus.board p.0) image
@@ -62,8 +62,8 @@ refusal_of_command_1 s (Break at) =
     else Some BreaksFull
 refusal_of_command_1 s _ = None
 
--- The reason why a state rejects a command, or none. A session that has accepted the maximum number
--- of commands rejects every command.
+-- The reason why a state rejects a command, or `None`. A session that has accepted the maximum
+-- number of commands rejects every command.
 abbrev pub refusal_1 : BenchState1 → Command → Option BenchFault
 refusal_1 s c = if s.seq == ACCEPTED_COMMANDS then Some Worn else refusal_of_command_1 s c
 
@@ -81,7 +81,7 @@ with_processor_1 s p = record s { processor = p }
 abbrev pub with_bus_1 : BenchState1 → BusState → BenchState1
 with_bus_1 s b = record s { bus = b }
 
--- the state after a location is set to a value
+-- the state after `poke` sets a location to a value
 abbrev pub with_place_1 : BenchState1 → Place → BenchState1
 with_place_1 s (Acc n) = with_processor_1 s (record s.processor { acc = n })
 with_place_1 s (Cy bit) = with_processor_1 s (record s.processor { cy = bit })
@@ -95,7 +95,7 @@ with_place_1 s (Status bank high k n) = with_bus_1 s (with_status s.bus bank hig
 
 -- the state after the effect of a command, before the command is counted
 abbrev pub after_change_1 : BenchState1 → Command → BenchState1
-after_change_1 s (Wire board) = with_machine_1 s (new_regs, after_wire s.bus board)
+after_change_1 s (Wire board) = with_machine_1 s (new_regs, after_board_change s.bus board)
 after_change_1 s (Load image) = with_bus_1 s (with_rom_bytes s.bus image)
 after_change_1 s (Press row column) = with_bus_1 s (with_key s.bus row column 1)
 after_change_1 s (Release row column) = with_bus_1 s (with_key s.bus row column 0)

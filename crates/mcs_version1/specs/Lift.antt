@@ -25,7 +25,8 @@ lift_query (Ram bank) = version2_query.Ram bank
 lift_query Breaks = version2_query.Breaks
 lift_query Seq = version2_query.Seq
 
--- holds if version 2 in the lifted state rejects, executes and answers a command as version 1 does
+-- holds if version 2, in the lifted state, rejects, executes and answers a command as version 1
+-- does
 pub record IsLifted (s : BenchState1) (c : Command) : Type 0 where
   pub refusal : refusal (lift s) c ≡ refusal_1 s c
   pub after : lift (after_1 s c) ≡ after (lift s) c

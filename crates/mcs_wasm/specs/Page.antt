@@ -26,15 +26,16 @@ pub record HasBytes (file : List ℕ) (disk : DiskState) : Type 0 where
 abbrev pub IsNewFile : List ℕ → Type 0
 IsNewFile file = Represents file new_bench_state
 
--- Holds if a session resumes the session in a file: `open` opened it on a fresh disk with the file's bytes.
+-- Holds if this session continues the session in a file: `open` began this session on a new disk
+-- with the file's bytes.
 pub record ResumesSession (file : List ℕ) (session : SessionView MemDisk) : Type 0 where
   pub disk : MemDisk
   pub fresh_disk : IsFresh file (mem_disk_state disk)
   pub opened : OpenBegins (mem_disk_state disk) (mem_disk_state session.disk) session.live
       session.state
 
--- Holds if a shell resumed the session in a file, read this input, wrote these answers, and ended with
--- the session `left`.
+-- Holds if a shell resumed the session in a file, read this input, wrote these answers, and ended
+-- with the session `left`.
 pub record RunsOnFile (file input : List ℕ) (end : ShellEnd) (answers : List ℕ)
     (left : SessionView MemDisk) : Type 0 where
   pub session : SessionView MemDisk
@@ -43,21 +44,22 @@ pub record RunsOnFile (file input : List ℕ) (end : ShellEnd) (answers : List �
   pub ran : RanShell end (Some input) rest (shell_state mem_disk_state session (Some []))
       (shell_state mem_disk_state left (Some answers))
 
--- Holds if a shell ran on the session in a file, as in RunsOnFile, and the session's disk then has the
--- bytes `after`.
+-- Holds if a shell ran on the session in a file, as in `RunsOnFile`, and the disk of the session
+-- `left` has the bytes `after`.
 pub record ServesFile (file input : List ℕ) (end : ShellEnd) (answers after : List ℕ) : Type 0 where
   pub left : SessionView MemDisk
   pub run_on_file : RunsOnFile file input end answers left
   pub disk_bytes : HasBytes after (mem_disk_state left.disk)
 
--- holds if a shell with this end served all of its input, or as much as the input limit allows
+-- holds if a shell with this end executed all of its input, or as much as the input limit allows
 abbrev pub IsAllServed : ShellEnd → Type 0
 IsAllServed End = Unit {0}
 IsAllServed InputLimit = Unit {0}
 IsAllServed end = ⊥
 
--- Holds if a shell served all of its input, or as much as the input limit allows, with these answers. It
--- ended with the session `left`, which is open and whose disk has the size of the file.
+-- Holds if a shell executed all of its input, or as much as the input limit allows, and gave these
+-- answers. The shell ended with the session `left`. This session is open, and its disk has the size
+-- of the file.
 pub record ServesAllInput (file input : List ℕ) (end : ShellEnd) (answers : List ℕ)
     (left : SessionView MemDisk) : Type 0 where
   pub whole : IsAllServed end
@@ -65,8 +67,9 @@ pub record ServesAllInput (file input : List ℕ) (end : ShellEnd) (answers : Li
   pub is_open : IsTrue left.live
   pub size : size_of (mem_disk_state left.disk) ≡ length file
 
--- Holds if the input was served, the answers are the first `count` bytes of the buffer, and the rest of
--- the buffer is unchanged. The session's disk then has the bytes `after`.
+-- Holds if a shell executed the input on the session in the file. The answers are then the first
+-- `count` bytes of the buffer, the rest of the buffer is unchanged, and the session's disk has the
+-- bytes `after`.
 pub record AnswersInBuffer (file input : List ℕ) (end : ShellEnd) (count : ℕ)
     (buffer buffer' after : List ℕ) : Type 0 where
   pub whole : IsAllServed end
@@ -74,8 +77,8 @@ pub record AnswersInBuffer (file input : List ℕ) (end : ShellEnd) (count : ℕ
   pub served : ServesFile file input end (take count buffer') after
   pub rest : drop count buffer' ≡ drop count buffer
 
--- Holds if opening a file can fail with this fault: because of the file's bytes, or because memory ran
--- out. An in-memory disk has no other fault.
+-- Holds if opening a file can fail with this fault: because of the file's bytes, or because memory
+-- ran out. An open on an in-memory disk has no other fault.
 abbrev pub IsFileRefused : StoreFault → List ℕ → Type 0
 IsFileRefused store_fault.NoMemory file = Unit {0}
 IsFileRefused store_fault.Device file = ⊥
@@ -83,7 +86,8 @@ IsFileRefused store_fault.NotBlank file = ⊥
 IsFileRefused fault file = (disk : MemDisk) × IsFresh file (mem_disk_state disk)
     × SessionErrorImplies fault (mem_disk_state disk)
 
--- Holds if serving this input gives answers of `count` bytes, more than the `room` bytes of the buffer.
+-- Holds if executing this input gives answers of `count` bytes, and the buffer has only `room`
+-- bytes, fewer than `count`.
 pub record LacksBufferRoom (file input : List ℕ) (count room : ℕ) : Type 0 where
   pub end : ShellEnd
   pub whole : IsAllServed end
@@ -93,26 +97,27 @@ pub record LacksBufferRoom (file input : List ℕ) (count room : ℕ) : Type 0 w
   pub counted : length answers ≡ count
   pub short : room < count
 
--- holds if this fault can be the reason why the input was not served
+-- holds if a call with this file and this input can fail with this fault; `room` is the number of
+-- bytes in the buffer
 abbrev pub IsServeFault : ServeFault → List ℕ → List ℕ → ℕ → Type 0
 IsServeFault (Refused fault) file input room = IsFileRefused fault file
 IsServeFault (NoRoom count) file input room = LacksBufferRoom file input count room
 
--- Holds if a session's disk represents the session's state, and these bytes hold a snapshot of that state
--- and no records.
+-- Holds if a session's disk represents the session's state, and these bytes hold a snapshot of that
+-- state and no records.
 pub record SettlesTo (session : SessionView MemDisk) (file : List ℕ) : Type 0 where
   pub disk_represents_state : Represents (bytes_of (mem_disk_state session.disk)) session.state
   pub holds : HoldsState file session.state
 
--- Holds if the old bytes of a file represented a state, and the new bytes hold a snapshot of that state
--- and no records.
+-- Holds if the old bytes of a file represented a state, and the new bytes hold a snapshot of that
+-- state and no records.
 pub record RepresentsSameState (old new : List ℕ) : Type 0 where
   pub state : BenchState
   pub before : RepresentsInEitherVersion old state
   pub after : HoldsState new state
 
--- Holds if the input was served as in AnswersInBuffer, and a snapshot of the resulting state then replaced
--- the records of the file.
+-- Holds if a shell executed the input as in `AnswersInBuffer`, and a snapshot of the resulting
+-- state then replaced the records of the file.
 pub record AnswersAndSettles (file input : List ℕ) (end : ShellEnd) (count : ℕ)
     (buffer buffer' after : List ℕ) : Type 0 where
   pub between : List ℕ
@@ -120,7 +125,8 @@ pub record AnswersAndSettles (file input : List ℕ) (end : ShellEnd) (count : �
   pub settled : RepresentsSameState between after
   pub same : settled.state ≡ answers.served.left.state
 
--- Holds if serving the input would give these answers. The resulting file is not specified.
+-- Holds if executing the input would give these answers in the buffer. This condition does not say
+-- which bytes the file would then have.
 pub record WouldAnswer (file input : List ℕ) (end : ShellEnd) (count : ℕ)
     (buffer buffer' : List ℕ) : Type 0 where
   pub after : List ℕ

@@ -1,4 +1,5 @@
-//! Sessions on in-memory disks. A disk is filled with a copy of a file's bytes, and is written back to the file.
+//! Sessions on in-memory disks. The functions fill a disk with a copy of a file's bytes, and write the disk back to the
+//! file.
 ghost use Rattle.std.specs.Prelude.{◌≡◌, length, IfErr, IfOk, IsTrue};
 ghost use Rattle.mcs_disk.specs.Disk.{bytes_of, size_of};
 ghost use Rattle.mcs_disk.specs.States.{IsFresh, mem_disk_state};
@@ -32,7 +33,7 @@ pub(crate) fn resume(alloc: Global, file: &[u8]) -> Result<Session<MemDisk>, Sto
         Ok(session) => Ok(session),
         Err((StoreFault::NotASession, _)) => Err(StoreFault::NotASession),
         Err((StoreFault::Damaged, _)) => Err(StoreFault::Damaged),
-        // an in-memory disk has no device faults, and `open` never fails with `NotBlank`
+        // an in-memory disk has no I/O errors, and `open` never fails with `NotBlank`
         Err((StoreFault::Device | StoreFault::NotBlank | StoreFault::NoMemory, _)) => Err(
             StoreFault::NoMemory,
         ),
@@ -48,7 +49,7 @@ pub(crate) fn write_back(disk: &MemDisk, file: &mut [u8])
 }
 
 /// Replaces the records of an open session with a snapshot, and copies the session's disk to a file of the same size.
-/// This cannot fail, because an in-memory disk has no device faults.
+/// This cannot fail, because an in-memory disk has no I/O errors.
 pub(crate) fn snapshot_into(mut session: Session<MemDisk>, file: &mut [u8])
     requires open { IsTrue session.live }
     requires size { length file.old ≡ size_of (mem_disk_state session.disk) }

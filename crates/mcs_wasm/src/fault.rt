@@ -1,8 +1,8 @@
-//! The reasons why input is not served.
+//! The reasons why a call fails.
 use mcs_journal::StoreFault;
 use thiserror::Error;
 
-/// A reason why input was not served. The call that reports it has changed nothing.
+/// The reason why a call failed. A failed call changes neither the file nor the answer buffer.
 #[derive(Clone, Copy, Debug, PartialEq, Eq, Error)]
 pub enum ServeFault {
     /// The bytes do not hold a session (refusals 50 and 51), or memory ran out (refusal 90).

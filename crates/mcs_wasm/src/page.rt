@@ -1,4 +1,4 @@
-//! The bench's calls for a page in a browser.
+//! The functions that run the bench for a page in a browser.
 ghost use Rattle.std.specs.Prelude.{◌≡◌, ◌≤◌, ◌↔◌, drop, length, take, IfErr, IfOk, IsTrue, OnErr, OnOk};
 ghost use Rattle.mcs_wasm.specs.Page.{AnswersInBuffer, AnswersAndSettles, ServesAllInput, IsNewFile, IsFileRefused};
 ghost use Rattle.mcs_wasm.specs.Page.{IsAllServed, IsServeFault, RepresentsSameState, WouldAnswer};
@@ -13,16 +13,16 @@ use mcs_shell::ends::ShellEnd;
 use mcs_shell::shell::run_shell;
 use std::alloc::{AllocError, Global};
 
-/// The result of input that was served.
+/// The result of a call that executed its input.
 #[derive(Clone, Copy, Debug, PartialEq, Eq)]
 pub struct ServedInput {
-    /// The reason why the shell ended: it served all input, or as much as the input limit allows.
+    /// The reason why the shell ended: the shell executed all input, or as much as the input limit allows.
     pub end: ShellEnd,
     /// The number of bytes in the answers.
     pub count: usize,
 }
 
-/// A session that has served input, and its answers.
+/// A session that has executed input, the reason why the shell ended, and the answers.
 #[derive(Drop)]
 struct ServedSession {
     session: Session<MemDisk>,
@@ -44,7 +44,7 @@ pub fn begin(alloc: Global, file: &mut [u8]) -> Result<(), AllocError>
     Ok(())
 }
 
-/// Returns true if the shell served all of its input, or as much as the input limit allows.
+/// Returns true if a shell with this end executed all of its input, or as much as the input limit allows.
 fn is_all_served(end: ShellEnd) -> bool
     ensures { IsTrue result ↔ IsAllServed end }
 {
@@ -56,7 +56,7 @@ fn is_all_served(end: ShellEnd) -> bool
     }
 }
 
-/// Resumes the session in a file, on a copy of the file's bytes, and serves the input lines. Fails if the bytes do
+/// Resumes the session in a file, on a copy of the file's bytes, and executes the input lines. Fails if the bytes do
 /// not hold a session, if memory runs out, or if the answers have more than `room` bytes.
 fn serve_copy(
     alloc: Global,
@@ -76,7 +76,7 @@ fn serve_copy(
     let mut reader = input;
     let mut output = Vec::new(alloc);
     let end = run_shell(alloc, &mut reader, &mut output, &mut session);
-    // Every other end means that memory ran out: a slice, a vector and an in-memory disk cannot fail otherwise.
+    // Every other end means that memory ran out: a slice, a vector and an in-memory disk fail for no other reason.
     if !is_all_served(end) {
         return Err(ServeFault::Refused(StoreFault::NoMemory));
     }
@@ -90,7 +90,8 @@ fn serve_copy(
     })
 }
 
-/// Copies answers to the front of a buffer, and returns their number of bytes. The answers must fit into the buffer.
+/// Copies answers to the front of a buffer, and returns the number of bytes in the answers. The answers must fit into
+/// the buffer.
 pub fn copy_to_front(buffer: &mut [u8], answers: &[u8]) -> usize
     requires room { length answers.now ≤ length buffer.old }
     ensures count { result ≡ length answers.now }
@@ -102,7 +103,7 @@ pub fn copy_to_front(buffer: &mut [u8], answers: &[u8]) -> usize
     count
 }
 
-/// Resumes the session in a file, and serves the input lines. Writes the answers to the front of the buffer
+/// Resumes the session in a file, and executes the input lines. Writes the answers to the front of the buffer
 /// `answers`, and copies the session's disk back to the file.
 ///
 /// The call does all of this or nothing. It fails if the bytes do not hold a session (refusals 50 and 51), if memory
@@ -133,7 +134,7 @@ pub fn serve(
     Ok(ServedInput { end, count })
 }
 
-/// Serves input as [`serve`] does, and then replaces the records of the file with a snapshot, as [`settle`] does.
+/// Executes input as [`serve`] does, and then replaces the records of the file with a snapshot, as [`settle`] does.
 /// Opening the file then replays no commands.
 ///
 /// The call does all of this or nothing. It fails in the same cases as [`serve`].

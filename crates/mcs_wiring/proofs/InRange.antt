@@ -1,4 +1,4 @@
--- The parts that a table without malformed values describes have numbers in range.
+-- If a table has no malformed values, all numbers of the parts that it describes are in range.
 use Rattle.std.proofs.Common.{◌≡◌, ℕ, ◌-◌, ◌<◌, ◌≤◌, ℤ, pos, negsuc, Bool, true, false, not, ◌||◌, ◌&&◌, List, [], ◌∷◌, length, map, codes, Option, Some, None, is_none, option_and_then, Ok, Err, if◌then◌else◌, eqb, ltb, leb, refl, sym, ap, ◌∙◌, arith}
 use Rattle.std.proofs.lemmas.Bool.{and_parts, true≢false, leb-true, le-leb, le-ltb, lt-ltb, or_parts}
 use Rattle.std.proofs.lemmas.Option.{same_Some}
@@ -20,113 +20,113 @@ use Rattle.mcs_wiring.specs.Flaws.{board_or_error, board_of_parts}
 use Rattle.mcs_wiring.specs.declared.sections.Numbered.{Numbered}
 use Rattle.mcs_wiring.specs.declared.sections.Section.{Section}
 use Rattle.mcs_wiring.specs.declared.sections.Section.TheVariants.{Rom, Ram, Chain, Keys, Lamp}
-use Rattle.mcs_wiring.specs.LineNames.{below_or_none, number_below, rest_after, rom_line_named, ram_line_named, chain_line_named, line_named, parts_around_dot}
-use Rattle.mcs_wiring.specs.Wiring.{within_or_none, number_at, line_in, line_at, part_of, ram_in, chain_in, matrix_in, lamp_in, values_at, names_no_line, are_malformed_columns, has_bad_columns, is_malformed, has_malformed_value, section_values, any_section, lacks_array, keys_table, part_at, rams_of, parts_in}
+use Rattle.mcs_wiring.specs.LineNames.{below_or_none, number_below, text_after_prefix, rom_line_named, ram_line_named, chain_line_named, line_named, texts_around_dot}
+use Rattle.mcs_wiring.specs.Wiring.{within_or_none, number_at, line_in, line_at, part_of, ram_in, chain_in, matrix_in, lamp_in, values_at, names_no_line, are_malformed_columns, has_bad_columns, is_malformed, has_malformed_value, section_values, any_section_entry, lacks_array, keys_table, part_at, rams_of, parts_in}
 use Rattle.mcs_wiring.specs.Format.{sections}
 
--- ---- the value that an optional step passed on
+-- ---- the value that the first of two optional steps returned
 
-value_passed_on : {A B : Type 0} (o : Option A) (f : A → Option B) (y : B) → option_and_then f o ≡ Some y → (x : A) × (o ≡ Some x) × (f x ≡ Some y)
-value_passed_on None f y e = cc
-value_passed_on (Some x) f y e = (x, refl, e)
+first_value_of_option_and_then : {A B : Type 0} (o : Option A) (f : A → Option B) (y : B) → option_and_then f o ≡ Some y → (x : A) × (o ≡ Some x) × (f x ≡ Some y)
+first_value_of_option_and_then None f y e = cc
+first_value_of_option_and_then (Some x) f y e = (x, refl, e)
 
-some_if_true : (b : Bool) (k n : ℕ) → (if b then Some k else None) ≡ Some n → (b ≡ true) × (k ≡ n)
-some_if_true true k n e = (refl, same_Some k n e)
-some_if_true false k n e = cc
+condition_true_if_some : (b : Bool) (k n : ℕ) → (if b then Some k else None) ≡ Some n → (b ≡ true) × (k ≡ n)
+condition_true_if_some true k n e = (refl, same_Some k n e)
+condition_true_if_some false k n e = cc
 
 -- ---- numbers
 
-within_bounds : (least most : ℕ) (z : ℤ) (n : ℕ) → within_or_none least most z ≡ Some n → (least ≤ n) × (n ≤ most)
-within_bounds least most (pos k) n e =
-    let (test, same) = some_if_true (leb least k && leb k most) k n e in
+number_within_bounds : (least most : ℕ) (z : ℤ) (n : ℕ) → within_or_none least most z ≡ Some n → (least ≤ n) × (n ≤ most)
+number_within_bounds least most (pos k) n e =
+    let (test, same) = condition_true_if_some (leb least k && leb k most) k n e in
     let (low, high) = and_parts (leb least k) (leb k most) test in
     let low' : least ≤ k = leb-true least k low in
     let high' : k ≤ most = leb-true k most high in
     (omega arith, omega arith)
-within_bounds least most (negsuc k) n e = cc
+number_within_bounds least most (negsuc k) n e = cc
 
-number_bounds : (key : List ℕ) (least most : ℕ) (ms : Members) (n : ℕ) → number_at key least most ms ≡ Some n → (least ≤ n) × (n ≤ most)
-number_bounds key least most ms n e =
-    let (z, _, read) = value_passed_on (option_and_then as_integer (get_member key ms)) (within_or_none least most) n e in
-    within_bounds least most z n read
+number_at_key_within_bounds : (key : List ℕ) (least most : ℕ) (ms : Members) (n : ℕ) → number_at key least most ms ≡ Some n → (least ≤ n) × (n ≤ most)
+number_at_key_within_bounds key least most ms n e =
+    let (z, _, read) = first_value_of_option_and_then (option_and_then as_integer (get_member key ms)) (within_or_none least most) n e in
+    number_within_bounds least most z n read
 
-below_bound : (b : Bool) (limit k n : ℕ) → (if b then below_or_none limit k else None) ≡ Some n → ltb n limit ≡ true
-below_bound true limit k n e = let (test, same) = some_if_true (ltb k limit) k n e in rw (← same) test
-below_bound false limit k n e = cc
+below_limit_if_some : (b : Bool) (limit k n : ℕ) → (if b then below_or_none limit k else None) ≡ Some n → ltb n limit ≡ true
+below_limit_if_some true limit k n e = let (test, same) = condition_true_if_some (ltb k limit) k n e in rw (← same) test
+below_limit_if_some false limit k n e = cc
 
-named_below : (limit : ℕ) (text : List ℕ) (n : ℕ) → number_below limit text ≡ Some n → ltb n limit ≡ true
-named_below limit [] n e = cc
-named_below limit (d ∷ []) n e = below_bound (is_ascii_digit d) limit _ n e
-named_below limit (t ∷ d ∷ []) n e = below_bound ((is_ascii_digit t && is_ascii_digit d) && not (eqb t 48)) limit _ n e
-named_below limit (a ∷ b ∷ c ∷ rest) n e = cc
+number_in_name_below_limit : (limit : ℕ) (text : List ℕ) (n : ℕ) → number_below limit text ≡ Some n → ltb n limit ≡ true
+number_in_name_below_limit limit [] n e = cc
+number_in_name_below_limit limit (d ∷ []) n e = below_limit_if_some (is_ascii_digit d) limit _ n e
+number_in_name_below_limit limit (t ∷ d ∷ []) n e = below_limit_if_some ((is_ascii_digit t && is_ascii_digit d) && not (eqb t 48)) limit _ n e
+number_in_name_below_limit limit (a ∷ b ∷ c ∷ rest) n e = cc
 
 -- ---- lines
 
-rom_in_range : (text : List ℕ) (l : Line) → rom_line_named text ≡ Some l → boards.in_range l ≡ true
-rom_in_range text l e =
-    let (p, _, e1) = value_passed_on (parts_around_dot text) _ l e in
-    let (chip, chip_is, e2) = value_passed_on (number_below ROMS p.0) _ l e1 in
-    let (k, k_is, e3) = value_passed_on (number_below 4 p.1) _ l e2 in
+rom_line_named_in_range : (text : List ℕ) (l : Line) → rom_line_named text ≡ Some l → boards.in_range l ≡ true
+rom_line_named_in_range text l e =
+    let (p, _, e1) = first_value_of_option_and_then (texts_around_dot text) _ l e in
+    let (chip, chip_is, e2) = first_value_of_option_and_then (number_below ROMS p.0) _ l e1 in
+    let (k, k_is, e3) = first_value_of_option_and_then (number_below 4 p.1) _ l e2 in
     let same : line.Rom chip k ≡ l = same_Some (line.Rom chip k) l e3 in
-    let here : boards.in_range (line.Rom chip k) ≡ true = rw (named_below ROMS p.0 chip chip_is, named_below 4 p.1 k k_is) refl in
+    let here : boards.in_range (line.Rom chip k) ≡ true = rw (number_in_name_below_limit ROMS p.0 chip chip_is, number_in_name_below_limit 4 p.1 k k_is) refl in
     ap boards.in_range (sym same) ∙ here
 
-ram_in_range : (text : List ℕ) (l : Line) → ram_line_named text ≡ Some l → boards.in_range l ≡ true
-ram_in_range text l e =
-    let (p, _, e1) = value_passed_on (parts_around_dot text) _ l e in
-    let (q, _, e2) = value_passed_on (parts_around_dot p.1) _ l e1 in
-    let (bank, bank_is, e3) = value_passed_on (number_below BANKS p.0) _ l e2 in
-    let (chip, chip_is, e4) = value_passed_on (number_below BANK_CHIPS q.0) _ l e3 in
-    let (k, k_is, e5) = value_passed_on (number_below 4 q.1) _ l e4 in
+ram_line_named_in_range : (text : List ℕ) (l : Line) → ram_line_named text ≡ Some l → boards.in_range l ≡ true
+ram_line_named_in_range text l e =
+    let (p, _, e1) = first_value_of_option_and_then (texts_around_dot text) _ l e in
+    let (q, _, e2) = first_value_of_option_and_then (texts_around_dot p.1) _ l e1 in
+    let (bank, bank_is, e3) = first_value_of_option_and_then (number_below BANKS p.0) _ l e2 in
+    let (chip, chip_is, e4) = first_value_of_option_and_then (number_below BANK_CHIPS q.0) _ l e3 in
+    let (k, k_is, e5) = first_value_of_option_and_then (number_below 4 q.1) _ l e4 in
     let same : line.Ram bank chip k ≡ l = same_Some (line.Ram bank chip k) l e5 in
-    let here : boards.in_range (line.Ram bank chip k) ≡ true = rw (named_below BANKS p.0 bank bank_is, named_below BANK_CHIPS q.0 chip chip_is, named_below 4 q.1 k k_is) refl in
+    let here : boards.in_range (line.Ram bank chip k) ≡ true = rw (number_in_name_below_limit BANKS p.0 bank bank_is, number_in_name_below_limit BANK_CHIPS q.0 chip chip_is, number_in_name_below_limit 4 q.1 k k_is) refl in
     ap boards.in_range (sym same) ∙ here
 
-chain_in_range : (text : List ℕ) (l : Line) → chain_line_named text ≡ Some l → boards.in_range l ≡ true
-chain_in_range text l e =
-    let (p, _, e1) = value_passed_on (parts_around_dot text) _ l e in
-    let (n, n_is, e2) = value_passed_on (number_below CHAINS p.0) _ l e1 in
-    let (i, i_is, e3) = value_passed_on (number_below CHAIN_BITS p.1) _ l e2 in
+chain_line_named_in_range : (text : List ℕ) (l : Line) → chain_line_named text ≡ Some l → boards.in_range l ≡ true
+chain_line_named_in_range text l e =
+    let (p, _, e1) = first_value_of_option_and_then (texts_around_dot text) _ l e in
+    let (n, n_is, e2) = first_value_of_option_and_then (number_below CHAINS p.0) _ l e1 in
+    let (i, i_is, e3) = first_value_of_option_and_then (number_below CHAIN_BITS p.1) _ l e2 in
     let same : line.Chain n i ≡ l = same_Some (line.Chain n i) l e3 in
-    let here : boards.in_range (line.Chain n i) ≡ true = rw (named_below CHAINS p.0 n n_is, named_below CHAIN_BITS p.1 i i_is) refl in
+    let here : boards.in_range (line.Chain n i) ≡ true = rw (number_in_name_below_limit CHAINS p.0 n n_is, number_in_name_below_limit CHAIN_BITS p.1 i i_is) refl in
     ap boards.in_range (sym same) ∙ here
 
-named_in_range : (a b c : Option (List ℕ)) (l : Line)
+line_of_any_prefix_in_range : (a b c : Option (List ℕ)) (l : Line)
     → (elim a [ Some rest ↦ rom_line_named rest | None ↦ elim b [ Some rest ↦ ram_line_named rest | None ↦ option_and_then chain_line_named c ] ]) ≡ Some l → boards.in_range l ≡ true
-named_in_range (Some rest) b c l e = rom_in_range rest l e
-named_in_range None (Some rest) c l e = ram_in_range rest l e
-named_in_range None None c l e = let (rest, _, read) = value_passed_on c chain_line_named l e in chain_in_range rest l read
+line_of_any_prefix_in_range (Some rest) b c l e = rom_line_named_in_range rest l e
+line_of_any_prefix_in_range None (Some rest) c l e = ram_line_named_in_range rest l e
+line_of_any_prefix_in_range None None c l e = let (rest, _, read) = first_value_of_option_and_then c chain_line_named l e in chain_line_named_in_range rest l read
 
-line_in_range : (text : List ℕ) (l : Line) → line_named text ≡ Some l → boards.in_range l ≡ true
-line_in_range text l e = named_in_range (rest_after (codes "rom") text) (rest_after (codes "ram") text) (rest_after (codes "chain") text) l e
+line_named_in_range : (text : List ℕ) (l : Line) → line_named text ≡ Some l → boards.in_range l ≡ true
+line_named_in_range text l e = line_of_any_prefix_in_range (text_after_prefix (codes "rom") text) (text_after_prefix (codes "ram") text) (text_after_prefix (codes "chain") text) l e
 
 -- true if a line is out of range; the lemmas below show that this is false for each line in a table
-abbrev is_out : Line → Bool
-is_out l = not (boards.in_range l)
+abbrev is_out_of_range : Line → Bool
+is_out_of_range l = not (boards.in_range l)
 
-named_line_in_range : (d : Data) (l : Line) → line_in d ≡ Some l → is_out l ≡ false
-named_line_in_range d l e = let (text, _, read) = value_passed_on (as_str d) line_named l e in ap not (line_in_range text l read)
+named_line_in_range : (d : Data) (l : Line) → line_in d ≡ Some l → is_out_of_range l ≡ false
+named_line_in_range d l e = let (text, _, read) = first_value_of_option_and_then (as_str d) line_named l e in ap not (line_named_in_range text l read)
 
-line_at_key_in_range : (key : List ℕ) (ms : Members) (l : Line) → line_at key ms ≡ Some l → is_out l ≡ false
-line_at_key_in_range key ms l e = let (d, _, read) = value_passed_on (get_member key ms) line_in l e in named_line_in_range d l read
+line_at_key_in_range : (key : List ℕ) (ms : Members) (l : Line) → line_at key ms ≡ Some l → is_out_of_range l ≡ false
+line_at_key_in_range key ms l e = let (d, _, read) = first_value_of_option_and_then (get_member key ms) line_in l e in named_line_in_range d l read
 
 -- ---- lists of parts
 
-one_more_passes : {Y : Type 0} (q : Y → Bool) (o : Option Y) (ys : List Y) → ((y : Y) → o ≡ Some y → q y ≡ false) → list_any q ys ≡ false → list_any q (cons_option o ys) ≡ false
-one_more_passes q None ys h e = e
-one_more_passes q (Some y) ys h e = rw (h y refl) e
+test_false_for_cons_option : {Y : Type 0} (q : Y → Bool) (o : Option Y) (ys : List Y) → ((y : Y) → o ≡ Some y → q y ≡ false) → list_any q ys ≡ false → list_any q (cons_option o ys) ≡ false
+test_false_for_cons_option q None ys h e = e
+test_false_for_cons_option q (Some y) ys h e = rw (h y refl) e
 
-filtered_list_passes : {X Y : Type 0} (q : Y → Bool) (f : X → Option Y) → ((x : X) (y : Y) → f x ≡ Some y → q y ≡ false) → (xs : List X) → list_any q (filter_map f xs) ≡ false
-filtered_list_passes q f h [] = refl
-filtered_list_passes q f h (x ∷ xs) = one_more_passes q (f x) (filter_map f xs) (h x) (filtered_list_passes q f h xs)
+test_false_for_filter_map : {X Y : Type 0} (q : Y → Bool) (f : X → Option Y) → ((x : X) (y : Y) → f x ≡ Some y → q y ≡ false) → (xs : List X) → list_any q (filter_map f xs) ≡ false
+test_false_for_filter_map q f h [] = refl
+test_false_for_filter_map q f h (x ∷ xs) = test_false_for_cons_option q (f x) (filter_map f xs) (h x) (test_false_for_filter_map q f h xs)
 
-any-map : {X Y : Type 0} (q : Y → Bool) (f : X → Y) → ((x : X) → q (f x) ≡ false) → (xs : List X) → list_any q (map f xs) ≡ false
-any-map q f h [] = refl
-any-map q f h (x ∷ xs) = rw (h x) (any-map q f h xs)
+test_false_for_map : {X Y : Type 0} (q : Y → Bool) (f : X → Y) → ((x : X) → q (f x) ≡ false) → (xs : List X) → list_any q (map f xs) ≡ false
+test_false_for_map q f h [] = refl
+test_false_for_map q f h (x ∷ xs) = rw (h x) (test_false_for_map q f h xs)
 
-any-tabled : {Y : Type 0} (q : Y → Bool) (f : ℕ → Y) → ((k : ℕ) → q (f k) ≡ false) → (n : ℕ) → list_any q (table_of n f) ≡ false
+test_false_for_table_of : {Y : Type 0} (q : Y → Bool) (f : ℕ → Y) → ((k : ℕ) → q (f k) ≡ false) → (n : ℕ) → list_any q (table_of n f) ≡ false
 unfolding table_of
-any-tabled q f h n = any-map q f h (range_with_len 0 n)
+test_false_for_table_of q f h n = test_false_for_map q f h (range_with_len 0 n)
 
 abbrev exceeds_bank_chips : ℕ → Bool
 exceeds_bank_chips n = ltb BANK_CHIPS n
@@ -135,93 +135,93 @@ exceeds_bank_chips n = ltb BANK_CHIPS n
 
 ram_chips_within_limit : (d : Data) (p : Numbered ℕ) → part_of ram_in d ≡ Some p → exceeds_bank_chips p.part ≡ false
 ram_chips_within_limit d p e =
-    let (ms, _, e1) = value_passed_on (as_table d) ram_in p e in
-    let (bank, _, e2) = value_passed_on (number_at (codes "bank") 0 (BANKS - 1) ms) _ p e1 in
-    let (chips, chips_is, e3) = value_passed_on (number_at (codes "chips") 1 BANK_CHIPS ms) _ p e2 in
+    let (ms, _, e1) = first_value_of_option_and_then (as_table d) ram_in p e in
+    let (bank, _, e2) = first_value_of_option_and_then (number_at (codes "bank") 0 (BANKS - 1) ms) _ p e1 in
+    let (chips, chips_is, e3) = first_value_of_option_and_then (number_at (codes "chips") 1 BANK_CHIPS ms) _ p e2 in
     let made : Numbered ℕ = record { number = bank; part = chips } in
     let same : made ≡ p = same_Some made p e3 in
-    let (low, high) = number_bounds (codes "chips") 1 BANK_CHIPS ms chips chips_is in
+    let (low, high) = number_at_key_within_bounds (codes "chips") 1 BANK_CHIPS ms chips chips_is in
     ap (λ (q : Numbered ℕ). exceeds_bank_chips q.part) (sym same) ∙ le-ltb BANK_CHIPS chips high
 
-if_neither_exceeds : (b : Bool) (x y : ℕ) → exceeds_bank_chips x ≡ false → exceeds_bank_chips y ≡ false → exceeds_bank_chips (if b then x else y) ≡ false
-if_neither_exceeds true x y h k = h
-if_neither_exceeds false x y h k = k
+chosen_count_within_limit : (b : Bool) (x y : ℕ) → exceeds_bank_chips x ≡ false → exceeds_bank_chips y ≡ false → exceeds_bank_chips (if b then x else y) ≡ false
+chosen_count_within_limit true x y h k = h
+chosen_count_within_limit false x y h k = k
 
 bank_chips_within_limit : (ps : List (Numbered ℕ)) (n : ℕ) → list_any (λ p. exceeds_bank_chips p.part) ps ≡ false → exceeds_bank_chips (part_at 0 ps n) ≡ false
 bank_chips_within_limit [] n h = refl
 bank_chips_within_limit (p ∷ ps) n h =
     let (here, later) = or_parts (exceeds_bank_chips p.part) (list_any (λ (q : Numbered ℕ). exceeds_bank_chips q.part) ps) h in
-    if_neither_exceeds (eqb p.number n) p.part (part_at 0 ps n) here (bank_chips_within_limit ps n later)
+    chosen_count_within_limit (eqb p.number n) p.part (part_at 0 ps n) here (bank_chips_within_limit ps n later)
 
 all_banks_within_limit : (ms : Members) → list_any exceeds_bank_chips (parts_in ms).banks ≡ false
 all_banks_within_limit ms =
-    let rams = filtered_list_passes (λ (p : Numbered ℕ). exceeds_bank_chips p.part) (part_of ram_in) ram_chips_within_limit (values_at (codes "ram") ms) in
-    any-tabled exceeds_bank_chips (part_at 0 (rams_of ms)) (λ k. bank_chips_within_limit (rams_of ms) k rams) BANKS
+    let rams = test_false_for_filter_map (λ (p : Numbered ℕ). exceeds_bank_chips p.part) (part_of ram_in) ram_chips_within_limit (values_at (codes "ram") ms) in
+    test_false_for_table_of exceeds_bank_chips (part_at 0 (rams_of ms)) (λ k. bank_chips_within_limit (rams_of ms) k rams) BANKS
 
 -- ---- chains
 
-chain_part_in_range : (d : Data) (c : ChainPart) → part_of chain_in d ≡ Some c → (not (boards.is_chain_size c) ≡ false) × ((is_out c.clock || is_out c.data_in) ≡ false)
+chain_part_in_range : (d : Data) (c : ChainPart) → part_of chain_in d ≡ Some c → (not (boards.is_chain_size c) ≡ false) × ((is_out_of_range c.clock || is_out_of_range c.data_in) ≡ false)
 chain_part_in_range d c e =
-    let (ms, _, e1) = value_passed_on (as_table d) chain_in c e in
-    let (clock, clock_is, e2) = value_passed_on (line_at (codes "clock") ms) _ c e1 in
-    let (data_in, data_is, e3) = value_passed_on (line_at (codes "data") ms) _ c e2 in
-    let (chips, chips_is, e4) = value_passed_on (number_at (codes "chips") 1 CHAIN_CHIPS ms) _ c e3 in
+    let (ms, _, e1) = first_value_of_option_and_then (as_table d) chain_in c e in
+    let (clock, clock_is, e2) = first_value_of_option_and_then (line_at (codes "clock") ms) _ c e1 in
+    let (data_in, data_is, e3) = first_value_of_option_and_then (line_at (codes "data") ms) _ c e2 in
+    let (chips, chips_is, e4) = first_value_of_option_and_then (number_at (codes "chips") 1 CHAIN_CHIPS ms) _ c e3 in
     let made : ChainPart = record { clock = clock; data_in = data_in; chips = chips } in
     let same : made ≡ c = same_Some made c e4 in
-    let (low, high) = number_bounds (codes "chips") 1 CHAIN_CHIPS ms chips chips_is in
+    let (low, high) = number_at_key_within_bounds (codes "chips") 1 CHAIN_CHIPS ms chips chips_is in
     let some : ltb 0 chips ≡ true = lt-ltb 0 chips low in
     let few : leb chips CHAIN_CHIPS ≡ true = le-leb chips CHAIN_CHIPS high in
     let sized : not (ltb 0 chips && leb chips CHAIN_CHIPS) ≡ false = rw (some, few) refl in
-    let lines : (is_out clock || is_out data_in) ≡ false = rw (line_at_key_in_range (codes "clock") ms clock clock_is, line_at_key_in_range (codes "data") ms data_in data_is) refl in
-    (ap (λ (x : ChainPart). not (boards.is_chain_size x)) (sym same) ∙ sized, ap (λ (x : ChainPart). is_out x.clock || is_out x.data_in) (sym same) ∙ lines)
+    let lines : (is_out_of_range clock || is_out_of_range data_in) ≡ false = rw (line_at_key_in_range (codes "clock") ms clock clock_is, line_at_key_in_range (codes "data") ms data_in data_is) refl in
+    (ap (λ (x : ChainPart). not (boards.is_chain_size x)) (sym same) ∙ sized, ap (λ (x : ChainPart). is_out_of_range x.clock || is_out_of_range x.data_in) (sym same) ∙ lines)
 
 -- ---- the key matrix
 
-filtered_list_is_not_empty : (o : Option Line) (ls : List Line) → is_none o ≡ false → 0 < length (cons_option o ls)
-filtered_list_is_not_empty None ls h = absurd (true≢false h)
-filtered_list_is_not_empty (Some l) ls h = omega arith
+cons_option_is_not_empty_if_some : (o : Option Line) (ls : List Line) → is_none o ≡ false → 0 < length (cons_option o ls)
+cons_option_is_not_empty_if_some None ls h = absurd (true≢false h)
+cons_option_is_not_empty_if_some (Some l) ls h = omega arith
 
 columns_are_not_empty : (ds : List Data) → are_malformed_columns ds ≡ false → 0 < length (filter_map line_in ds)
 columns_are_not_empty [] h = absurd (true≢false h)
 columns_are_not_empty (d ∷ ds) h =
     let (here, later) = or_parts (names_no_line d) (list_any names_no_line ds) h in
-    filtered_list_is_not_empty (line_in d) (filter_map line_in ds) here
+    cons_option_is_not_empty_if_some (line_in d) (filter_map line_in ds) here
 
 abbrev IsMatrixInRange : KeyMatrix → Type 0
-IsMatrixInRange m = (not (boards.is_matrix_size m) ≡ false) × (list_any is_out m.columns.items ≡ false)
+IsMatrixInRange m = (not (boards.is_matrix_size m) ≡ false) × (list_any is_out_of_range m.columns.items ≡ false)
 
 matrix_in_range : (t : Members) (m : KeyMatrix) → matrix_in t ≡ Some m → has_bad_columns t ≡ false → IsMatrixInRange m
 matrix_in_range t m e good =
-    let (chain, chain_text_pieces, e1) = value_passed_on (number_at (codes "chain") 0 (CHAINS - 1) t) _ m e in
-    let (first, first_is, e2) = value_passed_on (number_at (codes "first") 0 (CHAIN_BITS - 1) t) _ m e1 in
-    let (rows, rows_is, e3) = value_passed_on (number_at (codes "rows") 1 KEY_ROWS t) _ m e2 in
+    let (chain, chain_text_from_pieces, e1) = first_value_of_option_and_then (number_at (codes "chain") 0 (CHAINS - 1) t) _ m e in
+    let (first, first_is, e2) = first_value_of_option_and_then (number_at (codes "first") 0 (CHAIN_BITS - 1) t) _ m e1 in
+    let (rows, rows_is, e3) = first_value_of_option_and_then (number_at (codes "rows") 1 KEY_ROWS t) _ m e2 in
     let values = values_at (codes "columns") t in
     let made : KeyMatrix = record { chain = chain; first = first; rows = rows; columns = record { items = filter_map line_in values } } in
     let same : made ≡ m = same_Some made m e3 in
-    let (_, chain_high) = number_bounds (codes "chain") 0 (CHAINS - 1) t chain chain_text_pieces in
-    let (_, first_high) = number_bounds (codes "first") 0 (CHAIN_BITS - 1) t first first_is in
-    let (rows_low, rows_high) = number_bounds (codes "rows") 1 KEY_ROWS t rows rows_is in
+    let (_, chain_high) = number_at_key_within_bounds (codes "chain") 0 (CHAINS - 1) t chain chain_text_from_pieces in
+    let (_, first_high) = number_at_key_within_bounds (codes "first") 0 (CHAIN_BITS - 1) t first first_is in
+    let (rows_low, rows_high) = number_at_key_within_bounds (codes "rows") 1 KEY_ROWS t rows rows_is in
     let a : ltb chain CHAINS ≡ true = lt-ltb chain CHAINS (omega arith) in
     let b : ltb first CHAIN_BITS ≡ true = lt-ltb first CHAIN_BITS (omega arith) in
     let c : ltb 0 rows ≡ true = lt-ltb 0 rows rows_low in
     let d : leb rows KEY_ROWS ≡ true = le-leb rows KEY_ROWS rows_high in
     let f : ltb 0 (length (filter_map line_in values)) ≡ true = lt-ltb 0 _ (columns_are_not_empty values good) in
     let sized : not (boards.is_matrix_size made) ≡ false = rw (a, b, c, d, f) refl in
-    let lines : list_any is_out made.columns.items ≡ false = filtered_list_passes is_out line_in named_line_in_range values in
-    (ap (λ (x : KeyMatrix). not (boards.is_matrix_size x)) (sym same) ∙ sized, ap (λ (x : KeyMatrix). list_any is_out x.columns.items) (sym same) ∙ lines)
+    let lines : list_any is_out_of_range made.columns.items ≡ false = test_false_for_filter_map is_out_of_range line_in named_line_in_range values in
+    (ap (λ (x : KeyMatrix). not (boards.is_matrix_size x)) (sym same) ∙ sized, ap (λ (x : KeyMatrix). list_any is_out_of_range x.columns.items) (sym same) ∙ lines)
 
 abbrev AreKeysInRange : Option KeyMatrix → Type 0
 AreKeysInRange k =
     ((elim k [ Some m ↦ not (boards.is_matrix_size m) | None ↦ false ]) ≡ false)
-    × ((elim k [ Some m ↦ list_any is_out m.columns.items | None ↦ false ]) ≡ false)
+    × ((elim k [ Some m ↦ list_any is_out_of_range m.columns.items | None ↦ false ]) ≡ false)
 
 matrix_in_range_if_present : (k : Option KeyMatrix) → ((m : KeyMatrix) → k ≡ Some m → IsMatrixInRange m) → AreKeysInRange k
 matrix_in_range_if_present None h = (refl, refl)
 matrix_in_range_if_present (Some m) h = h m refl
 
-columns_not_bad : (o : Option Data) (t : Members) → list_any (is_malformed Keys) (option_to_list o) ≡ false → option_and_then as_table o ≡ Some t → has_bad_columns t ≡ false
-columns_not_bad None t h e = cc
-columns_not_bad (Some d) t h e =
+no_bad_columns_in_keys_table : (o : Option Data) (t : Members) → list_any (is_malformed Keys) (option_to_list o) ≡ false → option_and_then as_table o ≡ Some t → has_bad_columns t ≡ false
+no_bad_columns_in_keys_table None t h e = cc
+no_bad_columns_in_keys_table (Some d) t h e =
     let (bad, _) = or_parts (is_malformed Keys d) false h in
     let (_, columns) = or_parts (is_none (part_of matrix_in d)) (option_map_or has_bad_columns (as_table d) true) bad in
     ap (λ o. option_map_or has_bad_columns o true) (sym e) ∙ columns
@@ -229,44 +229,45 @@ columns_not_bad (Some d) t h e =
 keys_in_range : (ms : Members) → has_malformed_value ms ≡ false → AreKeysInRange (parts_in ms).keys
 keys_in_range ms h =
     let any = λ (s : Section). list_any (is_malformed s) (section_values s ms) in
-    let (_, h1) = or_parts (list_any (lacks_array ms) sections) (any_section is_malformed ms) h in
+    let (_, h1) = or_parts (list_any (lacks_array ms) sections) (any_section_entry is_malformed ms) h in
     let (_, h2) = or_parts (any Rom) (any Ram || (any Chain || (any Keys || (any Lamp || false)))) h1 in
     let (_, h3) = or_parts (any Ram) (any Chain || (any Keys || (any Lamp || false))) h2 in
     let (_, h4) = or_parts (any Chain) (any Keys || (any Lamp || false)) h3 in
     let (h5, _) = or_parts (any Keys) (any Lamp || false) h4 in
     matrix_in_range_if_present (option_and_then matrix_in (keys_table ms)) (λ m e.
-    let (t, t_is, read) = value_passed_on (keys_table ms) matrix_in m e in
-    matrix_in_range t m read (columns_not_bad (get_member (codes "keys") ms) t h5 t_is))
+    let (t, t_is, read) = first_value_of_option_and_then (keys_table ms) matrix_in m e in
+    matrix_in_range t m read (no_bad_columns_in_keys_table (get_member (codes "keys") ms) t h5 t_is))
 
 -- ---- all parts
 
-lamp_in_range : (d : Data) (l : Line) → part_of lamp_in d ≡ Some l → is_out l ≡ false
-lamp_in_range d l e = let (ms, _, read) = value_passed_on (as_table d) lamp_in l e in line_at_key_in_range (codes "line") ms l read
+lamp_in_range : (d : Data) (l : Line) → part_of lamp_in d ≡ Some l → is_out_of_range l ≡ false
+lamp_in_range d l e = let (ms, _, read) = first_value_of_option_and_then (as_table d) lamp_in l e in line_at_key_in_range (codes "line") ms l read
 
-all_false : (a b c d e f : Bool) → a ≡ false → b ≡ false → c ≡ false → d ≡ false → e ≡ false → f ≡ false → (((a || b) || c) || ((d || e) || f)) ≡ false
-all_false a b c d e f ha hb hc hd he hf = rw (ha, hb, hc, hd, he, hf) refl
+six_conditions_false : (a b c d e f : Bool) → a ≡ false → b ≡ false → c ≡ false → d ≡ false → e ≡ false → f ≡ false → (((a || b) || c) || ((d || e) || f)) ≡ false
+six_conditions_false a b c d e f ha hb hc hd he hf = rw (ha, hb, hc, hd, he, hf) refl
 
-pub in_range : (ms : Members) → has_malformed_value ms ≡ false → boards.has_bad_value (parts_in ms) ≡ false
-in_range ms h =
+pub no_bad_value_in_parts : (ms : Members) → has_malformed_value ms ≡ false → boards.has_bad_value (parts_in ms) ≡ false
+no_bad_value_in_parts ms h =
     let b = parts_in ms in
     let chains = values_at (codes "chain") ms in
     let keys = keys_in_range ms h in
-    all_false (list_any exceeds_bank_chips b.banks) (list_any (λ c. not (boards.is_chain_size c)) b.chains.items) (boards.has_bad_matrix b)
-    (boards.any_chain_line is_out b) (boards.any_column is_out b) (boards.any_lamp is_out b)
-    (all_banks_within_limit ms) (filtered_list_passes (λ c. not (boards.is_chain_size c)) (part_of chain_in) (λ d c e. (chain_part_in_range d c e).0) chains) keys.0
-    (filtered_list_passes (λ (c : ChainPart). is_out c.clock || is_out c.data_in) (part_of chain_in) (λ d c e. (chain_part_in_range d c e).1) chains) keys.1
-    (filtered_list_passes is_out (part_of lamp_in) lamp_in_range (values_at (codes "lamp") ms))
+    six_conditions_false (list_any exceeds_bank_chips b.banks) (list_any (λ c. not (boards.is_chain_size c)) b.chains.items) (boards.has_bad_matrix b)
+    (boards.any_chain_line is_out_of_range b) (boards.any_column is_out_of_range b) (boards.any_lamp is_out_of_range b)
+    (all_banks_within_limit ms) (test_false_for_filter_map (λ c. not (boards.is_chain_size c)) (part_of chain_in) (λ d c e. (chain_part_in_range d c e).0) chains) keys.0
+    (test_false_for_filter_map (λ (c : ChainPart). is_out_of_range c.clock || is_out_of_range c.data_in) (part_of chain_in) (λ d c e. (chain_part_in_range d c e).1) chains) keys.1
+    (test_false_for_filter_map is_out_of_range (part_of lamp_in) lamp_in_range (values_at (codes "lamp") ms))
 
-only_line_errors_of_tests : (b : BoardParts) (bad lacks wrong : Bool) → bad ≡ false
+only_line_errors_without_bad_value : (b : BoardParts) (bad lacks wrong : Bool) → bad ≡ false
     → board_or_error b (if bad then Some fault.BadValue else if lacks then Some fault.NoSuchLine else if wrong then Some fault.WrongDirection else None)
     ≡ (if lacks then Err NoSuchLine else if wrong then Err WrongDirection else Ok b)
-only_line_errors_of_tests b true lacks wrong h = absurd (true≢false h)
-only_line_errors_of_tests b false true wrong h = refl
-only_line_errors_of_tests b false false true h = refl
-only_line_errors_of_tests b false false false h = refl
+only_line_errors_without_bad_value b true lacks wrong h = absurd (true≢false h)
+only_line_errors_without_bad_value b false true wrong h = refl
+only_line_errors_without_bad_value b false false true h = refl
+only_line_errors_without_bad_value b false false false h = refl
 
--- the parts of a table without malformed values can have only errors 25 and 26
+-- the parts of a table without malformed values have no bad value; only error 25 (a line that the
+-- board lacks) or 26 (wrong direction) is possible
 pub only_line_errors : (ms : Members) → has_malformed_value ms ≡ false → board_or_error (parts_in ms) (boards.board_fault_of (parts_in ms)) ≡ board_of_parts (parts_in ms)
 only_line_errors ms h =
     let b = parts_in ms in
-    only_line_errors_of_tests b (boards.has_bad_value b) (boards.lacks_line b) (boards.has_wrong_direction b) (in_range ms h)
+    only_line_errors_without_bad_value b (boards.has_bad_value b) (boards.lacks_line b) (boards.has_wrong_direction b) (no_bad_value_in_parts ms h)

@@ -1,4 +1,4 @@
--- A table without too many parts is within the limits of a board.
+-- If `has_too_many` is false for a table, `IsWithinLimits` holds for it.
 use Rattle.std.proofs.Common.{◌≡◌, ℕ, ◌≤◌, false, ◌||◌, length, codes, ltb, arith}
 use Rattle.std.proofs.lemmas.Bool.Decides.{nat_tests}
 use Rattle.toml.specs.Data.{Members}
@@ -6,11 +6,11 @@ use Rattle.mcs_model.specs.declared.limits.TheConstants.{ROMS, BANKS, CHAINS, KE
 use Rattle.mcs_wiring.specs.Wiring.{has_too_many, values_at, column_values}
 use Rattle.mcs_wiring.specs.Flaws.{IsWithinLimits}
 
-all_within_limits : (a b c d e : ℕ) → ((((ltb ROMS a || ltb BANKS b) || ltb CHAINS c) || ltb KEY_COLUMNS d) || ltb LAMPS e) ≡ false
+counts_within_limits : (a b c d e : ℕ) → ((((ltb ROMS a || ltb BANKS b) || ltb CHAINS c) || ltb KEY_COLUMNS d) || ltb LAMPS e) ≡ false
     → (a ≤ ROMS) × (b ≤ BANKS) × (c ≤ CHAINS) × (d ≤ KEY_COLUMNS) × (e ≤ LAMPS)
-all_within_limits a b c d e h = (grind (arith, nat_tests), grind (arith, nat_tests), grind (arith, nat_tests), grind (arith, nat_tests), grind (arith, nat_tests))
+counts_within_limits a b c d e h = (grind (arith, nat_tests), grind (arith, nat_tests), grind (arith, nat_tests), grind (arith, nat_tests), grind (arith, nat_tests))
 
-pub within : (ms : Members) → has_too_many ms ≡ false → IsWithinLimits ms
-within ms h =
-    let all = all_within_limits (length (values_at (codes "rom") ms)) (length (values_at (codes "ram") ms)) (length (values_at (codes "chain") ms)) (length (column_values ms)) (length (values_at (codes "lamp") ms)) h in
+pub within_limits_if_not_too_many : (ms : Members) → has_too_many ms ≡ false → IsWithinLimits ms
+within_limits_if_not_too_many ms h =
+    let all = counts_within_limits (length (values_at (codes "rom") ms)) (length (values_at (codes "ram") ms)) (length (values_at (codes "chain") ms)) (length (column_values ms)) (length (values_at (codes "lamp") ms)) h in
     record { roms = all.0; banks = all.1; chains = all.2; columns = all.3; lamps = all.4 }

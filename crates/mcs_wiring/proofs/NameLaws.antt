@@ -16,7 +16,7 @@ use Rattle.mcs_nibble.proofs.PortLemmas.{mask_of-mask_character}
 pub port_text_parses_back : (m0 m1 m2 m3 : LineMask) → masks_named (port_name (m0 ∷ m1 ∷ m2 ∷ m3 ∷ [])) ≡ Some (m0 ∷ m1 ∷ m2 ∷ m3 ∷ [])
 port_text_parses_back m0 m1 m2 m3 = rw (mask_of-mask_character m0, mask_of-mask_character m1, mask_of-mask_character m2, mask_of-mask_character m3) refl
 
--- ---- lines: a test of every line in range, by computation
+-- ---- lines: for every line in range, the proof computes that the line's name parses back
 
 abbrev same_line : Option Line → Line → Bool
 same_line (Some (Rom a b)) (Rom c d) = eqb a c && eqb b d
@@ -39,24 +39,24 @@ chain_lines_parse_back : list_all (λ n. list_all (λ i. parses_back (Chain n i)
 unfolding digits
 chain_lines_parse_back = refl
 
--- ---- from the test of all lines to each line
+-- ---- a test that is true for all numbers in a range is true for each of these numbers
 
-each_in_range_from : (p : ℕ → Bool) (a n k : ℕ) → list_all p (range_with_len a n) ≡ true → k < n → p (a + k) ≡ true
-each_in_range_from p a zero k h lt = absurd (omega arith)
-each_in_range_from p a (suc n) zero h lt =
+test_true_for_each_in_range : (p : ℕ → Bool) (a n k : ℕ) → list_all p (range_with_len a n) ≡ true → k < n → p (a + k) ≡ true
+test_true_for_each_in_range p a zero k h lt = absurd (omega arith)
+test_true_for_each_in_range p a (suc n) zero h lt =
     let (here, _) = and_parts (p a) (list_all p (range_with_len (a + 1) n)) h in
     let same : a + 0 ≡ a = omega arith in
     ap p same ∙ here
-each_in_range_from p a (suc n) (suc k) h lt =
+test_true_for_each_in_range p a (suc n) (suc k) h lt =
     let (_, later) = and_parts (p a) (list_all p (range_with_len (a + 1) n)) h in
     let same : a + suc k ≡ (a + 1) + k = omega arith in
-    ap p same ∙ each_in_range_from p (a + 1) n k later (omega arith)
+    ap p same ∙ test_true_for_each_in_range p (a + 1) n k later (omega arith)
 
-each_below_limit : (p : ℕ → Bool) (n k : ℕ) → list_all p (range_with_len 0 n) ≡ true → ltb k n ≡ true → p k ≡ true
-each_below_limit p n k h below =
+test_true_if_below_limit : (p : ℕ → Bool) (n k : ℕ) → list_all p (range_with_len 0 n) ≡ true → ltb k n ≡ true → p k ≡ true
+test_true_if_below_limit p n k h below =
     let lt : k < n = ltb-true k n below in
     let same : k ≡ 0 + k = omega arith in
-    ap p same ∙ each_in_range_from p 0 n k h lt
+    ap p same ∙ test_true_for_each_in_range p 0 n k h lt
 
 same_line_is_equal : (o : Option Line) (l : Line) → same_line o l ≡ true → o ≡ Some l
 same_line_is_equal None (Rom c d) h = absurd (false≢true h)
@@ -89,14 +89,14 @@ same_line_is_equal (Some (Chain a b)) (Chain c d) h =
 pub line_name_parses_back : (l : Line) → in_range l ≡ true → line_named (line_name l) ≡ Some l
 line_name_parses_back (Rom chip k) h =
     let (x, y) = and_parts (ltb chip ROMS) (ltb k 4) h in
-    same_line_is_equal _ (Rom chip k) (each_below_limit (λ j. parses_back (Rom chip j)) 4 k (each_below_limit (λ c. list_all (λ j. parses_back (Rom c j)) (range_with_len 0 4)) ROMS chip rom_lines_parse_back x) y)
+    same_line_is_equal _ (Rom chip k) (test_true_if_below_limit (λ j. parses_back (Rom chip j)) 4 k (test_true_if_below_limit (λ c. list_all (λ j. parses_back (Rom c j)) (range_with_len 0 4)) ROMS chip rom_lines_parse_back x) y)
 line_name_parses_back (Ram bank chip k) h =
     let (xy, z) = and_parts (ltb bank BANKS && ltb chip BANK_CHIPS) (ltb k 4) h in
     let (x, y) = and_parts (ltb bank BANKS) (ltb chip BANK_CHIPS) xy in
-    let in_bank = each_below_limit (λ b. list_all (λ c. list_all (λ j. parses_back (Ram b c j)) (range_with_len 0 4)) (range_with_len 0 BANK_CHIPS)) BANKS bank ram_lines_parse_back x in
-    let in_chip = each_below_limit (λ c. list_all (λ j. parses_back (Ram bank c j)) (range_with_len 0 4)) BANK_CHIPS chip in_bank y in
-    same_line_is_equal _ (Ram bank chip k) (each_below_limit (λ j. parses_back (Ram bank chip j)) 4 k in_chip z)
+    let in_bank = test_true_if_below_limit (λ b. list_all (λ c. list_all (λ j. parses_back (Ram b c j)) (range_with_len 0 4)) (range_with_len 0 BANK_CHIPS)) BANKS bank ram_lines_parse_back x in
+    let in_chip = test_true_if_below_limit (λ c. list_all (λ j. parses_back (Ram bank c j)) (range_with_len 0 4)) BANK_CHIPS chip in_bank y in
+    same_line_is_equal _ (Ram bank chip k) (test_true_if_below_limit (λ j. parses_back (Ram bank chip j)) 4 k in_chip z)
 line_name_parses_back (Chain n i) h =
     let (x, y) = and_parts (ltb n CHAINS) (ltb i CHAIN_BITS) h in
-    let in_chain = each_below_limit (λ c. list_all (λ j. parses_back (Chain c j)) (range_with_len 0 CHAIN_BITS)) CHAINS n chain_lines_parse_back x in
-    same_line_is_equal _ (Chain n i) (each_below_limit (λ j. parses_back (Chain n j)) CHAIN_BITS i in_chain y)
+    let in_chain = test_true_if_below_limit (λ c. list_all (λ j. parses_back (Chain c j)) (range_with_len 0 CHAIN_BITS)) CHAINS n chain_lines_parse_back x in
+    same_line_is_equal _ (Chain n i) (test_true_if_below_limit (λ j. parses_back (Chain n j)) CHAIN_BITS i in_chain y)

@@ -7,20 +7,20 @@ use Rattle.mcs_wiring.specs.declared.fault.WiringFault.{WiringFault}
 use Rattle.mcs_wiring.specs.declared.fault.WiringFault.TheVariants.{UnknownKey, MissingKey, BadValue, TooManyParts, DoubleChip, NoSuchLine, WrongDirection, NoMemory}
 use Rattle.mcs_wiring.specs.Wiring.{has_unknown_key, has_missing_key, has_malformed_value, has_too_many, has_double_chip, parts_in, board_of_table}
 
-abbrev Answer : Type 0
-Answer = Result BoardParts WiringFault
+abbrev BoardResult : Type 0
+BoardResult = Result BoardParts WiringFault
 
-not_no_memory_first : (b : Bool) (fault : WiringFault) (r : Answer) → (fault ≡ NoMemory → ⊥) → (r ≡ Err NoMemory → ⊥) → (if b then Err fault else r) ≡ Err NoMemory → ⊥
-not_no_memory_first true fault r here later e = here (cc)
-not_no_memory_first false fault r here later e = later e
+not_no_memory_if_neither_is : (b : Bool) (fault : WiringFault) (r : BoardResult) → (fault ≡ NoMemory → ⊥) → (r ≡ Err NoMemory → ⊥) → (if b then Err fault else r) ≡ Err NoMemory → ⊥
+not_no_memory_if_neither_is true fault r here later e = here (cc)
+not_no_memory_if_neither_is false fault r here later e = later e
 
 pub never_no_memory : (ms : Members) → board_of_table ms ≡ Err NoMemory → ⊥
 unfolding board_of_table
 never_no_memory ms =
-    not_no_memory_first (has_unknown_key ms) UnknownKey _ (λ e. cc) (
-    not_no_memory_first (has_missing_key ms) MissingKey _ (λ e. cc) (
-    not_no_memory_first (has_malformed_value ms) BadValue _ (λ e. cc) (
-    not_no_memory_first (has_too_many ms) TooManyParts _ (λ e. cc) (
-    not_no_memory_first (has_double_chip ms) DoubleChip _ (λ e. cc) (
-    not_no_memory_first (lacks_line (parts_in ms)) NoSuchLine _ (λ e. cc) (
-    not_no_memory_first (has_wrong_direction (parts_in ms)) WrongDirection _ (λ e. cc) (λ e. cc)))))))
+    not_no_memory_if_neither_is (has_unknown_key ms) UnknownKey _ (λ e. cc) (
+    not_no_memory_if_neither_is (has_missing_key ms) MissingKey _ (λ e. cc) (
+    not_no_memory_if_neither_is (has_malformed_value ms) BadValue _ (λ e. cc) (
+    not_no_memory_if_neither_is (has_too_many ms) TooManyParts _ (λ e. cc) (
+    not_no_memory_if_neither_is (has_double_chip ms) DoubleChip _ (λ e. cc) (
+    not_no_memory_if_neither_is (lacks_line (parts_in ms)) NoSuchLine _ (λ e. cc) (
+    not_no_memory_if_neither_is (has_wrong_direction (parts_in ms)) WrongDirection _ (λ e. cc) (λ e. cc)))))))

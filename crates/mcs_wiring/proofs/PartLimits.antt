@@ -7,19 +7,19 @@ use Rattle.mcs_wiring.specs.declared.fault.WiringFault.TheVariants.{UnknownKey, 
 use Rattle.mcs_wiring.specs.Flaws.{IsWithinLimits}
 use Rattle.mcs_wiring.specs.Wiring.{has_unknown_key, has_missing_key, has_malformed_value, has_too_many, board_of_table}
 use Rattle.mcs_wiring.specs.PartView.{IsPartsError}
-use Rattle.mcs_wiring.proofs.Limits.{within}
+use Rattle.mcs_wiring.proofs.Limits.{within_limits_if_not_too_many}
 
 abbrev IsPartsErrorResult : Result BoardParts WiringFault → Type 0
 IsPartsErrorResult (Ok b) = ⊥
 IsPartsErrorResult (Err f) = IsPartsError f
 
-not_too_many_parts : (u m v t : Bool) (rest : Result BoardParts WiringFault) → IsPartsErrorResult (if u then Err UnknownKey else if m then Err MissingKey else if v then Err BadValue else if t then Err TooManyParts else rest) → t ≡ false
-not_too_many_parts true m v t rest k = absurd k
-not_too_many_parts false true v t rest k = absurd k
-not_too_many_parts false false true t rest k = absurd k
-not_too_many_parts false false false true rest k = absurd k
-not_too_many_parts false false false false rest k = refl
+no_excess_if_parts_error : (u m v t : Bool) (rest : Result BoardParts WiringFault) → IsPartsErrorResult (if u then Err UnknownKey else if m then Err MissingKey else if v then Err BadValue else if t then Err TooManyParts else rest) → t ≡ false
+no_excess_if_parts_error true m v t rest k = absurd k
+no_excess_if_parts_error false true v t rest k = absurd k
+no_excess_if_parts_error false false true t rest k = absurd k
+no_excess_if_parts_error false false false true rest k = absurd k
+no_excess_if_parts_error false false false false rest k = refl
 
 pub within_limits_if_parts_error : (ms : Members) (f : WiringFault) → board_of_table ms ≡ Err f → IsPartsError f → IsWithinLimits ms
 unfolding board_of_table
-within_limits_if_parts_error ms f e k = within ms (not_too_many_parts (has_unknown_key ms) (has_missing_key ms) (has_malformed_value ms) (has_too_many ms) _ (subst IsPartsErrorResult (sym e) k))
+within_limits_if_parts_error ms f e k = within_limits_if_not_too_many ms (no_excess_if_parts_error (has_unknown_key ms) (has_missing_key ms) (has_malformed_value ms) (has_too_many ms) _ (subst IsPartsErrorResult (sym e) k))

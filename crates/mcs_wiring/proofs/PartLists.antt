@@ -14,22 +14,23 @@ use Rattle.mcs_wiring.specs.declared.sections.Numbered.{Numbered}
 use Rattle.mcs_wiring.specs.declared.sections.Section.{Section}
 use Rattle.mcs_wiring.specs.Parts.{Part, first_flawed_from, first_repeated_from, wrong_chain_from, wrong_lamp_from}
 
--- `first_flawed_from` for the values from index i is `first_flawed_from` for value i and the values after it
-pub first_flawed_step : (f : Flaw) (s : Section) (vs : List Value) (i : ℕ) (v : Value) → i < length vs → v ≡ get_or vs i v → first_flawed_from f s i (map view (drop i vs)) ≡ first_flawed_from f s i (view v ∷ map view (drop (i + 1) vs))
-first_flawed_step f s vs i v lt is = ap (λ xs. first_flawed_from f s i (map view xs)) (drop_more vs i v lt) ∙ ap (λ x. first_flawed_from f s i (view x ∷ map view (drop (i + 1) vs))) (sym is)
+-- The search of the values from index `i` equals the search of value `i` followed by the later
+-- values.
+pub first_flawed_from_index : (f : Flaw) (s : Section) (vs : List Value) (i : ℕ) (v : Value) → i < length vs → v ≡ get_or vs i v → first_flawed_from f s i (map view (drop i vs)) ≡ first_flawed_from f s i (view v ∷ map view (drop (i + 1) vs))
+first_flawed_from_index f s vs i v lt is = ap (λ xs. first_flawed_from f s i (map view xs)) (drop_more vs i v lt) ∙ ap (λ x. first_flawed_from f s i (view x ∷ map view (drop (i + 1) vs))) (sym is)
 
-pub wrong_chain_step : (f : LineFlaw) (b : BoardParts) (cs : List ChainPart) (i : ℕ) (c : ChainPart) → i < length cs → c ≡ get_or cs i c → wrong_chain_from f b i (drop i cs) ≡ wrong_chain_from f b i (c ∷ drop (i + 1) cs)
-wrong_chain_step f b cs i c lt is = ap (wrong_chain_from f b i) (drop_more cs i c lt) ∙ ap (λ x. wrong_chain_from f b i (x ∷ drop (i + 1) cs)) (sym is)
+pub wrong_chain_from_index : (f : LineFlaw) (b : BoardParts) (cs : List ChainPart) (i : ℕ) (c : ChainPart) → i < length cs → c ≡ get_or cs i c → wrong_chain_from f b i (drop i cs) ≡ wrong_chain_from f b i (c ∷ drop (i + 1) cs)
+wrong_chain_from_index f b cs i c lt is = ap (wrong_chain_from f b i) (drop_more cs i c lt) ∙ ap (λ x. wrong_chain_from f b i (x ∷ drop (i + 1) cs)) (sym is)
 
-pub wrong_lamp_step : (f : LineFlaw) (b : BoardParts) (ls : List Line) (i : ℕ) (l : Line) → i < length ls → l ≡ get_or ls i l → wrong_lamp_from f b i (drop i ls) ≡ wrong_lamp_from f b i (l ∷ drop (i + 1) ls)
-wrong_lamp_step f b ls i l lt is = ap (wrong_lamp_from f b i) (drop_more ls i l lt) ∙ ap (λ x. wrong_lamp_from f b i (x ∷ drop (i + 1) ls)) (sym is)
+pub wrong_lamp_from_index : (f : LineFlaw) (b : BoardParts) (ls : List Line) (i : ℕ) (l : Line) → i < length ls → l ≡ get_or ls i l → wrong_lamp_from f b i (drop i ls) ≡ wrong_lamp_from f b i (l ∷ drop (i + 1) ls)
+wrong_lamp_from_index f b ls i l lt is = ap (wrong_lamp_from f b i) (drop_more ls i l lt) ∙ ap (λ x. wrong_lamp_from f b i (x ∷ drop (i + 1) ls)) (sym is)
 
--- the numbers of the parts in reverse order, followed by the numbers in `seen`
+-- the numbers of the parts, in reverse order of the parts, followed by the numbers in `seen`
 abbrev pub reversed_numbers : {A : Type 0} → List ℕ → List (Numbered A) → List ℕ
 reversed_numbers seen [] = seen
 reversed_numbers seen (p ∷ ps) = reversed_numbers (p.number ∷ seen) ps
 
--- a part added at the end of the list puts its number at the front of `reversed_numbers`
+-- If a part is added at the end of the list, its number is the first of `reversed_numbers`.
 pub reversed_numbers_append : {A : Type 0} (seen : List ℕ) (ps : List (Numbered A)) (p : Numbered A) → reversed_numbers seen (ps ++ p ∷ []) ≡ p.number ∷ reversed_numbers seen ps
 reversed_numbers_append seen [] p = refl
 reversed_numbers_append seen (q ∷ ps) p = reversed_numbers_append (q.number ∷ seen) ps p
@@ -44,35 +45,37 @@ or_swap true false c = refl
 or_swap false true c = refl
 or_swap false false c = refl
 
-any_reversed_number_after : {A : Type 0} (n : ℕ) (seen : List ℕ) (ps : List (Numbered A)) → list_any (λ k. eqb k n) (reversed_numbers seen ps) ≡ (list_any (λ q. eqb q.number n) ps || list_any (λ k. eqb k n) seen)
-any_reversed_number_after n seen [] = refl
-any_reversed_number_after n seen (p ∷ ps) = any_reversed_number_after n (p.number ∷ seen) ps ∙ or_swap (list_any (λ q. eqb q.number n) ps) (eqb p.number n) (list_any (λ k. eqb k n) seen)
+number_in_reversed_numbers_or_seen : {A : Type 0} (n : ℕ) (seen : List ℕ) (ps : List (Numbered A)) → list_any (λ k. eqb k n) (reversed_numbers seen ps) ≡ (list_any (λ q. eqb q.number n) ps || list_any (λ k. eqb k n) seen)
+number_in_reversed_numbers_or_seen n seen [] = refl
+number_in_reversed_numbers_or_seen n seen (p ∷ ps) = number_in_reversed_numbers_or_seen n (p.number ∷ seen) ps ∙ or_swap (list_any (λ q. eqb q.number n) ps) (eqb p.number n) (list_any (λ k. eqb k n) seen)
 
 -- a number is in `reversed_numbers` of a list exactly if one of the parts has that number
-pub any_reversed_number : {A : Type 0} (n : ℕ) (ps : List (Numbered A)) → list_any (λ k. eqb k n) (reversed_numbers [] ps) ≡ list_any (λ q. eqb q.number n) ps
-any_reversed_number n ps = any_reversed_number_after n [] ps ∙ or_false (list_any (λ q. eqb q.number n) ps)
+pub number_in_reversed_numbers : {A : Type 0} (n : ℕ) (ps : List (Numbered A)) → list_any (λ k. eqb k n) (reversed_numbers [] ps) ≡ list_any (λ q. eqb q.number n) ps
+number_in_reversed_numbers n ps = number_in_reversed_numbers_or_seen n [] ps ∙ or_false (list_any (λ q. eqb q.number n) ps)
 
--- `first_repeated_from` at index i: i if an earlier part has the number of part i, else the result for
--- the parts after it
-pub first_repeated_step : {A : Type 0} (ps : List (Numbered A)) (i : ℕ) (p : Numbered A) → i < length ps → p ≡ get_or ps i p
+-- The search from part `i` on returns `i` if an earlier part has the number of part `i`. Otherwise
+-- it returns the same as the search from part `i + 1` on.
+pub first_repeated_from_index : {A : Type 0} (ps : List (Numbered A)) (i : ℕ) (p : Numbered A) → i < length ps → p ≡ get_or ps i p
     → first_repeated_from (reversed_numbers [] (take i ps)) i (drop i ps) ≡ (if list_any (λ q. eqb q.number p.number) (take i ps) then Some i else first_repeated_from (reversed_numbers [] (take (i + 1) ps)) (i + 1) (drop (i + 1) ps))
-first_repeated_step {A} ps i p lt is =
+first_repeated_from_index {A} ps i p lt is =
     let seen : List ℕ = reversed_numbers [] (take i ps) in
     let more : reversed_numbers [] (take (i + 1) ps) ≡ p.number ∷ seen =
     ap (reversed_numbers []) (take_more ps i p lt) ∙ (reversed_numbers_append [] (take i ps) (get_or ps i p) ∙ ap (λ (x : Numbered A). x.number ∷ seen) (sym is)) in
     ap (first_repeated_from seen i) (drop_more ps i p lt)
     ∙ (ap (λ (x : Numbered A). first_repeated_from seen i (x ∷ drop (i + 1) ps)) (sym is)
-    ∙ (ap (λ b. if b then Some i else first_repeated_from (p.number ∷ seen) (i + 1) (drop (i + 1) ps)) (any_reversed_number p.number (take i ps))
+    ∙ (ap (λ b. if b then Some i else first_repeated_from (p.number ∷ seen) (i + 1) (drop (i + 1) ps)) (number_in_reversed_numbers p.number (take i ps))
     ∙ ap (λ ns. if list_any (λ q. eqb q.number p.number) (take i ps) then Some i else first_repeated_from ns (i + 1) (drop (i + 1) ps)) (sym more)))
 
--- the result is i if an earlier part has the number of part i
-pub first_repeated_at : {A : Type 0} (ps : List (Numbered A)) (i : ℕ) (p : Numbered A) (any : Bool) → i < length ps → p ≡ get_or ps i p → any ≡ list_any (λ q. eqb q.number (get_or ps i p).number) (take i ps) → any ≡ true
+-- The search of all parts returns `i` if an earlier part has the number of part `i`. The search
+-- from part `i` on must return the same as the search of all parts.
+pub first_repeated_is_index : {A : Type 0} (ps : List (Numbered A)) (i : ℕ) (p : Numbered A) (any : Bool) → i < length ps → p ≡ get_or ps i p → any ≡ list_any (λ q. eqb q.number (get_or ps i p).number) (take i ps) → any ≡ true
     → first_repeated_from (reversed_numbers [] (take i ps)) i (drop i ps) ≡ first_repeated_from [] 0 ps → Some i ≡ first_repeated_from [] 0 ps
-first_repeated_at {A} ps i p any lt is test held inv =
-    sym (sym inv ∙ (first_repeated_step ps i p lt is ∙ ap (λ b. if b then Some i else first_repeated_from (reversed_numbers [] (take (i + 1) ps)) (i + 1) (drop (i + 1) ps)) (ap (λ (r : Numbered A). list_any (λ q. eqb q.number r.number) (take i ps)) is ∙ (sym test ∙ held))))
+first_repeated_is_index {A} ps i p any lt is test held inv =
+    sym (sym inv ∙ (first_repeated_from_index ps i p lt is ∙ ap (λ b. if b then Some i else first_repeated_from (reversed_numbers [] (take (i + 1) ps)) (i + 1) (drop (i + 1) ps)) (ap (λ (r : Numbered A). list_any (λ q. eqb q.number r.number) (take i ps)) is ∙ (sym test ∙ held))))
 
--- the result is that for the parts after part i if no earlier part has the number of part i
-pub first_repeated_later : {A : Type 0} (ps : List (Numbered A)) (i : ℕ) (p : Numbered A) (any : Bool) → i < length ps → p ≡ get_or ps i p → any ≡ list_any (λ q. eqb q.number (get_or ps i p).number) (take i ps) → any ≡ false
+-- If no earlier part has the number of part `i`, the search from part `i + 1` on returns the same
+-- as the search of all parts. The search from part `i` on must also return the same.
+pub first_repeated_is_after_index : {A : Type 0} (ps : List (Numbered A)) (i : ℕ) (p : Numbered A) (any : Bool) → i < length ps → p ≡ get_or ps i p → any ≡ list_any (λ q. eqb q.number (get_or ps i p).number) (take i ps) → any ≡ false
     → first_repeated_from (reversed_numbers [] (take i ps)) i (drop i ps) ≡ first_repeated_from [] 0 ps → first_repeated_from (reversed_numbers [] (take (i + 1) ps)) (i + 1) (drop (i + 1) ps) ≡ first_repeated_from [] 0 ps
-first_repeated_later {A} ps i p any lt is test fails inv =
-    sym (first_repeated_step ps i p lt is ∙ ap (λ b. if b then Some i else first_repeated_from (reversed_numbers [] (take (i + 1) ps)) (i + 1) (drop (i + 1) ps)) (ap (λ (r : Numbered A). list_any (λ q. eqb q.number r.number) (take i ps)) is ∙ (sym test ∙ fails))) ∙ inv
+first_repeated_is_after_index {A} ps i p any lt is test fails inv =
+    sym (first_repeated_from_index ps i p lt is ∙ ap (λ b. if b then Some i else first_repeated_from (reversed_numbers [] (take (i + 1) ps)) (i + 1) (drop (i + 1) ps)) (ap (λ (r : Numbered A). list_any (λ q. eqb q.number r.number) (take i ps)) is ∙ (sym test ∙ fails))) ∙ inv

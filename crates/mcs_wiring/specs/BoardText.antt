@@ -1,4 +1,5 @@
--- The text of a board, line by line, and the answer to the query `board` (our own choice).
+-- The text of a board, line by line, and the answer to the query `board`. (Defined by Fethsaim, not
+-- by Intel.)
 use Rattle.std.specs.Prelude.{ℕ, nat_lt, List, [], ◌∷◌, ◌++◌, Option, Some, None, codes, slice_index, if◌then◌else◌}
 use Rattle.std.specs.List.{flat_map, join_by, join_with_byte, range_with_len}
 use Rattle.std.specs.Option.{option_map_or}
@@ -56,8 +57,8 @@ matrix_lines m =
 abbrev pub lamp_lines : Line → List (List ℕ)
 lamp_lines line = codes "[[lamp]]" ∷ entry (codes "line") (quoted_name line) ∷ []
 
--- the lines of a board's text: ROMs by ascending chip number, RAM banks by ascending bank number,
--- chains, key matrix, lamps
+-- the lines of a board's text: the ROMs in ascending order of chip number, the RAM banks in
+-- ascending order of bank number, the chains, the key matrix, the lamps
 abbrev pub board_lines : BoardParts → List (List ℕ)
 board_lines b =
     flat_map (λ chip. rom_lines chip (rom_masks b chip)) (range_with_len 0 ROMS)
@@ -70,9 +71,9 @@ board_lines b =
 abbrev pub board_text : BoardParts → List ℕ
 board_text b = text_of (board_lines b)
 
--- `query_lines`: the lines of the answer to the query `board`, which are `board` and the lines of
--- the board's text. `query_text`: these lines with a line feed between them, but not after the
--- last.
+-- `query_lines`: the lines of the answer to the query `board`: the line `board`, then the lines of
+-- the board's text. `query_text`: these lines with a line feed between two lines, but not after the
+-- last line.
 abbrev pub query_lines : BoardParts → List (List ℕ)
 query_lines b = codes "board" ∷ board_lines b
 

@@ -30,8 +30,8 @@ pub record IsWithinLimits (ms : Members) : Type 0 where
   pub columns : length (column_values ms) ≤ KEY_COLUMNS
   pub lamps : length (values_at (codes "lamp") ms) ≤ LAMPS
 
--- `rom_text`: the text for one ROM. `roms_text`: the text for the ROMs below n. `ram_text` and
--- `rams_text`: the same for RAM banks.
+-- `rom_text`: the text for one ROM. `roms_text`: the text for the ROMs with chip numbers below `n`.
+-- `ram_text` and `rams_text`: the text for one RAM bank, and for the banks below `n`.
 abbrev pub rom_text : BoardParts → ℕ → List ℕ
 rom_text b chip = text_of (rom_lines chip (rom_masks b chip))
 
@@ -44,14 +44,15 @@ ram_text b bank = text_of (bank_lines bank (slice_index b.banks bank))
 abbrev pub rams_text : BoardParts → ℕ → List ℕ
 rams_text b n = flat_map (ram_text b) (range_with_len 0 n)
 
--- the given parts, or the error of a board text if the parts have a fault
+-- the given parts if there is no fault, else the fault as an error of a board text
 abbrev pub board_or_error : BoardParts → Option BoardFault → Result BoardParts WiringFault
 board_or_error parts None = Ok parts
 board_or_error parts (Some fault) = Err (refusal_of fault)
 
--- `board_of_parts` applies checks 25 and 26 to parts whose numbers are in range.
--- `board_within_limits` applies checks 24, 25 and 26 to a table that has passed checks 21, 22, 23
--- and 27.
+-- `board_of_parts`: the board with the given parts, or error 25 (a line that the board lacks) or 26
+-- (wrong direction). All numbers in the parts must be in range. `board_within_limits`: the board
+-- that a table describes, or error 24 (a chip or bank number that occurs twice), 25 or 26. The
+-- table must have none of the errors 21, 22, 23 and 27.
 abbrev pub board_of_parts : BoardParts → Result BoardParts WiringFault
 board_of_parts parts =
     if lacks_line parts then Err NoSuchLine

@@ -1,4 +1,5 @@
--- The format of a board text: its sections and the keys of their tables (our own choice).
+-- The format of a board text: its sections and the keys of their tables. (Defined by Fethsaim, not
+-- by Intel.)
 use Rattle.std.specs.Prelude.{ℕ, Bool, List, [], ◌∷◌, codes}
 use Rattle.std.specs.List.{list_any}
 use Rattle.std.specs.Str.{bytes_eq}
@@ -25,8 +26,8 @@ table_keys Chain = codes "clock" ∷ codes "data" ∷ codes "chips" ∷ []
 table_keys Keys = codes "chain" ∷ codes "first" ∷ codes "rows" ∷ codes "columns" ∷ []
 table_keys Lamp = codes "line" ∷ []
 
--- `is_board_key`: true if a key is the top-level key of a section. `is_table_key`: true if a key is
--- one of those that a table of the section must have.
+-- `is_board_key`: true if a key is the top-level key of a section. `is_table_key`: true if a table
+-- of the section must have the key.
 abbrev pub is_board_key : List ℕ → Bool
 is_board_key key = list_any (λ s. bytes_eq key (section_key s)) sections
 

@@ -1,4 +1,5 @@
--- The names of lines in a board text, and the text for the masks of a ROM port. (Our own choice.)
+-- The names of lines in a board text, and the text for the masks of a ROM port. (Defined by
+-- Fethsaim, not by Intel.)
 use Rattle.std.specs.Prelude.{ℕ, ◌+◌, ◌*◌, ◌-◌, ◌&&◌, not, List, [], ◌∷◌, ◌++◌, length, Option, Some, None, nat_lt, ◌==◌, if◌then◌else◌, codes, take, drop}
 use Rattle.std.specs.List.{position_or_len, before_first, after_first}
 use Rattle.std.specs.Str.{bytes_eq}
@@ -16,8 +17,8 @@ use Rattle.mcs_model.specs.Options.{◌>>=◌}
 abbrev pub below_or_none : ℕ → ℕ → Option ℕ
 below_or_none limit n = if nat_lt n limit then Some n else None
 
--- the number that one or two decimal digits spell, or none if it has a leading zero or is not below
--- the limit; every number in a line name has at most two digits
+-- the number that one or two decimal digits spell, or none if the number has a leading zero or is
+-- not below `limit`; every number in a line name has at most two digits
 abbrev pub number_below : ℕ → List ℕ → Option ℕ
 number_below limit (d ∷ []) = if is_ascii_digit d then below_or_none limit (d - 48) else None
 number_below limit (t ∷ d ∷ []) =
@@ -28,46 +29,46 @@ number_below limit text = None
 -- ---- line names: `romC.K`, `ramB.C.K`, `chainN.I`
 
 -- the text after a prefix, or none if the text does not begin with the prefix
-abbrev pub rest_after : List ℕ → List ℕ → Option (List ℕ)
-rest_after word text =
+abbrev pub text_after_prefix : List ℕ → List ℕ → Option (List ℕ)
+text_after_prefix word text =
     if bytes_eq (take (length word) text) word then Some (drop (length word) text) else None
 
 -- the texts before and after the first dot, or none if there is no dot
-abbrev pub parts_around_dot : List ℕ → Option (List ℕ × List ℕ)
-parts_around_dot text =
+abbrev pub texts_around_dot : List ℕ → Option (List ℕ × List ℕ)
+texts_around_dot text =
     if nat_lt (position_or_len (λ b. b == 46) text) (length text)
     then Some (before_first (λ b. b == 46) text, after_first (λ b. b == 46) text) else None
 
--- the line that the text after `rom`, `ram` or `chain` in a line name gives, or none if the text is
--- not valid
+-- `rom_line_named`, `ram_line_named`, `chain_line_named`: the line with the name `rom`, `ram` or
+-- `chain` followed by the given text, or none if this is not a line name
 abbrev pub rom_line_named : List ℕ → Option Line
 rom_line_named text =
-    parts_around_dot text >>= (λ (p : List ℕ × List ℕ).
+    texts_around_dot text >>= (λ (p : List ℕ × List ℕ).
     number_below ROMS p.0 >>= (λ chip.
     number_below 4 p.1 >>= (λ k. Some (Rom chip k))))
 
 abbrev pub ram_line_named : List ℕ → Option Line
 ram_line_named text =
-    parts_around_dot text >>= (λ (p : List ℕ × List ℕ).
-    parts_around_dot p.1 >>= (λ (q : List ℕ × List ℕ).
+    texts_around_dot text >>= (λ (p : List ℕ × List ℕ).
+    texts_around_dot p.1 >>= (λ (q : List ℕ × List ℕ).
     number_below BANKS p.0 >>= (λ bank.
     number_below BANK_CHIPS q.0 >>= (λ chip.
     number_below 4 q.1 >>= (λ k. Some (Ram bank chip k))))))
 
 abbrev pub chain_line_named : List ℕ → Option Line
 chain_line_named text =
-    parts_around_dot text >>= (λ (p : List ℕ × List ℕ).
+    texts_around_dot text >>= (λ (p : List ℕ × List ℕ).
     number_below CHAINS p.0 >>= (λ n.
     number_below CHAIN_BITS p.1 >>= (λ i. Some (Chain n i))))
 
 -- the line with the given name, or none if the text is not a line name
 abbrev pub line_named : List ℕ → Option Line
 line_named text =
-    elim (rest_after (codes "rom") text) [
+    elim (text_after_prefix (codes "rom") text) [
       | Some rest ↦ rom_line_named rest
-      | None ↦ elim (rest_after (codes "ram") text) [
+      | None ↦ elim (text_after_prefix (codes "ram") text) [
         | Some rest ↦ ram_line_named rest
-        | None ↦ rest_after (codes "chain") text >>= chain_line_named
+        | None ↦ text_after_prefix (codes "chain") text >>= chain_line_named
       ]
     ]
 
@@ -80,7 +81,8 @@ line_name (Chain n i) = codes "chain" ++ (decimal n ++ (codes "." ++ decimal i))
 
 -- ---- ports: four characters, line 3 first
 
--- the masks that the text of a port gives, line 0 first, or none if the text is not valid
+-- the masks that the text of a port gives, in the order from line 0 to line 3, or none if the text
+-- is not valid
 abbrev pub masks_named : List ℕ → Option (List LineMask)
 masks_named (c3 ∷ c2 ∷ c1 ∷ c0 ∷ []) =
     mask_of c0 >>= (λ m0.
@@ -89,8 +91,8 @@ masks_named (c3 ∷ c2 ∷ c1 ∷ c0 ∷ []) =
     mask_of c3 >>= (λ m3. Some (m0 ∷ m1 ∷ m2 ∷ m3 ∷ [])))))
 masks_named text = None
 
--- the text of a port, whose characters are in the order line 3 to line 0, from its masks in the
--- order line 0 to line 3
+-- The text of a port. The masks are in the order from line 0 to line 3, and the characters in the
+-- order from line 3 to line 0.
 abbrev pub port_name : List LineMask → List ℕ
 port_name masks =
     mask_character (mask_at masks 3) ∷ mask_character (mask_at masks 2)

@@ -9,7 +9,8 @@ use Rattle.mcs_wiring.specs.Parts.{Part}
 abbrev pub part_view : code.Part → Part
 part_view p = record { section = p.section; number = p.number; key = option_copied p.key }
 
--- Holds for errors 24, 25 and 26, which can involve several tables.
+-- Holds for the errors `DoubleChip`, `NoSuchLine` and `WrongDirection`, which can involve several
+-- tables.
 abbrev pub IsPartsError : WiringFault → Type 0
 IsPartsError DoubleChip = Unit {0}
 IsPartsError NoSuchLine = Unit {0}

@@ -1,6 +1,6 @@
 -- The part of a board text that has an error, and the report on a text. The report says that the
--- text is valid, or gives the refusal with that part and the line on which it begins. (Our own
--- choice.)
+-- text is valid, or gives the refusal number, the part, and the line on which the part begins.
+-- (Defined by Fethsaim, not by Intel.)
 use Rattle.std.specs.Prelude.{ℕ, ◌+◌, ◌-◌, Bool, true, false, not, ◌&&◌, ◌||◌, List, [], ◌∷◌, ◌++◌, length, take, find, codes, Option, Some, None, is_some, is_none, option_map, Result, Ok, Err, nat_lt, nat_le, ◌==◌, if◌then◌else◌}
 use Rattle.std.specs.List.{list_any, list_all, slice_split, range_with_len}
 use Rattle.std.specs.Option.{option_or}
@@ -32,8 +32,8 @@ use Rattle.mcs_wiring.specs.RefusalNumbers.{wiring_fault_number}
 use Rattle.mcs_wiring.specs.Wiring.{keys_of, section_values, values_at, number_at, line_at, has_bad_columns, lacks_array, column_values, roms_of, rams_of, parts_in, board_of_table}
 
 -- A location in a board text: a top-level key, the value at a section's key, or one of the
--- section's tables. Tables are numbered from 1; the key matrix has no number. The key at fault is
--- included if there is one.
+-- section's tables. Tables are numbered from 1; the key matrix has no number. `key` is the
+-- top-level key or, in a table, the key that has the error, if any.
 pub record Part : Type 0 where
   pub section : Option Section
   pub number : Option ℕ
@@ -49,11 +49,13 @@ abbrev pub table_number : Section → ℕ → Option ℕ
 table_number Keys i = None
 table_number s i = Some (i + 1)
 
--- the part for the table with index i, from 0, in a section; `key` is the key at fault, if any
+-- the part for the table with index `i`, from 0, in a section; `key` is the key that has the error,
+-- if any
 abbrev pub part_at_table : Section → ℕ → Option (List ℕ) → Part
 part_at_table s i key = record { section = Some s; number = table_number s i; key = key }
 
--- ---- errors 21, 22 and 23: the first table that has the flaw, and its first key at fault
+-- ---- errors 21 (unknown key), 22 (missing key) and 23 (bad value): the first table that has the
+-- flaw, and the first key to which the flaw applies
 
 abbrev pub first_unknown_table_key : Section → Members → Option (List ℕ)
 first_unknown_table_key s ms = find (λ key. not (is_table_key s key)) (keys_of ms)
@@ -94,7 +96,7 @@ abbrev pub first_flawed_key : Flaw → Section → Data → Option (List ℕ)
 first_flawed_key f s (table ms) = flawed_key_in_table f s ms
 first_flawed_key f s d = None
 
--- the part for the first value in the list that has the flaw; i is the index of the list's head
+-- the part for the first list item with the flaw; `i` is the index of the first list item
 abbrev pub first_flawed_from : Flaw → Section → ℕ → List Data → Option Part
 first_flawed_from f s i [] = None
 first_flawed_from f s i (d ∷ ds) =
@@ -103,13 +105,14 @@ first_flawed_from f s i (d ∷ ds) =
 abbrev pub first_flawed_in : Flaw → Members → Section → Option Part
 first_flawed_in f ms s = first_flawed_from f s 0 (section_values s ms)
 
--- the first part that the function `part` finds, section by section
-abbrev pub first_of : (Section → Option Part) → List Section → Option Part
-first_of part [] = None
-first_of part (s ∷ ss) = option_or (part s) (first_of part ss)
+-- the first part that `part` returns for the sections, in list order, or `None` if it returns no
+-- part
+abbrev pub first_part_of_sections : (Section → Option Part) → List Section → Option Part
+first_part_of_sections part [] = None
+first_part_of_sections part (s ∷ ss) = option_or (part s) (first_part_of_sections part ss)
 
 abbrev pub flawed_part : Flaw → Members → Option Part
-flawed_part f ms = first_of (first_flawed_in f ms) sections
+flawed_part f ms = first_part_of_sections (first_flawed_in f ms) sections
 
 abbrev pub unknown_key_part : Members → Option Part
 unknown_key_part ms =
@@ -120,7 +123,8 @@ abbrev pub bad_value_part : Members → Option Part
 bad_value_part ms =
     option_or (option_map part_at_section (find (lacks_array ms) sections)) (flawed_part BadValue ms)
 
--- ---- error 27: the first table beyond the limit or, for columns, the key `columns`
+-- ---- error 27 (too many parts): the first table beyond the limit or, for columns, the key
+-- `columns`
 
 abbrev pub part_if : Bool → Part → Option Part → Option Part
 part_if true part next = Some part
@@ -134,10 +138,10 @@ excess_part ms =
     (part_if (nat_lt KEY_COLUMNS (length (column_values ms))) (part_at_table Keys 0 (Some (codes "columns")))
     (part_if (nat_lt LAMPS (length (values_at (codes "lamp") ms))) (part_at_table Lamp LAMPS None) None))))
 
--- ---- error 24: the first table with the same number as an earlier table
+-- ---- error 24: the first table with the same chip or bank number as an earlier table
 
 -- the index of the first part whose number is in `seen` or belongs to an earlier part of the list;
--- i is the index of the list's head
+-- `i` is the index of the first list item
 abbrev pub first_repeated_from : {A : Type 0} → List ℕ → ℕ → List (Numbered A) → Option ℕ
 first_repeated_from seen i [] = None
 first_repeated_from seen i (p ∷ ps) =
@@ -152,7 +156,8 @@ double_part_in roms rams =
 abbrev pub double_chip_part : Members → Option Part
 double_chip_part ms = double_part_in (roms_of ms) (rams_of ms)
 
--- ---- errors 25 and 26: the first table with a wrong line
+-- ---- errors 25 (a line that the board lacks) and 26 (wrong direction): the first table with such
+-- a line
 
 abbrev pub is_wrong : LineFlaw → BoardParts → Line → Bool
 is_wrong Missing b line = not (is_on_board b line)
@@ -200,8 +205,8 @@ wrong_direction_part b =
     option_or (wrong_chain_from NotOutput b 0 b.chains.items)
     (option_or (wrong_column_of NotInput b b.keys) (wrong_lamp_from Input b 0 b.lamps.items))
 
--- the first part of a board's table that has the given error, or `None` if the error has no
--- location
+-- the first part with the given error in a board's table, or `None` for `BadToml` and `NoMemory`,
+-- which have no location
 abbrev pub part_of : WiringFault → Members → Option Part
 part_of fault.UnknownKey ms = unknown_key_part ms
 part_of fault.MissingKey ms = flawed_part MissingKey ms
@@ -215,7 +220,7 @@ part_of fault.NoMemory ms = None
 
 -- ---- the line number
 
--- true if a table contains the part; if the part is in a section, its key is not checked
+-- true if a table contains the part; if the part is in a section, the part's key is not checked
 abbrev pub contains_location : Option Section → Option ℕ → Option (List ℕ) → Members → Bool
 contains_location (Some s) (Some n) key ms = nat_le n (length (values_at (section_key s) ms))
 contains_location (Some s) None key ms = is_some (get_member (section_key s) ms)
@@ -233,17 +238,18 @@ abbrev pub is_toml : List ℕ → Bool
 is_toml text = is_some (parse_document text)
 
 -- The number of the first line for which `holds` is true of the text up to and including that line.
--- `before` is the text before the listed lines, and n is the number of the first listed line. The
--- last item is the text after the last line feed: it is not tested, and its number is the result if
--- no line qualifies.
+-- `before` is the text before the lines in the list, and `n` is the number of the first line in the
+-- list. The last line in the list is the text after the last line feed. It is not tested, and its
+-- number is the result if `holds` is true for no line.
 abbrev pub line_from : (List ℕ → Bool) → ℕ → List ℕ → List (List ℕ) → ℕ
 line_from holds n before [] = n
 line_from holds n before (l ∷ []) = n
 line_from holds n before (l ∷ next ∷ ls) =
     if holds (before ++ as_line l) then n else line_from holds (n + 1) (before ++ as_line l) (next ∷ ls)
 
--- the number of the line after the last line for which `holds` is true of the text up to and
--- including it, or `found` if there is no such line; the other arguments are those of `line_from`
+-- Let the found line be the last line for which `holds` is true of the text up to the end of the
+-- line. The result is the number of the line after the found line, or `found` if no line is found.
+-- The last line in the list is not tested. The other arguments are as in `line_from`.
 abbrev pub line_after : (List ℕ → Bool) → ℕ → ℕ → List ℕ → List (List ℕ) → ℕ
 line_after holds n found before [] = found
 line_after holds n found before (l ∷ []) = found
@@ -251,8 +257,9 @@ line_after holds n found before (l ∷ next ∷ ls) =
     line_after holds (n + 1) (if holds (before ++ as_line l) then n + 1 else found)
     (before ++ as_line l) (next ∷ ls)
 
--- `line_of_part`: the first line for which the text up to and including it is TOML and contains the
--- part. `line_after_toml`: the line after the longest run of leading lines that is TOML.
+-- `line_of_part`: the smallest `n` such that the first `n` lines are TOML and contain the part, or
+-- the number of the line after the last line feed if there is no such `n`. `line_after_toml`: `n` +
+-- 1 for the largest `n` such that the first `n` lines are TOML.
 unfoldable pub line_of_part : List ℕ → Part → ℕ
 line_of_part text p = line_from (has_part p) 1 [] (slice_split is_line_feed text)
 

@@ -1,4 +1,4 @@
--- The refusal numbers for board texts (our own choice).
+-- The refusal numbers for board texts. (Defined by Fethsaim, not by Intel.)
 use Rattle.std.specs.Prelude.{ℕ}
 use Rattle.mcs_model.specs.declared.board.BoardFault.{BoardFault}
 use Rattle.mcs_model.specs.declared.board.BoardFault.TheVariants as board
@@ -17,7 +17,8 @@ wiring_fault_number NoSuchLine = NO_SUCH_LINE
 wiring_fault_number WrongDirection = WRONG_DIRECTION
 wiring_fault_number NoMemory = NO_MEMORY
 
--- the error of a board text for an error in the board's parts
+-- the error of a board text (`WiringFault`) that corresponds to an error in the parts of a board
+-- (`BoardFault`)
 abbrev pub refusal_of : BoardFault → WiringFault
 refusal_of board.BadValue = BadValue
 refusal_of board.NoSuchLine = NoSuchLine

@@ -1,4 +1,5 @@
--- The board that a table describes, or the first error that applies to the table (our own choice).
+-- The board that a table describes, or the first error that applies to the table. (Defined by
+-- Fethsaim, not by Intel.)
 use Rattle.std.specs.Prelude.{◌≡◌, ◌-◌, ℕ, ℤ, pos, negsuc, Bool, true, false, not, ◌&&◌, ◌||◌, List, [], ◌∷◌, length, Option, Some, None, is_none, Result, Ok, Err, nat_lt, nat_le, ◌==◌, if◌then◌else◌, codes}
 use Rattle.std.specs.List.{list_any, filter_map}
 use Rattle.std.specs.Option.{option_to_list, option_map_or}
@@ -42,14 +43,14 @@ abbrev pub values_at : List ℕ → Members → List Data
 values_at key ms = array_values (get_member key ms)
 
 -- the entries of a section: for the section `Keys`, the value at `keys`; for another section, the
--- elements of the array at its key. An entry that is not a table is error 23.
+-- elements of the array at its key. An entry that is not a table is a bad value (error 23).
 abbrev pub section_values : Section → Members → List Data
 section_values Keys ms = option_to_list (get_member (codes "keys") ms)
 section_values s ms = values_at (section_key s) ms
 
--- true if p holds for an entry of any section
-abbrev pub any_section : (Section → Data → Bool) → Members → Bool
-any_section p ms = list_any (λ s. list_any (p s) (section_values s ms)) sections
+-- true if `p` holds for at least one entry of a section
+abbrev pub any_section_entry : (Section → Data → Bool) → Members → Bool
+any_section_entry p ms = list_any (λ s. list_any (p s) (section_values s ms)) sections
 
 -- ---- error 21: an unknown key, at the top level or in an entry that is a table
 
@@ -59,7 +60,7 @@ entry_has_unknown_key s d = false
 
 abbrev pub has_unknown_key : Members → Bool
 has_unknown_key ms =
-    list_any (λ key. not (is_board_key key)) (keys_of ms) || any_section entry_has_unknown_key ms
+    list_any (λ key. not (is_board_key key)) (keys_of ms) || any_section_entry entry_has_unknown_key ms
 
 -- ---- error 22: an entry that is a table lacks a key
 
@@ -71,12 +72,12 @@ entry_lacks_key s (table ms) = lacks_required_key (table_keys s) ms
 entry_lacks_key s d = false
 
 abbrev pub has_missing_key : Members → Bool
-has_missing_key ms = any_section entry_lacks_key ms
+has_missing_key ms = any_section_entry entry_lacks_key ms
 
 -- ---- error 23: a value of the wrong type or form, or a number out of range
 
 -- `within_or_none`: the integer, or none if it is outside the range `least` to `most`. `number_at`:
--- the integer at a key, or none if it is missing or outside that range.
+-- the integer at a key, or none if there is no integer in that range at the key.
 abbrev pub within_or_none : ℕ → ℕ → ℤ → Option ℕ
 within_or_none least most (pos n) = if nat_le least n && nat_le n most then Some n else None
 within_or_none least most (negsuc n) = None
@@ -90,14 +91,14 @@ line_in d = as_str d >>= line_named
 abbrev pub line_at : List ℕ → Members → Option Line
 line_at key ms = get_member key ms >>= line_in
 
--- a ROM: its chip number and its masks
+-- the ROM that a table describes, as its chip number and its masks
 abbrev pub rom_in : Members → Option (Numbered (Option (List LineMask)))
 rom_in ms =
     number_at (codes "chip") 0 (ROMS - 1) ms >>= (λ chip.
     get_member (codes "port") ms >>= as_str >>= masks_named >>= (λ masks.
     Some (record { number = chip; part = Some masks })))
 
--- a RAM bank: its number and the number of its chips
+-- the RAM bank that a table describes, as its bank number and its number of chips
 abbrev pub ram_in : Members → Option (Numbered ℕ)
 ram_in ms =
     number_at (codes "bank") 0 (BANKS - 1) ms >>= (λ bank.
@@ -111,7 +112,8 @@ chain_in ms =
     number_at (codes "chips") 1 CHAIN_CHIPS ms >>= (λ chips.
     Some (record { clock = clock; data_in = data_in; chips = chips }))))
 
--- a key matrix, without the columns that do not name a line
+-- the key matrix that a table describes, without the columns that do not name a line; none if one
+-- of the matrix's numbers is missing or out of range
 abbrev pub matrix_in : Members → Option KeyMatrix
 matrix_in ms =
     number_at (codes "chain") 0 (CHAINS - 1) ms >>= (λ chain.
@@ -128,8 +130,8 @@ matrix_in ms =
 abbrev pub names_no_line : Data → Bool
 names_no_line d = is_none (line_in d)
 
--- True if there are no columns, or one of them does not name a line. There are no columns if the
--- value at `columns` is not an array.
+-- True if there are no columns, or one of the columns does not name a line. There are no columns if
+-- the value at `columns` is not an array.
 abbrev pub are_malformed_columns : List Data → Bool
 are_malformed_columns [] = true
 are_malformed_columns (d ∷ ds) = list_any names_no_line (d ∷ ds)
@@ -140,7 +142,7 @@ has_bad_columns ms = are_malformed_columns (values_at (codes "columns") ms)
 abbrev pub lamp_in : Members → Option Line
 lamp_in ms = line_at (codes "line") ms
 
--- the part that `read` finds in a value, or none if the value is not a table
+-- the part that `read` finds in a value that is a table, or none if the value is not a table
 abbrev pub part_of : {A : Type 0} → (Members → Option A) → Data → Option A
 part_of read d = as_table d >>= read
 
@@ -166,7 +168,7 @@ lacks_array ms Keys = false
 lacks_array ms s = is_not_array (get_member (section_key s) ms)
 
 abbrev pub has_malformed_value : Members → Bool
-has_malformed_value ms = list_any (lacks_array ms) sections || any_section is_malformed ms
+has_malformed_value ms = list_any (lacks_array ms) sections || any_section_entry is_malformed ms
 
 -- ---- error 27: more parts of one kind than a board can have
 
@@ -206,7 +208,7 @@ has_double_chip ms = has_double (roms_of ms) || has_double (rams_of ms)
 
 -- ---- the board
 
--- the properties of the first part with the number n, or `none` if no part has it
+-- the properties of the first part with the number `n`, or `none` if no part has this number
 abbrev pub part_at : {A : Type 0} → A → List (Numbered A) → ℕ → A
 part_at none [] n = none
 part_at none (p ∷ ps) n = if p.number == n then p.part else part_at none ps n
@@ -222,8 +224,8 @@ parts_in ms = record {
 }
 
 -- The board that a table describes, or the first error that applies to the table. Error 25: the
--- board lacks a line, a chain or the chain bit for a key row. Error 26: a line has the wrong
--- direction.
+-- board lacks the key matrix's chain, a chain bit for one of the matrix's rows, or a line that the
+-- table uses. Error 26: a line has the wrong direction.
 unfoldable pub board_of_table : Members → Result BoardParts WiringFault
 board_of_table ms =
     if has_unknown_key ms then Err UnknownKey
@@ -241,7 +243,7 @@ abbrev pub board_of_text : List ℕ → Result BoardParts WiringFault
 board_of_text text =
     elim (parse_document text) [ None ↦ Err BadToml | Some ms ↦ board_of_table ms ]
 
--- Holds if the result is the wanted result, or is `NoMemory`.
+-- Holds if the result is `wanted`, or is `NoMemory`.
 abbrev pub ReadsBoard : Result BoardParts WiringFault → Result BoardParts WiringFault → Type 0
 ReadsBoard (Err NoMemory) wanted = Unit {0}
 ReadsBoard (Err fault) wanted = wanted ≡ Err fault

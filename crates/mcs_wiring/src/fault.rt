@@ -6,8 +6,8 @@ use mcs_model::board::BoardFault;
 use mcs_model::refusal_numbers;
 use thiserror::Error;
 
-/// The error in a text that does not describe a board. It is the first variant, in this order, that
-/// applies to the text, or `NoMemory` if allocation failed.
+/// The error in a text that does not describe a board. If several variants apply to the text, the
+/// error is the first of them in this order. It is `NoMemory` if allocation failed.
 #[derive(Clone, Copy, Debug, PartialEq, Eq, Error)]
 pub enum WiringFault {
     /// The text is not TOML.
@@ -28,14 +28,15 @@ pub enum WiringFault {
     /// Two ROMs with the same chip number, or two entries for the same RAM bank.
     #[error("two parts have one chip number or one bank")]
     DoubleChip,
-    /// The board lacks a line, a chain, or the chain bit for a key row.
+    /// The board lacks the key matrix's chain, a chain bit for one of the matrix's rows, or a line
+    /// that the text uses.
     #[error("a line, a chain or a row's bit is not on the board")]
     NoSuchLine,
     /// A clock or data line is not an output line, a column is not an input line, or a lamp is at
     /// an input line.
     #[error("an input line is used as an output line, or an output line as an input line")]
     WrongDirection,
-    /// Allocation failed. This says nothing about the text.
+    /// Allocation failed. The text can be valid or invalid.
     #[error("out of memory")]
     NoMemory,
 }

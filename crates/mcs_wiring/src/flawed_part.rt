@@ -26,13 +26,13 @@ use mcs_nibble::LineMask;
 use toml::{Table, Value};
 
 /// A location in a board text: a top-level key, the value at a section's key, or one of the
-/// section's tables. For a table, it can also give one of the table's keys.
+/// section's tables. A location in a table can also give one of the table's keys.
 #[derive(Clone, Copy)]
 pub(crate) struct Part<'a> {
     /// The section, or none for a top-level key.
     pub(crate) section: Option<Section>,
-    /// The number of the table within its section, from 1. None for the key matrix, and if the part
-    /// is not a table.
+    /// The number of the table within its section, from 1. None for the key matrix, and if the
+    /// location is not a table.
     pub(crate) number: Option<usize>,
     /// The key: the top-level key if there is no section, else a key of the table.
     pub(crate) key: Option<&'a str>,
@@ -58,8 +58,8 @@ fn part_at_section<'a>(section: Section) -> Part<'a>
     }
 }
 
-/// Returns the part for one table of a section, and for one of its keys if `key` is given. `index`
-/// is the index of the table in its section, from 0.
+/// Returns the part for one table of a section. If `key` is given, the part is this key of the
+/// table. `index` is the index of the table in its section, from 0.
 fn part_at_table<'a>(section: Section, index: usize, key: Option<&'a str>) -> Part<'a>
     requires { index < 2 ^ 63 }
     ensures { part_view result ≡ part_at_table section index (option_copied key.entry) }
@@ -77,7 +77,8 @@ fn part_at_table<'a>(section: Section, index: usize, key: Option<&'a str>) -> Pa
 
 // ---- errors 21, 22 and 23: an unknown key, a missing key, a bad value
 
-/// Returns the first key of a table that its section does not allow.
+/// Returns the first key of a table that its section does not allow, or none if the section allows
+/// all keys.
 #[tactic(auto, using(crate::proofs::TomlViews::keys_in_view))]
 fn first_unknown_table_key<'a>(section: Section, table: &'a Table) -> Option<&'a str>
     ensures { option_copied result ≡ first_unknown_table_key section (table_view table.now) }
@@ -90,7 +91,8 @@ fn first_unknown_table_key<'a>(section: Section, table: &'a Table) -> Option<&'a
     None
 }
 
-/// Returns the first required key that a table of a section lacks, or none if it has them all.
+/// Returns the first required key that a table of a section lacks, or none if the table has all
+/// required keys.
 fn first_missing_key<'a>(section: Section, table: &Table) -> Option<&'a str>
     ensures { option_copied result ≡ first_missing_key section (table_view table.now) }
 {
@@ -210,8 +212,8 @@ fn first_bad_key<'a>(section: Section, table: &Table) -> Option<&'a str>
     None
 }
 
-/// Returns the first key to which the flaw applies, if the value is a table. Returns none if the
-/// value is not a table.
+/// Returns the first key to which the flaw applies in a section entry. Returns none if the entry is
+/// not a table.
 fn first_flawed_key<'a>(flaw: Flaw, section: Section, value: &'a Value) -> Option<&'a str>
     ensures { option_copied result ≡ first_flawed_key flaw section (view value.now) }
 {
@@ -225,8 +227,8 @@ fn first_flawed_key<'a>(flaw: Flaw, section: Section, value: &'a Value) -> Optio
     }
 }
 
-/// Returns the part for the first array element that has a flaw.
-#[tactic(auto, using(crate::proofs::PartLists::first_flawed_step))]
+/// Returns the part for the first array element that has the flaw.
+#[tactic(auto, using(crate::proofs::PartLists::first_flawed_from_index))]
 fn first_flawed_value<'a>(flaw: Flaw, section: Section, values: &'a [Value]) -> Option<Part<'a>>
     ensures { option_map part_view result ≡ first_flawed_from flaw section 0 (map view values.now) }
 {
@@ -238,7 +240,7 @@ fn first_flawed_value<'a>(flaw: Flaw, section: Section, values: &'a [Value]) -> 
     None
 }
 
-/// Returns the part for the first entry of a section that has a flaw.
+/// Returns the part for the first entry of a section that has the flaw.
 fn first_flawed_in<'a>(flaw: Flaw, table: &'a Table, section: Section) -> Option<Part<'a>>
     ensures { option_map part_view result ≡ first_flawed_in flaw (table_view table.now) section }
 {
@@ -257,7 +259,7 @@ fn first_flawed_in<'a>(flaw: Flaw, table: &'a Table, section: Section) -> Option
     }
 }
 
-/// Returns the part for the first entry that has a flaw. Searches the sections in the order ROM,
+/// Returns the part for the first entry that has the flaw. Searches the sections in the order ROM,
 /// RAM, chain, keys, lamp.
 fn flawed_part<'a>(flaw: Flaw, table: &'a Table) -> Option<Part<'a>>
     ensures { option_map part_view result ≡ flawed_part flaw (table_view table.now) }
@@ -322,7 +324,7 @@ fn section_without_array(table: &Table) -> Option<Section>
 }
 
 /// Returns the part for the first section that requires an array but has another value. If there is
-/// none, returns the part for the first entry with a bad value.
+/// no such section, returns the part for the first entry with a bad value.
 fn bad_value_part<'a>(table: &'a Table) -> Option<Part<'a>>
     ensures { option_map part_view result ≡ bad_value_part (table_view table.now) }
 {
@@ -356,7 +358,7 @@ fn excess_part<'a>(table: &Table) -> Option<Part<'a>>
 }
 
 /// Returns the index of the first part that has the same number as an earlier part.
-#[tactic(auto, using(crate::proofs::PartLists::first_repeated_step))]
+#[tactic(auto, using(crate::proofs::PartLists::first_repeated_from_index))]
 fn first_repeated<T: Copy>(parts: &[Numbered<T>]) -> Option<usize>
     ensures same { result ≡ first_repeated_from [] 0 parts.now }
     ensures within { IfSome result (λ i. i < length parts.now) }
@@ -484,7 +486,7 @@ fn wrong_key<'a>(flaw: LineFlaw, parts: &BoardParts, chain: ChainPart) -> Option
 }
 
 /// Returns the part for the first chain with a line that has the error.
-#[tactic(auto, using(crate::proofs::PartLists::wrong_chain_step))]
+#[tactic(auto, using(crate::proofs::PartLists::wrong_chain_from_index))]
 fn wrong_chain<'a>(flaw: LineFlaw, parts: &BoardParts) -> Option<Part<'a>>
     ensures { option_map part_view result ≡ wrong_chain_from flaw parts.now 0 parts.now.chains.items }
 {
@@ -517,7 +519,7 @@ fn wrong_column<'a>(flaw: LineFlaw, parts: &BoardParts) -> Option<Part<'a>>
 }
 
 /// Returns the part for the first lamp whose line has the error.
-#[tactic(auto, using(crate::proofs::PartLists::wrong_lamp_step))]
+#[tactic(auto, using(crate::proofs::PartLists::wrong_lamp_from_index))]
 fn wrong_lamp<'a>(flaw: LineFlaw, parts: &BoardParts) -> Option<Part<'a>>
     ensures { option_map part_view result ≡ wrong_lamp_from flaw parts.now 0 parts.now.lamps.items }
 {
@@ -530,8 +532,8 @@ fn wrong_lamp<'a>(flaw: LineFlaw, parts: &BoardParts) -> Option<Part<'a>>
     None
 }
 
-/// Returns the part for the key matrix if the board lacks its chain or a chain bit for one of its
-/// rows, else none.
+/// Returns the part for the key matrix if the board lacks the chain of the matrix or a chain bit
+/// for one of its rows. Otherwise returns none.
 fn missing_rows<'a>(parts: &BoardParts) -> Option<Part<'a>>
     ensures { option_map part_view result ≡ missing_rows_of parts.now parts.now.keys }
 {
@@ -574,7 +576,8 @@ fn wrong_direction_part<'a>(parts: &BoardParts) -> Option<Part<'a>>
     wrong_lamp(LineFlaw::Input, parts)
 }
 
-/// Returns the part that has error 24, 25 or 26. These errors can involve several tables.
+/// Returns the part that has the error `fault`, which must be `DoubleChip`, `NoSuchLine` or
+/// `WrongDirection`. These errors can involve several tables.
 fn part_with_parts_error<'a>(fault: WiringFault, table: &Table) -> Option<Part<'a>>
     requires within { IsWithinLimits (table_view table.now) }
     requires kind { IsPartsError fault }
@@ -590,8 +593,8 @@ fn part_with_parts_error<'a>(fault: WiringFault, table: &Table) -> Option<Part<'
     }
 }
 
-/// Returns the first part of a board's table that has the given error. Returns none for `BadToml`
-/// and `NoMemory`, which have no location.
+/// Returns the first part with the given error in a board's table. Returns none for `BadToml` and
+/// `NoMemory`, which have no location.
 pub(crate) fn part_of<'a>(fault: WiringFault, table: &'a Table) -> Option<Part<'a>>
     requires { board_of_table (table_view table.now) ≡ Err fault }
     ensures { option_map part_view result ≡ part_of fault (table_view table.now) }

@@ -6,8 +6,8 @@ use mcs_model::board::Line;
 use mcs_model::limits::{BANK_CHIPS, BANKS, CHAIN_BITS, CHAINS, ROMS};
 use mcs_nibble::LineMask;
 
-/// Parses one or two decimal digits as a number. Returns none if the number has a leading zero or
-/// is not below the limit.
+/// Parses one or two decimal digits as a number. Returns none if the text has another form, or if
+/// the number has a leading zero or is not below `limit`.
 fn number_below(text: &str, limit: u8) -> Option<u8>
     ensures { result ≡ number_below limit text.now }
 {
@@ -19,7 +19,8 @@ fn number_below(text: &str, limit: u8) -> Option<u8>
     if n < limit { Some(n) } else { None }
 }
 
-/// Parses the text after `rom` in a line name: chip, dot, line.
+/// Parses the text after `rom` in a line name: chip number, dot, line number. Returns none if the
+/// text has another form or a number is out of range.
 fn rom_line_named(text: &str) -> Option<Line>
     ensures { result ≡ rom_line_named text.now }
 {
@@ -29,7 +30,8 @@ fn rom_line_named(text: &str) -> Option<Line>
     Some(Line::Rom(chip, k))
 }
 
-/// Parses the text after `ram` in a line name: bank, dot, chip, dot, line.
+/// Parses the text after `ram` in a line name: bank number, dot, chip number, dot, line number.
+/// Returns none if the text has another form or a number is out of range.
 fn ram_line_named(text: &str) -> Option<Line>
     ensures { result ≡ ram_line_named text.now }
 {
@@ -41,7 +43,8 @@ fn ram_line_named(text: &str) -> Option<Line>
     Some(Line::Ram(bank, chip, k))
 }
 
-/// Parses the text after `chain` in a line name: chain, dot, bit.
+/// Parses the text after `chain` in a line name: chain number, dot, bit number. Returns none if the
+/// text has another form or a number is out of range.
 fn chain_line_named(text: &str) -> Option<Line>
     ensures { result ≡ chain_line_named text.now }
 {
@@ -51,7 +54,8 @@ fn chain_line_named(text: &str) -> Option<Line>
     Some(Line::Chain(n, i))
 }
 
-/// Parses a line name: `rom`, `ram` or `chain`, then numbers separated by dots.
+/// Parses a line name: `rom`, `ram` or `chain`, then numbers separated by dots. Returns none if the
+/// text is not a line name.
 pub(crate) fn line_named(text: &str) -> Option<Line>
     ensures { result ≡ line_named text.now }
 {
@@ -64,7 +68,8 @@ pub(crate) fn line_named(text: &str) -> Option<Line>
     chain_line_named(text.strip_prefix("chain")?)
 }
 
-/// Parses the four characters of a port, line 3 first. Returns the masks, line 0 first.
+/// Parses the four characters of a port, line 3 first. Returns the masks, line 0 first, or none if
+/// the text is not valid.
 pub(crate) fn masks_named(text: &str) -> Option<[LineMask; 4]>
     ensures { result ≡ masks_named text.now }
 {

@@ -78,8 +78,8 @@ fn any_names_no_line(values: &[Value]) -> bool
     values.iter().any(|value| names_no_line(value))
 }
 
-/// Returns true if the columns of a key matrix are not an array, are empty, or include a value that
-/// does not name a line.
+/// Returns true if the value at `columns` in a key matrix's table is missing, is not an array, is
+/// empty, or has an element that does not name a line.
 pub(crate) fn has_bad_columns(table: &Table) -> bool
     ensures { result ≡ has_bad_columns (table_view table.now) }
 {

@@ -7,7 +7,7 @@ ghost use Rattle.toml.specs.View.{view, table_view};
 ghost use Rattle.mcs_nibble.specs.Tables.{table_of};
 ghost use Rattle.mcs_model.specs.Boards.{board_fault_of};
 ghost use Rattle.mcs_wiring.specs.Format.{sections, section_key, table_keys, is_board_key, is_table_key};
-ghost use Rattle.mcs_wiring.specs.Wiring.{has_unknown_key, has_missing_key, has_malformed_value, has_too_many, has_double, entry_has_unknown_key, lacks_required_key, entry_lacks_key, is_malformed, lacks_array, values_at, section_values, any_section, column_values, keys_table, matrix_in, roms_of, rams_of, parts_in, part_at, board_of_table, board_of_text, ReadsBoard};
+ghost use Rattle.mcs_wiring.specs.Wiring.{has_unknown_key, has_missing_key, has_malformed_value, has_too_many, has_double, entry_has_unknown_key, lacks_required_key, entry_lacks_key, is_malformed, lacks_array, values_at, section_values, any_section_entry, column_values, keys_table, matrix_in, roms_of, rams_of, parts_in, part_at, board_of_table, board_of_text, ReadsBoard};
 ghost use Rattle.mcs_wiring.specs.Flaws.{has_flaw, board_or_error, board_within_limits, IsWithinLimits};
 
 use crate::fault::WiringFault;
@@ -116,7 +116,8 @@ fn any_has_flaw(flaw: Flaw, section: Section, values: &[Value]) -> bool
     values.iter().any(|value| has_flaw(flaw, section, value))
 }
 
-/// Returns true if an element of the array at a section's key has the flaw.
+/// Returns true if an element of the array at a section's key has the flaw, and false if there is
+/// no array.
 fn has_flaw_in_array(flaw: Flaw, table: &Table, section: Section) -> bool
     ensures { result ≡ list_any (has_flaw flaw section)
         (values_at (section_key section) (table_view table.now)) }
@@ -142,7 +143,7 @@ fn has_flaw_in(flaw: Flaw, table: &Table, section: Section) -> bool
 
 /// Returns true if an entry of any section has the flaw.
 fn has_flaw_anywhere(flaw: Flaw, table: &Table) -> bool
-    ensures { result ≡ any_section (has_flaw flaw) (table_view table.now) }
+    ensures { result ≡ any_section_entry (has_flaw flaw) (table_view table.now) }
 {
     Section::ALL
         .iter()
@@ -235,7 +236,7 @@ pub(crate) fn has_number<T: Copy>(parts: &[Numbered<T>], number: u8) -> bool
 }
 
 /// Returns true if two parts have the same number.
-#[tactic(auto, using(crate::proofs::TomlViews::has_double_from))]
+#[tactic(auto, using(crate::proofs::TomlViews::has_double_from_index))]
 fn has_double<T: Copy>(parts: &[Numbered<T>]) -> bool
     ensures { result ≡ has_double parts.now }
 {
@@ -247,8 +248,9 @@ fn has_double<T: Copy>(parts: &[Numbered<T>]) -> bool
     false
 }
 
-/// Returns the properties of the first part with the given number, or `none` if no part has it.
-#[tactic(auto, using(crate::proofs::TomlViews::part_at_from))]
+/// Returns the properties of the first part with the given number, or `none` if no part has the
+/// number.
+#[tactic(auto, using(crate::proofs::TomlViews::part_at_from_index))]
 fn part_at<T: Copy>(parts: &[Numbered<T>], none: T, number: u8) -> T
     ensures { result ≡ part_at none parts.now number }
 {
@@ -260,8 +262,8 @@ fn part_at<T: Copy>(parts: &[Numbered<T>], none: T, number: u8) -> T
     none
 }
 
-/// Returns an array with one element for each number from 0 to `N` - 1: the properties of the first
-/// part with that number, or `none`.
+/// Returns an array with one element for each number from 0 to `N` - 1. The element is the
+/// properties of the first part with that number, or `none` if no part has the number.
 fn indexed_by_number<T: Copy, const N: usize>(parts: &[Numbered<T>], none: T) -> [T; N]
     requires { N ≤ 256 }
     ensures { result ≡ table_of N (part_at none parts.now) }
@@ -273,7 +275,8 @@ fn indexed_by_number<T: Copy, const N: usize>(parts: &[Numbered<T>], none: T) ->
     indexed_by_number
 }
 
-/// Returns the key matrix that a board's table describes, or none if it does not describe one.
+/// Returns the key matrix that the table of a board text describes, or none if there is no table at
+/// the key `keys` or one of the matrix's numbers is invalid.
 fn matrix_of(table: &Table) -> Option<KeyMatrix>
     requires { length (column_values (table_view table.now)) ≤ KEY_COLUMNS }
     ensures { result ≡ option_and_then matrix_in (keys_table (table_view table.now)) }
@@ -310,8 +313,9 @@ fn board_of_parts(parts: BoardParts) -> Result<Board, WiringFault>
     Ok(Board::of(parts)?)
 }
 
-/// Returns the board that a table describes, or error 24, 25 or 26. The table must have no
-/// malformed value, and no more parts of one kind than a board can have.
+/// Returns the board that a table describes, or the error `DoubleChip`, `NoSuchLine` or
+/// `WrongDirection`. The table must have no malformed value, and no more parts of one kind than a
+/// board can have.
 #[tactic(auto, using(crate::proofs::TomlViews::length_of_views))]
 fn board_within_limits(table: &Table) -> Result<Board, WiringFault>
     requires no_bad_value { has_malformed_value (table_view table.now) ≡ false }
@@ -327,7 +331,7 @@ fn board_within_limits(table: &Table) -> Result<Board, WiringFault>
 }
 
 /// Returns the board that a table describes, or the first error that applies to the table.
-#[tactic(auto, using(crate::proofs::Limits::within), unfolding(crate::specs::Wiring::board_of_table))]
+#[tactic(auto, using(crate::proofs::Limits::within_limits_if_not_too_many), unfolding(crate::specs::Wiring::board_of_table))]
 pub(crate) fn board_of_table(table: &Table) -> Result<Board, WiringFault>
     ensures { result ≡ board_of_table (table_view table.now) }
 {

@@ -17,7 +17,8 @@ use crate::values::{count_at, member};
 use std::alloc::{AllocError, Global};
 use toml::Table;
 
-/// Returns true if a table contains a part. If the part is in a section, its key is not checked.
+/// Returns true if a table contains a part. If the part is in a section, the part's key is not
+/// checked.
 fn contains_part(table: &Table, part: Part<'_>) -> bool
     ensures { result ≡ contains_part (part_view part.entry) (table_view table.now) }
 {
@@ -53,7 +54,7 @@ fn is_toml(alloc: Global, text: &str) -> Result<bool, AllocError>
     }
 }
 
-/// Splits a text at its first line feed. Returns the text before it and the text after it, or none
+/// Splits a text at its first line feed. Returns the texts before and after the line feed, or none
 /// if there is no line feed.
 fn first_line(text: &str) -> Option<(&str, &str)>
     ensures { MatchOption result (slice_split is_line_feed text.now ≡ text.now ∷ [])
@@ -73,8 +74,9 @@ fn push_line(text: &mut String, line: &str) -> Result<(), AllocError>
 }
 
 /// Returns the smallest `n` such that the first `n` lines are TOML and contain the part. If there
-/// is no such `n`, returns the number of the last line. Fails if allocation fails.
-#[tactic(auto, using(crate::proofs::LineSteps::line_from_step), unfolding(crate::specs::Parts::line_of_part))]
+/// is no such `n`, returns the number of the line after the last line feed. Fails if allocation
+/// fails.
+#[tactic(auto, using(crate::proofs::LineSteps::line_from_of_split_text), unfolding(crate::specs::Parts::line_of_part))]
 fn line_of_part(alloc: Global, text: &str, part: Part<'_>) -> Result<usize, AllocError>
     ensures { IfOk result (λ line. line ≡ line_of_part text.now (part_view part.entry)) }
 {
@@ -92,9 +94,9 @@ fn line_of_part(alloc: Global, text: &str, part: Part<'_>) -> Result<usize, Allo
     Ok(number)
 }
 
-/// Returns the number of the line that follows the longest run of leading lines that is TOML. Fails
-/// if allocation fails.
-#[tactic(auto, using(crate::proofs::LineSteps::line_after_step), unfolding(crate::specs::Parts::line_after_toml))]
+/// Returns `n` + 1 for the largest `n` such that the first `n` lines, each ended by a line feed,
+/// are TOML. Fails if allocation fails.
+#[tactic(auto, using(crate::proofs::LineSteps::line_after_of_split_text), unfolding(crate::specs::Parts::line_after_toml))]
 fn line_after_toml(alloc: Global, text: &str) -> Result<usize, AllocError>
     ensures { IfOk result (λ line. line ≡ line_after_toml text.now) }
 {
@@ -179,8 +181,8 @@ fn push_part(out: &mut String, number: u8, line: usize, part: Part<'_>) -> Resul
     Ok(())
 }
 
-/// Appends the report on the error of a table: the refusal number, and the line and the part if the
-/// error has a location.
+/// Appends the report on the error of a table: the refusal number and, if the error has a location,
+/// the line number and the part.
 fn push_refusal(
     alloc: Global,
     out: &mut String,
@@ -202,8 +204,8 @@ fn push_refusal(
     }
 }
 
-/// Returns the report on the table of a board text: `wiring valid`, or the refusal with the line
-/// and the part that has the error.
+/// Returns the report on the table of a board text: `wiring valid`, or the refusal number with the
+/// line number and the part that has the error.
 fn table_report(alloc: Global, text: &str, table: &Table) -> Result<String, AllocError>
     ensures { IfOk result (λ report. string_bytes report
         ≡ report_text text.now (table_view table.now) (board_of_table (table_view table.now))) }
@@ -218,8 +220,8 @@ fn table_report(alloc: Global, text: &str, table: &Table) -> Result<String, Allo
     }
 }
 
-/// Returns the report on a text that is not TOML: `no 20` and the number of the line after the
-/// longest run of leading lines that is TOML.
+/// Returns the report on a text that is not TOML: `no 20` and the line number that
+/// `line_after_toml` returns.
 fn toml_report(alloc: Global, text: &str) -> Result<String, AllocError>
     ensures { IfOk result (λ report. string_bytes report
         ≡ as_line (codes "no 20 line " ++ decimal (line_after_toml text.now))) }
@@ -228,8 +230,9 @@ fn toml_report(alloc: Global, text: &str) -> Result<String, AllocError>
     format!(in alloc; "no 20 line {line}\n")
 }
 
-/// Returns the report on a board text: `wiring valid`, or the refusal with a line number and the
-/// part that has the error, as in `no 25 line 6 lamp 2 key line`. Fails if allocation fails.
+/// Returns the report on a board text: `wiring valid`, or the refusal number with the line number
+/// and the part that has the error, as in `no 25 line 6 lamp 2 key line`. Fails if allocation
+/// fails.
 #[tactic(auto, unfolding(crate::specs::Parts::wiring_text))]
 pub fn wiring_text(alloc: Global, text: &str) -> Result<String, AllocError>
     ensures { IfOk result (λ report. string_bytes report ≡ wiring_text text.now) }

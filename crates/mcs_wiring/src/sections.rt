@@ -17,7 +17,7 @@ pub(crate) enum Section {
     Lamp,
 }
 
-/// An error in one section, found without the other sections.
+/// An error that one section has regardless of the other sections.
 #[derive(Clone, Copy)]
 pub(crate) enum Flaw {
     /// A table has a key that its section does not allow.
@@ -67,7 +67,8 @@ impl Section {
         }
     }
 
-    /// Returns true if the section's tables must have the key. They can have no other key.
+    /// Returns true if the tables of the section must have the key. The tables can have no other
+    /// keys.
     pub(crate) fn has_key(self, key: &str) -> bool
         ensures { result ≡ is_table_key self key.now }
     {

@@ -32,7 +32,8 @@ pub(crate) fn values_at<'a>(table: &'a Table, key: &str) -> &'a [Value]
     }
 }
 
-/// Returns the integer at a key, or none if it is missing or not in the range `least` to `most`.
+/// Returns the integer at a key, or none if there is no integer at the key or it is not in the
+/// range `least` to `most`.
 pub(crate) fn number_at(table: &Table, key: &str, least: u8, most: u8) -> Option<u8>
     ensures { result ≡ number_at key.now least most (table_view table.now) }
 {

@@ -1,4 +1,4 @@
-//! The board and the program of the electronic die, an example, and machines with this board.
+//! The board and the program of an example, the electronic die, and machines with this board.
 use mcs_board::BenchRig;
 use mcs_check::SearchMachine;
 use mcs_cpu4004::Cpu;
@@ -15,7 +15,7 @@ pub(crate) const DIE_PROGRAM: [u8; 29] = [
     177, 64, 11, 0, 0, 64, 11,
 ];
 
-/// The lamp patterns of the die's six faces. In ROM they follow the program.
+/// The lamp patterns of the die's six faces. The program reads them from ROM at `FACES_ADDRESS`.
 pub(crate) const FACES: [u8; 6] = [8, 1, 9, 3, 11, 7];
 
 /// The ROM address of the lamp patterns.

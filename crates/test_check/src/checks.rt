@@ -6,16 +6,16 @@ use mcs_check::{
 use std::alloc::{AllocError, Global};
 use std::process::Abort;
 
-/// The number of states of the die: one at the start, and two for each of the six faces. The first of the two follows
-/// the display of the face, and the second follows a read of the key as up. An independent model of the chips gives
-/// the same number.
+/// The number of states of the die: one at the start, and two for each of the six faces. For each face, the first state
+/// follows the display of the face, and the second follows a read that shows the key as up. An independent model of
+/// the chips gives the same number.
 pub(crate) const STATES: usize = 13;
 
-/// The number of cycles after which a search step ends if the program reads no input. It is large
-/// enough for the die.
+/// The number of cycles after which a search step ends if the program reads no input. The die's program reads its key
+/// more often.
 pub(crate) const PAUSE: u32 = 1_000;
 
-/// More bytes of memory than a search needs.
+/// A limit on memory, in bytes, that is higher than any of these searches needs.
 pub(crate) const MEMORY: usize = 1_000_000_000;
 
 /// The lamps: the port latch of the RAM chip.
@@ -57,7 +57,7 @@ fn lamps_never_show(alloc: Global, n: u8) -> Result<Property, AllocError> {
     Ok(Property::without_stopwatch(alloc, never_lists))
 }
 
-/// Checks a property of the die, with at most `STATES` states.
+/// Checks a property of the die, with a limit of `STATES` states.
 pub(crate) fn check_die(
     alloc: Global,
     rt: &impl Abort,

@@ -1,4 +1,4 @@
-//! Tests of marks: addresses that a program reaches only after key presses.
+//! Tests of marks: a program must reach an address only after certain keys were pressed or released.
 use crate::boards::machine_with_two_keys;
 use crate::checks::{MEMORY, PAUSE};
 use crate::times::begins_at;
@@ -17,7 +17,8 @@ const LOCK: [u8; 20] = [
     32, 0, 33, 210, 226, 242, 226, 32, 16, 33, 234, 246, 18, 10, 234, 246, 26, 14, 64, 10,
 ];
 
-/// The program `LOCK` with JUN 14 at its end. After the first press, it does not wait for the key to be up again.
+/// The program `LOCK` with JUN 14 at its end. After the first press, the program does not wait for the key to be up
+/// again.
 const STUCK: [u8; 20] = [
     32, 0, 33, 210, 226, 242, 226, 32, 16, 33, 234, 246, 18, 10, 234, 246, 26, 14, 64, 14,
 ];

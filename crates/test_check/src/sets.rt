@@ -11,8 +11,7 @@ use std::process::Abort;
 /// More entries than a check of any of these programs needs.
 const ENTRIES: usize = 10_000;
 
-/// Returns the lists of conditions of a program that never makes these mistakes: one list with one condition, which
-/// must never be met.
+/// Returns the lists of conditions that a program without these mistakes never meets: one list with one condition.
 fn nevers_of_mistakes(
     alloc: Global,
     mistakes: Mistakes,

@@ -11,9 +11,9 @@ use std::process::Abort;
 /// The maximum number of states of a check, more than these programs have.
 const MAX_STATES: usize = 10_000;
 
-/// The number of cycles after which a search step ends if the program reads no input. The search recognises a loop
-/// when the loop runs once more after this step. In `NESTED`, the stopwatch's upper byte is not 0 at the end of a
-/// step.
+/// The number of cycles after which a search step ends if the program reads no input. If the program is in a loop, the
+/// next step ends after one pass, when the machine is back in the state in which that step began. In `NESTED`, the
+/// stopwatch's most significant byte is not 0 at the end of the first step.
 const PAUSE: u32 = 137_000;
 
 /// FIM P0 0, ISZ R0 2, JUN 0. The FIM takes 2 cycles, the ISZ 16 times 2 cycles, and the JUN 2 cycles.
@@ -29,8 +29,8 @@ const BRANCHES: [u8; 10] = [0x20, 0, 0x11, 6, 0, 0, 0x70, 2, 0x40, 0];
 /// The maximum number of cycles from address 0 back to address 0.
 const BRANCHES_CYCLES: u32 = 100;
 
-/// The number of states of `BRANCHES`: pass n of the 16 passes reads TEST at n different times, and the start is one
-/// more state.
+/// The number of states of `BRANCHES`. Pass n of the 16 passes reads TEST at n different stopwatch times, and the start
+/// is one more state.
 const BRANCHES_STATES: usize = 137;
 
 /// FIM P0 0, FIM P1 8, four nested loops with ISZ R0 to R3, and JUN 0. The outermost loop has 8

@@ -1,6 +1,6 @@
-//! A check that two values are equal. All tests share one `assert_eq!` here, which makes their
-//! proofs cheaper than an `assert_eq!` at each use. A library must not end the program, so each
-//! test crate has its own copy.
+//! A function that compares two values. The proofs of the tests take less time with a single
+//! `assert_eq!` here than with an `assert_eq!` at each call. Each test crate has its own copy of
+//! this function, because a library must not end the program.
 use std::fmt::Debug;
 use std::process::Abort;
 

@@ -1,4 +1,4 @@
-//! Tests of a single ROM: the values that its port gives were worked out manually.
+//! Tests of a single ROM. The expected values of its port were worked out manually.
 use crate::checks::expect_equal;
 use mcs_fixtures::boards::MIXED;
 use mcs_nibble::Nibble;

@@ -81,7 +81,7 @@ fn rig_with_one_part_of_each_kind(rt: HostRuntime) {
 }
 
 /// Runs LDM 15, WRR, RDR on a rig without chains, at a port `1i0i`. The latch stores lines 1 and 3.
-/// RDR reads the constants of these lines.
+/// RDR reads the constants that the mask sets for these lines.
 #[test]
 fn rig_without_chains(rt: HostRuntime) {
     let program = [0xDF, 0xE2, 0xEA];

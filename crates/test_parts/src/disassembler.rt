@@ -7,7 +7,7 @@ use std::alloc::Global;
 use std::process::Abort;
 use std::test::Fail;
 
-/// An address, the one or two words at that address, and the text expected for them.
+/// An address, the one or two words at that address, and the text expected for these words.
 type TextRow<'a> = (u16, u8, Option<u8>, &'a str);
 
 /// The words of all instructions, each instruction once, in the order of the opcode table.
@@ -22,7 +22,8 @@ const CODES: [u8; 50] = [
 const TEXTS: &str =
     "ORG 0x000\nNOP\nJCN 4, 0x010\nFIM P1, 0x20\nSRC P0\nFIN P7\nJIN P3\nJUN 0x123\nJMS 0xFED\nINC R5\nISZ R15, 0x00A\nADD R0\nSUB R10\nLD R9\nXCH R11\nBBL 12\nLDM 15\nWRM\nWMP\nWRR\nWR0\nWR1\nWR2\nWR3\nSBM\nRDM\nRDR\nADM\nRD0\nRD1\nRD2\nRD3\nCLB\nCLC\nIAC\nCMC\nCMA\nRAL\nRAR\nTCC\nDAC\nTCS\nSTC\nDAA\nKBP\nDCL\n";
 
-/// ROM bytes: a byte of a jump at address 0, then an instruction and two data bytes at 0x100.
+/// ROM bytes: the first byte of a JUN at address 0, then an instruction and two data bytes at
+/// 0x100.
 const JUMP_AND_DATA: [(usize, u8); 4] = [(0, 0x41), (0x100, 0xD5), (0x101, 1), (0x102, 0xFF)];
 
 /// ROM bytes: a two-word instruction across a page boundary, and the first word of another two-word

@@ -7,7 +7,7 @@ use crate::checks::expect_equal;
 use mcs_cpu4004::{Bus, Cpu, Cycle, Regs};
 use mcs_nibble::{Addr, Bit, Nibble, RegNo};
 
-/// A bus that has only a program memory and a TEST pin.
+/// A bus that has only a program memory, an SRC byte and a TEST pin.
 #[derive(Drop)]
 struct Memory {
     rom: [u8; 4096],
@@ -81,8 +81,8 @@ fn memory_with(bytes: &[(u16, u8)]) -> Memory {
     }
 }
 
-/// Returns the index registers that have the given bytes as the contents of the eight pairs. The
-/// even register of a pair contains the high nibble.
+/// Returns the 16 index registers whose eight pairs contain the given bytes. The even register of a
+/// pair contains the high nibble.
 fn index_registers(bytes: [u8; 8]) -> [Nibble; 16] {
     let mut r = [Nibble::ZERO; 16];
     for i in 0..8 {

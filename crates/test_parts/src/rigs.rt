@@ -1,5 +1,5 @@
-//! Tests of a rig that is too small for some boards: parts that a board lacks, and keys. The
-//! expected values were worked out manually from the wiring rules.
+//! Tests of a small rig (three ROMs, two chains of at most 40 bits): a ROM that the board lacks,
+//! and keys. The expected values were worked out manually from the wiring rules.
 use crate::boards::one_rom_board;
 use crate::checks::expect_equal;
 use mcs_board::Rig;

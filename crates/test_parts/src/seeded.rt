@@ -229,8 +229,8 @@ struct ChainModel {
 }
 
 impl ChainModel {
-    /// Returns the ten bits from the index `first` on as a number. The bit at `first` is the lowest
-    /// bit.
+    /// Returns ten bits of the list as one number. The bit at the index `first` is the lowest bit of
+    /// the number.
     fn ten_bits_from(&self, first: usize) -> u16
         requires { first ≤ 80 }
     {

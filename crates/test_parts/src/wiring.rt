@@ -1,4 +1,4 @@
-//! Tests of refusal numbers, and of board texts that no session can pass to the wiring. These texts
+//! Tests of refusal numbers, and of board texts that no session can pass to `board_of`. These texts
 //! contain bytes other than LF, tab and printable ASCII, or do not end with LF. All other texts are
 //! in checks/lib/scripts/board_texts.scripts.
 use mcs_wiring::{WiringFault, board_of, board_text, wiring_text};
@@ -35,7 +35,7 @@ fn texts_outside_scripts_are_rejected(rt: HostRuntime) {
     }
 }
 
-/// Checks that `board_text` writes the board that `text` describes as the text `plain`.
+/// Checks that `board_text` returns the text `plain` for the board that `text` describes.
 fn expect_board_text(rt: &impl Abort, alloc: Global, text: &str, plain: &str) -> Result<(), Fail> {
     let board = board_of(alloc, text)?;
     let found = board_text(alloc, &board)?;
@@ -62,7 +62,7 @@ fn equivalent_texts_are_written_alike(rt: HostRuntime) -> Result<(), Fail> {
     Ok(())
 }
 
-/// Board texts and their expected reports.
+/// Board texts, and the answer to `wiring` expected for each text.
 const REPORTS: &[(&str, &str)] = &[
     ("[[rom]]\nchip = 0\nport = \"0000\"\n", "wiring valid\n"),
     ("[[rom]]\nchip = 0\nport = \n[[lamp]]\n", "no 20 line 3\n"),

@@ -1,5 +1,5 @@
--- Rules that every state and every choice satisfies, so that contracts claim nothing. The tests
--- count states and replay choices instead.
+-- Rules that every state and every choice satisfies, so that the contracts of a search claim
+-- nothing. The tests check the verdicts instead.
 use Rattle.std.specs.Prelude.{ℕ}
 use Rattle.mcs_search.specs.Rules.{Rules}
 

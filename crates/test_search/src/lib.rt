@@ -1,5 +1,5 @@
-//! Tests of searches through systems whose states can be counted manually. They test what the proofs do not state:
-//! that a counterexample is as short as possible, and when a search gives up.
+//! Tests of searches through systems whose number of states is known. They test what the proofs do not state: that a
+//! counterexample is as short as possible, and when a search gives up.
 #![tactic(auto)]
 
 #[cfg(test)]

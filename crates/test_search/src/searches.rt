@@ -86,7 +86,7 @@ fn a_system_may_give_up(rt: HostRuntime) {
             Verdict::GaveUp
         )
     );
-    // The counterexample has fewer choices, so the search finds it first.
+    // The positions in `bad` take fewer choices than those in `stuck`, so the search reaches `bad` first.
     wheels.bad = [0, 2, 0];
     assert!(&rt;
         matches!(

@@ -9,11 +9,11 @@ use std::process::Abort;
 pub(crate) struct Wheels {
     pub(crate) count: usize,
     pub(crate) places: u8,
-    /// The positions of the wheels at which the property fails. With fewer than three wheels, only the first `count`
-    /// bytes matter.
+    /// The positions of the wheels in the one state in which the property fails. With fewer than three wheels, only the
+    /// first `count` bytes matter.
     pub(crate) bad: [u8; 3],
-    /// The positions of the wheels at which the system gives up. With fewer than three wheels, only the first `count`
-    /// bytes matter.
+    /// The positions of the wheels in the one state in which the system gives up. With fewer than three wheels, only
+    /// the first `count` bytes matter.
     pub(crate) stuck: [u8; 3],
 }
 
@@ -72,7 +72,7 @@ impl System for Wheels {
     }
 }
 
-/// Resumes a search for at most `steps` states.
+/// Resumes a search and follows the choices of at most `steps` states.
 #[tactic(auto, using(crate::proofs::TrivialRules::trivial_rules_under_way))]
 pub(crate) fn resume(
     search: &mut Search,
@@ -82,7 +82,7 @@ pub(crate) fn resume(
     search.resume(wheels, steps)
 }
 
-/// Searches all states of the wheels, up to `most` states.
+/// Searches all states of the wheels from position 0 of each wheel, up to `most` states.
 pub(crate) fn search_wheels(
     alloc: Global,
     rt: &impl Abort,

@@ -1,5 +1,6 @@
-//! A comparison for the tests. One `assert_eq!` here makes the proofs of the tests cheaper than one
-//! at each use. A library must not end the program, so each test crate has its own copy.
+//! A function that compares two values. The proofs of the tests take less time with a single
+//! `assert_eq!` here than with an `assert_eq!` at each call. Each test crate has its own copy of
+//! this function, because a library must not end the program.
 use std::fmt::Debug;
 use std::process::Abort;
 

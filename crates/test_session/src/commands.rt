@@ -1,5 +1,5 @@
 //! Tests of command bytes that occur in no session: a command for a key that no board has, and an
-//! empty command.
+//! empty byte string.
 use mcs_codec::{COMMAND_BYTES, command_bytes, command_of};
 use mcs_model::command::Command;
 use std::alloc::Global;

@@ -1,5 +1,5 @@
-//! Tests of a stop during the migration of a session of version 1, which happens when it is first
-//! opened.
+//! Tests in which the disk stops during the migration of a session of version 1. Opening such a
+//! session migrates it.
 use crate::checks::expect_equal;
 use crate::session_helpers::{
     blank_disk, expect_bytes, expect_register, open, overwrite, repaired_disk,
@@ -47,7 +47,8 @@ fn count_calls(alloc: Global, rt: &impl Abort) -> usize {
     calls
 }
 
-/// Returns the disk of an opening that stopped `before` calls before its end.
+/// Opens the file of version 1 on a disk that fails after `calls - before` calls, and returns the
+/// repaired disk. `calls` is the number of device calls that opening the file needs.
 fn disk_after_stop_before(alloc: Global, rt: &impl Abort, calls: usize, before: usize) -> FuseDisk {
     assert!(rt; before <= calls);
     let call = calls - before;
@@ -57,8 +58,9 @@ fn disk_after_stop_before(alloc: Global, rt: &impl Abort, calls: usize, before: 
     }
 }
 
-/// Checks the bytes on the disk of an opening that stopped `before` calls before its end. The last
-/// four calls write the snapshot, sync it, write the selector, and sync it.
+/// Checks the length of the new snapshot, and the selector, on a disk. The last `before` calls of
+/// opening the file were not made on this disk. The last four calls of opening write the snapshot,
+/// sync it, write the selector, and sync it.
 fn expect_stage(rt: &impl Abort, disk: &mut FuseDisk, before: usize) {
     let (length, selector) = match before {
         1 => ([0, 0, 0x1A, 0xA8], 1),

@@ -39,7 +39,7 @@ fn expect_bytes(rt: &impl Abort, disk: &mut MemDisk, at: usize, want: &[u8]) {
     assert_eq!(rt; &*found, want, "at {at}");
 }
 
-/// Overwrites bytes at an offset, as another program or an interrupted write may have left them.
+/// Overwrites bytes of a disk at an offset, like another program or an interrupted write.
 fn damage(rt: &impl Abort, disk: &mut MemDisk, at: usize, bytes: &[u8]) {
     assert!(rt; bytes.len() <= FILE_SIZE && at <= disk.size() && bytes.len() <= disk.size() - at);
     disk.write(at, bytes).expect(rt, "a write");

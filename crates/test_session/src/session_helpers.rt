@@ -124,7 +124,8 @@ pub(crate) fn expect_done<D: Disk + Drop>(
     expect_reply(rt, session, command, Reply::Done);
 }
 
-/// Checks that a session acknowledges a run, and that the run executes all of its cycles.
+/// Checks that a session acknowledges a run of `cycles` cycles, and that no stop ends the run
+/// early.
 pub(crate) fn run<D: Disk + Drop>(rt: &impl Abort, session: &mut Session<D>, cycles: u32) {
     let reply = Reply::Ran {
         cycles,
@@ -148,7 +149,7 @@ pub(crate) fn expect_bytes<D: Disk>(rt: &impl Abort, disk: &mut D, at: usize, wa
     assert_eq!(rt; &*found, want, "at {at}");
 }
 
-/// Overwrites bytes of a disk at an offset, as an interrupted write can leave them.
+/// Overwrites bytes of a disk at an offset, like an interrupted write.
 pub(crate) fn overwrite<D: Disk>(rt: &impl Abort, disk: &mut D, at: usize, bytes: &[u8]) {
     assert!(rt; at <= disk.size() && bytes.len() <= disk.size() - at);
     assert!(rt; disk.write(at, bytes).is_ok());
@@ -159,7 +160,7 @@ pub(crate) fn failing_disk(alloc: Global, rt: &impl Abort, calls: usize) -> Fuse
     FuseDisk::after(blank_disk(alloc, rt), calls)
 }
 
-/// Repairs a disk, so that its calls no longer fail, and returns it.
+/// Repairs a disk so that its calls no longer fail, and returns the disk.
 pub(crate) fn repaired_disk(mut disk: FuseDisk) -> FuseDisk {
     disk.mend();
     disk

@@ -4,7 +4,7 @@
 use std::fmt::Debug;
 use std::process::Abort;
 
-/// Checks that a value equals the expected one.
+/// Checks that `found` equals `wanted`.
 pub(crate) fn expect_equal<T: Copy + Debug + PartialEq>(rt: &impl Abort, found: T, wanted: T) {
     assert_eq!(rt; found, wanted);
 }

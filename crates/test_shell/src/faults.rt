@@ -13,11 +13,12 @@ pub(crate) const SCRIPT: &[u8] = b"poke r5 9\nseq\nregs\n";
 pub(crate) const ANSWERS: &[u8] =
     b"session 0\nok 1\nseq 1\nacc 0 cy 0 pc 000 owed 0 dcl 0 test 1 r 0000090000000000 ret 000 000 000\n";
 
-/// How many times a reader or a writer fails: once, so that a second attempt would succeed, or at every attempt.
+/// The numbers of times that a reader or a writer fails: once, so that a second attempt would succeed, or at
+/// every attempt.
 const FAILURES: [usize; 2] = [1, usize::MAX];
 
 /// Checks that the shell ends if the reader fails after `left` bytes of the script. The reader fails `failures`
-/// times. By then, the shell has written the first `size` bytes of the answers.
+/// times. When the shell ends, it must have written exactly the first `size` bytes of the answers.
 fn expect_cut_reading(rt: &impl Abort, alloc: Global, left: usize, failures: usize, size: usize) {
     let mut session = new_session_in_memory(alloc, rt);
     let mut reader = CutReader::new(SCRIPT, left, failures);
@@ -45,7 +46,7 @@ fn the_reader_fails_after_each_count_of_bytes(rt: HostRuntime) {
 }
 
 /// Checks that the shell ends if the writer fails after `left` bytes of the answers. The writer fails `failures`
-/// times. The command is recorded if the session's first line was written completely.
+/// times. The command must be recorded if and only if the line `session 0` was written completely.
 fn expect_cut_writing(rt: &impl Abort, alloc: Global, left: usize, failures: usize) {
     let mut session = new_session_in_memory(alloc, rt);
     let mut writer = CutWriter::new(alloc, left, failures);

@@ -1,4 +1,5 @@
-//! Tests of session files of version 1: they are converted when they are opened, and the conversion may be stopped.
+//! Tests of session files of version 1: opening a file converts it to version 2, and a device failure during the
+//! conversion does not change the state in the file.
 use crate::scripts::INPUTS;
 use crate::sessions::{
     bytes_after_mending, expect, expect_state, failing_disk_of, file_of, open, overwrite,
@@ -21,8 +22,8 @@ pub(crate) fn new_file(alloc: Global, rt: &impl Abort) -> Vec<u8> {
     file
 }
 
-/// Returns a session file of version 1 with the commands of the script. Version 2 encodes these records in the same
-/// way.
+/// Returns a session file of version 1 with the records of the commands in `INPUTS`. Both versions encode these
+/// commands in the same way.
 fn file_of_inputs(alloc: Global, rt: &impl Abort) -> Vec<u8> {
     let mut file = new_file(alloc, rt);
     let later = file_of(alloc, rt, &INPUTS, 0, b"");
@@ -33,8 +34,8 @@ fn file_of_inputs(alloc: Global, rt: &impl Abort) -> Vec<u8> {
     file
 }
 
-/// Opens a file on a disk that fails each call after the first `calls`. Returns the bytes left on the disk if the
-/// file does not open, or `None` if it opens.
+/// Opens a file on a disk whose first `calls` calls succeed, and whose later calls fail. Returns the bytes left
+/// on the disk if the file does not open, or `None` if it opens.
 fn bytes_after_failed_open(
     alloc: Global,
     rt: &impl Abort,

@@ -13,7 +13,8 @@ const SCRIPT: &[u8] =
     b"map\na: JUN a\nb = 0x2F\n.\nmap\nJUN c\n.\ncount 2\ntrace 2 pc lamps\nseq\n";
 
 /// The answers to the script, each with the part of the script that failed. In the first row, no allocation fails. In
-/// the others, one fails for the first program, the second program, the count or the trace, in this order.
+/// the other rows, an allocation fails for the first program, the second program, the count or the trace, in this
+/// order.
 const ANSWERS: [(&[u8], &str); 5] = [
     (
         b"session 0\nmap lines 2 names 2\nline 1 000 2\nline 2 002 0\nname a 000\nname b 02F\nno 32 line 1\ncount ran 2 end lines 2\n000 1\n001 1\ntrace ran 2 end lines 2 000 -\n0 000 001 -\n1 001 002 -\nseq 0\n",

@@ -40,8 +40,8 @@ const QUESTIONS: &[u8] = b"asm\nLDM 1\n.\nlist 0 1\nboard\nseq\n";
 const BOARD: &[u8] = b"board\n";
 
 /// The answers to the script, one row for each part that can fail. In the first row, every allocation succeeds. In
-/// the others, one fails for the board, the program, the listing or the query `board`, in this order. The text of the
-/// board follows the line `BOARD` in the output.
+/// the other rows, an allocation fails for the board, the program, the listing or the query `board`, in this order.
+/// The text of the board follows the line `BOARD` in the output.
 const ANSWERS: [[&[u8]; 6]; 5] = [
     [
         b"session 0\n",
@@ -86,7 +86,7 @@ const ANSWERS: [[&[u8]; 6]; 5] = [
 ];
 
 /// Returns true if the output consists of the given answers. If `is_device` is true, the output must instead consist
-/// of the first few answers, followed by the answer for a device fault.
+/// of the first few answers, followed by `no 53` (device fault).
 fn is_answered(output: &[u8], answers: &[&[u8]], is_device: bool) -> bool {
     let mut rest = output;
     for answer in answers {

@@ -14,7 +14,8 @@ use std::alloc::Global;
 use std::io::{Read, Write};
 use std::process::Abort;
 
-/// Checks a condition. If it is false, the test fails and reports `at`, the number of a row or a position.
+/// Checks that the condition `holds` is true. Otherwise the test fails and reports `at`, the number of a row or a
+/// position.
 pub(crate) fn expect(rt: &impl Abort, holds: bool, at: usize) {
     assert!(rt; holds, "at {at}");
 }
@@ -89,7 +90,7 @@ pub(crate) fn disk_of_session<D: Disk + Drop>(session: Session<D>) -> D {
     session.into_disk()
 }
 
-/// Returns a disk with the given bytes that fails each call after the first `calls`.
+/// Returns a disk with the given bytes. Its first `calls` calls succeed, and all later calls fail.
 pub(crate) fn failing_disk_of(
     alloc: Global,
     rt: &impl Abort,

@@ -34,7 +34,7 @@ fn script_of_inputs(alloc: Global, rt: &impl Abort) -> Vec<u8> {
     concatenate(alloc, &INPUTS).expect(rt, "memory")
 }
 
-/// Returns the number of pieces that end at or before the offset `offset`, if the pieces follow one another.
+/// Returns the number of pieces that end at or before the offset `offset` in the concatenation of all pieces.
 fn count_complete_pieces(pieces: &[&[u8]], offset: usize) -> usize {
     let mut count = 0usize;
     let mut end = 0usize;
@@ -47,8 +47,8 @@ fn count_complete_pieces(pieces: &[&[u8]], offset: usize) -> usize {
     count
 }
 
-/// Returns a blank disk that fails each call after the first `calls`, or only the first of these if `is_once` is
-/// true.
+/// Returns a blank disk whose first `calls` calls succeed, and whose next call fails. Later calls fail too, unless
+/// `is_once` is true.
 fn failing_blank_disk(alloc: Global, rt: &impl Abort, calls: usize, is_once: bool) -> FuseDisk {
     let disk = blank_disk(alloc, rt);
     if is_once {
@@ -83,8 +83,9 @@ fn expect_executed_before_stop(
     }
 }
 
-/// Checks a stop during the commands of a session. Creating the session takes five device calls, and each command
-/// takes four. The last of the four acknowledges the command. A disk that fails only one call needs no mending.
+/// Checks a session whose disk stops after the first `calls` calls. Creating the session takes five device calls, and
+/// each command takes four. The last of these four calls acknowledges the command. A disk that fails only one call
+/// needs no mending.
 fn expect_stop_in_commands(
     alloc: Global,
     rt: &impl Abort,
@@ -125,8 +126,8 @@ fn a_stop_at_each_call_of_the_disk(rt: HostRuntime) {
     }
 }
 
-/// Returns true if a session file does not open because the disk fails each call after the first `calls`. In this
-/// case, checks that the disk's bytes are unchanged.
+/// Returns true if a session file does not open on a disk whose first `calls` calls succeed and whose later calls
+/// fail. In this case, checks that the disk's bytes are unchanged.
 fn is_stopped_opening(alloc: Global, rt: &impl Abort, file: &[u8], calls: usize) -> bool {
     match open(alloc, failing_disk_of(alloc, rt, file, calls)) {
         Ok(_) => false,

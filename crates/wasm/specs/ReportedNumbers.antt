@@ -8,64 +8,67 @@ use Rattle.mcs_shell.specs.RefusalNumbers.{store_fault_number}
 use Rattle.mcs_shell.specs.Shell.{exit_status_of}
 use Rattle.mcs_shell.specs.declared.ends.ShellEnd.{ShellEnd}
 
--- Holds if the input was served on the session of the file. The number is the exit status for the
--- shell's end, and the answers are the first `count` bytes of the buffer.
+-- Holds if a shell executed the input on the session in the file. The number is then the exit
+-- status of the shell, and the answers are the first `count` bytes of the buffer.
 pub record ReportsAnswers (file input : List ℕ) (number count : ℕ) (buffer buffer' after : List ℕ)
     : Type 0 where
   pub end : ShellEnd
   pub number_reported : number ≡ exit_status_of end
   pub answers : AnswersInBuffer file input end count buffer buffer' after
 
--- Holds if the input was served as in ReportsAnswers, and a snapshot then replaced the records of the
--- file.
+-- Holds if a shell executed the input as in `ReportsAnswers`, and a snapshot then replaced the
+-- records of the file.
 pub record ReportsAnswersAndSettles (file input : List ℕ) (number count : ℕ)
     (buffer buffer' after : List ℕ) : Type 0 where
   pub end : ShellEnd
   pub number_reported : number ≡ exit_status_of end
   pub answers : AnswersAndSettles file input end count buffer buffer' after
 
--- Holds if serving the input would give these answers and this number, as in ReportsAnswers. The file
--- that this would produce is not specified.
+-- Holds if executing the input would give these answers and this number, as in `ReportsAnswers`.
+-- This condition does not say which bytes the file would then have.
 pub record ReportsDryRun (file input : List ℕ) (number count : ℕ) (buffer buffer' : List ℕ)
     : Type 0 where
   pub end : ShellEnd
   pub number_reported : number ≡ exit_status_of end
   pub answers : WouldAnswer file input end count buffer buffer'
 
--- the number that a call reports for a fault: the number of the refusal, or 0 if the answers do not fit
+-- the number that a call reports for a fault: the refusal number, or 0 if the answers do not fit
+-- into the buffer
 abbrev pub number_of_fault : ServeFault → ℕ
 number_of_fault (Refused fault) = store_fault_number fault
 number_of_fault (NoRoom count) = 0
 
--- the count that a call reports for a fault: the number of answer bytes if they do not fit, otherwise 0
+-- the count that a call reports for a fault: the number of bytes in the answers if they do not fit
+-- into the buffer, otherwise 0
 abbrev pub count_of_fault : ServeFault → ℕ
 count_of_fault (Refused fault) = 0
 count_of_fault (NoRoom count) = count
 
--- holds if the number and the count report a fault that can be the reason why the input was not served
+-- holds if the number and the count report a fault with which a call with this file and this input
+-- can fail; `room` is the number of bytes in the buffer
 pub record ReportsFault (file input : List ℕ) (number count room : ℕ) : Type 0 where
   pub fault : ServeFault
   pub number_reported : number ≡ number_of_fault fault
   pub count_reported : count ≡ count_of_fault fault
   pub is_fault : IsServeFault fault file input room
 
--- Holds if this fault can prevent the prover from writing its answer line: memory ran out, or the line
--- has `count` bytes, more than the `room` bytes of the buffer.
+-- Holds if this fault can prevent the prover from writing its answer line: memory ran out, or the
+-- line has more than the `room` bytes of the buffer.
 abbrev pub IsProverFault : ServeFault → ℕ → Type 0
 IsProverFault (Refused store_fault.NoMemory) room = Unit {0}
 IsProverFault (Refused fault) room = ⊥
 IsProverFault (NoRoom count) room = room < count
 
--- holds if the number and the count report a fault that can prevent the prover from writing its answer
--- line
+-- holds if the number and the count report a fault that can prevent the prover from writing its
+-- answer line
 pub record ReportsProverFault (number count room : ℕ) : Type 0 where
   pub fault : ServeFault
   pub number_reported : number ≡ number_of_fault fault
   pub count_reported : count ≡ count_of_fault fault
   pub is_fault : IsProverFault fault room
 
--- holds if a line of `count` bytes fits into the buffer, and the buffer behind its first `count` bytes is
--- unchanged
+-- holds if a line of `count` bytes fits into the buffer, and all bytes of the buffer after its
+-- first `count` bytes are unchanged
 pub record HasLineAtFront (count : ℕ) (buffer buffer' : List ℕ) : Type 0 where
   pub fits : count ≤ length buffer
   pub rest_unchanged : drop count buffer' ≡ drop count buffer

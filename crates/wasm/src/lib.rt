@@ -1,5 +1,5 @@
-//! The functions that a page in a browser calls: those of the bench and the call of the prover. The bench works on
-//! the bytes of a session file, which the page keeps.
+//! The functions that a page in a browser calls to use the bench and the prover. The functions of the bench work on the
+//! bytes of a session file, which the page keeps.
 #![tactic(auto)]
 
 ghost use Rattle.std.specs.Prelude.{◌≡◌, length, true, false};
@@ -22,14 +22,15 @@ use std::str;
 #[derive(Clone, Copy)]
 #[repr(C)]
 pub struct CallResult {
-    /// The exit status for the shell's end, if input was served. Otherwise the number of the refusal, or 0 if the
-    /// answers do not fit into the buffer.
+    /// The exit status of the shell or of the prover, if the call returned true. Otherwise the refusal number, or 0 if
+    /// the answers do not fit into the buffer.
     pub number: u32,
     /// The number of bytes in the answers, even if they do not fit into the buffer. 0 if there are no answers.
     pub count: usize,
 }
 
-/// Writes the exit status and the number of answer bytes of served input to `report`, and returns true.
+/// Writes the result of a successful call to `report`: the exit status of the shell, and the number of bytes in the
+/// answers. Returns true.
 fn report_served(served: ServedInput, report: &mut CallResult) -> bool
     ensures value { result ≡ true }
     ensures number { report.new.number ≡ exit_status_of served.end }
@@ -42,8 +43,8 @@ fn report_served(served: ServedInput, report: &mut CallResult) -> bool
     true
 }
 
-/// Writes a fault to `report`: the number of the refusal, or the number of answer bytes that do not fit. Returns
-/// false.
+/// Writes a fault to `report`: the refusal number and the count 0, or, if the answers do not fit, the number 0 and the
+/// number of bytes in the answers. Returns false.
 fn report_fault(fault: ServeFault, report: &mut CallResult) -> bool
     ensures value { result ≡ false }
     ensures number { report.new.number ≡ number_of_fault fault }
@@ -78,9 +79,9 @@ pub extern "C" fn bench_begin(alloc: Global, file: &mut [u8]) -> bool
     begin(alloc, file).is_ok()
 }
 
-/// Resumes the session in a file, and serves the input lines. Writes the answers to the front of the buffer
-/// `answers`, and copies the session's disk back to the file. Returns false if the input was not served. The file and
-/// the buffer are then unchanged, and `report` has the reason.
+/// Resumes the session in a file, and executes the input lines. Writes the answers to the front of the buffer
+/// `answers`, and copies the session's disk back to the file. Returns false if the call fails. The file and the buffer
+/// are then unchanged, and `report` has the reason.
 #[unsafe(no_mangle)]
 pub extern "C" fn bench_serve(
     alloc: Global,
@@ -101,8 +102,8 @@ pub extern "C" fn bench_serve(
     }
 }
 
-/// Serves input as `bench_serve` does, and then replaces the records of the file with a snapshot. Returns false if
-/// the input was not served. The file and the buffer are then unchanged, and `report` has the reason.
+/// Executes input as `bench_serve` does, and then replaces the records of the file with a snapshot. Returns false if
+/// the call fails. The file and the buffer are then unchanged, and `report` has the reason.
 #[unsafe(no_mangle)]
 pub extern "C" fn bench_serve_and_settle(
     alloc: Global,
@@ -123,8 +124,8 @@ pub extern "C" fn bench_serve_and_settle(
     }
 }
 
-/// Answers input as `bench_serve` would, but leaves the file unchanged. Returns false if the input cannot be served.
-/// The buffer is then unchanged, and `report` has the reason.
+/// Answers input as `bench_serve` would, but leaves the file unchanged. Returns false if the call fails. The buffer is
+/// then unchanged, and `report` has the reason.
 #[unsafe(no_mangle)]
 pub extern "C" fn bench_ask(
     alloc: Global,
@@ -155,10 +156,10 @@ pub extern "C" fn bench_settle(alloc: Global, file: &mut [u8]) -> bool
     settle(alloc, file).is_ok()
 }
 
-/// Answers a question to the prover, as the program mcs4_prove does. Writes the answer line to the front of the
-/// buffer, and the exit status and the number of bytes in the line to `report`. Returns false if there is no answer
-/// line. The buffer is then unchanged. `report` has 90 if memory ran out, or 0 and the number of bytes if the line
-/// does not fit.
+/// Answers a question to the prover, as the program mcs4_prove does. Writes the answer line to the front of the buffer,
+/// and the exit status and the number of bytes in the line to `report`. Returns false if there is no answer line. The
+/// buffer is then unchanged, and `report` has the number 90 if memory ran out. If the line does not fit, `report` has
+/// the number 0 and the number of bytes in the line.
 #[unsafe(no_mangle)]
 pub extern "C" fn bench_prove(
     alloc: Global,
@@ -171,7 +172,7 @@ pub extern "C" fn bench_prove(
         ReportsProverFault report.new.number report.new.count (length answers.old) }
     ensures unchanged { result ≡ false → answers.new ≡ answers.old }
 {
-    // Bytes that are not valid text count as an empty question, as in the program mcs4_prove.
+    // Bytes that are not valid UTF-8 count as an empty question, as in the program mcs4_prove.
     let Ok(Answer { text, status }) = answer_to(alloc, str::from_utf8(question).unwrap_or(""))
     else {
         return report_fault(ServeFault::Refused(StoreFault::NoMemory), report);

@@ -1,5 +1,5 @@
-// A connection that speaks the debug adapter protocol (DAP). It receives requests, and sends responses and events. The first request must
-// be `initialize`. Requests are served one after the other, in the order of their arrival; only `cancel` is served at once.
+// A connection of the debug adapter protocol (DAP). It receives requests, and sends responses and events. The first request must be
+// `initialize`. The connection handles requests one after another, in the order of arrival. It handles only `cancel` at once.
 
 import { CancelledError } from "../bench/bench_errors.js";
 import { getField } from "../server/framing.js";
@@ -9,8 +9,8 @@ import * as say from "../../words/adapter.js";
 import { INITIALIZE_FIRST, INITIALIZE_ONCE, NOT_JSON } from "../../words/server.js";
 
 /**
- * A request that has no response yet. `seq` is its number. `hasBegun` is true once its handler runs. A handler that runs for long checks
- * `isCancelled`, and throws CancelledError if it is true.
+ * A request that has no response yet. `seq` is its number. `hasBegun` is true after its handler has started. A long-running handler checks
+ * `isCancelled`, and throws CancelledError if `isCancelled` is true.
  * @typedef {{ seq: number, command: string, hasBegun: boolean, isCancelled: boolean }} PendingRequest
  *
  * A request handler. It returns the response body, or a promise of the body.
@@ -37,12 +37,12 @@ export class AdapterConnection extends MessageStream {
     this.requests = {};
     this.lastSeq = 0;
     this.isOpen = false;
-    /** Resolves when the last request in the queue has been served. A new request waits for this promise. */
+    /** Resolves when all queued requests have responses. A new request waits for this promise. */
     this.queueEnd = Promise.resolve();
     /** @type {Set<PendingRequest>} the requests that have no response yet, both queued and running */
     this.pendingRequests = new Set();
-    /** @type {(id: string) => void} stops the task that has this progress id */
-    this.stopWork = (id) => fail(say.noProgress(id));
+    /** @type {(id: string) => void} stops the task with a progress id */
+    this.stopTask = (id) => fail(say.noProgress(id));
   }
 
   /** @param {string} words */
@@ -61,7 +61,7 @@ export class AdapterConnection extends MessageStream {
       return;
     }
     const [seq, type, command] = ["seq", "type", "command"].map((name) => getField(message, name));
-    // The adapter sends no requests, so responses from the client are ignored.
+    // The adapter sends no requests and expects no events, so it ignores responses and events.
     if (type === "response" || type === "event") return;
     const number = Number.isSafeInteger(seq) ? seq : 0;
     if (type !== "request" || typeof command !== "string" || number !== seq) {
@@ -126,13 +126,13 @@ export class AdapterConnection extends MessageStream {
   }
 
   /**
-   * Serves the `cancel` request. Rejects the request to cancel at once if it is queued. Sets its flag `isCancelled` if it runs. Does
-   * nothing if the request already has its response.
+   * Handles the `cancel` request. If the request to cancel is queued, rejects that request at once. If its handler runs, sets
+   * `isCancelled`. If the request already has its response, does nothing. For a progress id, stops the task.
    * @param {any} args
    */
   cancel(args) {
     const [number, progress] = [needNumber(args, "requestId", 0), optionalText(args, "progressId")];
-    if (progress !== "") this.stopWork(progress);
+    if (progress !== "") this.stopTask(progress);
     for (const pending of [...this.pendingRequests].filter(({ seq, command }) => seq === number && command !== "cancel")) {
       pending.isCancelled = true;
       if (pending.hasBegun) continue;

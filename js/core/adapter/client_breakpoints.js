@@ -23,7 +23,7 @@ import { stopsEachTime } from "../../words/machine.js";
  * @typedef {import("../debug/common_mistakes.js").Kind} MistakeKind
  *
  * A breakpoint that the client requested. `address` is -1 if no instruction was found. `from` is the number of the first hit that stops the
- * machine. `note` is the text to log. `words` is the error message, "" if the breakpoint can be set.
+ * machine. `note` is the text to log instead of a stop, "" for none. `words` is the error message, "" if the breakpoint can be set.
  * @typedef {{ id: number, line: number, address: number, condition: string, from: number, note: string,
  *   words: string }} RequestedBreakpoint
  *
@@ -89,9 +89,9 @@ export class ClientBreakpoints {
     this.lastId = 0;
     /** @type {Record<BreakpointKind, RequestedBreakpoint[]>} */
     this.requested = { lines: [], labels: [], addresses: [] };
-    /** The addresses of breakpoints that the client did not set. */
-    this.otherAddresses = session.debugger.session.breaks;
-    /** The RAM characters that the bench already watched, not for the client. Each has the form `B 0xSS`: its bank and its SRC byte. */
+    /** The addresses of the bench's breakpoints that the client did not set. */
+    this.otherAddresses = session.debugger.session.breakpointAddresses;
+    /** The RAM characters that the bench watches, but not for the client. Each has the form `B 0xSS`: its bank and its SRC byte. */
     this.otherWatches = readBenchWatches(session);
     /** @type {string[]} the RAM characters that the bench watches for the client, in the same form */
     this.clientWatches = [];
@@ -104,15 +104,15 @@ export class ClientBreakpoints {
   }
 
   /**
-   * Takes over the breakpoints from before a restart. Moves each breakpoint to its instruction in the new program. Returns the breakpoints
-   * that moved.
+   * Copies the breakpoints and filters from before a restart. Moves each line breakpoint to its instruction in the new program. Resolves to
+   * the breakpoints that moved.
    * @param {ClientBreakpoints} other
    */
-  async takeOverBreakpoints({ requested, lastId, dataBreakpoints, exceptionFilters }) {
+  async copyBreakpointsFrom({ requested, lastId, dataBreakpoints, exceptionFilters }) {
     Object.assign(this, { requested, lastId, dataBreakpoints, exceptionFilters });
     await this.applyDataBreakpoints();
     this.applyExceptionFilters();
-    return this.moveWithProgram();
+    return this.relocateLineBreakpoints();
   }
 
   /** @param {Partial<RequestedBreakpoint>} fields */
@@ -124,25 +124,25 @@ export class ClientBreakpoints {
   // --- requests of the client ---
 
   /**
-   * Serves the `setBreakpoints` request.
+   * Handles the `setBreakpoints` request.
    * @param {any} args
-   * @param {(line: number) => number} lineOf converts a client's line number to one that counts from 1
+   * @param {(line: number) => number} lineOf converts a client's line number to a line number that counts from 1
    */
   setLineBreakpoints(args, lineOf) {
     const { map } = this.session;
-    return this.setRequested("lines", optionalList(args, "breakpoints").map((item) => {
+    return this.setRequestedBreakpoints("lines", optionalList(args, "breakpoints").map((item) => {
       const { line, address, words } = instructionForLine(lineOf(needNumber(item, "line")), map);
       return this.newBreakpoint({ ...readCommonFields(item), line, address, ...(address < 0 ? { words } : {}) });
     }));
   }
 
   /**
-   * Serves the `setFunctionBreakpoints` request: sets breakpoints on labels.
+   * Handles the `setFunctionBreakpoints` request: sets breakpoints on labels.
    * @param {any} args
    */
   setLabelBreakpoints(args) {
     const { map } = this.session;
-    return this.setRequested("labels", optionalList(args, "breakpoints").map((item) => {
+    return this.setRequestedBreakpoints("labels", optionalList(args, "breakpoints").map((item) => {
       const name = needText(item, "name").trim();
       const found = map.names.get(name);
       const message = found && found.isLabel ? "" : noLabel(name);
@@ -153,13 +153,13 @@ export class ClientBreakpoints {
   }
 
   /**
-   * Serves the `setInstructionBreakpoints` request.
+   * Handles the `setInstructionBreakpoints` request.
    * @param {any} args
    * @param {(reference: string) => number} addressOf returns the address of a memory reference
    */
   setAddressBreakpoints(args, addressOf) {
     const { map } = this.session;
-    return this.setRequested("addresses", optionalList(args, "breakpoints").map((item) => {
+    return this.setRequestedBreakpoints("addresses", optionalList(args, "breakpoints").map((item) => {
       const { requested, words } = resolveAddress(needText(item, "instructionReference"), needNumber(item, "offset", 0), addressOf);
       const { line, address } = words === "" ? instructionAtAddress(requested, map) : { line: 0, address: -1 };
       return this.newBreakpoint({ ...readCommonFields(item), line, address, ...(words === "" ? {} : { words }) });
@@ -170,7 +170,7 @@ export class ClientBreakpoints {
    * @param {BreakpointKind} kind
    * @param {RequestedBreakpoint[]} requested
    */
-  async setRequested(kind, requested) {
+  async setRequestedBreakpoints(kind, requested) {
     this.requested[kind] = requested;
     const faults = await this.applyBreakpoints();
     return requested.map((each) => this.toResponse(each, faults.get(each) || ""));
@@ -188,7 +188,7 @@ export class ClientBreakpoints {
 
   // --- the debugger's list ---
 
-  /** Returns all breakpoints, at most one per address. A client breakpoint replaces an earlier session breakpoint at the same address. */
+  /** Returns all breakpoints by address. At an address with a client breakpoint, any other breakpoint is omitted. */
   mergeBreakpoints() {
     /** @type {Map<number, RequestedBreakpoint>} */
     const byAddress = new Map();
@@ -202,7 +202,9 @@ export class ClientBreakpoints {
     return byAddress;
   }
 
-  /** Sets the debugger's breakpoints. Returns a message for each breakpoint that cannot be set, or whose condition has an error. */
+  /**
+   * Sets the debugger's breakpoints. Resolves to a message for each breakpoint that cannot be set, or whose condition or note has an error.
+   */
   async applyBreakpoints() {
     const { session } = this;
     /** @type {Map<RequestedBreakpoint, string>} */
@@ -237,8 +239,8 @@ export class ClientBreakpoints {
     return { id: found.id, reason: addresses.includes(found) ? "instruction breakpoint" : "breakpoint" };
   }
 
-  /** Moves each line breakpoint to its instruction after a program change. Returns the breakpoints that moved. */
-  async moveWithProgram() {
+  /** Moves each line breakpoint to its instruction after a program change. Resolves to the breakpoints that moved. */
+  async relocateLineBreakpoints() {
     const { map } = this.session;
     const movedBreakpoints = this.requested.lines.filter((each) => {
       const { line, address, words } = instructionForLine(Math.max(1, each.line), map);
@@ -255,7 +257,7 @@ export class ClientBreakpoints {
   // --- data breakpoints ---
 
   /**
-   * Serves the `setDataBreakpoints` request.
+   * Handles the `setDataBreakpoints` request.
    * @param {any} args
    */
   async setDataBreakpoints(args) {
@@ -277,8 +279,8 @@ export class ClientBreakpoints {
   }
 
   /**
-   * Sets the watches of the session. The bench watches up to MAX_WATCHES RAM characters without a condition. The debugger watches all other
-   * places. Returns the error messages, by the id of the data breakpoint.
+   * Sets the watches of the session. The bench watches up to MAX_WATCHES RAM characters without a condition or hit count. The debugger
+   * watches all other places. Resolves to the error messages, by the id of the data breakpoint.
    */
   async applyDataBreakpoints() {
     const { session, otherWatches } = this;
@@ -294,15 +296,15 @@ export class ClientBreakpoints {
     if (lines) await session.debugger.session.serve(lines, async () => true);
     this.clientWatches = watches;
     const benchWatches = readBenchWatches(session);
-    const isByBench = (/** @type {RequestedDataBreakpoint} */ each) => (
+    const isWatchedByBench = (/** @type {RequestedDataBreakpoint} */ each) => (
       unconditional.includes(each) && benchWatches.includes(watchOperand(each.name)));
-    return session.debugger.setWatches(validRequests.filter((each) => !isByBench(each)), session.names);
+    return session.debugger.setWatches(validRequests.filter((each) => !isWatchedByBench(each)), session.names);
   }
 
   // --- common mistakes ---
 
   /**
-   * Serves the `setExceptionBreakpoints` request.
+   * Handles the `setExceptionBreakpoints` request.
    * @param {any} args
    */
   setExceptionFilters(args) {
@@ -320,29 +322,29 @@ export class ClientBreakpoints {
   applyExceptionFilters() {
     const { session, exceptionFilters } = this;
     const { commonMistakes } = session.debugger;
-    commonMistakes.stops = new Set();
+    commonMistakes.stoppingKinds = new Set();
     commonMistakes.conditions = new Map();
     const answers = exceptionFilters.map(({ kind, condition: text }) => {
       if (!Object.prototype.hasOwnProperty.call(KINDS, kind)) return { verified: false, message: say.noFilter(kind) };
       const mistake = /** @type {MistakeKind} */ (kind);
       const isAlways = text.trim() === "";
       const { condition, fault, column } = isAlways ? { condition: null, fault: "", column: -1 } : compileCondition(text, session.names);
-      commonMistakes.stops.add(mistake);
+      commonMistakes.stoppingKinds.add(mistake);
       if (condition) commonMistakes.conditions.set(mistake, condition);
       return fault ? { verified: false, message: stopsEachTime(inColumn(fault, column)) } : { verified: true };
     });
     // The debugger checks every instruction only in pieces of at most MAX_CYCLES_PER_CALL cycles.
     if (session.maxPieceCycles >= MAX_CYCLES_PER_CALL) {
-      session.maxPieceCycles = commonMistakes.stops.size > 0 ? MAX_CYCLES_PER_CALL : MAX_PIECE_CYCLES;
+      session.maxPieceCycles = commonMistakes.stoppingKinds.size > 0 ? MAX_CYCLES_PER_CALL : MAX_PIECE_CYCLES;
     }
     return answers;
   }
 
-  /** Notes which breakpoints and watches the client did not set. Called after console lines have changed breakpoints or watches. */
-  noteOtherBreakpoints() {
+  /** Determines the breakpoints and watches that the client did not set. Called after console lines have changed breakpoints or watches. */
+  updateOtherBreakpoints() {
     const { lines, labels, addresses } = this.requested;
-    const ofClient = new Set([...lines, ...labels, ...addresses].map(({ address }) => address));
-    this.otherAddresses = this.session.debugger.session.breaks.filter((address) => !ofClient.has(address));
+    const clientAddresses = new Set([...lines, ...labels, ...addresses].map(({ address }) => address));
+    this.otherAddresses = this.session.debugger.session.breakpointAddresses.filter((address) => !clientAddresses.has(address));
     this.otherWatches = readBenchWatches(this.session).filter((place) => !this.clientWatches.includes(place));
   }
 

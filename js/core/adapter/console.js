@@ -1,4 +1,4 @@
-// Serves the lines that a user types in the debug console: bench lines (in which labels can replace addresses), key presses, moves that
+// Executes the lines that a user types in the debug console: bench lines (in which labels can replace addresses), key presses, moves that
 // have no button, and expressions.
 
 import { ANSWER_FORMATS, isQuery } from "../bench/answer_table.js";
@@ -19,13 +19,13 @@ import { noKey } from "../../words/testing.js";
  * @typedef {import("./expression_values.js").ExpressionContext} ExpressionContext
  * @typedef {import("../bench/error_messages.js").ErrorMessages} ErrorMessages
  *
- * The result of a line. `words` is the text to show. `changes` is true if the line changed the machine. `move` starts a move after the text
- * is shown; null for none.
+ * The result of a line. `words` is the text to show. `changes` is true if the line changed the machine. `move` starts the move that the
+ * line requests; the caller first shows the text. It is null if the line requests no move.
  * @typedef {{ words: string, changes: boolean, move: (() => void) | null }} LineResult
  *
- * A callback that is called between two pieces of long work, with the number of processed characters. If it resolves to false, the work is
- * cancelled and no line has an effect.
- * @typedef {(done: number) => Promise<boolean>} MayContinue
+ * A callback that is called between two pieces of a long input, with the number of processed characters. If it resolves to false, the input
+ * is cancelled and no line takes effect.
+ * @typedef {(done: number) => Promise<boolean>} ShouldContinue
  */
 
 /** The words that can start a console line. */
@@ -35,25 +35,27 @@ export const CONSOLE_FIRST_WORDS = [
 /** The maximum length of a console input in characters, and the maximum number of bench lines in it. */
 const MAX_LENGTH = 65536;
 const MAX_INPUTS = 1000;
+/** Matches an input whose first line contains a comparison. */
 const COMPARISON_LINE = /^[^\n]*[=<>]/;
 const RUN_WORDS = new Set(["run", "step"]);
 const BREAKPOINT_WORDS = new Set(["break", "unbreak", "watch", "unwatch"]);
 
-/** @type {(words: string) => LineResult} */
+/** @type {(words: string) => LineResult} returns the result of a line that only shows a text */
 const textResult = (words) => ({ words, changes: false, move: null });
 
 export class Console {
   /**
    * @param {Machine} machine
    * @param {ExpressionContext} context
-   * @param {ErrorMessages} words the messages for the error numbers of the bench
-   * @param {{ breaksChanged: () => void, romChanged: () => void }} calls
+   * @param {ErrorMessages} errorMessages the messages for the error numbers of the bench
+   * @param {{ breaksChanged: () => void, romChanged: () => void }} calls callbacks after a line has changed breakpoints or watches, and
+   *   after a line has changed ROM
    */
-  constructor(machine, context, words, calls) {
+  constructor(machine, context, errorMessages, calls) {
     this.calls = calls;
     this.machine = machine;
     this.context = context;
-    this.words = words;
+    this.errorMessages = errorMessages;
     this.keys = listNamedKeys(context.face);
   }
 
@@ -62,25 +64,26 @@ export class Console {
   }
 
   /**
-   * @param {string} text
-   * @param {MayContinue} [mayContinue]
+   * Executes a typed input. Throws AdapterError if the input has an error.
+   * @param {string} text the input: one line, or several bench lines
+   * @param {ShouldContinue} [shouldContinue]
    * @param {import("./number_format.js").Base} [base] the number base of the output
    * @returns {Promise<LineResult>}
    */
-  async serveLine(text, mayContinue, base) {
+  async serveLine(text, shouldContinue, base) {
     const line = text.trim();
     if (line.length > MAX_LENGTH) fail(say.tooLong(MAX_LENGTH));
     const [word, ...operands] = line.split("\n")[0].split(/[ \t]+/);
     if (line === "" || line === "help" || line === "?") return textResult(say.HELP);
-    const isNumbers = operands.length === 2 && operands.every((each) => !Number.isNaN(parseNumber(each)));
-    if ((word === "press" || word === "release") && !isNumbers) return this.moveKeys(word, operands);
+    const hasRowAndColumn = operands.length === 2 && operands.every((each) => !Number.isNaN(parseNumber(each)));
+    if ((word === "press" || word === "release") && !hasRowAndColumn) return this.pressOrReleaseKeys(word, operands);
     if (word === "keys" && operands.length > 0) return this.typeKeys(operands);
     if (word === "until" || word === "change" || word === "back" || word === "forward") return this.createMove(word, operands);
     if (word === "set" && !line.includes("\n")) return this.runBenchLines(compileSetLine(line.slice("set".length), this.session));
-    if (word === "set") return this.serveBenchLines(line, mayContinue);
+    if (word === "set") return this.serveBenchLines(line, shouldContinue);
     // Bench lines never contain comparisons, so a line with a comparison is an expression.
     const isBenchLine = ANSWER_FORMATS.has(word) && !COMPARISON_LINE.test(line);
-    return isBenchLine ? this.serveBenchLines(line, mayContinue) : this.evaluateLine(line, base);
+    return isBenchLine ? this.serveBenchLines(line, shouldContinue) : this.evaluateLine(line, base);
   }
 
   /**
@@ -105,12 +108,11 @@ export class Console {
   }
 
   /**
-   * Presses or releases keys. While the machine is paused, a key stays in its new position. While the machine runs, `press` also releases
-   * the key.
+   * Presses or releases keys at once. While the machine runs, however, `press` queues a press and a release of each key.
    * @param {"press" | "release"} word
    * @param {string[]} names
    */
-  async moveKeys(word, names) {
+  async pressOrReleaseKeys(word, names) {
     if (names.length === 0) fail(say.keySyntax(word));
     const keys = names.map((name) => this.findKey(name));
     if (this.machine.isMoving && word === "press") return this.queueKeys(keys);
@@ -118,13 +120,19 @@ export class Console {
     return this.runBenchLines(lines);
   }
 
-  /** @param {string[]} words */
+  /**
+   * Presses and releases keys, one after another.
+   * @param {string[]} words the key names; a word that is not a key name is split into letters
+   */
   typeKeys(words) {
     const keys = words.flatMap((word) => (this.keys.has(word) ? [word] : [...word])).map((name) => this.findKey(name));
     return this.queueKeys(keys);
   }
 
-  /** @param {import("../testing/test_text.js").Key[]} keys */
+  /**
+   * Adds a press and a release of each key to the key queue.
+   * @param {import("../testing/test_text.js").Key[]} keys
+   */
   queueKeys(keys) {
     const { queue } = this.session.debugger.session;
     for (const { key } of keys) {
@@ -137,8 +145,9 @@ export class Console {
   // --- moves ---
 
   /**
-   * @param {string} word
-   * @param {string[]} operands
+   * Returns a result whose `move` runs the machine, or goes back or forward in time.
+   * @param {string} word `until`, `change`, `back` or `forward`
+   * @param {string[]} operands the words of the goal; empty for `forward`, and for `back` by one instruction
    * @returns {LineResult}
    */
   createMove(word, operands) {
@@ -174,46 +183,48 @@ export class Console {
   // --- lines of the bench ---
 
   /**
-   * @param {string} line
-   * @param {MayContinue} [mayContinue]
+   * Sends typed bench lines to the bench, after the names in them are replaced by addresses.
+   * @param {string} line one or more lines, separated by line feeds
+   * @param {ShouldContinue} [shouldContinue]
    * @returns {Promise<LineResult>}
    */
-  async serveBenchLines(line, mayContinue) {
+  async serveBenchLines(line, shouldContinue) {
     const { lines, words } = replaceNames(`${line}\n`, this.session.map);
     if (words) fail(words);
     const kinds = readInputs(lines).map(({ kind }) => kind);
     if (kinds.length > MAX_INPUTS) fail(say.tooManyLines(MAX_INPUTS));
     if (this.machine.isMoving && kinds.some((kind) => RUN_WORDS.has(kind))) fail(say.MACHINE_IS_RUNNING);
     if (kinds.every(isQuery)) return textResult(this.session.debugger.session.ask(lines).join("\n"));
-    const result = await this.runBenchLines(lines, mayContinue);
+    const result = await this.runBenchLines(lines, shouldContinue);
     if (kinds.some((kind) => BREAKPOINT_WORDS.has(kind))) this.calls.breaksChanged();
     return result;
   }
 
   /**
-   * @param {string} lines
-   * @param {MayContinue} [mayContinue]
+   * Executes bench lines that change the session. Throws AdapterError if the bench rejects all of them.
+   * @param {string} lines bench lines without names, each with a line feed
+   * @param {ShouldContinue} [shouldContinue]
    * @returns {Promise<LineResult>}
    */
-  async runBenchLines(lines, mayContinue) {
-    const { entries, hasChangedRom, tally, words: stopWords } = await this.session.serve(lines, mayContinue);
+  async runBenchLines(lines, shouldContinue) {
+    const { entries, hasChangedRom, tally, words: stopMessage } = await this.session.serve(lines, shouldContinue);
     if (hasChangedRom) this.calls.romChanged();
     const answers = entries.flatMap((entry) => entry.answers);
     const texts = answers.map((answer) => {
       const refusal = parseRefusal(answer);
-      return refusal ? `${answer}: ${this.words.refusalMeaning(refusal.number)}` : answer;
+      return refusal ? `${answer}: ${this.errorMessages.refusalMeaning(refusal.number)}` : answer;
     });
     const isRejected = answers.every((answer) => parseRefusal(answer));
     if (isRejected && answers.length > 0) throw new AdapterError(texts.join("\n"));
     this.machine.reportTally(tally, tally.noted);
     if (answers.some((answer) => readRun(answer))) this.machine.reportFrontPanelText();
-    return { words: [...texts, ...(stopWords ? [stopWords] : [])].join("\n"), changes: true, move: null };
+    return { words: [...texts, ...(stopMessage ? [stopMessage] : [])].join("\n"), changes: true, move: null };
   }
 }
 
 /**
- * Returns the address that a label or number denotes; throws AdapterError if the text is neither.
- * @param {string} text a label with or without `@`, or a number
+ * Returns the address of a label or number; throws AdapterError if the text is neither.
+ * @param {string} text a label with or without `@`, a number, or three hexadecimal digits
  * @param {ExpressionContext} context
  * @returns {number}
  */

@@ -16,7 +16,7 @@ export class AdapterError extends Error {
   }
 }
 
-/** The protocol's error message for a request that needs a paused machine while the machine runs. */
+/** The protocol's error message if a request needs a paused machine, but the machine runs. */
 export const NOT_STOPPED = "notStopped";
 /** The protocol's error message for a cancelled request. */
 export const REQUEST_CANCELLED = "cancelled";
@@ -31,7 +31,7 @@ export function fail(words) {
 }
 
 /**
- * Returns a required string field of a request's arguments; throws AdapterError if it is missing.
+ * Returns a required string field of a request's arguments; throws AdapterError if the field is missing or not a string.
  * @param {any} from the arguments
  * @param {string} name
  * @returns {string}
@@ -52,7 +52,8 @@ export function optionalText(from, name) {
 }
 
 /**
- * Returns an integer field of a request's arguments. If it is missing, returns the default value, or throws AdapterError without a default.
+ * Returns an integer field of a request's arguments. If the field is missing, returns the default value, or throws AdapterError if there is
+ * no default value.
  * @param {any} from the arguments
  * @param {string} name
  * @param {number} [defaultValue] returned if the field is missing

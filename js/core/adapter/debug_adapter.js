@@ -34,7 +34,7 @@ import * as say from "../../words/adapter.js";
  * @typedef {import("./session_launch.js").LaunchResult} LaunchResult
  * @typedef {import("./debugged_machine.js").MoveEnd} MoveEnd
  *
- * The parts of a debug session. A debug session exists from `launch` or `attach` until the end of debugging.
+ * The parts of a debug session, which exists from `launch` or `attach` until the end of debugging.
  * @typedef {{ launchResult: LaunchResult, machine: Machine, breakpoints: ClientBreakpoints, console: Console,
  *   queryHandlers: QueryHandlers }} OpenSession
  */
@@ -86,30 +86,34 @@ export class DebugAdapter {
     this.connection = connection;
     this.engine = engine;
     this.host = host;
-    this.words = new ErrorMessages(refusals);
+    this.errorMessages = new ErrorMessages(refusals);
     this.instructions = readInstructions(manual);
-    /** The client's numbers of the first line and the first column (0 or 1), and which optional events the client accepts. */
+    /** The client's number of the first line and of the first column: 0 or 1. */
     this.firstLine = 1;
     this.firstColumn = 1;
-    this.acceptsInvalidated = false;
-    this.acceptsMemory = false;
+    /** True if the client supports the event `invalidated` or `memory`. */
+    this.supportsInvalidatedEvent = false;
+    this.supportsMemoryEvent = false;
     this.progress = new Progress((event, body) => connection.sendEvent(event, body));
     this.moves = new MoveHandlers(this);
-    /** @type {OpenSession | null} */
+    /** @type {OpenSession | null} the debug session; null before launch or attach, and after the end of debugging */
     this.open = null;
+    /** True after the request `configurationDone`. */
     this.isConfigured = false;
-    /** @type {Promise<string> | null} the result of `leaveOnce`; null before `leave` is called */
+    /** @type {Promise<string> | null} the result of `endDebugging`; null before `leave` is called */
     this.leavePromise = null;
     /** @type {MoveEnd | null} the end of the last move */
     this.lastStop = null;
-    /** @type {RemoteFrontPanel | null} null until the client asks for the board */
+    /** @type {RemoteFrontPanel | null} the reports to a client that draws the front panel; null until the client asks for them */
     this.remoteFrontPanel = null;
-    connection.requests = { ...this.lifecycleRequests(), ...this.breakpointRequests(), ...this.moves.handlers(), ...this.queryRequests() };
-    connection.stopWork = (id) => this.progress.stop(id);
+    connection.requests = {
+      ...this.lifecycleHandlers(), ...this.breakpointHandlers(), ...this.moves.handlers(), ...this.queryRequestHandlers(),
+    };
+    connection.stopTask = (id) => this.progress.stop(id);
   }
 
   /**
-   * Returns the debug session; throws AdapterError before launch or attach.
+   * The debug session. Throws AdapterError if there is none.
    * @returns {OpenSession}
    */
   get current() {
@@ -118,15 +122,18 @@ export class DebugAdapter {
 
   // --- from launch to disconnect ---
 
-  /** @returns {Record<string, RequestHandler>} */
-  lifecycleRequests() {
+  /**
+   * Returns the handlers of the requests from `initialize` to `disconnect`, by command.
+   * @returns {Record<string, RequestHandler>}
+   */
+  lifecycleHandlers() {
     return {
       initialize: (args) => {
         if (optionalText(args, "pathFormat") === "uri") fail(say.PATHS_ONLY);
         this.firstLine = getField(args, "linesStartAt1") === false ? 0 : 1;
         this.firstColumn = getField(args, "columnsStartAt1") === false ? 0 : 1;
-        this.acceptsInvalidated = getField(args, "supportsInvalidatedEvent") === true;
-        this.acceptsMemory = getField(args, "supportsMemoryEvent") === true;
+        this.supportsInvalidatedEvent = getField(args, "supportsInvalidatedEvent") === true;
+        this.supportsMemoryEvent = getField(args, "supportsMemoryEvent") === true;
         this.progress.isEnabled = getField(args, "supportsProgressReporting") === true;
         return CAPABILITIES;
       },
@@ -137,7 +144,7 @@ export class DebugAdapter {
         const { launchResult } = this.current;
         if (this.isConfigured) fail(say.CONFIGURED_ONCE);
         this.isConfigured = true;
-        const begin = () => (launchResult.stopsOnEntry ? this.stopped(this.pauseEnd("entry")) : this.current.machine.go(null));
+        const begin = () => (launchResult.stopsOnEntry ? this.sendStopped(this.createMoveEnd("entry")) : this.current.machine.go(null));
         return new ResponseWithFollowUp(undefined, begin);
       },
       restart: (args) => this.restart(args),
@@ -146,47 +153,50 @@ export class DebugAdapter {
       }),
       disconnect: async () => {
         const message = await this.leave();
-        if (message) this.output(`${message}\n`, "stderr");
+        if (message) this.sendOutput(`${message}\n`, "stderr");
         return new ResponseWithFollowUp(undefined, () => this.host.end(message ? 1 : 0));
       },
     };
   }
 
   /**
-   * Serves `launch` and `attach`.
+   * Handles the requests `launch` and `attach`.
    * @param {any} args
-   * @param {typeof launch} act `launch` or `attach`
+   * @param {typeof launch} act the function `launch` or `attach`, which creates the session
    */
   async launch(args, act) {
     if (this.open) fail(say.LAUNCH_ONCE);
-    await this.begin(await act(this.engine, args, this.host, this.words));
+    await this.begin(await act(this.engine, args, this.host, this.errorMessages));
     return new ResponseWithFollowUp(undefined, () => this.connection.sendEvent("initialized"));
   }
 
-  /** @param {LaunchResult} launchResult */
+  /**
+   * Begins a debug session.
+   * @param {LaunchResult} launchResult
+   */
   async begin(launchResult) {
     const { session } = launchResult;
     /** @type {Machine} */
     const machine = new Machine(session, launchResult.writer, {
-      stopped: (moveEnd) => this.stopped(moveEnd),
-      output: (words, category) => this.output(words, category),
+      stopped: (moveEnd) => this.sendStopped(moveEnd),
+      output: (words, category) => this.sendOutput(words, category),
       pause: this.host.pause,
-      stateChanged: () => this.sendBoard(),
-      work: (title) => this.progress.begin(title, () => machine.pause()),
+      stateChanged: () => this.sendFrontPanel(),
+      startTask: (title) => this.progress.begin(title, () => machine.pause()),
     }, launchResult.isRealTime);
     const breakpoints = new ClientBreakpoints(session);
     await breakpoints.applyBreakpoints();
     const face = new Face(session.boardText);
     const frontPanelText = () => machine.frontPanelText.currentText();
     const expressionContext = { session, face, instructions: this.instructions, frontPanelText };
-    const debugConsole = new Console(machine, expressionContext, this.words, {
-      breaksChanged: () => breakpoints.noteOtherBreakpoints(), romChanged: () => this.reportRom(launchResult),
+    const debugConsole = new Console(machine, expressionContext, this.errorMessages, {
+      breaksChanged: () => breakpoints.updateOtherBreakpoints(), romChanged: () => this.reportRom(launchResult),
     });
     const queryHandlers = new QueryHandlers(launchResult, new Scopes(session, face), expressionContext, this);
     this.open = { launchResult, machine, breakpoints, console: debugConsole, queryHandlers };
     if (this.remoteFrontPanel) this.remoteFrontPanel = new RemoteFrontPanel(machine);
-    this.sendBoard();
-    if (launchResult.note) this.output(`${launchResult.note}\n`, "console");
+    this.sendFrontPanel();
+    if (launchResult.note) this.sendOutput(`${launchResult.note}\n`, "console");
   }
 
   /**
@@ -195,11 +205,11 @@ export class DebugAdapter {
    */
   reportRom({ session }) {
     const message = describeDifference(session);
-    if (message) this.output(`${say.sourceDiffers(message)}\n`, "console");
+    if (message) this.sendOutput(`${say.sourceDiffers(message)}\n`, "console");
   }
 
   /**
-   * Serves the `restart` request. Resets a session that is saved in its file. Launches any other session again, from the current source
+   * Handles the `restart` request. Resets a session that is saved to a file. Launches any other session again, from the current source
    * files or session file.
    * @param {any} args
    */
@@ -212,10 +222,10 @@ export class DebugAdapter {
     } else {
       const newArgs = getField(args, "arguments");
       const act = launchResult.isAttached ? attach : launch;
-      await this.begin(await act(this.engine, newArgs === undefined ? launchResult.args : newArgs, this.host, this.words));
-      for (const movedBreakpoint of await this.current.breakpoints.takeOverBreakpoints(breakpoints)) this.sendBreakpoint(movedBreakpoint);
+      await this.begin(await act(this.engine, newArgs === undefined ? launchResult.args : newArgs, this.host, this.errorMessages));
+      for (const movedBreakpoint of await this.current.breakpoints.copyBreakpointsFrom(breakpoints)) this.sendBreakpoint(movedBreakpoint);
     }
-    return new ResponseWithFollowUp(undefined, () => this.stopped(this.pauseEnd("entry")));
+    return new ResponseWithFollowUp(undefined, () => this.sendStopped(this.createMoveEnd("entry")));
   }
 
   /** Pauses the machine and waits for the end of its move. */
@@ -226,13 +236,15 @@ export class DebugAdapter {
     await machine.move;
   }
 
-  /** Ends debugging: removes the client's breakpoints and saves the session. Resolves to an error message, "" if the session is saved. */
+  /**
+   * Ends debugging: removes the client's breakpoints, and saves the session if it has a file. Resolves to an error message, "" for none.
+   */
   leave() {
-    if (!this.leavePromise) this.leavePromise = this.leaveOnce();
+    if (!this.leavePromise) this.leavePromise = this.endDebugging();
     return this.leavePromise;
   }
 
-  async leaveOnce() {
+  async endDebugging() {
     const { open } = this;
     if (!open) return "";
     await this.halt();
@@ -252,8 +264,11 @@ export class DebugAdapter {
 
   // --- breakpoints ---
 
-  /** @returns {Record<string, RequestHandler>} */
-  breakpointRequests() {
+  /**
+   * Returns the handlers of the requests about breakpoints, by command.
+   * @returns {Record<string, RequestHandler>}
+   */
+  breakpointHandlers() {
     return {
       setBreakpoints: (args) => this.setBreakpoints(args),
       setFunctionBreakpoints: (args) => this.changeBreakpoints((breakpoints) => breakpoints.setLabelBreakpoints(args)),
@@ -331,8 +346,11 @@ export class DebugAdapter {
 
   // --- requests ---
 
-  /** @returns {Record<string, RequestHandler>} */
-  queryRequests() {
+  /**
+   * Returns the handlers of the requests about the machine state and the front panel, by command.
+   * @returns {Record<string, RequestHandler>}
+   */
+  queryRequestHandlers() {
     const requirePaused = (/** @type {(queryHandlers: QueryHandlers, args: any) => unknown} */ act) => (/** @type {any} */ args) => {
       const { machine, queryHandlers } = this.current;
       if (machine.isMoving) fail(NOT_STOPPED);
@@ -343,8 +361,8 @@ export class DebugAdapter {
       stackTrace: requirePaused((queryHandlers, args) => queryHandlers.stackTrace(args)),
       scopes: requirePaused((queryHandlers, args) => queryHandlers.listScopes(args)),
       variables: requirePaused((queryHandlers, args) => queryHandlers.variables(args)),
-      setVariable: requirePaused(async (queryHandlers, args) => this.saveChange(await queryHandlers.setVariable(args))),
-      setExpression: requirePaused(async (queryHandlers, args) => this.saveChange(await queryHandlers.setExpression(args))),
+      setVariable: requirePaused(async (queryHandlers, args) => this.saveAfterChange(await queryHandlers.setVariable(args))),
+      setExpression: requirePaused(async (queryHandlers, args) => this.saveAfterChange(await queryHandlers.setExpression(args))),
       disassemble: requirePaused((queryHandlers, args) => queryHandlers.disassemble(args, (reference) => this.resolveReference(reference))),
       readMemory: requirePaused((queryHandlers, args) => queryHandlers.readMemory(args, (reference) => this.resolveReference(reference))),
       writeMemory: requirePaused((queryHandlers, args) => this.writeMemory(queryHandlers, args)),
@@ -356,8 +374,8 @@ export class DebugAdapter {
         return { exceptionId: reason || "none", description: words, breakMode: "always" };
       },
       evaluate: (args, pending) => this.evaluate(args, pending),
-      pressKey: (args) => this.moveKey("press", args),
-      releaseKey: (args) => this.moveKey("release", args),
+      pressKey: (args) => this.pressOrReleaseKey("press", args),
+      releaseKey: (args) => this.pressOrReleaseKey("release", args),
       watchBoard: () => {
         this.remoteFrontPanel = new RemoteFrontPanel(this.current.machine);
         return this.remoteFrontPanel.take();
@@ -367,36 +385,41 @@ export class DebugAdapter {
     };
   }
 
-  /** @param {string} reference */
+  /**
+   * Returns the ROM address of a label or number; throws AdapterError for any other reference.
+   * @param {string} reference
+   */
   resolveReference(reference) {
     const { console: debugConsole } = this.current;
     return findAddress(reference, debugConsole.context);
   }
 
   /**
-   * Saves the session after a request has changed it. Resolves to the result of the request, unchanged.
+   * Saves the session after a request has changed the session. Resolves to the result of the request, unchanged.
    * @template Result
    * @param {Result} result
    */
-  async saveChange(result) {
+  async saveAfterChange(result) {
     const { machine } = this.current;
     await machine.saveAndReport();
     return result;
   }
 
   /**
+   * Handles the `writeMemory` request. Then sends the event `memory` if the client supports it.
    * @param {QueryHandlers} queryHandlers
    * @param {any} args
    */
   async writeMemory(queryHandlers, args) {
-    const writeResult = await this.saveChange(await queryHandlers.writeMemory(args, (reference) => this.resolveReference(reference)));
+    const writeResult = await this.saveAfterChange(await queryHandlers.writeMemory(args, (reference) => this.resolveReference(reference)));
     const { offset, bytesWritten: count } = writeResult;
-    if (!this.acceptsMemory || count === 0) return writeResult;
+    if (!this.supportsMemoryEvent || count === 0) return writeResult;
     const memory = { memoryReference: needText(args, "memoryReference"), offset: needNumber(args, "offset", 0) + offset, count };
     return new ResponseWithFollowUp(writeResult, () => this.connection.sendEvent("memory", memory));
   }
 
   /**
+   * Handles the `evaluate` request: executes a line of the debug console (`repl`), or evaluates an expression.
    * @param {any} args
    * @param {import("./adapter_connection.js").PendingRequest} pending
    */
@@ -404,14 +427,14 @@ export class DebugAdapter {
     const { machine, console: debugConsole, queryHandlers } = this.current;
     const [expression, context, base] = [needText(args, "expression"), optionalText(args, "context"), requestedBase(args)];
     if (context !== "repl") return machine.runWhenFree(() => queryHandlers.evaluate(expression, context, base));
-    const work = this.progress.begin(say.RUNNING_LINES, () => { pending.isCancelled = true; });
-    const mayContinue = async (/** @type {number} */ done) => {
-      work.reportIfDue(() => say.charactersOf(done, expression.length));
+    const task = this.progress.begin(say.RUNNING_LINES, () => { pending.isCancelled = true; });
+    const shouldContinue = async (/** @type {number} */ done) => {
+      task.reportIfDue(() => say.charactersOf(done, expression.length));
       await this.host.pause();
       return !pending.isCancelled;
     };
-    const lineResult = machine.runWhenFree(() => debugConsole.serveLine(expression, mayContinue, base));
-    const { words, changes, move } = await lineResult.finally(() => work.end());
+    const lineResult = machine.runWhenFree(() => debugConsole.serveLine(expression, shouldContinue, base));
+    const { words, changes, move } = await lineResult.finally(() => task.end());
     if (move) this.moves.checkPaused();
     const wasPaused = !machine.isMoving && this.isConfigured;
     if (changes && !machine.isMoving) await machine.saveAndReport();
@@ -423,9 +446,9 @@ export class DebugAdapter {
 
   /** Makes the client read the machine state again, after a console line has changed the machine. */
   sendInvalidated() {
-    this.lastStop = this.pauseEnd("step");
-    if (this.acceptsInvalidated) this.connection.sendEvent("invalidated", { areas: ["all"] });
-    else this.stopped(this.lastStop);
+    this.lastStop = this.createMoveEnd("step");
+    if (this.supportsInvalidatedEvent) this.connection.sendEvent("invalidated", { areas: ["all"] });
+    else this.sendStopped(this.lastStop);
   }
 
   /**
@@ -433,15 +456,18 @@ export class DebugAdapter {
    * @param {"press" | "release"} word
    * @param {any} args
    */
-  async moveKey(word, args) {
+  async pressOrReleaseKey(word, args) {
     const { machine, console: debugConsole } = this.current;
     const key = needText(args, "key");
-    const { words } = await machine.runWhenFree(() => debugConsole.moveKeys(word, [key]));
+    const { words } = await machine.runWhenFree(() => debugConsole.pressOrReleaseKeys(word, [key]));
     if (!machine.isMoving) await machine.saveAndReport();
     return { words };
   }
 
-  /** @param {any} args `place` (the key's row and column) and `isDown` */
+  /**
+   * Handles the request `changeKey`: presses or releases a key of the drawn front panel.
+   * @param {any} args `place` (the key's row and column, or TEST) and `isDown`
+   */
   async changeKey(args) {
     const { machine, console: debugConsole } = this.current;
     const key = needText(args, "place");
@@ -453,10 +479,10 @@ export class DebugAdapter {
   // --- events ---
 
   /** Sends the changes of the front panel, if the client draws the front panel. */
-  sendBoard() {
+  sendFrontPanel() {
     const { remoteFrontPanel } = this;
-    const news = remoteFrontPanel ? remoteFrontPanel.take() : {};
-    if (Object.keys(news).length > 0) this.connection.sendEvent("boardShown", news);
+    const changes = remoteFrontPanel ? remoteFrontPanel.take() : {};
+    if (Object.keys(changes).length > 0) this.connection.sendEvent("boardShown", changes);
   }
 
   /**
@@ -464,16 +490,19 @@ export class DebugAdapter {
    * @param {string} reason a stop reason of the protocol
    * @returns {MoveEnd}
    */
-  pauseEnd(reason) {
+  createMoveEnd(reason) {
     return { reason, words: stoppedAt(this.current.launchResult.session.counterText), id: 0 };
   }
 
-  /** @param {MoveEnd} moveEnd */
-  stopped(moveEnd) {
+  /**
+   * Sends the event `stopped`.
+   * @param {MoveEnd} moveEnd
+   */
+  sendStopped(moveEnd) {
     const { open } = this;
     if (!open) return;
     this.lastStop = moveEnd;
-    this.sendBoard();
+    this.sendFrontPanel();
     const isDataBreakpoint = moveEnd.reason === "data breakpoint";
     const found = moveEnd.reason === "breakpoint" ? open.breakpoints.hitBreakpoint(moveEnd.id)
       : { id: isDataBreakpoint ? moveEnd.id : 0, reason: moveEnd.reason };
@@ -484,10 +513,11 @@ export class DebugAdapter {
   }
 
   /**
+   * Sends the event `output`.
    * @param {string} output
    * @param {"console" | "stdout" | "stderr"} category
    */
-  output(output, category) {
+  sendOutput(output, category) {
     this.connection.sendEvent("output", { category, output });
   }
 }

@@ -1,5 +1,5 @@
-// Runs the debugged session. The machine makes one move at a time, such as a step or a run. A move is divided into pieces, and other work
-// waits for the end of a piece. At each stop, the machine reports the stop and saves the session.
+// Runs the debugged session. The machine makes one move at a time, such as a step or a run. A move consists of pieces. A task that arrives
+// during a move waits for the end of a piece. At each stop, the machine saves the session and reports the stop.
 
 import { CancelledError } from "../bench/bench_errors.js";
 import { formatCycles } from "../time/cycles.js";
@@ -16,9 +16,9 @@ import { stoppedAt } from "../../words/stops.js";
  * @typedef {import("../debug/goals.js").Goal} Goal
  * @typedef {import("../engine/past_search.js").BackGoal} BackGoal
  * @typedef {import("./session_writer.js").SessionWriter} SessionWriter
- * @typedef {ReturnType<import("./progress.js").Progress["begin"]>} Work
+ * @typedef {ReturnType<import("./progress.js").Progress["begin"]>} LongTask
  *
- * The end of a move: the protocol's stop reason, the message, and the id of the breakpoint that stopped the move (0 for none).
+ * The end of a move: the stop reason in the protocol, the message, and the id of the breakpoint that stopped the machine (0 for none).
  * @typedef {{ reason: string, words: string, id: number }} MoveEnd
  */
 
@@ -30,7 +30,7 @@ import { stoppedAt } from "../../words/stops.js";
  *   an output category of the protocol.
  * @property {() => Promise<void>} pause Yields to other tasks, between two pieces of a move.
  * @property {() => void} stateChanged Reports that the machine state has changed, so that views can update.
- * @property {(title: string) => Work} [work] Starts the progress report of a move.
+ * @property {(title: string) => LongTask} [startTask] Creates the progress report of a move.
  */
 
 /** @type {Record<string, string>} the stop reasons of the protocol, by the debugger's stop reason */
@@ -38,17 +38,17 @@ const PROTOCOL_REASONS = {
   goal: "step", break: "breakpoint", watch: "data breakpoint", pause: "pause", lacks: "step", arrival: "pause", beginning: "entry",
   call: "restart",
 };
-/** @type {Record<string, string>} the debugger's stop reasons after a move back in time, by kind of goal */
+/** @type {Record<string, string>} the stop reasons after a move back in time, by kind of goal; "goal" for any other kind */
 const REASONS_BY_GOAL = { stop: "pause", arrival: "arrival", call: "call" };
-/** @type {Record<string, string>} the debugger's stop reasons after a search for the last stop, by the event that ended the search */
+/** @type {Record<string, string>} the stop reasons after a search for the last arrival, by the `end` of the search result */
 const REASONS_BY_END = { break: "break", change: "watch", beginning: "beginning" };
-/** The time between two updates of lamps and displays, in milliseconds. */
+/** The minimum time between two reports of lamps and displays during a move, in milliseconds. */
 const REPORT_INTERVAL_MS = 100;
 
 export class Machine {
   /**
    * @param {DebugSession} session
-   * @param {SessionWriter | null} writer the writer of the session's file
+   * @param {SessionWriter | null} writer the writer of the session's file; null if the session is not saved
    * @param {MachineCallbacks} calls
    * @param {boolean} [isRealTime] true if the machine runs no faster than on a real 4004
    */
@@ -63,31 +63,34 @@ export class Machine {
     this.frontPanelText = new FrontPanelText(session);
     this.isMoving = false;
     this.mustPause = false;
-    /** Returns whether the current move lets other work use the session between two pieces. */
-    this.acceptsWork = () => false;
+    /** Returns whether tasks can use the session between two pieces of the current move. */
+    this.allowsTasks = () => false;
     /** @type {(() => Promise<void>)[]} the tasks that wait for the end of a piece */
-    this.waitingWork = [];
-    /** The number of log messages of the current move that are already reported. */
+    this.waitingTasks = [];
+    /** The number of log messages of the current move that have already been reported. */
     this.reportedNotes = 0;
-    /** The time of the last update of lamps and displays, in milliseconds. */
+    /** The time of the last report of lamps and displays, in milliseconds. */
     this.lastReportTime = 0;
     /** @type {Promise<void>} resolves at the end of the current or last move */
     this.move = Promise.resolve();
-    /** @type {Work | null} the progress report of the current move; null in real time because the lamps show the progress */
-    this.work = null;
+    /** @type {LongTask | null} the progress report of the current move; null in real time, because then the lamps show the progress */
+    this.task = null;
   }
 
   // --- moves ---
 
-  /** @param {Goal | null} goal null to run to the next stop */
+  /**
+   * Starts a run to a goal or an earlier stop.
+   * @param {Goal | null} goal null to run to the next stop
+   */
   go(goal) {
-    const acceptsWork = () => goal === null || this.session.debugger.isMoving;
-    const act = () => this.session.go(goal, (done, tally) => this.finishPiece(tally, done));
-    this.beginMove(act, acceptsWork);
+    const allowsTasks = () => goal === null || this.session.debugger.isMoving;
+    const act = () => this.session.runToGoal(goal, (done, tally) => this.finishPiece(tally, done));
+    this.beginMove(act, allowsTasks);
   }
 
   stepInto() {
-    this.beginMove(() => this.session.into(), () => false);
+    this.beginMove(() => this.session.stepInto(), () => false);
   }
 
   /**
@@ -97,28 +100,31 @@ export class Machine {
   stepIntoCall(address) {
     const { session } = this;
     this.beginMove(async () => {
-      if (session.address === address) return session.into();
-      const stop = await session.go({ kind: "here", address }, (done, tally) => this.finishPiece(tally, done));
+      if (session.address === address) return session.stepInto();
+      const stop = await session.runToGoal({ kind: "here", address }, (done, tally) => this.finishPiece(tally, done));
       if (stop.why !== "goal") return stop;
       this.reportTally(stop.tally, stop.tally.noted - this.reportedNotes);
-      return session.into();
+      return session.stepInto();
     }, () => session.debugger.isMoving);
   }
 
-  /** @param {BackGoal} goal */
+  /**
+   * Starts a move back in time.
+   * @param {BackGoal} goal
+   */
   goBack(goal) {
     let searchedCycles = 0;
     const onPiece = (/** @type {number} */ cycles) => this.finishPiece(undefined, searchedCycles += cycles);
-    const act = async () => this.toRunResult(await this.session.back(goal, onPiece), REASONS_BY_GOAL[goal.kind] || "goal");
+    const act = async () => this.toRunResult(await this.session.goBack(goal, onPiece), REASONS_BY_GOAL[goal.kind] || "goal");
     this.beginMove(act, () => false, say.SEARCHING_BACK);
   }
 
   goForward() {
-    this.beginMove(async () => this.toRunResult(this.session.forward(), "goal"), () => false);
+    this.beginMove(async () => this.toRunResult(this.session.goForward(), "goal"), () => false);
   }
 
   /**
-   * Converts the result of a move back or forward into the form of a run result.
+   * Converts the result of a move back or forward in time to the result of a run. If the move did nothing, prints its message.
    * @param {{ isDone: boolean, words: string, end: string, id: number }} pastMove
    * @param {string} why the stop reason; "arrival" is replaced by the entry of REASONS_BY_END for `end`
    */
@@ -128,22 +134,26 @@ export class Machine {
   }
 
   /**
-   * @param {() => Promise<Pick<DescribedStop, "why" | "words" | "id"> & { tally: Tally | null }>} act
-   * @param {() => boolean} acceptsWork
+   * Starts a move. Throws AdapterError if the machine is moving already.
+   * @param {() => Promise<Pick<DescribedStop, "why" | "words" | "id"> & { tally: Tally | null }>} act makes the move
+   * @param {() => boolean} allowsTasks returns whether tasks can use the session between two pieces of the move
    * @param {string} [title] the title of the progress report
    */
-  beginMove(act, acceptsWork, title = say.RUNNING) {
+  beginMove(act, allowsTasks, title = say.RUNNING) {
     if (this.isMoving) fail(say.MACHINE_RUNS_ALREADY);
     this.isMoving = true;
     this.mustPause = false;
-    this.acceptsWork = acceptsWork;
+    this.allowsTasks = allowsTasks;
     this.reportedNotes = 0;
     this.startTime = performance.now();
-    this.work = this.isRealTime || !this.calls.work ? null : this.calls.work(title);
+    this.task = this.isRealTime || !this.calls.startTask ? null : this.calls.startTask(title);
     this.move = this.runMove(act);
   }
 
-  /** @param {Parameters<Machine["beginMove"]>[0]} act */
+  /**
+   * Makes a move, saves the session and reports the end of the move.
+   * @param {Parameters<Machine["beginMove"]>[0]} act makes the move
+   */
   async runMove(act) {
     /** @type {MoveEnd} */
     let moveEnd;
@@ -157,13 +167,13 @@ export class Machine {
       const message = isPause ? stoppedAt(this.session.counterText) : errorMessage(thrown);
       moveEnd = { reason: isPause ? "pause" : "exception", words: message, id: 0 };
     }
-    this.acceptsWork = () => false;
-    // Work can arrive while the session is saved. It must run now, because nothing runs it later.
+    this.allowsTasks = () => false;
+    // A task can arrive while the session is saved. The task must run now, because nothing would run it later.
     do {
-      await this.runWaitingWork();
+      await this.runWaitingTasks();
       await this.saveAndReport();
-    } while (this.waitingWork.length > 0);
-    if (this.work) this.work.end();
+    } while (this.waitingTasks.length > 0);
+    if (this.task) this.task.end();
     this.isMoving = false;
     this.calls.stopped(moveEnd);
   }
@@ -175,7 +185,7 @@ export class Machine {
   }
 
   /**
-   * Saves the session in its file; reports an error to the user.
+   * Saves the session to its file. Prints an error message if this fails.
    * @param {SessionWriter} writer
    */
   async save(writer) {
@@ -187,17 +197,17 @@ export class Machine {
   }
 
   /**
-   * Finishes a piece of a move: reports it, yields to other tasks and runs the waiting work. Resolves to true if the move continues.
+   * Finishes a piece of a move: reports its events, yields, and runs the waiting tasks. Resolves to true if the move continues.
    * @param {Tally} [tally] the tally of the last piece
    * @param {number} [done] the number of cycles of the move so far
    */
   async finishPiece(tally, done = 0) {
     if (tally) this.reportTally(tally, tally.noted);
-    if (this.work) this.work.reportIfDue(() => formatCycles(done));
-    if (performance.now() - this.lastReportTime >= REPORT_INTERVAL_MS && this.acceptsWork()) this.reportFrontPanelText();
+    if (this.task) this.task.reportIfDue(() => formatCycles(done));
+    if (performance.now() - this.lastReportTime >= REPORT_INTERVAL_MS && this.allowsTasks()) this.reportFrontPanelText();
     if (this.isRealTime && tally) await this.waitForRealTime(done);
     await this.calls.pause();
-    if (this.acceptsWork()) await this.runWaitingWork();
+    if (this.allowsTasks()) await this.runWaitingTasks();
     return !this.mustPause;
   }
 
@@ -215,14 +225,14 @@ export class Machine {
     this.mustPause = true;
   }
 
-  // --- work between pieces ---
+  // --- tasks between pieces ---
 
-  async runWaitingWork() {
-    for (const act of this.waitingWork.splice(0)) await act();
+  async runWaitingTasks() {
+    for (const act of this.waitingTasks.splice(0)) await act();
   }
 
   /**
-   * Runs work on the session: at once while the machine is paused, otherwise between two pieces of the move.
+   * Runs a task on the session: at once while the machine is paused, otherwise between two pieces or after the end of the move.
    * @template Result
    * @param {() => Result | Promise<Result>} act
    * @returns {Promise<Result>}
@@ -230,7 +240,7 @@ export class Machine {
   async runWhenFree(act) {
     if (!this.isMoving) return act();
     return new Promise((resolve, reject) => {
-      this.waitingWork.push(async () => {
+      this.waitingTasks.push(async () => {
         try {
           resolve(await act());
         } catch (thrown) {
@@ -242,6 +252,7 @@ export class Machine {
 
   // --- reports ---
 
+  /** Prints the lamps and displays if they have changed. */
   reportFrontPanelText() {
     this.lastReportTime = performance.now();
     const text = this.frontPanelText.take();

@@ -1,4 +1,4 @@
-// Reads ROM for the requests `disassemble` and `readMemory`: instructions near an address, and bytes.
+// Reads ROM for the requests `disassemble` and `readMemory`: the instructions near an address, and all bytes.
 
 import { readListing } from "../bench/answers.js";
 import { LAST_ADDRESS, indices } from "../bench/numbers.js";
@@ -13,11 +13,11 @@ import { MAX_LISTING_LINES } from "../bench/rom_bytes.js";
  * @typedef {{ address: number, bytes: string, words: string, line: number, name: string }} InstructionRow
  */
 
-/** @type {(listed: ListingLine) => number} the address of the next instruction */
+/** @type {(listed: ListingLine) => number} returns the address of the instruction after a listed instruction */
 const nextAddress = ({ address, line }) => address + (line.slice(7, 9).trim() === "" ? 1 : 2);
 
 /**
- * Returns the instructions whose addresses are in a range.
+ * Returns the instructions in a range. The listing starts at `from`, even if this is the second byte of an instruction.
  * @param {DebugSession} session
  * @param {number} from the first address
  * @param {number} to the address after the range
@@ -43,8 +43,8 @@ function listInstructions(session, from, to) {
  * @returns {InstructionRow[]}
  */
 export function listInstructionRows(session, address, offset, count) {
-  // An instruction has at most two bytes. If the source map has an instruction nearby, the listing starts there, and thus not at a second
-  // byte.
+  // An instruction has at most two bytes. If the source map has an instruction nearby, the listing is aligned to it, so that no row starts
+  // at the second byte of an instruction.
   const begin = Math.max(0, address + 2 * Math.min(0, offset) - 1);
   const candidates = indices(4).map((more) => begin + more);
   const alignedStart = candidates.find((each) => each <= address && session.map.beginsInstruction(each)) ?? begin;

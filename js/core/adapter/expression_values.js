@@ -23,7 +23,7 @@ import { inColumn } from "../../words/conditions.js";
 
 /** Matches the places whose values are hexadecimal digits. */
 const HEX_PLACES = /^(acc|dcl|src|r\d+|p\d|ram\.\d\..*|st\..*|rom\d+|ram\d\.\d)$/;
-/** Matches the places whose value is a text with one character per bit or lamp. A place that matches neither pattern is one bit. */
+/** Matches the places whose value is a text with one character per bit or lamp. Any other value is shown as a number. */
 const MARK_PLACES = /^(chain\d|lamps)$/;
 
 /**
@@ -45,7 +45,7 @@ function placeValue(text, { session, face }, base) {
 }
 
 /**
- * Returns the value of `pc` (with its line), `test` or `owed`; "" for any other text.
+ * Returns the value of `pc` (with its source line), `test` or `owed`; "" for any other text.
  * @param {string} text
  * @param {DebugSession} session
  * @param {Base} base
@@ -99,8 +99,8 @@ export function evaluateExpression(text, context, base = "usual") {
 }
 
 /**
- * Returns the hover text: the current value of the word, the effect of an instruction, or the value of an expression.
- * @param {string} text
+ * Returns the hover text for a word or expression: the current value, or the effect of an instruction without a value.
+ * @param {string} text the word or expression under the pointer
  * @param {ExpressionContext} context
  */
 export function expressionHover(text, context) {

@@ -1,4 +1,4 @@
-// Reads the stack frames of the debug adapter protocol: a frame for the next instruction, and a frame for each call that has not returned.
+// Reads the stack frames: a frame for the next instruction, and a frame for each call that has not returned.
 
 import { hex } from "../bench/numbers.js";
 import { findLiveReturns, callAddress } from "../machine/return_addresses.js";
@@ -6,8 +6,9 @@ import { findLiveReturns, callAddress } from "../machine/return_addresses.js";
 /**
  * @typedef {import("../debug/debug_session.js").DebugSession} DebugSession
  *
- * A stack frame. `line` is 0 if the address has no source line. `call` is the address of the JMS that created the frame, -1 for the
- * outermost frame. `returns` are the return addresses below this frame on the call stack, newest first.
+ * A stack frame. `address` is the program counter in the newest frame, and the address of a JMS in any other frame. `line` is 0 if the
+ * address has no source line. `name` is a label with an offset, or else the address. `call` is the address of the JMS that created the
+ * frame, -1 for the outermost frame. `returns` are the return addresses before that JMS, newest first.
  * @typedef {{ address: number, line: number, name: string, call: number, returns: string[] }} Frame
  */
 

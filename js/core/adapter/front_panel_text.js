@@ -27,7 +27,7 @@ export class FrontPanelText {
 
   /**
    * Returns the display text and the names of the other lamps that are on. Without a display, returns the marks of all lamps and the names
-   * of those that are on. A multiplexed display shows the digits that a person perceives.
+   * of the lamps that are on. For a multiplexed display, returns the digits that a person perceives.
    */
   currentText() {
     const { marks } = this;
@@ -38,7 +38,7 @@ export class FrontPanelText {
   }
 
   /**
-   * Returns the text that a person perceives on a multiplexed display.
+   * Returns the number and the lamp names that a person perceives on a front panel with a multiplexed display.
    * @param {number} count the number of lamps
    */
   perceivedText(count) {

@@ -1,4 +1,4 @@
-// Serves the requests `readMemory` and `writeMemory`. A memory reference is a number:
+// Handles the requests `readMemory` and `writeMemory`. A memory reference is a number:
 //
 //     0x000 + A                          the ROM byte at address A
 //     0x10000 + 0x100 * B + S            the RAM character of bank B that the SRC byte S selects
@@ -14,11 +14,11 @@ import * as say from "../../words/adapter.js";
 /**
  * @typedef {import("../debug/debug_session.js").DebugSession} DebugSession
  *
- * A memory range. `begin` is the memory reference of its first byte. `bytes` are its contents. `place` returns the place, as a `poke` line
- * names it, of the byte at an index.
+ * A memory range: ROM, the RAM characters of a bank, or the status characters of a bank. `begin` is the memory reference of its first byte.
+ * `bytes` contains a byte of ROM or one character per element. `place` returns the place in `poke` lines for the byte at an index.
  * @typedef {{ begin: number, bytes: Uint8Array, place: (at: number) => string }} MemoryRange
  *
- * The location that a request names: a range, and an index in this range (`from`), which can be out of bounds.
+ * The location that a request names: a memory range, and an index in this range (`from`). The index can be out of bounds.
  * @typedef {{ range: MemoryRange, from: number }} RequestedLocation
  */
 
@@ -34,7 +34,7 @@ export function formatReference(number) {
   return number < 0 ? `-${formatReference(-number)}` : `0x${hex(number, 3)}`;
 }
 
-/** @type {(bank: number) => string} the memory reference of a bank's first nibble */
+/** @type {(bank: number) => string} returns the memory reference of a bank's first nibble */
 export const bankReference = (bank) => formatReference(CHARACTERS_BASE + BANK_SIZE * bank);
 
 /**
@@ -50,9 +50,9 @@ export function referenceNumberForPlace(name) {
 }
 
 /**
- * Parses a memory reference. Returns it as a number.
+ * Parses a memory reference and returns its number.
  * @param {string} reference a number, a bank such as `ram.0`, a RAM or status character, or a label
- * @param {(reference: string) => number} addressOf
+ * @param {(reference: string) => number} addressOf returns the ROM address of a label or number; throws AdapterError if there is none
  */
 function parseReference(reference, addressOf) {
   const [, bank] = /^ram\.([0-7])$/.exec(reference) || [];
@@ -100,7 +100,7 @@ function readRequestedLocation(args, session, addressOf) {
 }
 
 /**
- * Serves the `readMemory` request.
+ * Handles the `readMemory` request.
  * @param {any} args
  * @param {DebugSession} session
  * @param {(reference: string) => number} addressOf
@@ -117,8 +117,8 @@ export function readMemory(args, session, addressOf) {
 }
 
 /**
- * Serves the `writeMemory` request. Writes all bytes, or no byte if the bench rejects one of them. With `allowPartial`, skips the bytes
- * outside the range.
+ * Handles the `writeMemory` request. Writes no byte if the bench rejects one of them. With `allowPartial`, skips the bytes outside the
+ * memory range; otherwise such bytes are an error.
  * @param {any} args
  * @param {DebugSession} session
  * @param {(reference: string) => number} addressOf
@@ -133,7 +133,7 @@ export async function writeMemory(args, session, addressOf) {
   const dataInRange = end > first ? newBytes.subarray(first - from, end - from) : new Uint8Array(0);
   const lines = [...dataInRange].map((byte, at) => `poke ${place(first + at)} ${byte}\n`).join("");
   const bench = session.debugger.session;
-  // A copy of the session serves the lines first. If it rejects a line, nothing is written.
+  // `ask` executes the lines on a copy of the session. If the bench rejects a line there, nothing is written.
   const answers = lines === "" ? [] : bench.ask(lines);
   const rejectedIndex = answers.findIndex((answer) => parseRefusal(answer));
   if (rejectedIndex >= 0) fail(say.benchAnswered(lines.split("\n")[rejectedIndex], answers[rejectedIndex]));

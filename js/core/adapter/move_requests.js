@@ -26,7 +26,10 @@ export class MoveHandlers {
     this.adapter = adapter;
   }
 
-  /** @returns {Record<string, RequestHandler>} */
+  /**
+   * Returns the handlers by command.
+   * @returns {Record<string, RequestHandler>}
+   */
   handlers() {
     const move = (/** @type {(machine: Machine) => void} */ act) => (/** @type {any} */ args) => this.moveResponse(args, act);
     return {
@@ -52,9 +55,9 @@ export class MoveHandlers {
   }
 
   /**
-   * Returns the response to a move request; the move begins after the response is sent.
+   * Returns the response to a move request. The move begins after the response is sent. Throws AdapterError if the machine is not paused.
    * @param {any} args
-   * @param {(machine: Machine) => void} act
+   * @param {(machine: Machine) => void} act starts the move
    */
   moveResponse(args, act) {
     this.checkPaused();
@@ -68,7 +71,7 @@ export class MoveHandlers {
     const target = needNumber(args, "targetId", -1);
     if (target < 0) return this.moveResponse(args, (machine) => machine.stepInto());
     const { session } = this.adapter.current.launchResult;
-    if (!(target <= LAST_ADDRESS) || !isCall(session.debugger.session.codes[target])) fail(say.NO_TARGET);
+    if (!(target <= LAST_ADDRESS) || !isCall(session.debugger.session.romBytes[target])) fail(say.NO_TARGET);
     return this.moveResponse(args, (machine) => machine.stepIntoCall(target));
   }
 
@@ -88,6 +91,7 @@ export class MoveHandlers {
     return new ResponseWithFollowUp(undefined, () => machine.goBack({ kind: "call", call, returns }));
   }
 
+  /** Throws AdapterError if the machine runs, or before `configurationDone`. */
   checkPaused() {
     if (!this.adapter.isConfigured) fail(say.CONFIGURED_FIRST);
     if (this.adapter.current.machine.isMoving) fail(NOT_STOPPED);
@@ -118,6 +122,6 @@ export class MoveHandlers {
     if (!(address >= 0 && address <= LAST_ADDRESS)) fail(say.NO_TARGET);
     await launchResult.session.debugger.session.serve(`poke pc ${address}\n`, async () => true);
     await machine.saveAndReport();
-    return new ResponseWithFollowUp(undefined, () => this.adapter.stopped(this.adapter.pauseEnd("goto")));
+    return new ResponseWithFollowUp(undefined, () => this.adapter.sendStopped(this.adapter.createMoveEnd("goto")));
   }
 }

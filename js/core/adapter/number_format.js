@@ -1,17 +1,17 @@
-// The number format of responses. By default, machine values are hexadecimal and sums are decimal. With `format.hex`, a client selects one
-// base for all numbers.
+// Formats the numbers in responses. By default, machine values are hexadecimal and sums are decimal. With `format.hex`, a client selects
+// one base for all numbers.
 
 import { getField } from "../server/framing.js";
 import { fail, optionalFlag } from "./dap_protocol.js";
 import * as say from "../../words/adapter.js";
 
-/** @typedef {"usual" | "hex" | "decimal"} Base a number base; "usual" means the base that each value has by default */
+/** @typedef {"usual" | "hex" | "decimal"} Base a number base; "usual" is the default base of each value */
 
 /**
  * Returns a boolean field of the `format` argument of a request.
  * @param {any} args
  * @param {"hex" | "line"} name
- * @returns {boolean | null} null if the request does not specify it
+ * @returns {boolean | null} null if the request does not specify the field
  */
 export function readFormatFlag(args, name) {
   const format = getField(args, "format");
@@ -43,7 +43,7 @@ export function convertToBase(text, base) {
 }
 
 /**
- * Formats a number in a base; the default base is decimal.
+ * Formats a number in a base; "usual" means decimal.
  * @param {number} number
  * @param {Base} base
  */

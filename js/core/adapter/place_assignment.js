@@ -30,7 +30,7 @@ export function evaluateNumber(text, session, begin = 0) {
 }
 
 /**
- * Returns the bench lines that set a place. The place can already have the value.
+ * Returns the bench lines that set a place to the value of an expression.
  * @param {string} place a place from `settablePlace`, or a key in the form `key 0 2`
  * @param {string} text the value as an expression
  * @param {DebugSession} session
@@ -63,7 +63,8 @@ export function compileSetLine(text, session) {
 }
 
 /**
- * Returns the name of the place to set, for a key in the form `key 0 2`. Throws AdapterError if the text names nothing that can be set.
+ * Returns the place that a text names, in the form for `setPlace`: a key is `key 0 2`. Throws AdapterError if the text names no place that
+ * can be set.
  * @param {string} text a place of the machine, or `key NAME`
  * @param {import("../board/face.js").Face} face
  * @returns {string}
@@ -78,7 +79,7 @@ export function findSettablePlace(text, face) {
 }
 
 /**
- * Sets a place; throws AdapterError if the bench rejects it.
+ * Sets a place to the value of an expression; throws AdapterError if the bench rejects the value.
  * @param {DebugSession} session
  * @param {string} place a place from `settablePlace`, or a key in the form `key 0 2`
  * @param {string} text the value as an expression

@@ -1,19 +1,19 @@
-// Reports the progress of long tasks to clients that support such reports (`progressStart`, `progressUpdate`, `progressEnd`). The user can
+// Reports the progress of long tasks to clients that support the events `progressStart`, `progressUpdate` and `progressEnd`. The user can
 // stop a task.
 
 import { AdapterError } from "./dap_protocol.js";
 import * as say from "../../words/adapter.js";
 
-/** The delay before the first report and the interval between reports, in milliseconds. */
+/** The time from the start of a task to the first report, and the minimum time between reports, in milliseconds. */
 const FIRST_REPORT_DELAY_MS = 1000;
 const REPORT_INTERVAL_MS = 500;
 
-/** A task that can run for long, with its progress report. */
-class Work {
+/** A long task whose progress is reported. */
+class LongTask {
   /**
    * @param {Progress} progress
    * @param {string} title
-   * @param {() => void} stop ends the work early
+   * @param {() => void} stop ends the task early
    */
   constructor(progress, title, stop) {
     this.progress = progress;
@@ -49,45 +49,45 @@ export class Progress {
     this.isEnabled = false;
     this.firstReportDelay = FIRST_REPORT_DELAY_MS;
     this.lastId = 0;
-    /** @type {Map<string, Work>} the tasks whose progress is reported, by progress id */
-    this.workById = new Map();
+    /** @type {Map<string, LongTask>} the tasks whose progress is reported, by progress id */
+    this.tasksById = new Map();
   }
 
   /**
-   * Creates the progress report of a task that starts now.
+   * Creates an object that reports the progress of a task. The task starts now.
    * @param {string} title
-   * @param {() => void} stop ends the work early
+   * @param {() => void} stop ends the task early
    */
   begin(title, stop) {
-    return new Work(this, title, stop);
+    return new LongTask(this, title, stop);
   }
 
   /**
-   * Sends the first report. Returns the progress id.
-   * @param {Work} work
+   * Sends the first report of a task. Returns its new progress id.
+   * @param {LongTask} task
    * @param {string} message
    */
-  start(work, message) {
+  start(task, message) {
     this.lastId += 1;
     const progressId = `mcs4 ${this.lastId}`;
-    this.workById.set(progressId, work);
-    this.sendEvent("progressStart", { progressId, title: work.title, cancellable: true, message });
+    this.tasksById.set(progressId, task);
+    this.sendEvent("progressStart", { progressId, title: task.title, cancellable: true, message });
     return progressId;
   }
 
   /** @param {string} progressId */
   end(progressId) {
-    this.workById.delete(progressId);
+    this.tasksById.delete(progressId);
     this.sendEvent("progressEnd", { progressId });
   }
 
   /**
-   * Stops the task that has a progress id; throws AdapterError if there is no such task.
+   * Stops the task with a progress id; throws AdapterError if there is no such task.
    * @param {string} progressId
    */
   stop(progressId) {
-    const work = this.workById.get(progressId);
-    if (!work) throw new AdapterError(say.noProgress(progressId));
-    work.stop();
+    const task = this.tasksById.get(progressId);
+    if (!task) throw new AdapterError(say.noProgress(progressId));
+    task.stop();
   }
 }

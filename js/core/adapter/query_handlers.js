@@ -29,7 +29,7 @@ const ROM_SOURCE_REFERENCE = 1;
 const MAX_ROWS = 8192;
 /** The maximum number of completions in a response. */
 const MAX_COMPLETIONS = 500;
-/** Matches a console line that ends with an incomplete key name, and captures that name. */
+/** Matches a console line that ends where a key name is expected, and captures the typed start of this name. */
 const UNFINISHED_KEY_NAME = /(?:^\s*(?:press|release|keys)\s(?:.*\s)?|\bkey\s+)(\S*)$/;
 /** The maximum number of instructions that `stepInTargets` scans for calls. */
 const MAX_SCANNED_INSTRUCTIONS = 256;
@@ -98,7 +98,7 @@ export class QueryHandlers {
     this.requestedFrame(args, 1);
     // A scope contains no numbers. `requestedBase` is called only to reject a malformed `format`.
     requestedBase(args);
-    return { scopes: this.scopes.all() };
+    return { scopes: this.scopes.list() };
   }
 
   /**
@@ -111,7 +111,7 @@ export class QueryHandlers {
   }
 
   /**
-   * Serves the `stepInTargets` request: returns the calls that a step can enter from the program counter.
+   * Handles the `stepInTargets` request: returns the calls that a step can enter from the program counter.
    * @param {any} args
    */
   stepInTargets(args) {
@@ -158,7 +158,7 @@ export class QueryHandlers {
   /** @param {any} args */
   async setVariable(args) {
     const [name, value] = [needText(args, "name"), needText(args, "value")];
-    const newValue = await this.scopes.set(needNumber(args, "variablesReference"), name, value, requestedBase(args));
+    const newValue = await this.scopes.setVariable(needNumber(args, "variablesReference"), name, value, requestedBase(args));
     return { value: newValue, variablesReference: 0 };
   }
 
@@ -200,8 +200,8 @@ export class QueryHandlers {
 
   /**
    * Returns the completions for the word at the end of a line, and the typed start of this word. The completions are key names after
-   * `press`, `release` and `keys`, and lamp names after `lamp`. Anywhere else, the completions are program names and condition words. At
-   * the start of a line, commands are added.
+   * `press`, `release`, `keys` and `key`, and lamp names after `lamp`. Anywhere else, the completions are program names, place names, lamp
+   * names and keywords. At the start of a line, commands are added.
    * @param {string} before the text before the caret
    * @returns {{ words: string[], word: string }}
    */
@@ -228,7 +228,7 @@ export class QueryHandlers {
     const count = needNumber(args, "instructionCount");
     if (!(begin >= 0 && begin <= LAST_ADDRESS)) fail(say.ADDRESSES_ARE);
     if (!(count >= 0 && count <= MAX_ROWS)) fail(say.instructionCountRange(MAX_ROWS));
-    // Clients cannot read negative addresses, so rows before ROM are left out.
+    // Clients cannot read negative addresses, so the response omits rows before ROM.
     const rows = listInstructionRows(this.session, begin, needNumber(args, "instructionOffset", 0), count)
       .filter(({ address }) => address >= 0);
     return {
@@ -258,9 +258,9 @@ export class QueryHandlers {
 }
 
 /**
- * Returns a frame name, such as `show + 3` or `02C`, with its number in the requested base.
+ * Returns a frame name, such as `show + 3` or `02C`, with the offset or the address in the requested base.
  * @param {string} name
- * @param {boolean | null} isHex null to return the name unchanged
+ * @param {boolean | null} isHex true for hexadecimal, false for decimal, null to return the name unchanged
  */
 function formatFrameName(name, isHex) {
   if (isHex === null) return name;
@@ -275,7 +275,7 @@ function formatFrameName(name, isHex) {
  * @param {import("../debug/debug_session.js").DebugSession} session
  * @param {number} from
  */
-function findCalls({ debugger: { session: { codes } }, map }, from) {
+function findCalls({ debugger: { session: { romBytes: codes } }, map }, from) {
   const calls = [];
   for (let address = from, count = 0; address <= LAST_ADDRESS && count < MAX_SCANNED_INSTRUCTIONS; count++) {
     const code = codes[address];

@@ -1,5 +1,6 @@
-// Reports the front panel of a board to an editor that draws it (editor_view.js): the board and its text once, and lamps, keys and TEST
-// when they change. Also presses and releases the keys that the user clicks in the drawing.
+// Reports the front panel of a board to an editor that draws this front panel (editor_view.js). Reports the board and its text when the
+// board changes, and lamps, keys, TEST and printer output when they change. Also presses and releases the keys that the user clicks in the
+// drawing.
 
 import { readBoard } from "../bench/answers.js";
 import { SnapshotReader } from "../bench/snapshot.js";
@@ -21,7 +22,7 @@ import * as say from "../../words/adapter.js";
  * - `lamps`: a mark for each lamp, `*` if it is on;
  * - `keys`: the pressed keys as `row.column`; `test`: the TEST level;
  * - `isRunning`: true if the machine runs;
- * - `litShares`: the share of the next 30 ms in which each lamp is on, while the machine runs;
+ * - `litShares`: while the machine runs, how long each lamp is on during the next 30 ms;
  * - `printed`: the new output of the printer.
  * @typedef {{ board?: string[], boardText?: string, lamps?: string, keys?: string[], test?: string, isRunning?: boolean,
  *   litShares?: import("../engine/brightness_meter.js").LitShares,
@@ -50,7 +51,7 @@ export class RemoteFrontPanel {
     const { session, isMoving } = this.machine;
     const { session: bench } = session.debugger;
     /** @type {FrontPanelUpdate} */
-    const news = {};
+    const update = {};
     const board = bench.statusQueries.board.join("\n");
     if (board !== this.board) {
       this.board = board;
@@ -61,14 +62,14 @@ export class RemoteFrontPanel {
       const printer = findPrinter(boardParts, this.face);
       if (!printer) bench.printing = null;
       else if (!bench.printing || !bench.printing.isSamePrinter(printer)) bench.printing = new PrinterCodes({ ...printer, codes: [] });
-      Object.assign(news, { board: bench.statusQueries.board, boardText: session.boardText });
+      Object.assign(update, { board: bench.statusQueries.board, boardText: session.boardText });
     }
-    Object.assign(news, this.reader.take(bench.ask("state\n")));
+    Object.assign(update, this.reader.take(bench.ask("state\n")));
     const newOutput = bench.printing && bench.printing.takeChanges(bench.count.total);
-    if (newOutput) news.printed = newOutput;
-    if (isMoving !== this.isRunning) news.isRunning = isMoving;
+    if (newOutput) update.printed = newOutput;
+    if (isMoving !== this.isRunning) update.isRunning = isMoving;
     this.isRunning = isMoving;
-    return { ...news, ...this.takeLitShares() };
+    return { ...update, ...this.takeLitShares() };
   }
 
   /** Clears the printout. */

@@ -15,18 +15,18 @@ import { sourceOfBank } from "../../words/debug.js";
  * @typedef {import("../debug/debug_session.js").DebugSession} DebugSession
  * @typedef {import("../board/face.js").Face} Face
  *
- * A variable:
+ * A variable in the client's variables view:
  * - `evaluateName`: an expression with the same value;
  * - `place`: the place that an assignment to the variable sets, "" for a read-only variable;
- * - `variablesReference`: the reference of its child variables, 0 for none; `count`: the number of children;
- * - `memory`: its memory reference;
- * - `isDecimal`: true if its value is a decimal number;
+ * - `variablesReference`: the number with which a client requests the child variables, 0 for none; `count`: the number of children;
+ * - `memory`: the memory reference (memory.js) of the variable;
+ * - `isDecimal`: true if the value is a decimal number;
  * - `watchPlace`: the place that a data breakpoint on the variable watches, if it differs from `place`.
  * @typedef {{ name: string, value: string, evaluateName?: string, place: string, variablesReference: number, count?: number,
  *   memory?: string, isDecimal?: boolean, watchPlace?: string }} Variable
  * @typedef {import("./number_format.js").Base} Base
  *
- * The state from which the variables are read.
+ * The objects from which the variables are read.
  * @typedef {{ machineState: MachineState, face: Face, session: DebugSession, board: import("../bench/answers.js").Board }} ShownState
  */
 
@@ -45,7 +45,7 @@ const toHex = (digit) => `0x${digit}`;
  * @param {string} [place]
  * @returns {Variable}
  */
-function variable(name, value, place = "") {
+function createVariable(name, value, place = "") {
   return { name, value, place, variablesReference: 0, ...(place ? { evaluateName: place } : {}) };
 }
 
@@ -56,7 +56,7 @@ function variable(name, value, place = "") {
  * @param {string} [place]
  * @returns {Variable}
  */
-const decimalVariable = (name, value, place) => ({ ...variable(name, value, place), isDecimal: true });
+const createDecimalVariable = (name, value, place) => ({ ...createVariable(name, value, place), isDecimal: true });
 
 /**
  * Creates a variable that data breakpoints can watch, but that the user cannot set.
@@ -65,28 +65,28 @@ const decimalVariable = (name, value, place) => ({ ...variable(name, value, plac
  * @param {string} place
  * @returns {Variable}
  */
-const readOnlyVariable = (name, value, place) => ({ ...variable(name, value), evaluateName: place, watchPlace: place });
+const createReadOnlyVariable = (name, value, place) => ({ ...createVariable(name, value), evaluateName: place, watchPlace: place });
 
 /** @param {ShownState} state */
 function registerVariables({ machineState: { registers: cpu } }) {
   const { accumulator, carry, counter, bank, test, owed } = cpu;
   return [
-    variable("acc", toHex(accumulator), "acc"), decimalVariable("cy", carry, "cy"),
-    { ...variable("pc", toHex(counter), "pc"), memory: toHex(counter) },
-    variable("dcl", toHex(bank), "dcl"), decimalVariable("test", test, "test"), decimalVariable("owed", owed),
-    ...cpu.registers.map((value, at) => variable(`R${at}`, toHex(value), `r${at}`)),
+    createVariable("acc", toHex(accumulator), "acc"), createDecimalVariable("cy", carry, "cy"),
+    { ...createVariable("pc", toHex(counter), "pc"), memory: toHex(counter) },
+    createVariable("dcl", toHex(bank), "dcl"), createDecimalVariable("test", test, "test"), createDecimalVariable("owed", owed),
+    ...cpu.registers.map((value, at) => createVariable(`R${at}`, toHex(value), `r${at}`)),
   ];
 }
 
 /** @param {ShownState} state */
 function pairVariables({ machineState }) {
-  return indices(8).map((at) => variable(`P${at}`, toHex(machineState.pair(at)), `p${at}`));
+  return indices(8).map((at) => createVariable(`P${at}`, toHex(machineState.pair(at)), `p${at}`));
 }
 
 /** @param {ShownState} state */
 function bankVariables({ machineState }) {
   return [...machineState.ram].map(([bank, { registers: bankRegisters }]) => (
-    { ...variable(`bank ${bank}`, say.chipsOf(bankRegisters.size / 4, bank === machineState.bank)),
+    { ...createVariable(`bank ${bank}`, say.chipsOf(bankRegisters.size / 4, bank === machineState.bank)),
       variablesReference: BANK_BASE + bank, count: bankRegisters.size, memory: bankReference(bank) }));
 }
 
@@ -100,13 +100,13 @@ function ramRegisterVariables({ machineState }, bank) {
     const [, chip, register] = name.split(".").map(Number);
     const registerIndex = 4 * chip + register;
     return {
-      ...variable(say.chipRegister(chip, register), `${digits} ${status}`), variablesReference: REGISTER_BASE + 16 * bank + registerIndex,
-      count: 20, memory: placeReference(`ram.${bank}.${16 * registerIndex}`),
+      ...createVariable(say.chipRegister(chip, register), `${digits} ${status}`),
+      variablesReference: REGISTER_BASE + 16 * bank + registerIndex, count: 20, memory: placeReference(`ram.${bank}.${16 * registerIndex}`),
     };
   });
 }
 
-/** @type {(place: string) => string} the memory reference of a RAM character or a status character */
+/** @type {(place: string) => string} returns the memory reference of a RAM character or a status character */
 const placeReference = (place) => formatReference(referenceNumberForPlace(place));
 
 /**
@@ -125,11 +125,11 @@ function characterVariables({ machineState, session }, bank, register) {
       const constantNames = constants.filter((each) => each.value === byte && byte > 15).map(({ name }) => name);
       const place = `ram.${bank}.0x${hex(byte, 2)}`;
       const name = `0x${hex(byte, 2)}${constantNames.length > 0 ? ` ${constantNames.join(" ")}` : ""}`;
-      return { ...variable(name, toHex(value), place), memory: placeReference(place) };
+      return { ...createVariable(name, toHex(value), place), memory: placeReference(place) };
     }),
     ...[...found.status].map((value, at) => {
       const place = `st.${bank}.${register}.${at}`;
-      return { ...variable(`status ${at}`, toHex(value), place), memory: placeReference(place) };
+      return { ...createVariable(`status ${at}`, toHex(value), place), memory: placeReference(place) };
     }),
   ];
 }
@@ -142,9 +142,9 @@ function portVariables({ machineState, face }) {
   const rams = [...machineState.ram].flatMap(([bank, ram]) => [...ram.ports].map(([name, out]) => ({ bank, name, out })));
   return [
     ...roms.map(({ chip, out, in: read }) => (
-      readOnlyVariable(portName(`rom${chip}`), `out ${toHex(out)}, in ${toHex(read)}`, `rom${chip}`))),
-    ...rams.map(({ name, out }) => readOnlyVariable(portName(`ram${name}`), `out ${toHex(out)}`, `ram${name}`)),
-    ...chains.map((bits, at) => readOnlyVariable(portName(`chain${at}`), bits, `chain${at}`)),
+      createReadOnlyVariable(portName(`rom${chip}`), `out ${toHex(out)}, in ${toHex(read)}`, `rom${chip}`))),
+    ...rams.map(({ name, out }) => createReadOnlyVariable(portName(`ram${name}`), `out ${toHex(out)}`, `ram${name}`)),
+    ...chains.map((bits, at) => createReadOnlyVariable(portName(`chain${at}`), bits, `chain${at}`)),
     ...sources.map((source) => srcVariable(source)),
   ];
 }
@@ -152,8 +152,8 @@ function portVariables({ machineState, face }) {
 /** @param {string} source the SRC byte latched in the ROMs (`21`), or in a RAM bank (`0.21` for bank 0) */
 function srcVariable(source) {
   const [bank, byte] = source.split(".");
-  if (byte === undefined) return variable("SRC", say.selectsRom(toHex(bank), parseInt(bank[0], 16)));
-  return variable(sourceOfBank(bank), `${toHex(byte)}: ${describeCharacter(parseInt(byte, 16))}`);
+  if (byte === undefined) return createVariable("SRC", say.selectsRom(toHex(bank), parseInt(bank[0], 16)));
+  return createVariable(sourceOfBank(bank), `${toHex(byte)}: ${describeCharacter(parseInt(byte, 16))}`);
 }
 
 /** @param {ShownState} state */
@@ -161,7 +161,7 @@ function lampVariables({ session, face, board }) {
   const marks = readItems(session.debugger.session.ask("lamps\n")[0]).join("");
   return board.lamps.map((line, at) => {
     const name = (face.lamps.get(at) || { text: "" }).text.replace(/_/g, " ");
-    return readOnlyVariable(name || `lamp ${at}`, say.lampIs(marks[at] === "*"), `lamp ${at}`);
+    return createReadOnlyVariable(name || `lamp ${at}`, say.lampIs(marks[at] === "*"), `lamp ${at}`);
   });
 }
 
@@ -170,15 +170,15 @@ function keyVariables({ machineState, face, board }) {
   const keysDown = new PressedKeys(machineState.ports.keys);
   return boardKeys(board, face).filter(({ legend }) => legend !== "").map(({ key, legend }) => {
     const isDown = keysDown.has(key, machineState.registers.test);
-    return { ...variable(legend, isDown ? say.DOWN : say.UP), place: `key ${formatKey(key)}` };
+    return { ...createVariable(legend, isDown ? say.DOWN : say.UP), place: `key ${formatKey(key)}` };
   });
 }
 
 /** @param {ShownState} state */
 function nameVariables({ session: { map } }) {
   return [...map.names.values()].map(({ name, value, isLabel }) => (
-    { ...variable(name, isLabel ? `0x${hex(value, 3)}, line ${map.lineOf(value)}` : `0x${hex(value, 2)}, ${value}`), evaluateName: name,
-      ...(isLabel ? { memory: `0x${hex(value, 3)}` } : {}) }));
+    { ...createVariable(name, isLabel ? `0x${hex(value, 3)}, line ${map.lineOf(value)}` : `0x${hex(value, 2)}, ${value}`),
+      evaluateName: name, ...(isLabel ? { memory: `0x${hex(value, 3)}` } : {}) }));
 }
 
 /** @type {Record<number, { title: string, listVariables: (state: ShownState) => Variable[], hint?: string }>} the scopes, by reference */
@@ -209,8 +209,8 @@ export class Scopes {
     return { machineState: new MachineState(bench.takeSnapshot()), face, session, board: readBoard(bench.statusQueries.board) };
   }
 
-  /** Returns the scopes that are not empty. */
-  all() {
+  /** Returns the scopes that are not empty, in the protocol's format. */
+  list() {
     const { state } = this;
     return Object.entries(SCOPES).map(([reference, { title, listVariables, hint }]) => (
       { name: title, variablesReference: Number(reference), namedVariables: listVariables(state).length, expensive: false,
@@ -219,7 +219,7 @@ export class Scopes {
 
   /**
    * Returns the variables of a scope, bank or RAM register; null if the reference is unknown.
-   * @param {number} reference
+   * @param {number} reference the variables reference
    * @param {Base} [base] the number base of the values
    * @returns {Variable[] | null}
    */
@@ -230,7 +230,7 @@ export class Scopes {
   }
 
   /**
-   * Returns the variables of a reference in the default number format; null if the reference is unknown.
+   * Returns the variables with a variables reference in the default number format; null if the reference is unknown.
    * @param {number} reference
    */
   rawVariables(reference) {
@@ -242,13 +242,13 @@ export class Scopes {
   }
 
   /**
-   * Sets a variable. Returns its new value as text.
-   * @param {number} reference
+   * Sets a variable. Resolves to its new value as text. Throws an error if the variable is unknown or read-only.
+   * @param {number} reference the variables reference of the parent
    * @param {string} name
-   * @param {string} value
+   * @param {string} value the new value as an expression
    * @param {Base} base the number base of the result
    */
-  async set(reference, name, value, base) {
+  async setVariable(reference, name, value, base) {
     const found = (this.variables(reference) || []).find((each) => each.name === name);
     if (!found) throw new Error(say.notFoundHere(name));
     if (found.place === "") throw new Error(say.nothingSets(name));

@@ -1,5 +1,6 @@
 // Creates the session for `launch` and `attach`. `launch` creates a session in memory from the texts of a board and a program, or opens or
-// creates a session file. `attach` opens an existing session file. It works on a copy unless `write` is true.
+// creates a session file. `attach` opens an existing session file. Unless `write` is true, the session is a copy, and the file does not
+// change.
 
 import { parseRefusal } from "../bench/answers.js";
 import { BenchRefusal } from "../bench/bench_errors.js";
@@ -24,9 +25,9 @@ import { leadsOut } from "../../words/server.js";
  * @typedef {import("./session_writer.js").OpenFile} OpenFile
  *
  * The functions of the host:
- * - `nameOf` returns the absolute name of a file that is named relative to `folder`; `beside` does so relative to the folder of the file
- *   `other`;
- * - `read` returns the text of a file, null if the file cannot be read; `readErrorMessage` returns the error message for such a file;
+ * - `nameOf` returns the absolute name of a file from its name relative to `folder`; `beside`, from its name relative to the folder that
+ *   contains the file `other`;
+ * - `read` returns the text of a file, null if the file cannot be read; `readErrorMessage` returns the reason as a message;
  * - `fileExists` returns whether a file exists; `isInside` returns whether a file is in a folder after symbolic links are resolved;
  * - `open` and `make` start a program that opens or creates a session file, and resolve to the open file;
  * - `readSession` resolves to the bytes of a session file that no other program has open;
@@ -37,16 +38,18 @@ import { leadsOut } from "../../words/server.js";
  *   open: (name: string) => Promise<OpenFile>, make: (name: string) => Promise<OpenFile>,
  *   readSession: (name: string) => Promise<Uint8Array>, pause: () => Promise<void> }} Host
  *
- * The result of a launch or attach. `writer` is null if the session is not saved. `program` is a file name, "" if the text was disassembled
- * from ROM. `isDebugged` is false if the client asked for a run without debugging. `nameOf` returns the absolute name of a file. `test` is
- * the debugged test, null for none; `note` is the test result.
+ * The result of a launch or attach. `writer` is null if the session is not saved to a file. `program` and `board` are file names. `program`
+ * is "" if the source was disassembled from ROM. `isDebugged` is false if the client asked for a run without debugging. `args` are the
+ * arguments of the request. `nameOf` returns the absolute name of a file. `test` is the debugged test, null for none. `note` is the result
+ * of this test, "" for none.
  * @typedef {{ session: DebugSession, writer: SessionWriter | null, program: string, board: string, stopsOnEntry: boolean,
  *   isDebugged: boolean, isRealTime: boolean, isAttached: boolean, args: any, nameOf: (name: string) => string, test: TestFiles | null,
  *   note: string }} LaunchResult
  *
  * @typedef {import("./test_launch.js").TestFiles} TestFiles
  *
- * The arguments of a launch or attach: absolute file names, "" for none. `load` is true if the program must be written to ROM.
+ * The files that a launch or attach uses. `board`, `program` and `session` are absolute file names, "" for none. `load` is true if the
+ * program must be written to the ROM of a session file. `test` contains the files of the debugged test, null for none.
  * @typedef {{ board: string, program: string, session: string, load: boolean, test: TestFiles | null }} RequestedFiles
  */
 
@@ -54,7 +57,8 @@ import { leadsOut } from "../../words/server.js";
 const baseName = (name) => name.replace(/^.*[\\/]/, "");
 
 /**
- * Reads the arguments that name files, and adds the file names from the project.
+ * Returns the files that the arguments of a request name. Names that are missing come from the named project, or from the project or folder
+ * of the program. Throws AdapterError if the arguments are invalid.
  * @param {any} args
  * @param {Host} host
  * @returns {RequestedFiles}
@@ -83,7 +87,7 @@ export function readRequestedFiles(args, host) {
 }
 
 /**
- * Returns the board and the program of a project; throws if its file cannot be read.
+ * Returns the names of a project's board and program files. Throws AdapterError if the project file is invalid or cannot be read.
  * @param {string} name the name of the project folder or the project file
  * @param {Host} host
  */
@@ -102,8 +106,8 @@ function findProjectFiles(name, host) {
 }
 
 /**
- * Returns the board file of a program. The language server uses the same rule.
- * @param {string} program
+ * Returns the name of the board file of a program. The language server finds a board by the same rule.
+ * @param {string} program the file name of the program
  * @param {Host} host
  */
 function findBoardFile(program, host) {
@@ -114,7 +118,8 @@ function findBoardFile(program, host) {
 }
 
 /**
- * Returns the text of a file, with a line feed at each line end. Throws AdapterError if the bench would reject a line.
+ * Returns the text of a file, with a line feed at each line end. Throws AdapterError if the file cannot be read or a line cannot be sent
+ * to the bench.
  * @param {string} name
  * @param {";" | "#"} mark the character that starts a comment
  * @param {Host} host
@@ -129,14 +134,14 @@ function readBenchText(name, mark, host) {
 }
 
 /**
- * Returns the AdapterError for a text that the bench has rejected.
+ * Returns the AdapterError for a file that the bench has rejected.
  * @param {string} name the file name
  * @param {Refusal} refusal
- * @param {ErrorMessages} words
+ * @param {ErrorMessages} messages
  */
-function refusalError(name, { number, line }, words) {
+function refusalError(name, { number, line }, messages) {
   const place = line > 0 ? `, line ${line}` : "";
-  const reason = number > 0 ? `${words.refusalMeaning(number)} (no ${number})` : say.DOT_ALONE;
+  const reason = number > 0 ? `${messages.refusalMeaning(number)} (no ${number})` : say.DOT_ALONE;
   return new AdapterError(`${baseName(name)}${place}: ${reason}`, true);
 }
 
@@ -145,22 +150,22 @@ function refusalError(name, { number, line }, words) {
  * @param {Engine} engine
  * @param {RequestedFiles} requestedFiles
  * @param {Host} host
- * @param {ErrorMessages} words
+ * @param {ErrorMessages} messages
  */
-function sessionFromTexts(engine, requestedFiles, host, words) {
+function sessionFromTexts(engine, requestedFiles, host, messages) {
   if (requestedFiles.board === "") {
     throw new AdapterError(say.noBoardBeside(requestedFiles.program), true);
   }
   const [board, program] = [readBenchText(requestedFiles.board, "#", host), readBenchText(requestedFiles.program, ";", host)];
   const session = new DebugSession(engine, { board, program });
   for (const { word, refusal } of session.rejectedTexts) {
-    throw refusalError(word === "wire" ? requestedFiles.board : requestedFiles.program, refusal, words);
+    throw refusalError(word === "wire" ? requestedFiles.board : requestedFiles.program, refusal, messages);
   }
   return session;
 }
 
 /**
- * Runs a test. Resolves to its session, which is at the failure or at the end of the test.
+ * Runs a test. Resolves to a session at the failure or at the end of the test, and to the test result.
  * @param {Engine} engine
  * @param {TestFiles} test
  * @param {Host} host
@@ -177,9 +182,9 @@ async function sessionFromTest(engine, test, host) {
  * @param {Engine} engine
  * @param {RequestedFiles} requestedFiles
  * @param {Host} host
- * @param {ErrorMessages} words
+ * @param {ErrorMessages} messages
  */
-async function sessionFromFile(engine, requestedFiles, host, words) {
+async function sessionFromFile(engine, requestedFiles, host, messages) {
   const board = requestedFiles.board === "" ? "" : readBenchText(requestedFiles.board, "#", host);
   const program = requestedFiles.program === "" ? "" : readBenchText(requestedFiles.program, ";", host);
   const isNew = !host.fileExists(requestedFiles.session);
@@ -187,14 +192,14 @@ async function sessionFromFile(engine, requestedFiles, host, words) {
     throw new AdapterError(say.sessionMissing(requestedFiles.session), true);
   }
   // A session in memory reports the errors in the texts before the file is created.
-  if (isNew) sessionFromTexts(engine, requestedFiles, host, words);
+  if (isNew) sessionFromTexts(engine, requestedFiles, host, messages);
   const file = await (isNew ? host.make(requestedFiles.session) : host.open(requestedFiles.session));
   try {
     const session = new DebugSession(engine, { file: file.bytes, board, program: program || disassembleRom(engine, file.bytes) });
     const writer = new SessionWriter(file, session.debugger.session);
-    if (isNew) await serveText(session, "wire", sentText(board, "#"), requestedFiles.board, words);
-    if (isNew || requestedFiles.load) await serveText(session, "asm", sentText(program, ";"), requestedFiles.program, words);
-    else if (program !== "") checkRom(session, engine, requestedFiles, words);
+    if (isNew) await serveText(session, "wire", sentText(board, "#"), requestedFiles.board, messages);
+    if (isNew || requestedFiles.load) await serveText(session, "asm", sentText(program, ";"), requestedFiles.program, messages);
+    else if (program !== "") checkRom(session, engine, requestedFiles, messages);
     await writer.write(session.debugger.session);
     return { session, writer, note: "" };
   } catch (thrown) {
@@ -208,34 +213,34 @@ async function sessionFromFile(engine, requestedFiles, host, words) {
  * @param {Engine} engine
  * @param {RequestedFiles} requestedFiles
  * @param {Host} host
- * @param {ErrorMessages} words
+ * @param {ErrorMessages} messages
  */
-async function sessionFromCopy(engine, requestedFiles, host, words) {
+async function sessionFromCopy(engine, requestedFiles, host, messages) {
   const board = requestedFiles.board === "" ? "" : readBenchText(requestedFiles.board, "#", host);
   const program = requestedFiles.program === "" ? "" : readBenchText(requestedFiles.program, ";", host);
   const file = await host.readSession(requestedFiles.session);
   try {
     const session = new DebugSession(engine, { file, board, program: program || disassembleRom(engine, file) });
-    if (requestedFiles.load && program !== "") await serveText(session, "asm", sentText(program, ";"), requestedFiles.program, words);
-    else if (program !== "") checkRom(session, engine, requestedFiles, words);
+    if (requestedFiles.load && program !== "") await serveText(session, "asm", sentText(program, ";"), requestedFiles.program, messages);
+    else if (program !== "") checkRom(session, engine, requestedFiles, messages);
     return { session, writer: null, note: "" };
   } catch (thrown) {
-    throw thrown instanceof BenchRefusal ? refusalError(requestedFiles.session, { number: thrown.number, line: 0 }, words) : thrown;
+    throw thrown instanceof BenchRefusal ? refusalError(requestedFiles.session, { number: thrown.number, line: 0 }, messages) : thrown;
   }
 }
 
 /**
  * Sends a board or a program to a session; throws AdapterError if the bench rejects the text.
  * @param {DebugSession} session
- * @param {"wire" | "asm"} word
+ * @param {"wire" | "asm"} word the bench command for the text
  * @param {string} text
  * @param {string} name the file name of the text
- * @param {ErrorMessages} words
+ * @param {ErrorMessages} messages
  */
-async function serveText(session, word, text, name, words) {
+async function serveText(session, word, text, name, messages) {
   const { first } = await session.debugger.session.serve(`${word}\n${text}.\n`, async () => true);
   const refusal = parseRefusal(first);
-  if (refusal) throw refusalError(name, refusal, words);
+  if (refusal) throw refusalError(name, refusal, messages);
 }
 
 /**
@@ -255,11 +260,11 @@ export function describeDifference(session) {
  * @param {DebugSession} session
  * @param {Engine} engine
  * @param {RequestedFiles} requestedFiles
- * @param {ErrorMessages} words
+ * @param {ErrorMessages} messages
  */
-function checkRom(session, engine, { program, session: file }, words) {
+function checkRom(session, engine, { program, session: file }, messages) {
   const { refusal } = readProgram(engine, sentText(session.program, ";"));
-  if (refusal) throw refusalError(program, refusal, words);
+  if (refusal) throw refusalError(program, refusal, messages);
   const fault = describeDifference(session);
   if (fault === "") return;
   const difference = say.notInRomOf(baseName(program), baseName(file), fault);
@@ -271,32 +276,33 @@ function checkRom(session, engine, { program, session: file }, words) {
  * @param {Engine} engine
  * @param {any} args
  * @param {Host} host
- * @param {ErrorMessages} words
+ * @param {ErrorMessages} messages
  * @returns {Promise<LaunchResult>}
  */
-export async function launch(engine, args, host, words) {
+export async function launch(engine, args, host, messages) {
   const requestedFiles = readRequestedFiles(args, host);
   const openedSession = requestedFiles.test ? await sessionFromTest(engine, requestedFiles.test, host)
-    : requestedFiles.session === "" ? { session: sessionFromTexts(engine, requestedFiles, host, words), writer: null, note: "" }
-      : await sessionFromFile(engine, requestedFiles, host, words);
+    : requestedFiles.session === "" ? { session: sessionFromTexts(engine, requestedFiles, host, messages), writer: null, note: "" }
+      : await sessionFromFile(engine, requestedFiles, host, messages);
   return createLaunchResult(openedSession, requestedFiles, args, host);
 }
 
 /**
- * Creates the session for an `attach` to an existing session file. Without `write`, the file does not change.
+ * Creates the session for an `attach` to an existing session file. Unless `write` is true, the session is a copy, and the file does not
+ * change.
  * @param {Engine} engine
  * @param {any} args
  * @param {Host} host
- * @param {ErrorMessages} words
+ * @param {ErrorMessages} messages
  * @returns {Promise<LaunchResult>}
  */
-export async function attach(engine, args, host, words) {
+export async function attach(engine, args, host, messages) {
   if (optionalText(args, "session") === "") throw new AdapterError(say.ATTACH_NEEDS, true);
   const isWritten = optionalFlag(args, "write", false);
   const requestedFiles = readRequestedFiles(args, host);
   if (!host.fileExists(requestedFiles.session)) throw new AdapterError(say.noSession(requestedFiles.session), true);
   const loadSession = isWritten ? sessionFromFile : sessionFromCopy;
-  const openedSession = await loadSession(engine, requestedFiles, host, words);
+  const openedSession = await loadSession(engine, requestedFiles, host, messages);
   return { ...createLaunchResult(openedSession, requestedFiles, args, host), isAttached: true };
 }
 

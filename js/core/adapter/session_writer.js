@@ -1,5 +1,6 @@
-// Saves a session in memory to its file. The process that has the file open (`mcs4 open FILE`) receives the new lines of the session. After
-// a move back in time, the new lines do not continue the history in the file, so the writer replaces the file.
+// Saves a session in memory to its file. Another process has the file open (`mcs4 open FILE`). The writer sends the new lines of the
+// session to this process. After a move back in time, the new lines do not continue the history in the file, so the writer replaces the
+// file.
 
 import { parseRefusal } from "../bench/answers.js";
 import { joinLines } from "../bench/inputs.js";
@@ -10,9 +11,9 @@ import * as say from "../../words/adapter.js";
  * @typedef {import("../engine/worker_session.js").WorkerSession} WorkerSession
  * @typedef {import("../engine/timeline.js").Segment} Segment
  *
- * A session file that another process has open. `ask` sends lines and resolves to their `count` answers. `replace` replaces the file with a
- * session that starts from `bytes` and serves `lines`. If `check` throws for the answers, or the file cannot be replaced, `replace` throws
- * and the file does not change. `end` closes the file.
+ * A session file that another process has open. `bytes` are its contents when it was opened. `ask` sends lines and resolves to their
+ * `count` answers. `replace` replaces the file with a session that starts from `bytes` and executes `lines`. If `check` throws for the
+ * `count` answers, or the file cannot be replaced, `replace` throws and the file does not change. `end` closes the file.
  * @typedef {{ bytes: Uint8Array, ask: (lines: string, count: number) => Promise<string[]>,
  *   replace: (bytes: Uint8Array, lines: string, count: number, check: (answers: string[]) => void) => Promise<void>,
  *   end: () => Promise<void> }} OpenFile
@@ -32,7 +33,7 @@ export class SessionWriter {
   }
 
   /**
-   * Returns the lines of the session that the file lacks; null if the session does not continue the history in the file.
+   * Returns the commands of the session that the file lacks; null if the session does not continue the history in the file.
    * @param {WorkerSession} session
    */
   missingLines({ timeline, unrecordedCommands }) {
@@ -43,8 +44,8 @@ export class SessionWriter {
   }
 
   /**
-   * Writes the missing lines to the file. Throws AdapterError if the process rejects a line, or if its state then differs from the
-   * session's.
+   * Writes the missing commands to the file, or replaces the file. Throws AdapterError if the process rejects a line, or if the state in
+   * the file then differs from the state of the session.
    * @param {WorkerSession} session
    */
   async write(session) {

@@ -1,5 +1,5 @@
-// Starts a debug session for a test. The test runs first. A session then repeats its commands, so that the user can go back in time from
-// the failure, or from the end, to the start of the test.
+// Starts a debug session for a test. The test runs first. Then a new session repeats the commands of the test. Thus the user can go back in
+// time from the failure, or from the end, to the start of the test.
 
 import { DebugSession } from "../debug/debug_session.js";
 import { MAX_RUN_CYCLES } from "../engine/key_queue.js";
@@ -14,7 +14,7 @@ import * as say from "../../words/adapter.js";
  * @typedef {import("../testing/test_session.js").TestSession} TestSession
  * @typedef {import("../testing/test_suite.js").TestedTexts} TestedTexts
  *
- * The name of a test, and the absolute names of its files. `file` is the test file that contains it. `tests` are the project's test files,
+ * The name of a test, and the absolute names of its files. `file` is the file that contains the test. `tests` are the project's test files,
  * in order, up to `file`.
  * @typedef {{ name: string, file: string, tests: string[], board: string, program: string }} TestFiles
  */
@@ -25,7 +25,7 @@ export const fileUri = (name) => `file://${name.split("/").map(encodeURIComponen
 export const uriFileName = (uri) => decodeURIComponent(uri.slice("file://".length));
 
 /**
- * Finds the files of a test: the files of its project, or else the files in its folder.
+ * Returns the files of a test: the files of its project, or else the files in its folder.
  * @param {string} name the name of the test
  * @param {string} file the absolute name of its file
  * @param {(name: string) => string | null} read returns the text of a file; null if it cannot be read
@@ -58,9 +58,9 @@ function replayLines({ actions }) {
 export async function createTestSession(engine, texts, { name, file }, pause) {
   /** @type {TestSession[]} */
   const sessions = [];
-  const mayContinue = () => pause().then(() => true);
+  const shouldContinue = () => pause().then(() => true);
   const options = { only: { name, source: file }, ran: (/** @type {TestSession} */ session) => sessions.push(session) };
-  const { faults: [fault], outcomes } = await runTests(engine, texts, mayContinue, options);
+  const { faults: [fault], outcomes } = await runTests(engine, texts, shouldContinue, options);
   if (fault) throw new AdapterError(say.testsHaveError(fault.file || fault.text, fault.line, fault.words || ""), true);
   const outcome = outcomes.pop();
   const run = sessions.pop();

@@ -40,7 +40,7 @@ export function isQuery(word) {
   return form !== undefined && form.isQuery;
 }
 
-/** The pattern of a listing line. */
+/** The pattern of a listing line, a line in the answer to `list`. */
 const LISTING_LINE = /** @type {RegExp} */ (/** @type {AnswerFormat} */ (ANSWER_FORMATS.get("list")).further);
 
 /**

@@ -6,8 +6,8 @@ import { isListingLine } from "./answer_table.js";
  * @typedef {{ cycles: number, end: string }} Run the number of cycles that ran, and the word for the reason why the run ended
  * @typedef {{ number: number, line: number }} Refusal an error number of the bench, and the text line with the error (0 for none)
  *
- * The registers, as texts in the spelling of the bench. `owed` is "1" while the second cycle of an instruction is pending. `bank` is the
- * RAM bank that DCL selected. `returns` are the return addresses, newest first.
+ * The registers, as texts in the form in which the bench prints them. `owed` is "1" while the second cycle of an instruction is pending.
+ * `bank` is the RAM bank that DCL selected. `returns` are the return addresses, newest first.
  * @typedef {{ accumulator: string, carry: string, counter: string, owed: string, bank: string, test: string, registers: string[],
  *   returns: string[] }} Registers
  *
@@ -28,7 +28,8 @@ import { isListingLine } from "./answer_table.js";
  * @typedef {{ chain: number, first: number, rows: number, columns: string[] }} Matrix the key matrix: bit `first + r` of the chain drives
  *   row r, and `columns` are the input lines
  *
- * The parts of a board. `lamps` are the lines that drive the lamps. `rows` and `columns` are the size of the key matrix, 0 for none.
+ * The parts of a board. `lamps` are the lines that drive the lamps. `rows` and `columns` are the size of the key matrix; both are 0 without
+ * a matrix.
  * @typedef {{ banks: { bank: number, chips: number }[], chains: Chain[], roms: { chip: number, port: string }[], lamps: string[],
  *   rows: number, columns: number, matrix: Matrix | null }} Board
  */

@@ -21,13 +21,13 @@ import { WorkerDiedError, unpackError } from "./bench_errors.js";
  * @typedef {{ postMessage: (message: ToWorker, transfer: Transferable[]) => void, terminate: () => void,
  *   addEventListener: (kind: string, listen: (event: any) => void) => void }} WorkerLike
  *
- * Callbacks for messages without a request: a frame of a run at full speed, an error that stopped the run, and the end of a worker that
- * stopped answering.
+ * Callbacks for messages without a request: a frame of a run at full speed, an error that stopped the run, and the termination of a worker
+ * that stopped answering.
  * @typedef {{ frame: (frame: Frame) => void, failed: (fault: Error) => void, died: () => void }} Listener
  */
 
 /**
- * A client that can call the requests in `Part`. `Part` contains those requests that a module uses.
+ * A client that can send the requests in `Part`, a subset of `Requests`: those that one module uses.
  * @template Part
  * @typedef {{ call<Name extends CallName & keyof Part>(name: Name, parameters: Parameters<Requests[Name]>, options?: CallOptions):
  *   Promise<Awaited<ReturnType<Requests[Name]>>> }} Caller
@@ -59,34 +59,34 @@ export class Bench {
     this.unansweredPings = 0;
     /** True while the worker runs at full speed and sends frames without a request. */
     this.isRunning = false;
-    /** True if a worker that does not answer pings is never terminated. The prover does not answer during its work. */
+    /** True if a worker that does not answer pings must not be terminated: the prover does not answer while it works. */
     this.allowsSilence = false;
     /** The size of a session file in bytes. */
     this.size = 0;
     /** @type {ArrayBuffer[]} buffers of received files; the next request returns them to the worker */
     this.spare = [];
-    setInterval(() => this.watch(), PING_INTERVAL_MS);
+    setInterval(() => this.pingWorker(), PING_INTERVAL_MS);
   }
 
-  /** Starts a worker. The promise resolves after the worker has loaded the module. */
+  /** Starts a worker. Resolves after the worker has loaded the module. */
   async start() {
     const worker = this.makeWorker();
     this.worker = worker;
-    worker.addEventListener("message", (event) => worker === this.worker && this.take(event.data));
+    worker.addEventListener("message", (event) => worker === this.worker && this.handleMessage(event.data));
     worker.addEventListener("error", (event) => {
       event.preventDefault();
-      if (worker === this.worker) this.die();
+      if (worker === this.worker) this.terminateSilentWorker();
     });
     const size = await this.call("load", [this.module, this.examples]);
     this.size = size;
   }
 
   /**
-   * Sends a request; the promise resolves to its result.
+   * Sends a request. Resolves to its result.
    * @template {CallName} Name
    * @param {Name} name
    * @param {Parameters<Requests[Name]>} parameters
-   * @param {CallOptions} [options] a progress callback, and a signal that cancels a call that serves lines; a cancelled call has no effect
+   * @param {CallOptions} [options] a progress callback, and a signal to cancel a call that serves lines; a cancelled call has no effect
    * @returns {Promise<Awaited<ReturnType<Requests[Name]>>>}
    */
   call(name, parameters, options = {}) {
@@ -119,7 +119,7 @@ export class Bench {
   }
 
   /** @param {ToPage} message */
-  take(message) {
+  handleMessage(message) {
     this.unansweredPings = 0;
     if (message.kind === "frame") this.listener.frame(message.frame);
     if (message.kind === "failed") this.listener.failed(unpackError(message.fault));
@@ -130,7 +130,7 @@ export class Bench {
       waiting.progress(message.done, message.total);
       return;
     }
-    // While older requests wait for their replies, an early result is ignored. The request then waits for its regular reply.
+    // Ignore an early result while older requests wait for their replies. The request then waits for its regular reply.
     if (message.kind === "early" && message.number !== this.oldestRequest) return;
     this.pendingRequests.delete(message.number);
     if (message.kind === "reply" && message.fault) waiting.fail(unpackError(message.fault));
@@ -155,23 +155,23 @@ export class Bench {
     if (!this.pendingRequests.has(number)) return;
     this.send({ kind: "cancel", number });
     setTimeout(() => {
-      if (this.pendingRequests.has(number)) this.die();
+      if (this.pendingRequests.has(number)) this.terminateSilentWorker();
     }, 2 * PING_INTERVAL_MS);
   }
 
   /** Pings the worker if it has unanswered requests. The limit is a number of pings, not a time, because the computer can sleep. */
-  watch() {
+  pingWorker() {
     if (this.allowsSilence || (this.pendingRequests.size === 0 && !this.isRunning)) {
       this.unansweredPings = 0;
       return;
     }
     this.unansweredPings += 1;
-    if (this.unansweredPings > MAX_UNANSWERED_PINGS) this.die();
+    if (this.unansweredPings > MAX_UNANSWERED_PINGS) this.terminateSilentWorker();
     else this.send({ kind: "ping" });
   }
 
-  /** Terminates a worker that does not answer, rejects its requests, and calls `died` of the listener. */
-  die() {
+  /** Terminates a worker that does not answer, rejects its requests, and calls the listener's `died`. */
+  terminateSilentWorker() {
     if (!this.worker) return;
     this.end();
     this.listener.died();

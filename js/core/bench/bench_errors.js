@@ -11,7 +11,7 @@ export class BenchRefusal extends Error {
   }
 }
 
-/** The error of a call in which the WebAssembly module trapped. The module is restarted before this error is thrown. */
+/** The error of a call in which the WebAssembly module trapped. The engine restarts the module before it throws this error. */
 export class BenchTrap extends Error {}
 
 /** The error of a call that the user cancelled. The call has no effect. */

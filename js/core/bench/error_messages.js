@@ -1,10 +1,10 @@
-// Formats messages for users about errors, and durations.
+// Formats error messages and durations for users.
 
 import { BenchRefusal, BenchTrap, CancelledError, WorkerDiedError } from "./bench_errors.js";
 import { formatQuantity } from "./numbers.js";
 import * as say from "../../words/bench.js";
 
-/** Returns the messages for errors. */
+/** The messages for errors, with the meanings of the bench's error numbers. */
 export class ErrorMessages {
   /** @param {Record<string, string>} refusals the meanings of the bench's error numbers, by number */
   constructor(refusals) {
@@ -31,7 +31,7 @@ export class ErrorMessages {
   }
 
   /**
-   * Returns the message after a failed call to the session.
+   * Returns the message for a session call that failed or that the user cancelled.
    * @param {unknown} error
    */
   failureMessage(error) {

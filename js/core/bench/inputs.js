@@ -86,10 +86,10 @@ export function readInputs(lines) {
 }
 
 /**
- * Returns the offset of the end of an input: of the first one that ends at least `minLength` characters after `from`.
+ * Returns the first offset, at least `minLength` characters after `from`, at which an input ends; the length of `lines` if there is none.
  * @param {string} lines
  * @param {number} from the offset of the first input
- * @param {number} minLength the minimum length of the piece in characters
+ * @param {number} minLength the minimum distance from `from`, in characters
  */
 export function findInputEnd(lines, from, minLength) {
   let at = from;
@@ -153,7 +153,7 @@ export function answerLength(input, answers, from) {
 }
 
 /**
- * Returns the answer lines of each input, in input order; an empty list for an input that was not served.
+ * Returns the answer lines of each input, in input order; an empty list for an input without an answer.
  * @param {Input[]} inputs
  * @param {string[]} answers
  */

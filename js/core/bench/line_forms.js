@@ -16,7 +16,7 @@ import * as say from "../../words/lines.js";
  * @typedef {[number, number]} Range the first and the last number
  */
 
-/** The error numbers of the bench for a line that is no command, and for a number that is out of range. */
+/** The error numbers of the bench for a line that is not a command, and for a number that is out of range. */
 const NOT_A_COMMAND = 10;
 const BAD_NUMBER = 11;
 const MAX_BIT = 1;
@@ -30,7 +30,7 @@ const MAX_NUMBER = 4294967295;
 /** The maximum number of lines that a `list` query can ask for. */
 const MAX_LISTED_LINES = 256;
 
-/** @type {(max: number) => Range} */
+/** @type {(max: number) => Range} returns the range from 0 to `max` */
 const rangeTo = (max) => [0, max];
 /** @type {Record<string, Range[]>} the ranges of the numbers in a line, by the first word of the line */
 const NUMBER_RANGES = {
@@ -88,16 +88,16 @@ function findRangeError(word, [first, last]) {
 /**
  * Returns the syntax that a place matches; null if the word is not a place.
  * @param {string} word
- * @param {PlaceSyntax[]} places
+ * @param {PlaceSyntax[]} syntaxes
  */
-function findPlaceSyntax(word, places) {
-  return places.find(({ pattern }) => pattern.test(word)) || null;
+function findPlaceSyntax(word, syntaxes) {
+  return syntaxes.find(({ pattern }) => pattern.test(word)) || null;
 }
 
 /**
  * Returns whether the numbers in a place name are in their ranges.
  * @param {string} word
- * @param {PlaceSyntax} found
+ * @param {PlaceSyntax} syntax the syntax that the place matches
  */
 function isInRange(word, { pattern, maxima }) {
   const placeNumbers = /** @type {RegExpExecArray} */ (pattern.exec(word)).slice(1).map(Number);
@@ -115,9 +115,9 @@ const noSuchPlaceError = (word) => ({ number: BAD_NUMBER, words: say.noSuchPlace
  * @param {string} value
  */
 function findPokeError(word, value) {
-  const found = findPlaceSyntax(word, PLACE_SYNTAXES);
-  if (!found) return unknownPlaceError(word, POKE_NAMES);
-  return isInRange(word, found) ? findRangeError(value, rangeTo(found.maxValue)) : noSuchPlaceError(word);
+  const syntax = findPlaceSyntax(word, PLACE_SYNTAXES);
+  if (!syntax) return unknownPlaceError(word, POKE_NAMES);
+  return isInRange(word, syntax) ? findRangeError(value, rangeTo(syntax.maxValue)) : noSuchPlaceError(word);
 }
 
 /**
@@ -126,11 +126,11 @@ function findPokeError(word, value) {
  * @param {string[]} places
  */
 function findTraceError(count, places) {
-  const forms = [...PLACE_SYNTAXES, ...TRACE_ONLY_SYNTAXES];
-  const unknownWord = places.slice(0, MAX_PLACES).find((word) => !findPlaceSyntax(word, forms));
+  const syntaxes = [...PLACE_SYNTAXES, ...TRACE_ONLY_SYNTAXES];
+  const unknownWord = places.slice(0, MAX_PLACES).find((word) => !findPlaceSyntax(word, syntaxes));
   if (unknownWord !== undefined) return unknownPlaceError(unknownWord, TRACE_NAMES);
   if (places.length > MAX_PLACES) return { number: NOT_A_COMMAND, words: say.tooManyPlaces(MAX_PLACES) };
-  const wrongWord = places.find((word) => !isInRange(word, /** @type {PlaceSyntax} */ (findPlaceSyntax(word, forms))));
+  const wrongWord = places.find((word) => !isInRange(word, /** @type {PlaceSyntax} */ (findPlaceSyntax(word, syntaxes))));
   return wrongWord === undefined ? findRangeError(count, [1, MAX_CYCLES]) : noSuchPlaceError(wrongWord);
 }
 
@@ -169,6 +169,6 @@ export function invalidCharacterIn(line) {
 export function findLineError(line) {
   if (line.length > MAX_LINE_LENGTH) return { number: LINE_TOO_LONG, words: say.tooLong(MAX_LINE_LENGTH, line.length) };
   const character = invalidCharacterIn(line);
-  if (character !== "") return { number: NOT_ASCII, words: say.foreign(character) };
+  if (character !== "") return { number: NOT_ASCII, words: say.invalidCharacter(character) };
   return findWordError(line.split(/[ \t]+/).filter((word) => word !== ""));
 }

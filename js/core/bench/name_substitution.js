@@ -1,5 +1,5 @@
-// Replaces names in bench lines: `@NAME` becomes the value of that program name, and `set PLACE = VALUE` becomes the lines that set the
-// place. Texts that follow a line, such as a program after `asm`, do not change.
+// Replaces names in bench lines: `@NAME` becomes the value of the program name, and `set PLACE = VALUE` becomes the lines that set the
+// place. Texts after a line, such as a program after `asm`, do not change.
 
 import { readSetting } from "../conditions/set_command.js";
 import { opensText, stripCarriageReturn } from "./inputs.js";
@@ -10,8 +10,8 @@ import { inColumn } from "../../words/conditions.js";
 /**
  * @typedef {import("../machine/source_map.js").SourceMap} SourceMap
  *
- * The lines after the replacement. If a name is wrong, `words` is the first error message and `line` its line number; otherwise they are ""
- * and 0.
+ * The lines after the replacement. If a line has an error, `words` is the first error message and `line` the line number; otherwise they
+ * are "" and 0.
  * @typedef {{ lines: string, words: string, line: number }} ReplacedLines
  */
 
@@ -27,7 +27,7 @@ const SET_LINE = /^\s*set(?!\S)(.*)$/;
 export function replaceNames(lines, map) {
   let [message, line] = ["", 0];
   let isOpen = false;
-  /** @type {(wrong: string, at: number) => void} */
+  /** @type {(error: string, at: number) => void} */
   const reportError = (error, at) => {
     if (message === "" && error !== "") [message, line] = [error, at];
   };

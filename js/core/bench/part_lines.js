@@ -19,7 +19,7 @@ const COUNTED_KINDS = ["chain", "lamp"];
  * Returns the name of the part that a TOML table defines, such as `rom 1`; "" if the table defines no named part.
  * @param {Entry} entry
  * @param {Record<string, number>} counts the number of parts found so far, for each kind that is numbered in order; this function updates
- *   it
+ *   the numbers
  */
 function partName({ table, keys }, counts) {
   const kind = table.replace(/[[\]]/g, "");
@@ -34,7 +34,7 @@ function partName({ table, keys }, counts) {
 }
 
 /**
- * Returns the line range of each part in a board text, by the name of the part. The result can lack an unfinished part.
+ * Returns the line range of each part in a board text, by the name of the part. The result can lack a part whose table is unfinished.
  * @param {string} text
  * @returns {Map<string, Lines>}
  */

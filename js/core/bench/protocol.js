@@ -12,12 +12,13 @@
  * recording since the last report, null if recording is off. `printed`: the printer data, null if unchanged. `waiting`: key changes that
  * are queued for later.
  * @typedef {{ snapshot: string[], file: ArrayBuffer, board: string[] | null, total: number, reset: number, future: number,
- *   past: import("../engine/timeline.js").News, waves: import("../engine/live_recorder.js").LivePart | null,
+ *   past: import("../engine/timeline.js").PastChanges, waves: import("../engine/live_recorder.js").LivePart | null,
  *   printed: import("../engine/printer_codes.js").PrintoutData | null, waiting: import("../engine/key_queue.js").Change[] }} PageState
  *
- * The result of a period in which the machine ran. `ran`: the lines that ran. `end`: the answer that ended the run early, or "". `stop`:
- * the reason why the machine stopped, or null. `tally`: breakpoint hits and log messages. `litShares`, `heard`, `warmed`: lamp brightness,
- * sound, and the changes in the displayed RAM chip; each is null if the page does not show it.
+ * The result of a period in which the machine ran. `ran`: the executed lines with their answers. `changesKeys`: true if a key changed.
+ * `end`: the answer that ended the run early, or "". `stop`: the reason why the machine stopped, or null. `tally`: breakpoint hits and log
+ * messages. `litShares`, `heard`, `warmed`: lamp brightness, sound, and the changes in the displayed RAM chip; each is null if the page
+ * does not show it.
  * @typedef {{ ran: RunEntry[], cycles: number, end: string, changesKeys: boolean, stop: Stop | null, tally: Tally,
  *   litShares: import("../engine/brightness_meter.js").LitShares | null, heard: import("../engine/buzzer_meter.js").BuzzerLevels | null,
  *   warmed: import("../engine/heat_meter.js").ChipHeat | null } & PageState} Frame
@@ -28,7 +29,7 @@
  * @typedef {Omit<import("../engine/past_search.js").BackSearchResult, "moment" | "present">} SearchReport
  * @typedef {LinesReply & { typed: import("../debug/debugger.js").TypedResult }} TypedReply the result of lines that the user typed
  * @typedef {LinesReply & SearchReport & { isDone: boolean, cycles: number }} TravelResult the result of a move back or forward in time, and
- *   the number of cycles that it moved
+ *   the number of cycles moved
  * @typedef {LinesReply & { found: import("../debug/debugger.js").RunResult["found"], tally: Tally }} GoalReply the result of lines that
  *   run to a goal
  * @typedef {LinesReply & { faults: [number, string][] }} BreakpointReply the result of lines with breakpoints; `faults` are the ids of
@@ -45,8 +46,8 @@
  * The messages to the page.
  * @typedef {{ kind: "reply", number: number, result?: any, fault?: PackedFault }} Reply
  * @typedef {{ kind: "early", number: number, result: any }} EarlyReply a copy of the result, sent before the reply
- * @typedef {{ kind: "progress", number: number, done: number, total: number }} Progress how much of a request's work is done, and the total
- *   amount of work
+ * @typedef {{ kind: "progress", number: number, done: number, total: number }} Progress the completed and the total amount of a request's
+ *   work
  * @typedef {{ kind: "frame", frame: Frame }} FrameMessage the result of a period in which the machine ran at full speed
  * @typedef {{ kind: "failed", fault: PackedFault }} FailureMessage the error that stopped the machine at full speed
  * @typedef {{ kind: "pong" }} Pong

@@ -1,5 +1,5 @@
 // Reads ROM images in the S-record format and in BNPF, Intel's format for the masks of the 4001. Writes BNPF. Detects the format of an
-// image from its file name and its first bytes.
+// image from its file name and its bytes.
 
 import { hex } from "./numbers.js";
 import { ImageBytes, RecordError, ImageError, readLines } from "./rom_image.js";
@@ -15,7 +15,7 @@ const ADDRESS_SIZES = new Map([["1", 2], ["2", 3], ["3", 4]]);
 const END_TYPES = ["7", "8", "9"];
 
 /**
- * Stores the bytes of a record in the image; returns whether it is an end record.
+ * Stores the bytes of a data record in the image. Returns whether the record ends the file.
  * @param {string} record
  * @param {ImageBytes} image
  */
@@ -72,14 +72,14 @@ function beginsWord(line, index) {
 
 /**
  * Parses BNPF; returns the image bytes. A word is `B`, eight letters `P` (1) or `N` (0) with the highest bit first, and `F`. A word can
- * continue on the next line. Text between words is ignored.
+ * continue on the next line. Ignores text between words.
  * @param {string} text
  * @param {number} [from] the address of the first word
  */
 export function readBnpf(text, from = 0) {
   const image = new ImageBytes(from);
   let [word, count] = ["", 0];
-  const takeLetter = (/** @type {string} */ letter, /** @type {boolean} */ startsWord) => {
+  const addLetter = (/** @type {string} */ letter, /** @type {boolean} */ startsWord) => {
     if (word === "") {
       if (startsWord) word = letter;
     } else if (/[NP]/.test(letter) && word.length < WORD_LENGTH) word += letter;
@@ -91,7 +91,7 @@ export function readBnpf(text, from = 0) {
   };
   readLines(text, (rawLine) => {
     const line = rawLine.trim();
-    for (let at = 0; at < line.length; at++) takeLetter(line[at].toUpperCase(), /b/i.test(line[at]) && beginsWord(line, at));
+    for (let at = 0; at < line.length; at++) addLetter(line[at].toUpperCase(), /b/i.test(line[at]) && beginsWord(line, at));
   });
   const lines = text.replace(/\n$/, "").split("\n").length;
   if (word !== "") throw new ImageError(say.imageLine(lines, say.bnpfWithoutEnd(word)));
@@ -127,7 +127,7 @@ export function writeBnpf(bytes, from, count) {
 
 // --- The format of an image ---
 
-/** @type {(bytes: Uint8Array, is: (byte: number) => boolean) => boolean} */
+/** @type {(bytes: Uint8Array, isAllowed: (byte: number) => boolean) => boolean} */
 const containsOnly = (bytes, isAllowed) => bytes.every(isAllowed);
 const isTextByte = (/** @type {number} */ byte) => byte === 9 || byte === 10 || byte === 13 || (byte >= 32 && byte < 127);
 
@@ -148,7 +148,7 @@ function isText(bytes) {
 }
 
 /**
- * Returns the image format, detected from the name and the first bytes; null for text in an unknown format.
+ * Returns the image format, detected from the file name and the bytes; null for text in an unknown format.
  * @param {string} name
  * @param {Uint8Array} bytes
  * @returns {ImageFormat | null}

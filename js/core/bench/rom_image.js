@@ -17,7 +17,7 @@ const DATA_TYPE = 0;
 const END_TYPE = 1;
 /** The record types for segment and linear base addresses. In an image for a 4004, these base addresses must be 0. */
 const BASE_TYPES = [2, 4];
-/** The record types for a program's start address, which linkers write. Such records are ignored: the 4004 starts at 000. */
+/** The record types for a program's start address, which linkers write. The reader ignores such records: the 4004 starts at 000. */
 const START_TYPES = [3, 5];
 
 /** The bytes of a ROM image that is being read. */
@@ -64,7 +64,7 @@ export function readBytes(file, from = 0) {
 }
 
 /**
- * Calls `read` for each line of a text. Adds the line number to the message of a `ImageError` error.
+ * Calls `read` for each line of a text. Adds the line number to the message of an `ImageError`.
  * @param {string} text
  * @param {(line: string) => void} read
  */
@@ -148,7 +148,7 @@ function formatRecord(address, type, data) {
 }
 
 /**
- * Formats bytes as Intel HEX; addresses without a byte are left out. A record has at most 16 data bytes.
+ * Formats bytes as Intel HEX, without the addresses that have no byte. A record has at most 16 data bytes.
  * @param {Int16Array} bytes
  */
 export function writeHex(bytes) {

@@ -1,15 +1,15 @@
-// Logs the lines that are served while the machine runs, for the console. The log has one entry per key change, and one entry for
+// Logs the lines that the bench executes while the machine runs, for the console. The log has one entry per key change, and one entry for
 // consecutive runs.
 
 import * as say from "../../words/bench.js";
 
 /**
- * A log entry: a served line and its answer, or consecutive `run` lines with their last answer. `runs` is the number of `run` lines, 0 for
- * any other line.
+ * A log entry: a line and its answer, or consecutive `run` lines with their last answer. `runs` is the number of `run` lines; 0 for any
+ * other line. `cycles` is the number of executed cycles.
  * @typedef {{ line: string, answer: string, runs: number, cycles: number }} RunEntry
  */
 
-/** The entries since the last report. */
+/** The entries since the last call of `take`. */
 export class RunLog {
   constructor() {
     /** @type {RunEntry[]} */
@@ -46,5 +46,5 @@ export class RunLog {
  * @param {RunEntry} entry
  */
 export function formatRuns({ line, runs, cycles }) {
-  return runs > 1 ? say.manyRuns(runs, cycles.toLocaleString("en")) : line;
+  return runs > 1 ? say.mergedRuns(runs, cycles.toLocaleString("en")) : line;
 }

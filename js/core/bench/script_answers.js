@@ -18,7 +18,7 @@ import * as say from "../../words/bench.js";
 const SESSION_ANSWER = /^session (\d+)$/;
 
 /**
- * Returns whether a line can begin the answer to an input.
+ * Returns whether an answer line can be the first line of the answer to an input.
  * @param {Input} input
  * @param {string} answer
  */
@@ -44,7 +44,7 @@ function completeLength(input, answers, from) {
 }
 
 /**
- * Returns the index of the first line of an answer that has a wrong format; -1 if the format of all lines is correct.
+ * Returns the index of the first line with a wrong format, among the lines of an answer after its first; -1 if all have the correct format.
  * @param {Input} input
  * @param {string[]} answers
  * @param {number} from
@@ -57,31 +57,34 @@ function findInvalidLine(input, answers, from, end) {
   return -1;
 }
 
-/** Assigns answers to inputs, one input after the other. */
+/** A reader that assigns answers to inputs, one input after the other. */
 class AnswerMatcher {
   /** @param {string[]} answers */
   constructor(answers) {
     this.answers = answers;
+    /** The number of commands that the session had accepted up to the current answer. */
     this.commandCount = Number((SESSION_ANSWER.exec(answers[0]) || ["", "0"])[1]);
-    this.next = 1;
+    /** The index of the next answer line. */
+    this.nextIndex = 1;
     /** An error message if the answers do not fit the inputs, otherwise "". */
     this.message = "";
     /** True if the last answer is incomplete. */
     this.isIncomplete = false;
   }
 
-  get isOver() {
-    return this.message !== "" || this.isIncomplete || this.next >= this.answers.length;
+  /** True if the matcher reads no more answers. */
+  get isDone() {
+    return this.message !== "" || this.isIncomplete || this.nextIndex >= this.answers.length;
   }
 
   /**
-   * Takes the answer to the next input from the list. Returns the first line of the answer; "" if the input has no answer.
+   * Reads the answer to the next input. Returns the first line of the answer; "" if the input has no complete and valid answer.
    * @param {Input} input
    * @param {number} line the input's line number
    */
   takeAnswer(input, line) {
-    if (this.isOver) return "";
-    const { answers, next: at } = this;
+    if (this.isDone) return "";
+    const { answers, nextIndex: at } = this;
     const first = answers[at];
     const messageAt = (/** @type {number} */ index) => say.noAnswer(index + 1, answers[index], line, input.line);
     const [word, count] = first.split(" ");
@@ -95,7 +98,7 @@ class AnswerMatcher {
     const invalidLine = findInvalidLine(input, answers, at, end);
     if (invalidLine >= 0) this.message = messageAt(invalidLine);
     this.isIncomplete = end > answers.length;
-    this.next = end;
+    this.nextIndex = end;
     return invalidLine >= 0 || this.isIncomplete ? "" : first;
   }
 }
@@ -108,11 +111,11 @@ class AnswerMatcher {
  */
 export function matchScriptAnswers(script, answers) {
   const inputs = readNumberedInputs(script);
-  const unanswered = inputs.map((placed) => ({ ...placed, answer: "" }));
+  const unanswered = inputs.map((numberedInput) => ({ ...numberedInput, answer: "" }));
   if (answers.length > 0 && parseRefusal(answers[0])) return { inputs: unanswered, words: "" };
   if (answers.length === 0 || !SESSION_ANSWER.test(answers[0])) return { inputs: unanswered, words: say.FIRST_IS_SESSION };
   const matcher = new AnswerMatcher(answers);
   const answered = inputs.map(({ input, at }) => ({ input, at, answer: matcher.takeAnswer(input, at) }));
-  const { message, isOver, next } = matcher;
-  return { inputs: answered, words: message || (isOver ? "" : say.afterLastAnswer(next + 1, answers[next])) };
+  const { message, isDone, nextIndex } = matcher;
+  return { inputs: answered, words: message || (isDone ? "" : say.afterLastAnswer(nextIndex + 1, answers[nextIndex])) };
 }

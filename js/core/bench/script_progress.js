@@ -10,17 +10,17 @@ import * as say from "../../words/bench.js";
  * @typedef {import("../engine/engine_host.js").EngineHost} EngineHost
  * @typedef {import("../engine/engine_host.js").State} State
  *
- * The number of script lines that a session has received. If the session did not start with the script, `words` is an error message, and
- * `differing` lists answers that differ: `<` marks the answers of the session, `>` those of the script.
+ * The number of script lines that a session has received. If the session did not start with the script, `words` is an error message.
+ * `differing` then lists the differing answers: `<` marks the answers of the session, `>` those of the script.
  * @typedef {{ lines: number, words: string, differing: string[] }} ScriptComparison
  */
 
 const BANK_COUNT = 8;
 /** The minimum length of a piece of a script, in characters. Between two pieces, the user can interrupt the work. */
 const MIN_PIECE_LENGTH = 4096;
-/** The maximum number of differing lines that are shown. */
+/** The maximum number of differing lines to show. */
 const MAX_DIFFERING_LINES = 4;
-/** The queries whose answers are compared between the session and a new session that has served the script. */
+/** The queries whose answers must be the same in the session and in a new session that has executed the script lines. */
 const COMPARED_QUERIES = `seq\nboard\nstate\n${indices(BANK_COUNT).map((bank) => `ram ${bank}\n`).join("")}${listQueries(PAGE_NUMBERS)}`;
 
 /**
@@ -55,7 +55,8 @@ export function differingLines(actual, expected) {
 }
 
 /**
- * Returns the number of script lines up to the end of the accepted input number `commands`; -1 if the script has fewer accepted inputs.
+ * Returns the number of script lines up to the end of the last of the first `commands` accepted inputs; -1 if the script has fewer accepted
+ * inputs.
  * @param {import("./script_answers.js").AnsweredInput[]} inputs
  * @param {number} commands
  */
@@ -71,7 +72,7 @@ function linesUpTo(inputs, commands) {
 }
 
 /**
- * Serves lines in a new session, piece by piece; returns the final state and the answers.
+ * Executes lines in a new session, in pieces. Returns the final state and the answers.
  * @param {EngineHost} engine
  * @param {string} lines
  * @param {() => Promise<any>} yieldToMessages called after each piece
@@ -90,7 +91,7 @@ async function serveScript(engine, lines, yieldToMessages) {
 }
 
 /**
- * Compares a session with a new session that has served the same number of script commands.
+ * Compares a session with a new session that has executed the same number of script commands.
  * @param {EngineHost} engine
  * @param {State} state the state of the session
  * @param {string} script

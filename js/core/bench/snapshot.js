@@ -37,7 +37,7 @@ const INITIAL_PARTS = { registers: "", test: "", ports: "", keys: "", lamps: "",
 
 /**
  * Finds the changes between snapshots. `take` reads a snapshot and returns the changes of the front panel. `readOtherChanges` returns all
- * other changes since its previous call, so callers can call it less often.
+ * other changes since its previous call, and can be called less often.
  */
 export class SnapshotReader {
   constructor() {

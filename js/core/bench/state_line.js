@@ -7,8 +7,8 @@ import { readRegisters } from "./answers.js";
  * @typedef {import("./answers.js").Ports} Ports
  * @typedef {import("./answers.js").Registers} Registers
  *
- * The parts of the line, as unparsed text, so that callers parse only the parts that changed. `registers` also contains the TEST level, and
- * `ports` also contains the pressed keys.
+ * The parts of the answer, as unparsed text, so that callers parse only the parts that changed. `registers` also contains the TEST level,
+ * and `ports` also contains the pressed keys.
  * @typedef {{ registers: string, test: string, ports: string, keys: string, lamps: string, breaks: string, watches: string }} StateParts
  */
 
@@ -27,7 +27,7 @@ export function parseState(answer) {
 }
 
 /**
- * Returns the value that follows a key in the line, as unparsed text.
+ * Returns the value that follows a key in the answer, as unparsed text.
  * @param {string} answer
  * @param {string} key
  */
@@ -38,7 +38,7 @@ export function stateValue(answer, key) {
 }
 
 /**
- * Removes the command count from the line, so that states of two sessions can be compared.
+ * Removes the command count from the answer, so that callers can compare the states of two sessions.
  * @param {string} answer the answer to `state`; other answers can follow in the same text
  */
 export function stripSeq(answer) {
@@ -54,7 +54,7 @@ export function parseItems(value) {
 }
 
 /**
- * Parses the register part of the line.
+ * Parses the part of the answer with the registers.
  * @param {string} part
  * @returns {Registers}
  */
@@ -63,7 +63,7 @@ export function parseRegisters(part) {
 }
 
 /**
- * Parses the part of the line with ports, chains and keys.
+ * Parses the part of the answer with the ports, chains and keys.
  * @param {string} part the text after `src`
  * @returns {Ports}
  */

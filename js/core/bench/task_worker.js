@@ -7,7 +7,7 @@ import { WorkerDiedError } from "./bench_errors.js";
  * @typedef {import("./bench_client.js").Bench} Bench
  * @typedef {import("../testing/test_preparation.js").TextFault} TextFault
  *
- * The result of the work: errors in the texts that prevented it, and whether the user stopped it.
+ * The result of the work: the errors in the texts that prevented the work, and whether the user stopped the work.
  * @typedef {{ faults: TextFault[], isStopped: boolean }} TaskResult
  */
 
@@ -15,7 +15,7 @@ import { WorkerDiedError } from "./bench_errors.js";
 export class TaskWorker {
   /**
    * @param {() => Bench} makeBench
-   * @param {boolean} allowsSilence true if a worker that does not answer pings is never terminated
+   * @param {boolean} allowsSilence true if a worker that does not answer pings must not be terminated
    */
   constructor(makeBench, allowsSilence) {
     this.makeBench = makeBench;
@@ -35,7 +35,7 @@ export class TaskWorker {
 
   /**
    * Starts the worker, runs the work in it, and ends the worker.
-   * @param {AbortSignal} signal terminates the worker at once when it is aborted
+   * @param {AbortSignal} signal when aborted, terminates the worker at once
    * @param {(bench: Bench) => Promise<TextFault[]>} work
    * @returns {Promise<TaskResult>}
    */

@@ -1,7 +1,7 @@
 // Announces a changing text to screen readers. A text is announced after it has been unchanged for ANNOUNCEMENT_DELAY_MS. A text that
 // changes earlier is not announced.
 
-/** The time without a change before an announcement, and the minimum time between announcements, in milliseconds. */
+/** The time for which a text must be unchanged before its announcement, in milliseconds. Also the minimum time between announcements. */
 export const ANNOUNCEMENT_DELAY_MS = 1000;
 
 /** Announces one changing text, such as a display text. */
@@ -14,7 +14,7 @@ export class Announcer {
     /** True until the first text of a board arrives. The first text is not announced. */
     this.isFirst = true;
     /** True if the text has not changed since the timer started. */
-    this.isStill = true;
+    this.isUnchanged = true;
     this.timer = 0;
   }
 
@@ -34,19 +34,20 @@ export class Announcer {
     }
     if (text === this.text) return;
     this.text = text;
-    this.isStill = false;
+    this.isUnchanged = false;
     if (this.timer === 0) this.startTimer();
   }
 
+  /** Starts the timer for the next announcement. */
   startTimer() {
-    this.isStill = true;
+    this.isUnchanged = true;
     this.timer = Number(setTimeout(() => this.onTimer(), ANNOUNCEMENT_DELAY_MS));
   }
 
   /** Announces the text if it did not change while the timer ran; otherwise restarts the timer. */
   onTimer() {
     this.timer = 0;
-    if (!this.isStill) {
+    if (!this.isUnchanged) {
       this.startTimer();
     } else if (this.text !== this.lastAnnounced) {
       this.lastAnnounced = this.text;

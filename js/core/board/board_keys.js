@@ -10,16 +10,17 @@ import * as say from "../../words/board.js";
  * @typedef {import("./key_place.js").Key} Key
  *
  * A key of the board, or the button or switch at the TEST pin. `legend` is the text on the key. `words` is its description. `isNamed` is
- * true if the front panel defines its legend. `letter` is the keyboard character that presses it, "" for none.
+ * true if the front panel defines its legend. `letter` is the keyboard character that presses the key, "" for none.
  * @typedef {{ key: Key, legend: string, words: string, isNamed: boolean, isSwitch: boolean, letter: string }} BoardKey
  */
 
-/** The keyboard characters to choose from if no character of a key's name is free. */
+/** The keyboard characters for keys whose names contain no free character, in order of preference. */
 const FALLBACK_LETTERS = "1234567890qwertyuiopasdfghjklzxcvbnm";
 
 /**
- * Returns a free character for a key: the first free character of its name, otherwise of `FALLBACK_LETTERS`. Returns "" if none is free.
- * @param {string} name
+ * Returns a free character for a key: the first free character of its name, otherwise of FALLBACK_LETTERS. Returns "" if no character is
+ * free.
+ * @param {string} name the name of the key
  * @param {Set<string>} usedLetters
  */
 function freeLetter(name, usedLetters) {
@@ -57,7 +58,7 @@ export function boardKeys(board, face) {
 /**
  * Returns the button or switch at the TEST pin.
  * @param {import("./face.js").TestPin} test
- * @param {(legend: string, name: string) => string} takeLetter
+ * @param {(legend: string, name: string) => string} takeLetter returns the keyboard character for a key
  */
 function testKey({ kind, name, level }, takeLetter) {
   const legend = name.replace(/_/g, " ");
@@ -66,14 +67,14 @@ function testKey({ kind, name, level }, takeLetter) {
 }
 
 /**
- * Maps a special keyboard key to the legend of the board key that it presses.
+ * The legend of the board key that each special keyboard key presses.
  * @type {Record<string, string>}
  */
 const SPECIAL_KEYS = { Enter: "=", Escape: "C", Backspace: "CE", Delete: "CE", ",": "." };
 
 /**
- * Returns the board key that a keyboard key presses; undefined if there is none. If no key has exactly this letter, the case of the letter
- * is ignored.
+ * Returns the board key that a keyboard key presses: the key with exactly this letter, the key with the legend in SPECIAL_KEYS, or a key
+ * whose letter differs only in case. Returns undefined if there is no such key.
  * @template {BoardKey} ShownKey
  * @param {ShownKey[]} keys
  * @param {string} keyboardKey the `key` of the keyboard event

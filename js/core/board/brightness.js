@@ -1,7 +1,7 @@
 // Computes the brightness of the lamps as an eye perceives it. A steady lamp is perceived as on or off at once. The brightness of a
 // flickering lamp follows its duty cycle. Earlier light fades with the persistence of vision (`EYE_PERSISTENCE_MS`).
 
-import { fittingGroups, isScanned } from "./face_board.js";
+import { fittingGroups, isMultiplexed } from "./face_board.js";
 import { UNLIT_PATTERN, isLit } from "./digit_patterns.js";
 import { EYE_PERSISTENCE_MS } from "../time/mcs4_time.js";
 
@@ -23,7 +23,7 @@ const LEVEL_THRESHOLDS = [0.01, 0.15, 0.6];
 export const FULL_LEVEL = LEVEL_THRESHOLDS.length;
 /** The smallest duty cycle or pattern share that is stored. Smaller values become 0. */
 const MIN_DUTY = 0.0001;
-/** The number of lamps in a digit: seven segments and the decimal point. */
+/** The number of lamps in a seven-segment digit with a decimal point. */
 const SEGMENT_COUNT = 8;
 
 /**
@@ -58,7 +58,7 @@ class SteadinessDetector {
    * Updates the current and the longest rest with the changes in a period.
    * @param {ChangeSummary} changes the changes in the period
    * @param {number} cycles the length of the period in cycles
-   * @param {number} time the length of the period in milliseconds; Infinity after a gap
+   * @param {number} time the length of the period in milliseconds; Infinity if earlier light must be ignored
    */
   add(changes, cycles, time) {
     if (time === Infinity) {
@@ -74,7 +74,8 @@ class SteadinessDetector {
     }
   }
 
-  get isStill() {
+  /** True if the lamp or display is steady. */
+  get isSteady() {
     return this.currentRest >= EYE_PERSISTENCE_MS || (this.currentRest >= MIN_REST_MS && this.currentRest > 2 * this.longestRest);
   }
 }
@@ -162,7 +163,7 @@ export class Brightness {
     const groups = fittingGroups(face, count);
     this.displays = groups.filter(({ kind }) => kind === "display");
     /** @type {number[][]} the duty cycles of the lamps in other multiplexed groups, row by row */
-    this.scannedGroups = groups.filter((group) => isScanned(group) && group.kind !== "display")
+    this.scannedGroups = groups.filter((group) => isMultiplexed(group) && group.kind !== "display")
       .map(({ rows, columns }) => new Array(rows * columns).fill(0));
     /** @type {PerceivedDigit[][]} */
     this.digits = [];
@@ -174,8 +175,8 @@ export class Brightness {
   }
 
   /**
-   * Resets the perceived picture to the lamps at one instant.
-   * @param {string} marks a `*` for each lamp that is on
+   * Resets the brightness to the state of the lamps at one instant.
+   * @param {string} marks one mark per lamp, `*` if the lamp is on
    */
   begin(marks) {
     this.isOn = this.lamps.map((_, at) => isLit(marks, at));
@@ -187,24 +188,24 @@ export class Brightness {
   }
 
   /**
-   * Adds the light of a period to the picture.
-   * @param {LitShares} litShares
-   * @param {number} time the length of the period in milliseconds; Infinity after a gap
+   * Updates the brightness with the light of a period.
+   * @param {LitShares} litShares the light
+   * @param {number} time the length of the period in milliseconds; Infinity if earlier light must be ignored
    */
   add(litShares, time) {
     const { cycles } = litShares;
     if (cycles === 0) return;
     const remainingShare = Math.exp(-time / EYE_PERSISTENCE_MS);
-    this.fade(this.lamps, litShares.lamps, cycles, remainingShare);
+    this.updateDuties(this.lamps, litShares.lamps, cycles, remainingShare);
     this.stillness.forEach((stillness, at) => {
       stillness.add(litShares.moved[at], cycles, time);
-      const { isStill } = stillness;
+      const { isSteady: isStill } = stillness;
       const isLitNow = isLit(litShares.marks, at);
       // A lamp that goes off fades, so that a short flash stays visible.
       if (isStill && isLitNow) this.lamps[at] = 1;
       this.isOn[at] = isStill ? isLitNow : this.lamps[at] >= MIN_ON_DUTY;
     });
-    this.scannedGroups.forEach((parts, at) => this.fade(parts, litShares.scanned[at], cycles, remainingShare));
+    this.scannedGroups.forEach((parts, at) => this.updateDuties(parts, litShares.scanned[at], cycles, remainingShare));
     litShares.displays.forEach((display, at) => {
       this.displayStillness[at].add(display.moved, cycles, time);
       this.addDisplay(at, display, cycles, remainingShare);
@@ -216,9 +217,9 @@ export class Brightness {
    * @param {number[]} duties the duty cycles, by lamp
    * @param {number[]} litCycles the number of cycles for which each lamp was on
    * @param {number} cycles the length of the period in cycles
-   * @param {number} remainingShare the share of the earlier picture that remains
+   * @param {number} remainingShare the share of the earlier light that remains, from 0 to 1
    */
-  fade(duties, litCycles, cycles, remainingShare) {
+  updateDuties(duties, litCycles, cycles, remainingShare) {
     for (let at = 0; at < duties.length; at++) {
       const duty = duties[at] * remainingShare + (litCycles[at] / cycles) * (1 - remainingShare);
       duties[at] = duty < MIN_DUTY ? 0 : duty;
@@ -228,12 +229,12 @@ export class Brightness {
   /**
    * Updates a display with the patterns of a period.
    * @param {number} displayIndex the index of the display
-   * @param {ShownDisplay} shown
+   * @param {ShownDisplay} shown the patterns
    * @param {number} cycles the length of the period in cycles
-   * @param {number} remainingShare the share of the earlier picture that remains
+   * @param {number} remainingShare the share of the earlier light that remains, from 0 to 1
    */
   addDisplay(displayIndex, { patterns, moved, shown }, cycles, remainingShare) {
-    const isStill = this.displayStillness[displayIndex].isStill && !isScanned(this.displays[displayIndex]);
+    const isStill = this.displayStillness[displayIndex].isSteady && !isMultiplexed(this.displays[displayIndex]);
     this.digits[displayIndex].forEach((digit, index) => {
       if (isStill) {
         digit.showSteady(patterns[index]);

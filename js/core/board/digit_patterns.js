@@ -7,9 +7,11 @@ import { SEGMENT_CHARACTERS } from "./face_words.js";
 
 /** The pattern of a minus sign: segment g. */
 export const MINUS_PATTERN = 64;
+/** The bit of the decimal point in a pattern. */
 export const POINT_BIT = 128;
 /** The pattern of a multiplexed digit that is not selected, because its digit line is 0. */
 export const UNLIT_PATTERN = -1;
+/** The character code of the mark for a lamp that is on. */
 const LIT_MARK_CODE = "*".charCodeAt(0);
 
 /** @type {Map<number, string>} the displayed characters, by seven-segment pattern */
@@ -38,8 +40,8 @@ export function isLit(marks, lamp) {
 }
 
 /**
- * Returns the pattern that seven consecutive lamps show, segment a first.
- * @param {string} marks
+ * Returns the pattern of seven consecutive lamps, of which the first is segment a.
+ * @param {string} marks one mark per lamp, `*` if the lamp is on
  * @param {number} firstLamp the number of the first lamp
  */
 function segmentsAt(marks, firstLamp) {
@@ -49,16 +51,16 @@ function segmentsAt(marks, firstLamp) {
 }
 
 /**
- * Returns whether a digit with this number of lamps has a decimal point.
- * @param {number} columns
+ * Returns whether a digit with a given number of lamps has a decimal point.
+ * @param {number} columns the number of lamps
  */
 export function hasPoints(columns) {
   return columns === 5 || columns === 8;
 }
 
 /**
- * Returns the binary value of four consecutive lamps, most significant bit first.
- * @param {string} marks
+ * Returns the binary value of four consecutive lamps, of which the first is the most significant bit.
+ * @param {string} marks one mark per lamp, `*` if the lamp is on
  * @param {number} firstLamp the number of the first lamp
  */
 function valueAt(marks, firstLamp) {
@@ -67,8 +69,8 @@ function valueAt(marks, firstLamp) {
 }
 
 /**
- * Returns the pattern of each digit of a display at one instant. A BCD display without multiplexing does not show leading zeros, and no
- * point after the last digit.
+ * Returns the pattern of each digit of a display at one instant. A BCD display without multiplexing shows neither leading zeros nor a point
+ * after the last digit.
  * @param {Group} display
  * @param {string} marks one mark per lamp, `*` if the lamp is on
  * @returns {number[]}
@@ -78,9 +80,9 @@ export function digitPatterns(display, marks) {
 }
 
 /**
- * Returns the patterns of multiplexed digits. Leading zeros are not blanked because all digits share their segment lines.
+ * Returns the patterns of multiplexed digits. Leading zeros stay visible, because all digits share their segment lines.
  * @param {Group} display
- * @param {string} marks
+ * @param {string} marks one mark per lamp, `*` if the lamp is on
  */
 function multiplexedPatterns({ first, rows, columns, by }, marks) {
   const value = valueAt(marks, first);
@@ -92,7 +94,7 @@ function multiplexedPatterns({ first, rows, columns, by }, marks) {
 /**
  * Returns the patterns of digits without multiplexing.
  * @param {Group} display
- * @param {string} marks
+ * @param {string} marks one mark per lamp, `*` if the lamp is on
  */
 function directPatterns({ first, rows, columns }, marks) {
   const patterns = [];
@@ -113,7 +115,7 @@ function directPatterns({ first, rows, columns }, marks) {
 }
 
 /**
- * Returns the number that the patterns show, without leading blanks and without a trailing point. An unknown pattern becomes `?`.
+ * Returns the number that the patterns show, as text, without leading blanks and without a trailing point. An unknown pattern becomes `?`.
  * @param {number[]} patterns
  */
 export function displayedNumber(patterns) {

@@ -16,20 +16,20 @@ export class DisplayText {
   }
 
   /**
-   * Returns the number on the displays and the names of the other lamps that are on. If the lamp `minus` is on, a minus precedes the
-   * number.
+   * Returns the number on the displays and the names of the other lamps that are on, at one instant. If the lamp `minus` is on, a minus
+   * sign precedes the number.
    * @param {string} marks one mark per lamp, `*` if the lamp is on
    */
   read(marks) {
-    return this.words(this.displays.map((display) => digitPatterns(display, marks)), (at) => isLit(marks, at));
+    return this.readPerceived(this.displays.map((display) => digitPatterns(display, marks)), (at) => isLit(marks, at));
   }
 
   /**
-   * Returns the number and the names, as `read` does, from perceived digit patterns and lamps.
-   * @param {number[][]} patterns the digit patterns, by display
+   * Returns the number and the names as perceived over time, in the same format as `read`.
+   * @param {number[][]} patterns the perceived patterns of the digits of each display
    * @param {(lamp: number) => boolean} isSeen returns whether a lamp is perceived as on
    */
-  words(patterns, isSeen) {
+  readPerceived(patterns, isSeen) {
     let minus = "";
     let names = "";
     for (const { at, text } of this.names) {
@@ -42,7 +42,7 @@ export class DisplayText {
 }
 
 /**
- * Joins the number and the names into one text.
+ * Joins the number on the displays and the lamp names into one text.
  * @param {{ number: string, names: string }} displayText
  */
 export function joinDisplayText({ number, names }) {

@@ -1,37 +1,40 @@
 // Parses the front panel of a board: the names, colours and positions in the comments of the board text. tools/lib/face.txt defines the
 // syntax.
 
-import { COLOURS, fitsHead, fitsWords, parseFaceLine, isNumber, limit, formatMessage, parseSize, splitWords } from "./face_words.js";
+import { COLOURS, fitsHead, fitsWords, parseFaceLine, isNumber, findLimit, formatMessage, parseSize, splitWords } from "./face_words.js";
 import { matrixKey, formatKey } from "./key_place.js";
 import * as say from "../../words/board.js";
 
 /**
- * An error in a line. `isFatal` is true if names or displays depend on the line; a tool that needs names or displays then rejects the
- * text.
+ * An error in a front-panel line. `isFatal` is true if names or displays depend on the line. A tool that needs names or displays then
+ * rejects the text.
  * @typedef {{ line: number, words: string, isFatal: boolean }} Fault
  * @typedef {import("./face_words.js").Kind} Kind
  * @typedef {import("./key_place.js").MatrixKey} MatrixKey
  * @typedef {{ text: string, line: number }} FaceText a name or a colour, and the number of its line
+ *
+ * A lamp on the grid, its position, and the number of its line.
  * @typedef {{ row: number, column: number, lamp: number, line: number }} GridLamp
  *
- * A group of lamps that starts at lamp `first`: a display, a die, a bar or a matrix. In a display, each row is a digit, with four or seven
- * columns and one more for a decimal point. If `by` is -1, each lamp of the group has its own line. Otherwise the group is multiplexed: it
- * has one board lamp per column, and one board lamp per row, starting at lamp `by`. A lamp of the group is on while the board lamps for its
- * row and its column are both on.
+ * A group of lamps that starts at lamp `first`: a display, a die, a bar or a matrix. In a display, each row is a digit with four or seven
+ * columns, plus one column if the digits have decimal points. If `by` is -1, each lamp of the group is a board lamp. Otherwise the group
+ * is multiplexed: it has one board lamp per column from lamp `first` on, and one board lamp per row from lamp `by` on. A lamp of the group
+ * is on while the board lamps for its row and its column are both on.
  * @typedef {{ kind: string, first: number, rows: number, columns: number, by: number, line: number }} Group
  *
- * The `button` or `switch` at the TEST pin. `level` is the TEST level while it is pressed.
+ * The `button` or `switch` (`kind`) at the TEST pin. `level` is the TEST level while the button is pressed or the switch is on.
  * @typedef {{ kind: string, name: string, level: number, line: number }} TestPin
  *
- * A front-panel line: its first word, the kind of that word, the second word, the text after the colon, and the line number.
+ * A front-panel line. `name` is its first word; `first` is the second word before the colon, "" for none; `words` is the text after the
+ * colon.
  * @typedef {{ name: string, kind: Kind, first: string, words: string, line: number }} Line
  *
- * A printer. At each rising edge of the strobe line, it prints the word for the code at its port.
+ * A printer. At each rising edge of the strobe line, the printer reads a code at its port, and prints the word for this code.
  * @typedef {{ strobe: string, port: string, words: string[], line: number }} Printer
  */
 
 /** The maximum total number of words in all lists of names, colours and positions. A board needs far fewer. */
-const MAX_WORDS = limit("words");
+const MAX_WORDS = findLimit("words");
 
 /** The front panel in a board's text. */
 export class Face {
@@ -52,28 +55,28 @@ export class Face {
     this.groups = [];
     /** @type {TestPin | null} */
     this.test = null;
-    /** @type {{ place: string, name: string, line: number } | null} the buzzer, and the output line whose edges drive it */
+    /** @type {{ place: string, name: string, line: number } | null} the buzzer; `place` is the output line that drives the buzzer */
     this.buzzer = null;
     /** @type {Printer | null} */
     this.printer = null;
-    /** @type {Map<string, FaceText>} the names of ports and chains, by identifier (`rom0`, `ram0.0`, `chain0`) */
+    /** @type {Map<string, FaceText>} the names of the devices at ports and chains, by port or chain (`rom0`, `ram0.0`, `chain0`) */
     this.ports = new Map();
     /** @type {Fault[]} */
     this.faults = [];
-    /** All front-panel lines as one text. Callers compare it to find changes of the front panel. */
+    /** All front-panel lines as one text. Callers compare this text to find changes of the front panel. */
     this.comments = "";
     /**
      * @type {Map<string, number>} the line numbers of definitions that a text can contain only once, by the identifier of the definition
      */
-    this.lines = new Map();
+    this.definitionLines = new Map();
     /** @type {{ row: number, column: number, word: string, line: number }[]} the words of grid lines, before lamp names are resolved */
     this.gridWords = [];
     /** True if names or displays depend on the current line. */
     this.isFatal = false;
     /** The number of words read from lists. Reading stops when the number exceeds MAX_WORDS. */
     this.wordCount = 0;
-    text.split("\n").forEach((line, at) => this.read(line.replace(/\r$/, ""), at + 1));
-    for (const word of this.gridWords) this.putOnGrid(word);
+    text.split("\n").forEach((line, at) => this.readLine(line.replace(/\r$/, ""), at + 1));
+    for (const word of this.gridWords) this.addToGrid(word);
   }
 
   /**
@@ -91,21 +94,21 @@ export class Face {
    * @param {string} name the identifier of the definition
    * @param {number} line
    * @param {string} messageName the name of the error message
-   * @param {...(string | number)} values values for the error message
+   * @param {...(string | number)} values the values for the error message; the line of the first definition is added as the last value
    */
   defineOnce(name, line, messageName, ...values) {
-    const firstLine = this.lines.get(name);
-    if (firstLine === undefined) this.lines.set(name, line);
+    const firstLine = this.definitionLines.get(name);
+    if (firstLine === undefined) this.definitionLines.set(name, line);
     else this.reportError(line, formatMessage(messageName, ...values, firstLine));
     return firstLine === undefined;
   }
 
   /**
-   * Reads a line of the board text.
+   * Reads a line of the board text, if it is a front-panel line.
    * @param {string} text
    * @param {number} line
    */
-  read(text, line) {
+  readLine(text, line) {
     const found = this.wordCount <= MAX_WORDS ? parseFaceLine(text) : null;
     if (!found) return;
     const { name, kind, first, last, words } = found;
@@ -153,13 +156,13 @@ export class Face {
   readLamps(first, text, line) {
     splitWords(text).forEach((name, at) => {
       if (name === "_") return;
-      const firstLine = this.lines.get(`lamp ${name}`);
+      const firstLine = this.definitionLines.get(`lamp ${name}`);
       const namedLamp = this.lamps.get(first + at);
       if (firstLine !== undefined) this.reportError(line, formatMessage("second name", name, firstLine));
       else if (/^[*.?-]+$/.test(name)) this.reportError(line, formatMessage("a pattern", name));
       else if (namedLamp) this.reportError(line, formatMessage("named before", first + at, namedLamp.text));
       else {
-        this.lines.set(`lamp ${name}`, line);
+        this.definitionLines.set(`lamp ${name}`, line);
         this.lamps.set(first + at, { text: name, line });
         this.lampNumbers.set(name, first + at);
       }
@@ -217,7 +220,7 @@ export class Face {
    * @param {number} line
    */
   readGrid(row, text, line) {
-    if (row >= limit("rows")) this.reportError(line, formatMessage("no such row"));
+    if (row >= findLimit("rows")) this.reportError(line, formatMessage("no such row"));
     else if (this.defineOnce(`grid ${row}`, line, "second row of grid", row)) {
       splitWords(text).forEach((word, column) => {
         if (word !== "_") this.gridWords.push({ row, column, word, line });
@@ -226,10 +229,10 @@ export class Face {
   }
 
   /**
-   * Puts the lamp that a word names or numbers on the grid. All lamp names must be known before this call.
-   * @param {{ row: number, column: number, word: string, line: number }} word
+   * Adds a lamp to the grid. All lamp names must be known before this call.
+   * @param {{ row: number, column: number, word: string, line: number }} gridWord `word` is the name or number of the lamp
    */
-  putOnGrid({ row, column, word, line }) {
+  addToGrid({ row, column, word, line }) {
     const named = this.lampNumbers.get(word);
     if (named !== undefined) this.grid.push({ row, column, lamp: named, line });
     else if (isNumber(word)) this.grid.push({ row, column, lamp: Number(word), line });
@@ -253,7 +256,7 @@ export class Face {
    */
   checkMultiplexing({ kind, first, rows, columns, by, line }) {
     const [row, column] = kind === "display" ? ["digits", say.A_SEGMENT] : ["rows", say.A_COLUMN];
-    const max = limit("scanned");
+    const max = findLimit("scanned");
     const fits = rows <= max && columns <= max;
     const sharedLamp = Math.max(first, by);
     const isShared = sharedLamp < Math.min(first + columns, by + rows);
@@ -293,13 +296,13 @@ export class Face {
   readPrinter(strobe, text, line) {
     const [port, ...words] = splitWords(text);
     if (!this.defineOnce("printer", line, "second printer")) return;
-    if (words.length > limit("codes")) this.reportError(line, formatMessage("too many codes", words.length));
+    if (words.length > findLimit("codes")) this.reportError(line, formatMessage("too many codes", words.length));
     else if (strobe.startsWith(`${port}.`)) this.reportError(line, formatMessage("strobe in code", strobe));
     else this.printer = { strobe, port, words, line };
   }
 
   /**
-   * Reads the name of a port or a chain.
+   * Reads the name of the device at a port or a chain.
    * @param {string} port `rom0`, `ram0.0` or `chain0`
    * @param {string} text
    * @param {number} line
@@ -318,7 +321,7 @@ function* repeatWord(word, count) {
   for (let at = 0; at < count; at++) yield word;
 }
 
-/** @type {(face: Face, line: Line) => void} reads a group of lamps */
+/** @type {(face: Face, line: Line) => void} reads the line of a group of lamps */
 const readGroup = (face, line) => face.readGroup(line);
 
 /**
@@ -348,7 +351,7 @@ export function findFaceErrors(text) {
 }
 
 /**
- * Returns a message with the number of errors beyond a maximum; "" if all errors are listed.
+ * Returns a message with the number of errors that a list omits; "" if it omits none.
  * @param {unknown[]} faults
  * @param {number} maxListed the maximum number of listed errors
  */

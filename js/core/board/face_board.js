@@ -1,5 +1,5 @@
-// Compares a front panel with its board. Finds front-panel parts that the board lacks. Returns the groups, names and colours of the lamps
-// that the board has.
+// Compares a front panel with its board. Finds the front-panel parts whose keys, lamps, lines or chips the board lacks. Returns the groups,
+// names and colours of the lamps on the board.
 
 import { sortByLine } from "./face.js";
 import { LINE_KINDS, formatMessage } from "./face_words.js";
@@ -16,12 +16,12 @@ import { indices } from "../bench/numbers.js";
 /**
  * Returns whether the board has a ROM (`rom0`), RAM chip (`ram0.0`) or chain (`chain0`).
  * @param {Board} board
- * @param {string} place
+ * @param {string} part
  */
-function hasPart(board, place) {
-  const [first, second] = place.replace(/[a-z]/g, "").split(".").map(Number);
-  if (place.startsWith("rom")) return board.roms.some(({ chip }) => Number(chip) === first);
-  if (place.startsWith("chain")) return first < board.chains.length;
+function hasPart(board, part) {
+  const [first, second] = part.replace(/[a-z]/g, "").split(".").map(Number);
+  if (part.startsWith("rom")) return board.roms.some(({ chip }) => Number(chip) === first);
+  if (part.startsWith("chain")) return first < board.chains.length;
   return board.banks.some(({ bank, chips }) => Number(bank) === first && second < chips);
 }
 
@@ -57,7 +57,7 @@ export function findPrinter(board, { printer }) {
 }
 
 /**
- * Returns the number of the lamp that follows a group.
+ * Returns the highest lamp number of a group, plus 1.
  * @param {Group} group
  */
 export function groupEnd({ first, rows, columns, by }) {
@@ -69,12 +69,12 @@ export function groupEnd({ first, rows, columns, by }) {
  * @param {Group} group
  */
 export function groupLamps({ first, rows, columns, by }) {
-  const numbersFrom = (/** @type {number} */ begin, /** @type {number} */ count) => indices(count).map((at) => begin + at);
+  const numbersFrom = (/** @type {number} */ start, /** @type {number} */ count) => indices(count).map((at) => start + at);
   return by < 0 ? numbersFrom(first, rows * columns) : [...numbersFrom(first, columns), ...numbersFrom(by, rows)];
 }
 
 /** @type {(group: Group) => boolean} returns whether a group is multiplexed */
-export const isScanned = ({ by }) => by >= 0;
+export const isMultiplexed = ({ by }) => by >= 0;
 
 /**
  * Returns the groups whose lamps are all on the board.
@@ -94,7 +94,7 @@ export function minusLamp({ lampNumbers }) {
 }
 
 /**
- * Returns the numbers of lamps that are neither in a group nor on the grid. The minus lamp belongs to the display.
+ * Returns the numbers of the lamps that are neither in a group nor on the grid. If there is a display, the minus lamp counts as part of it.
  * @param {Face} face
  * @param {number} count the number of lamps on the board
  */
@@ -114,7 +114,7 @@ export function printerLines({ strobe, port }) {
 }
 
 /**
- * Returns an error for each front-panel part that the board lacks, sorted by line.
+ * Returns an error for each front-panel part whose keys, lamps, lines or chips the board lacks, sorted by line.
  * @param {Face} face
  * @param {Board} board
  * @returns {Fault[]}
@@ -123,26 +123,26 @@ export function missingParts(face, board) {
   /** @type {Fault[]} */
   const faults = [];
   const count = board.lamps.length;
-  /** @type {(kind: string, line: number, words: string, ...about: (string | number)[]) => void} */
-  const add = (kind, line, words, ...about) => {
-    faults.push({ line, words: formatMessage(words, ...about), isFatal: isFatal(kind) });
+  /** @type {(kind: string, line: number, messageName: string, ...values: (string | number)[]) => void} */
+  const addFault = (kind, line, messageName, ...values) => {
+    faults.push({ line, words: formatMessage(messageName, ...values), isFatal: isFatal(kind) });
   };
   for (const { text, line, key: { row, column } } of face.keys.values()) {
     if (text === "" || (row < board.rows && column < board.columns)) continue;
-    add("row", line, board.rows ? "key not there" : "no keys", text, row, column, board.rows, board.columns);
+    addFault("row", line, board.rows ? "key not there" : "no keys", text, row, column, board.rows, board.columns);
   }
-  for (const [lamp, { text, line }] of face.lamps) if (lamp >= count) add("lamp", line, "lamp not there", text, lamp, count);
-  for (const [line, lamp] of lastColouredLamps(face)) if (lamp >= count) add("colour", line, "no lamp for colour", lamp, count);
-  for (const { lamp, line } of face.grid) if (lamp >= count) add("grid", line, "no lamp for place", lamp, count);
+  for (const [lamp, { text, line }] of face.lamps) if (lamp >= count) addFault("lamp", line, "lamp not there", text, lamp, count);
+  for (const [line, lamp] of lastColouredLamps(face)) if (lamp >= count) addFault("colour", line, "no lamp for colour", lamp, count);
+  for (const { lamp, line } of face.grid) if (lamp >= count) addFault("grid", line, "no lamp for place", lamp, count);
   for (const group of face.groups) {
-    if (groupEnd(group) > count) add(group.kind, group.line, "no lamps for group", group.kind, groupEnd(group) - 1, count);
+    if (groupEnd(group) > count) addFault(group.kind, group.line, "no lamps for group", group.kind, groupEnd(group) - 1, count);
   }
   const { buzzer } = face;
-  if (buzzer && !hasOutput(board, buzzer.place)) add("buzzer", buzzer.line, "no output line", buzzer.place);
+  if (buzzer && !hasOutput(board, buzzer.place)) addFault("buzzer", buzzer.line, "no output line", buzzer.place);
   const { printer } = face;
   const missingLine = printer && printerLines(printer).find((line) => !hasOutput(board, line));
-  if (printer && missingLine) add("printer", printer.line, "no output line", missingLine);
-  for (const [place, { line }] of face.ports) if (!hasPart(board, place)) add("port", line, "port not there", place);
+  if (printer && missingLine) addFault("printer", printer.line, "no output line", missingLine);
+  for (const [place, { line }] of face.ports) if (!hasPart(board, place)) addFault("port", line, "port not there", place);
   return sortByLine(faults);
 }
 

@@ -5,9 +5,9 @@ import table from "#face-table";
 
 /**
  * A kind of front-panel line. `head`: the form of the text between the first word and the colon (`N`, `N to N`, `place`, `line`, or `-` for
- * none). `counts`: true if the words count towards the limit. `isFatal`: true if names or displays depend on the line. `size`: the
- * meaning of the numbers after the colon (`lamps`, `digits` or `rows`), `-` if they are no size. `words`: the pattern of the text after the
- * colon, null for any text. `form` and `other`: the messages for a wrong head and for wrong words.
+ * none). `counts`: true if the words count towards the maximum number of words. `isFatal`: true if names or displays depend on the line.
+ * `size`: the meaning of the numbers after the colon (`lamps`, `digits` or `rows`), `-` if the line has no size. `words`: the pattern of
+ * the text after the colon, null for any text. `form` and `other`: the error messages for a wrong head and for wrong words.
  * @typedef {{ head: string, counts: boolean, isFatal: boolean, size: string, words: RegExp | null, form: string, other: string }} Kind
  */
 
@@ -15,7 +15,7 @@ import table from "#face-table";
 const rows = table.split("\n").filter((line) => line !== "" && !line.startsWith("#")).map((line) => line.split("\t"));
 
 /**
- * Returns the rows of the table that start with a word. The word is removed.
+ * Returns the rows of the table that start with a word, without this word.
  * @param {string} word
  */
 const tableRows = (word) => rows.filter((row) => row[0] === word).map((row) => row.slice(1));
@@ -42,15 +42,15 @@ export const SEGMENT_CHARACTERS = new Map(tableRows("digit").map(([marks, sign])
 const LIMITS = new Map(tableRows("limit").map(([name, number]) => [name, Number(number)]));
 /** The patterns of the text between the first word and the colon, by name. */
 const HEADS = new Map(tableRows("head").map(([name, expression]) => [name, new RegExp(expression)]));
-/** Maps each synonym to the first word that it replaces. */
+/** The first word of a line that each synonym replaces. */
 const SYNONYMS = new Map(tableRows("other").map(([word, meant]) => [word, meant]));
 /** The error messages, by name. */
 const MESSAGES = new Map(tableRows("say").map(([name, words]) => [name, words]));
 /** Matches a front-panel line: the first word, the number or place, the number after `to`, and the text after the colon. */
 const FACE_LINE = /^[ \t]*#[ \t]*([A-Za-z]+)(?:[ \t]+([^ \t:]+)(?:[ \t]+to[ \t]+([^ \t:]+))?)?[ \t]*:(.*)$/i;
 
-/** @type {(name: string) => number} returns the value of a limit in the table */
-export const limit = (name) => LIMITS.get(name) || 0;
+/** @type {(name: string) => number} returns the value of a limit in the table; 0 for an unknown name */
+export const findLimit = (name) => LIMITS.get(name) || 0;
 
 /**
  * Returns an error message.
@@ -69,7 +69,7 @@ export const splitWords = (text) => text.split(/[ \t]+/).filter(Boolean);
 export const isNumber = (word) => matchesHead("N", word);
 
 /**
- * Returns whether a word matches a head pattern.
+ * Returns whether a word before the colon matches a head pattern.
  * @param {string} name the name of the pattern
  * @param {string | undefined} word
  */
@@ -81,7 +81,7 @@ function matchesHead(name, word) {
 /**
  * Returns whether the text between the first word and the colon is correct.
  * @param {Kind} kind the kind of the line
- * @param {string | undefined} first
+ * @param {string | undefined} first the word after the first word of the line
  * @param {string | undefined} last the word after `to`
  */
 export function fitsHead({ head }, first, last) {
@@ -91,7 +91,7 @@ export function fitsHead({ head }, first, last) {
 }
 
 /**
- * Returns whether the words after the colon are correct for a kind of line.
+ * Returns whether the words after the colon match the pattern of a kind of line.
  * @param {Kind} kind
  * @param {string[]} words
  */

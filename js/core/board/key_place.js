@@ -1,10 +1,11 @@
-// Defines the keys of a board: a key is at a row and a column, or at the TEST pin. Only this module converts keys to text and back.
+// Defines the keys of a board. A key is at a row and a column of the key matrix, or at the TEST pin. Only this module converts keys to text
+// and back.
 
 /**
  * A matrix key: its row and column, from 0.
  * @typedef {{ kind: "matrix", row: number, column: number }} MatrixKey
  *
- * The key at the TEST pin. `level` is the pin level while the key is pressed, 0 or 1.
+ * The key at the TEST pin. `level` is the level of the pin while the key is pressed, 0 or 1.
  * @typedef {{ kind: "pin", level: number }} PinKey
  *
  * @typedef {MatrixKey | PinKey} Key
@@ -43,7 +44,7 @@ export function isSameKey(one, other) {
 }
 
 /**
- * Returns a key as text: `0 2`, as in bench lines, or `test 0`.
+ * Returns a key as text: `0 2` for row 0, column 2, as in bench lines; `test 0` for a key at the TEST pin with level 0.
  * @param {Key} key
  */
 export function formatKey(key) {
@@ -71,7 +72,7 @@ export function keyLine(word, key) {
   return `test ${word === "press" ? key.level : 1 - key.level}`;
 }
 
-/** The set of pressed matrix keys, as reported by the bench. */
+/** The set of matrix keys that the bench reports as pressed. */
 export class PressedKeys {
   /** @param {string[]} items the pressed keys: `0.2` for row 0, column 2 */
   constructor(items = []) {

@@ -1,5 +1,5 @@
-// Converts answers about lamps to display text. An answer to `lamps` gives the text at one instant. An answer to `trace` with `lamps` as
-// its only place gives the perceived text over the traced time.
+// Converts answers about lamps to display text. An answer to `lamps` contains the lamps at one instant. From an answer to `trace` with
+// `lamps` as its only place, this module computes the text as perceived over the traced time.
 
 import { PerceivedText, hasScannedDisplay } from "../engine/perceived_text.js";
 import { DisplayText, joinDisplayText } from "./display_text.js";
@@ -10,7 +10,7 @@ import * as say from "../../words/board.js";
  * @typedef {import("../bench/answers.js").Board} Board
  * @typedef {import("./face.js").Face} Face
  *
- * The display texts, one for each answer about lamps. `words` is an error message, or "".
+ * The display texts, one for each answer about lamps. `words` is an error message, or ""; with an error, there are no texts.
  * @typedef {{ lines: string[], words: string }} DisplayTexts
  */
 
@@ -38,7 +38,7 @@ class LampAnswerReader {
   }
 
   /**
-   * Returns an error message if the displays need more lamps, otherwise "".
+   * Returns an error message if the displays need more lamps than an answer contains; otherwise "".
    * @param {string} marks one mark per lamp, `*` if the lamp is on; `-` if the board has no lamps
    * @param {number} line the line number of the answer
    */
@@ -48,13 +48,13 @@ class LampAnswerReader {
   }
 
   /**
-   * Converts the answer that starts at an index of `answers`.
+   * Converts the answer that starts at an index of `answers` to display text.
    * @param {string[]} answers
    * @param {number} index
    * @returns {{ text: string, words: string, count: number }} `count` is the number of lines in the answer, 0 if the answer is not about
    *   lamps
    */
-  read(answers, index) {
+  readAnswer(answers, index) {
     const makeFailure = (/** @type {string} */ error) => ({ text: "", words: error, count: 1 });
     const answer = answers[index];
     if (REFUSAL_ANSWER.test(answer)) return makeFailure(say.isRefusal(index + 1, answer));
@@ -87,7 +87,7 @@ export function convertLampAnswers(face, board, name, answers) {
   /** @type {string[]} */
   const lines = [];
   for (let at = 0; at < answers.length;) {
-    const { text, words, count } = reader.read(answers, at);
+    const { text, words, count } = reader.readAnswer(answers, at);
     if (words !== "") return { lines: [], words };
     if (count > 0) lines.push(text);
     at += Math.max(1, count);

@@ -1,4 +1,4 @@
-// Reads the state of a lamp at one instant, and as perceived over time.
+// Reads the state of a lamp: at one instant, or as perceived over time.
 
 import { MIN_ON_DUTY } from "./brightness.js";
 import { isLit } from "./digit_patterns.js";
@@ -6,19 +6,19 @@ import { isLit } from "./digit_patterns.js";
 /**
  * @typedef {import("./brightness.js").Brightness} Brightness
  *
- * The functions that read a lamp. `isLit` returns whether the lamp is on at one instant, from a text with one mark per lamp. `part` returns
- * the duty cycle, from 0 to 1. `isOn` returns whether the lamp is perceived as on.
- * @typedef {{ isLit: (marks: string) => boolean, part: (brightness: Brightness) => number,
+ * The functions that read the state of a lamp. `isLit` returns whether the lamp is on at one instant, from a text with one mark per lamp.
+ * `part` returns the perceived duty cycle, from 0 to 1. `isOn` returns whether the lamp is perceived as on.
+ * @typedef {{ isLit: (marks: string) => boolean, duty: (brightness: Brightness) => number,
  *   isOn: (brightness: Brightness) => boolean }} LampReader
  */
 
 /**
- * Returns the functions that read the lamp with a number.
- * @param {number} lamp
+ * Returns the functions that read a board lamp.
+ * @param {number} lamp the lamp number
  * @returns {LampReader}
  */
 export function lampAt(lamp) {
-  return { isLit: (marks) => isLit(marks, lamp), part: ({ lamps }) => lamps[lamp], isOn: ({ isOn }) => isOn[lamp] };
+  return { isLit: (marks) => isLit(marks, lamp), duty: ({ lamps }) => lamps[lamp], isOn: ({ isOn }) => isOn[lamp] };
 }
 
 /**
@@ -27,14 +27,14 @@ export function lampAt(lamp) {
  * @param {import("./face.js").Group} group
  * @param {number} number the index of the group in the list of multiplexed groups that are not displays
  * @param {number} index the lamp's index in the group, row by row
- * @returns {LampReader & { column: number, row: number }} `column` and `row` are the board lamps that select it
+ * @returns {LampReader & { column: number, row: number }} `column` and `row` are the board lamps that select the lamp
  */
 export function scannedLampAt({ first, rows, columns, by }, number, index) {
   const [column, row] = [first + (index % columns), by + Math.floor(index / columns)];
-  /** @type {LampReader["part"]} */
+  /** @type {LampReader["duty"]} */
   const part = ({ scannedGroups }) => Math.min(1, scannedGroups[number][index] * rows);
   return {
-    column, row, part,
+    column, row, duty: part,
     isLit: (marks) => isLit(marks, column) && isLit(marks, row),
     isOn: (brightness) => part(brightness) >= MIN_ON_DUTY,
   };

@@ -1,5 +1,5 @@
-// Predicts which keys will be pressed after all pending changes. These are the changes in transit to the worker, and the changes in the
-// worker's queue. Without this prediction, a key that the user clicks twice in quick succession could stay pressed.
+// Predicts which keys will be pressed after all pending changes: the changes in transit to the worker, and the changes in the worker's
+// queue. Without this prediction, a key that the user clicks twice in quick succession could stay pressed.
 
 import { isSameKey } from "./key_place.js";
 
@@ -16,7 +16,7 @@ export class PendingKeys {
     /** @type {Change[]} the worker's queue in its last report */
     this.waitingChanges = [];
     /** @type {RequestedChange[]} the changes in transit to the worker */
-    this.sent = [];
+    this.changesInTransit = [];
   }
 
   /**
@@ -24,9 +24,9 @@ export class PendingKeys {
    * @param {RequestedChange} change
    */
   send(change) {
-    this.sent.push(change);
+    this.changesInTransit.push(change);
     return () => {
-      this.sent = this.sent.filter((each) => each !== change);
+      this.changesInTransit = this.changesInTransit.filter((each) => each !== change);
     };
   }
 
@@ -37,7 +37,7 @@ export class PendingKeys {
    */
   willBeDown(key, isDown) {
     /** @type {RequestedChange[]} */
-    const all = [...this.waitingChanges, ...this.sent];
+    const all = [...this.waitingChanges, ...this.changesInTransit];
     const last = all.filter((each) => isSameKey(each.key, key)).pop();
     return last && last.word !== "forget" ? last.word === "press" : isDown;
   }

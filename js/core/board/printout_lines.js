@@ -7,15 +7,15 @@ const FEED_WORD = "feed";
 
 /**
  * Returns the text that is printed for a word; `?` if the front panel defines no word for the code.
- * @param {string | undefined} word
+ * @param {string | undefined} word the front-panel word
  */
 function printedText(word) {
   return word === undefined ? "?" : word.replace(/_/g, " ");
 }
 
 /**
- * Returns the lines of the printout. Further codes can extend the last line.
- * @param {number[]} codes
+ * Returns the lines of the printout. Later codes can extend the last line.
+ * @param {number[]} codes the codes that the printer has received
  * @param {string[]} words the words for the codes, by code
  */
 export function printoutLines(codes, words) {

@@ -1,4 +1,4 @@
-// Converts the levels of the buzzer's signal line to sound samples, one per cycle.
+// Converts the levels of the buzzer's signal line to sound samples, one sample per cycle.
 
 /** @typedef {import("../engine/buzzer_meter.js").BuzzerLevels} BuzzerLevels */
 
@@ -17,7 +17,7 @@ export function soundSamples({ cycles, level, edges }) {
 }
 
 /** Collects samples until there are enough for playback. */
-export class SoundPieces {
+export class SampleBuffer {
   /** @param {number} minSamples the minimum number of samples for playback */
   constructor(minSamples) {
     this.minSamples = minSamples;

@@ -1,5 +1,5 @@
-// Computes the routes of wires in the wiring diagram, in SVG units. A wire runs directly to its pin. If a part is in the way, the wire runs
-// above or below that part. If the user has moved parts, a wire can run from right to left. This module does not draw.
+// Computes the routes of wires in the wiring diagram, in SVG units. A wire runs directly from pin to pin. If a part is in the way, the wire
+// runs above or below that part. If the user has moved parts, a wire can run from right to left. This module does not draw.
 
 /**
  * @typedef {import("./wiring.js").Point} Point
@@ -9,15 +9,15 @@
  * @typedef {[Point, Point, Point, Point]} Curve a cubic Bezier curve: its start, two control points, and its end
  */
 
-/** The distance from a pin to a control point, for wires within one column or from right to left. */
+/** The horizontal distance from a pin to a control point, in arcs within one column and in detours that do not run to the right. */
 const CONTROL_OFFSET = 12;
 /** The distance from pins and parts to the turning points of a wire. */
 const TURN_DISTANCE = 8;
-/** The minimum distance from a pin to a control point, for all other wires. */
+/** The minimum horizontal distance from a pin to a control point, in all other direct curves. */
 const MIN_CONTROL_OFFSET = 30;
 /** The distance between a wire and the part that it passes. */
 const LANE_DISTANCE = 5;
-/** The offsets that separate several wires which pass the same part. A lane is the horizontal line along which a wire passes a part. */
+/** The offsets that separate the wires along the same part. A lane is the horizontal line along which a wire passes a part. */
 const LANE_OFFSETS = [0, -2, 2, -4, 4];
 /** The number of intervals into which a curve is divided to test whether a part covers it. */
 const SAMPLE_INTERVALS = 24;
@@ -34,7 +34,7 @@ function directCurve({ from, to }) {
 }
 
 /**
- * Returns a curve with horizontal ends.
+ * Returns a curve that is horizontal at both ends.
  * @param {Point} from
  * @param {Point} to
  * @returns {Curve}
@@ -70,7 +70,7 @@ function isInside({ x, y }, box) {
 /**
  * Returns whether a part covers any sampled point of a curve.
  * @param {Curve} curve
- * @param {Box} box
+ * @param {Box} box the box of the part
  */
 export function isCurveCovered(curve, box) {
   return Array.from({ length: SAMPLE_INTERVALS - 1 }, (_, at) => pointAt(curve, (at + 1) / SAMPLE_INTERVALS))
@@ -80,7 +80,7 @@ export function isCurveCovered(curve, box) {
 /**
  * Returns the y coordinates of the lanes above and below each part, shortest detour first.
  * @param {Ends} ends
- * @param {Box[]} boxes
+ * @param {Box[]} boxes the boxes of the parts
  */
 function sortedLanes({ from, to }, boxes) {
   /** @type {(lane: number) => number} */
@@ -90,9 +90,9 @@ function sortedLanes({ from, to }, boxes) {
 }
 
 /**
- * Returns the y coordinate of the shortest lane that avoids all parts between the ends.
+ * Returns the y coordinate of the lane with the shortest detour that avoids all parts between the ends.
  * @param {Ends} ends
- * @param {Box[]} boxesBetween
+ * @param {Box[]} boxesBetween the boxes of the parts between the ends
  */
 function laneAround({ from, to }, boxesBetween) {
   const lanes = boxesBetween.flatMap(({ y, height }) => [y - LANE_DISTANCE, y + height + LANE_DISTANCE]);
@@ -115,8 +115,8 @@ function turningRoute({ from, to }, y, left, right) {
 }
 
 /**
- * Returns the curves of a wire that turns near its pins. The wire leaves to the right and arrives from the left. Between the two turns it
- * can run from right to left.
+ * Returns the curves of a wire that turns near its pins. The wire leaves its start to the right and reaches its end from the left. Between
+ * the two turns, the wire can run from right to left.
  * @param {Ends} ends
  * @param {number} y the y coordinate of the horizontal section
  * @returns {Curve[]}
@@ -133,10 +133,10 @@ function detourRoute(ends, y) {
 }
 
 /**
- * Returns the curves of a wire: the first route that no part covers. If there is no such route, returns the direct curve.
+ * Returns the curves of a wire. They form the first possible route that no part covers, or else the direct curve.
  * @param {Ends} ends
  * @param {Box[]} boxes the boxes of the parts
- * @param {number} number the wire number; it selects the offset that separates wires along the same part
+ * @param {number} number the number of the wire, which selects its offset in LANE_OFFSETS
  * @returns {Curve[]}
  */
 export function routeWire(ends, boxes, number) {

@@ -1,16 +1,16 @@
-// Finds the board text that the bench's current board was made from. The comments in that text define the front panel, even if the text in
-// the editor has changed since. The page stores the text with the session, because the bench does not store it.
+// Finds the board text from which the bench has wired its current board. The comments in that text define the front panel, even if the
+// text in the editor has changed since. The page stores the text with the session, because the bench does not store it.
 
 import { BoardDraft } from "../drawing/board_draft.js";
 import { sentText } from "../text/sendable_text.js";
 
 /** @typedef {{ text: string, board: string }} WiredText a board text, and the bench's answer to `board` after it wired the text */
 
-/** The maximum number of stored texts: a move back in time can return to an earlier board. */
+/** The maximum number of stored texts. Earlier texts are stored because a move back in time can return to an earlier board. */
 const MAX_TEXTS = 4;
 
 /**
- * Returns whether a text describes the same board as a wired text. Comments are ignored.
+ * Returns whether two board texts describe the same board. Ignores comments.
  * @param {string} text
  * @param {WiredText} wiredText
  */
@@ -19,10 +19,10 @@ export function describesBoard(text, wiredText) {
 }
 
 /**
- * Returns the text of the board in the bench; "" if it is unknown.
+ * Returns the text of the board in the bench, with the board. The text is "" if it is unknown.
  * @param {string[]} answers the answer to `board`
  * @param {string} text the text in the editor
- * @param {WiredText[] | undefined} storedTexts the texts that the session stores; if undefined, the function returns the editor's text
+ * @param {WiredText[] | undefined} storedTexts the texts that the session stores; if undefined, the text in the editor is the result
  * @returns {WiredText}
  */
 export function currentWiredText(answers, text, storedTexts) {
@@ -33,8 +33,8 @@ export function currentWiredText(answers, text, storedTexts) {
 
 /**
  * Returns the texts that the session stores after a board is wired, newest first.
- * @param {WiredText} wiredText
- * @param {WiredText[]} [storedTexts]
+ * @param {WiredText} wiredText the text of the board
+ * @param {WiredText[]} [storedTexts] the texts that the session has stored before
  */
 export function textsToStore(wiredText, storedTexts = []) {
   return [wiredText, ...storedTexts.filter(({ board }) => board !== wiredText.board)].slice(0, MAX_TEXTS);

@@ -7,11 +7,11 @@ import * as say from "../../words/board.js";
 /**
  * @typedef {import("../bench/answers.js").Board} Board
  * @typedef {import("./face.js").TestPin} TestPin
- * @typedef {{ place: string, name: string }} Buzzer
+ * @typedef {{ place: string, name: string }} Buzzer a buzzer: the output line that drives it, and its name
  *
- * A pin of a part. `line` is the signal line at the pin ("" for the TEST pin). For a port pin or a chain bit, `id` is the name of the line;
- * otherwise it names the function: `clock 0`, `data 0`, `row 1`, `column 2`, `lamp 3` or `buzzer 0`. `colour` is the lamp colour. `number`
- * is the pin number on the 16-pin chip package.
+ * A pin of a part. `line` is the signal line at the pin ("" for the TEST pin). For a port pin or a chain bit, `id` is the name of the line.
+ * For any other pin, `id` is its function: `clock 0`, `data 0`, `row 1`, `column 2`, `lamp 3`, `buzzer 0`, `test` or `TEST`. `colour` is
+ * the lamp colour. `number` is the pin number on the 16-pin chip package.
  * @typedef {{ id: string, line: string, label: string, colour?: string, number?: number, x: number, y: number }} Pin
  * @typedef {Omit<Pin, "x" | "y">} UnplacedPin
  *
@@ -24,8 +24,8 @@ import * as say from "../../words/board.js";
  * @typedef {{ line: string, from: Pin, to: Pin }} Wire
  * @typedef {{ parts: Part[], wires: Wire[], width: number, height: number }} WiringDiagram
  *
- * The front-panel parts in the diagram. `names` and `colours` are those of the lamps, "" for none. `test` is the button or switch at the
- * TEST pin.
+ * The front-panel parts in the diagram. `names` and `colours` are the names and colours of the lamps by number, "" for none. `test` is the
+ * button or switch at the TEST pin.
  * @typedef {{ names: string[], colours: string[], test: TestPin | null, buzzer: Buzzer | null }} Appearance
  *
  * @typedef {{ x: number, y: number }} Point
@@ -41,15 +41,15 @@ const PART_GAP = 14;
 const MARGIN = 10;
 /** The maximum number of unused bits that the diagram shows for each chain, so that the user can wire them. */
 const MAX_UNUSED_BITS = 6;
-/** The columns of the diagram, from left to right: their widths, and the space for wires to their left (`room`), in SVG units. */
+/** The columns of the diagram, from left to right: their widths, and the space for wires to the left of each column, in SVG units. */
 const DIAGRAM_COLUMNS = [
-  { room: 0, width: 84 },
-  { room: 24, width: 112 },
-  { room: 80, width: 138 },
-  { room: 90, width: 150 },
+  { wireSpace: 0, width: 84 },
+  { wireSpace: 24, width: 112 },
+  { wireSpace: 80, width: 138 },
+  { wireSpace: 90, width: 150 },
 ];
 
-/** The maximum length of a title in the first column, in characters. */
+/** The maximum length of the title of the button or switch at the TEST pin, in characters. */
 const MAX_TITLE_LENGTH = 11;
 
 /**
@@ -92,7 +92,7 @@ class Column {
   }
 }
 
-/** The uses of each signal line of a board: the inputs that the line drives. */
+/** The uses of each signal line of a board: descriptions of the inputs to which the line is connected. */
 class LineUses {
   /**
    * @param {Board} board
@@ -132,7 +132,7 @@ class LineUses {
   }
 
   /**
-   * Returns the rank of a line. The order is that of first use: clock and data lines, rows, columns, lamps.
+   * Returns the rank of a line in the order of first use: clock and data lines, rows, columns, lamps, buzzer.
    * @param {string} line
    */
   usageRank(line) {
@@ -149,7 +149,7 @@ class LineUses {
 
   /**
    * Returns a sentence that describes the uses of a line.
-   * @param {string} name the name of the line or its pin
+   * @param {string} name the name of the line or of its pin, for the sentence
    * @param {string} line
    */
   describe(name, line) {
@@ -282,7 +282,8 @@ function addBuzzer(column, { place, name }) {
 }
 
 /**
- * Returns all wires. A wire runs from the pin of the port or chain that owns the line to each other pin on the line.
+ * Returns all wires. A wire runs from the port pin or chain bit of a signal line to each other pin on the line. Another wire runs from the
+ * button or switch to the TEST pin.
  * @param {Part[]} parts
  */
 function collectWires(parts) {
@@ -306,19 +307,19 @@ function collectWires(parts) {
 
 /**
  * Returns the columns of the diagram. An empty column takes no space.
- * @param {boolean[]} isUsed true for each column with parts
+ * @param {boolean[]} isUsed for each column, whether it contains parts
  */
 function layOutColumns(isUsed) {
   let right = MARGIN;
-  return DIAGRAM_COLUMNS.map(({ room, width }, at) => {
-    const column = new Column(right + room, width);
-    if (isUsed[at]) right += room + width;
+  return DIAGRAM_COLUMNS.map(({ wireSpace, width }, at) => {
+    const column = new Column(right + wireSpace, width);
+    if (isUsed[at]) right += wireSpace + width;
     return column;
   });
 }
 
 /**
- * Moves parts with their pins to the positions to which the user dragged them.
+ * Moves parts and their pins to the positions to which the user dragged the parts.
  * @param {Part[]} parts
  * @param {Positions} positions
  */
@@ -371,9 +372,10 @@ export function isHigh(digit, line) {
 }
 
 /**
- * Returns whether a ROM port line is high. An input line has the level that the chip reads; an output line has the latched level.
+ * Returns whether a ROM port line is high. The level of an input line is the level that the chip reads; the level of an output line is the
+ * latched level.
  * @param {string} mask the port directions in the board text, line 3 first
- * @param {{ out: string, in: string }} portLevels
+ * @param {{ out: string, in: string }} portLevels the port values, as hexadecimal digits
  * @param {number} line
  */
 export function isHighAtRom(mask, portLevels, line) {

@@ -1,9 +1,9 @@
 // Compiles the syntax tree of a condition, for a board and a program, into functions. These functions evaluate the condition on answers of
-// the bench. The compiler also collects the places that the condition depends on. It does not simulate the machine.
+// the bench. The compiler also collects the places that the condition depends on.
 
 import { compileChain, compileCounter, compileCycles, compileDisplay, compileLamps, compilePrinted } from "./keyword_conditions.js";
 import { fail } from "./scanner.js";
-import { withErrorColumn, characterValues, keyValue, findLabelAddress, lampValue, compileValue } from "./values.js";
+import { withErrorColumn, nibbleValues, keyValue, findLabelAddress, lampValue, compileValue } from "./values.js";
 import * as say from "../../words/conditions.js";
 
 /**
@@ -18,8 +18,9 @@ import * as say from "../../words/conditions.js";
  * @typedef {import("./values.js").Dependencies} Dependencies
  * @typedef {import("./values.js").Value} Value
  *
- * A compiled condition. `matches` evaluates it. `explain` returns a message with the actual and the required value; if `isNot` is true, the
- * required value is the forbidden value. `address` is the address in a condition `pc = ADDRESS`, otherwise -1.
+ * A compiled condition. `matches` returns whether the condition is true. `explain` returns a message with the actual and the required
+ * value. If `isNot` is true, the condition must be false, and the message contains the forbidden value instead of the required one.
+ * `address` is the address in a condition `pc = ADDRESS`, otherwise -1.
  * @typedef {{ matches: (values: string[], extraValues: ExtraValues) => boolean,
  *   explain: (values: string[], extraValues: ExtraValues, isNot: boolean) => string, address: number }} CompiledCondition
  */
@@ -89,8 +90,8 @@ function compileComparison({ sign, left, right }, names, dependencies) {
 }
 
 /**
- * Compiles a place that is followed by its required value, such as `r0 5`. Several values after a RAM character apply to that character and
- * the characters after it.
+ * Compiles a place that is followed by its required value, such as `r0 5`. Several values after a RAM nibble apply to that nibble and the
+ * nibbles after it.
  * @param {PlaceValuesNode} node
  * @param {Names} names
  * @param {Dependencies} dependencies
@@ -101,19 +102,19 @@ function compilePlaceValues({ place, values, text, column }, names, dependencies
   if (values.length === 1) {
     return compileComparison({ kind: "compare", sign: "=", left: place, right: first, text, column }, names, dependencies);
   }
-  const characters = characterValues(place, values.length, names, dependencies);
+  const nibbles = nibbleValues(place, values.length, names, dependencies);
   const required = values.map((value, at) => {
     const each = compileValue(value, names, dependencies);
-    checkRange(characters[at], value, each);
+    checkRange(nibbles[at], value, each);
     return each;
   });
   /** @type {(each: Value[], given: string[]) => string} */
   const joinValues = (each, answers) => each.map((value) => value.read(answers)).join(" ");
   return {
     address: -1,
-    matches: (answers) => characters.every((value, at) => value.read(answers) === required[at].read(answers)),
+    matches: (answers) => nibbles.every((value, at) => value.read(answers) === required[at].read(answers)),
     explain: (answers, _, isNot) => (
-      say.mustBe(characters[0].name, joinValues(characters, answers), joinValues(required, answers), false, isNot)
+      say.mustBe(nibbles[0].name, joinValues(nibbles, answers), joinValues(required, answers), false, isNot)
     ),
   };
 }

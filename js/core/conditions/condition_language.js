@@ -1,5 +1,6 @@
 // Compiles conditions (docs/MANUAL.md, "Conditions"). Conditions can contain front-panel names and program names. A compiled condition
-// lists the places that it depends on. Its method `holds` returns whether the condition is true for given values of these places.
+// lists the places (registers, RAM nibbles, ports ..) that it depends on. Its method `holds` returns whether the condition is true for
+// given values of these places.
 //
 //     const { condition, fault } = compileCondition("lamp open on and (r9 >= 8 or cy = 1)", { face, board, map });
 //     if (condition) .. `trace 1000 ${condition.places.join(" ")}` ..; condition.holds(valuesOf(row))
@@ -30,8 +31,9 @@ import * as say from "../../words/conditions.js";
  * names with their expressions.
  * @typedef {{ face: Face, board: Board, map: Pick<SourceMap, "names" | "nameOf"> | null, watched?: Map<string, string> }} Names
  *
- * Values that `trace` does not report. `test`, `owed` and `keys` are texts from the answer to `state`. `cycles` is the number of cycles
- * since the last mark in a test. `seen` is the answer to LAMPS_FORECAST_QUERY, for the perceived lamps. `printed` are the printed words.
+ * Values that `trace` does not report. `test`, `owed` (1 if a second cycle is pending) and `keys` are texts from the answer to `state`.
+ * `cycles` is the number of cycles since the last mark in a test. `seen` is the answer to LAMPS_FORECAST_QUERY, for the perceived lamps.
+ * `printed` are the words on the printout.
  * @typedef {{ test: string, owed: string, keys: string, cycles: number, seen: string[], printed: string[] }} ExtraValues
  *
  * A compiled condition. `explain` returns "" if the condition is true, otherwise a message with the actual and the required values.
@@ -65,8 +67,8 @@ function checkPlaceCount({ length }) {
 }
 
 /**
- * Calls a function that parses and compiles a text. Returns its result in `read`, or the message and column of the `ConditionError` that it
- * throws.
+ * Calls a function that parses and compiles a text. Returns the function's result in `read`, or the message and column of the
+ * `ConditionError` that the function throws.
  * @template Read
  * @param {() => Read} compile
  * @returns {{ read: Read, fault: "", column: -1 } | { read: null, fault: string, column: number }}
@@ -81,7 +83,8 @@ function resultOrError(compile) {
 }
 
 /**
- * Calls a function that compiles a condition. Returns the condition, or the message and column of the `ConditionError` that it throws.
+ * Calls a function that compiles a condition. Returns the condition, or the message and column of the `ConditionError` that the function
+ * throws.
  * @param {() => Condition} compile
  * @returns {ConditionResult}
  */

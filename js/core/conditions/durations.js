@@ -1,8 +1,9 @@
-// Parses the durations in tests: `538`, `538 cycles`, `54 us`, `20 ms` or `1.5 s`. The blank before `us`, `ms` and `s` is optional.
+// Parses the durations in tests and properties: `538`, `538 cycles`, `54 us`, `20 ms` or `1.5 s`. The blank before `us`, `ms` and `s` is
+// optional.
 
 import { cyclesFromMilliseconds } from "../time/mcs4_time.js";
 
-/** The maximum duration in a test line, in cycles: about three hours of a real 4004. */
+/** The maximum duration, in cycles: three hours of a real 4004. */
 const MAX_CYCLES = 1000000000;
 /** The length of each unit in milliseconds. */
 const UNIT_MILLISECONDS = new Map([["us", 0.001], ["ms", 1], ["s", 1000]]);
@@ -36,7 +37,7 @@ export function parseDuration(words, from) {
  * Parses words that must form exactly one duration. Returns its cycles, or 0 if the words are invalid.
  * @param {string[]} words
  */
-export function parseWholeDuration(words) {
+export function parseExactDuration(words) {
   const { cycles, words: count } = parseDuration(words, 0);
   return count === words.length ? cycles : 0;
 }

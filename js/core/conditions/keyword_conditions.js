@@ -5,7 +5,7 @@ import { hex, indices } from "../bench/numbers.js";
 import { DisplayText } from "../board/display_text.js";
 import { groupLamps, findPrinter } from "../board/face_board.js";
 import { PerceivedText, hasScannedDisplay } from "../engine/perceived_text.js";
-import { parseWholeDuration } from "./durations.js";
+import { parseExactDuration } from "./durations.js";
 import { parsePlace } from "./places.js";
 import { fail } from "./scanner.js";
 import { findLampNumber } from "./values.js";
@@ -18,8 +18,8 @@ import * as say from "../../words/conditions.js";
  * @typedef {import("./values.js").Dependencies} Dependencies
  *
  * The parts of a keyword condition. `subject` is the name of the measured value in messages; `isPlural` is true if that name is plural.
- * `required` is the text of the required value. `measure` returns the text of the actual value, `matches` compares it, and `remark` returns
- * an addition to the message.
+ * `required` is the text of the required value. `measure` returns the text of the actual value, `matches` returns whether that text meets
+ * the condition, and `remark` returns text to append to the message.
  * @typedef {{ subject: string, required: string, isPlural?: boolean, measure: (values: string[], extraValues: ExtraValues) => string,
  *   matches: (actual: string, extraValues: ExtraValues) => boolean, remark?: (actual: string) => string, address?: number }}
  *   KeywordConditionParts
@@ -146,7 +146,7 @@ export function compilePrinted(words, { face, board }, dependencies) {
  */
 export function compileCycles(words, names, dependencies) {
   const comparison = words[0] === "at" ? words.slice(0, 2).join(" ") : "";
-  const cycles = parseWholeDuration(words.slice(comparison === "" ? 0 : 2));
+  const cycles = parseExactDuration(words.slice(comparison === "" ? 0 : 2));
   if (cycles < 1 || !/^(|at most|at least)$/.test(comparison)) fail(say.CYCLES_SYNTAX);
   dependencies.addNeed("cycles", say.onlyInTests("cycles"));
   /** @type {(actual: number) => boolean} */
@@ -187,7 +187,7 @@ function formatAddress(address, { map }) {
 }
 
 /**
- * Compiles a comparison of the program counter with an address. It is true only between two instructions.
+ * Compiles a comparison of the program counter with an address. The condition is true only between two instructions.
  * @param {number} address
  * @param {string} required the address as written in the condition
  * @param {Names} names

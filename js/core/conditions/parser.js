@@ -49,7 +49,7 @@ const JOIN_OPERATORS = new Map([["or", "or"], ["||", "or"], ["and", "and"], ["&&
 const PORT_NAME = /^(rom\d+|ram\d+\.\d+)$/i;
 /** The node kinds that are conditions. */
 const CONDITION_KINDS = new Set(["or", "and", "not", "compare", "form", "values", "panel", "at"]);
-/** The number of numerals in a place that is written with blanks, such as `ram 0 0x12`, by the first word of the place. */
+/** The number of numerals after the first word of a place that is written with blanks, such as `ram 0 0x12`, by this word. */
 const SPACED_NUMERALS = new Map([["ram", 2], ["st", 3]]);
 /** The node kinds whose text needs no parentheses: single names and numbers. */
 const SIMPLE_KINDS = new Set(["number", "name", "lamp", "key"]);
@@ -110,10 +110,10 @@ class Parser {
   // --- conditions ---
 
   /**
-   * Parses the whole text as a value or a condition.
+   * Parses the complete text as a value or a condition.
    * @returns {Node}
    */
-  parseWhole() {
+  parseCompleteText() {
     const node = this.parseJoined("or");
     const token = this.scanner.peek();
     if (token.kind !== "end") fail(say.notExpected(this.tokenText(token)), token.column);
@@ -390,7 +390,7 @@ class Parser {
   }
 
   /**
-   * Parses `lamps` with names or marks. Before an operator, `lamps` is a number with one bit per lamp.
+   * Parses `lamps` with lamp names or marks (`*`, `.`, `?`). Before an operator, `lamps` is a number with one bit per lamp.
    * @param {Token} token
    * @returns {Node}
    */
@@ -518,7 +518,7 @@ class Parser {
  */
 export function parseExpression(text, isLampName = () => false) {
   if (text.length > MAX_LENGTH) fail(say.tooLong(MAX_LENGTH), MAX_LENGTH - 1);
-  return new Parser(text, isLampName).parseWhole();
+  return new Parser(text, isLampName).parseCompleteText();
 }
 
 /**
@@ -530,5 +530,5 @@ export function parseExpression(text, isLampName = () => false) {
 export function parseCondition(text, isLampName = () => false) {
   if (text.length > MAX_LENGTH) fail(say.tooLong(MAX_LENGTH), MAX_LENGTH - 1);
   const parser = new Parser(text, isLampName);
-  return parser.requireCondition(parser.parseWhole());
+  return parser.requireCondition(parser.parseCompleteText());
 }

@@ -1,5 +1,6 @@
-// Parses place names. A place is a register, a register pair, a RAM character, a signal line, a port, a chain or the lamps. The displayed
-// name of a place is its name in a `trace` line. A place can list the `trace` places that report its value on a board.
+// Parses place names. A place is a register, a register pair, a RAM nibble, a signal line, a port, a shift-register chain, a lamp or all
+// lamps. The displayed name of a place is its name in a `trace` line, if `trace` reports the place under one name. A place can list the
+// `trace` places that report its value on a board.
 
 import { BITS_PER_CHIP } from "../bench/board_form.js";
 import { LAST_ADDRESS, hex, parseNumber, indices } from "../bench/numbers.js";
@@ -14,20 +15,23 @@ import { LAST_ADDRESS, hex, parseNumber, indices } from "../bench/numbers.js";
  * number: (answers: string[]) => number }} Place
  */
 
-/** The usual name of the accumulator on other processors. */
+/** The usual name of the accumulator on other processors, in lower case. */
 const ACCUMULATOR = "a";
 /** The number of nibbles in a RAM register, without the status characters. */
-export const CHARACTERS = 16;
+export const NIBBLES_PER_REGISTER = 16;
 /** The number of status characters in a RAM register. */
 export const STATUS_CHARACTERS_PER_REGISTER = 4;
-/** The maximum values of places. All other places have 4 bits, except register pairs and ROM bytes. The value of `ret` is not a number. */
+/**
+ * The maximum values of places that do not have 4 bits, except register pairs and ROM bytes, which have 8 bits. The value of `ret` is not a
+ * number.
+ */
 const MAX_VALUES = new Map([["cy", 1], ["test", 1], ["owed", 1], ["pc", LAST_ADDRESS], ["dcl", 7], ["src", 255], ["ret", -1]]);
 const MAX_BYTE = 255;
 const MAX_DIGIT = 15;
 /** The maximum number of lamps that a JavaScript number can represent exactly with one bit per lamp. */
 const MAX_NUMERIC_LAMPS = 52;
 
-/** The place names that exist on every board, for completion. */
+/** Place names for completion. These places exist on every board. */
 export const PLACE_WORDS = [
   "acc", "cy", "pc", "dcl", "src", "test", "lamps", ...indices(16).map((at) => `r${at}`), ...indices(8).map((at) => `p${at}`)];
 
@@ -38,7 +42,7 @@ export const maxPlaceValue = (place) => MAX_VALUES.get(place) ?? (/^(p\d$|rom\.)
 const firstAnswer = ([answer]) => answer;
 
 /**
- * Returns the number for hexadecimal digits, most significant first.
+ * Returns the number whose hexadecimal digits are the answers, most significant digit first.
  * @param {string[]} answers
  */
 const parseHexDigits = (answers) => parseInt(answers.join(""), 16);
@@ -89,7 +93,8 @@ function registerPlace(name) {
 }
 
 /**
- * Returns the place for the name of a RAM or status character, such as `ram.0.0x12`, `ram 0 0x12` or `st.0.1.2`; null for any other text.
+ * Returns the place for the name of a RAM nibble or a status character, such as `ram.0.0x12`, `ram 0 0x12` or `st.0.1.2`; null for any
+ * other text.
  * @param {string} text
  * @returns {Place | null}
  */

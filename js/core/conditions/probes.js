@@ -1,5 +1,5 @@
-// Builds the queries that report the values of places, and reads the answers. `trace` reports most places. `state` reports the places that
-// only commands change.
+// Builds the queries that report the values of places, and reads the answers. `trace` reports most places. `state` reports the others,
+// STATE_PLACES.
 
 import { MAX_PLACES } from "../bench/inputs.js";
 import { stateValue } from "../bench/state_line.js";

@@ -108,7 +108,7 @@ export class Scanner {
 
   /**
    * Consumes and returns the next word, up to a blank; returns null at the end. Front-panel names can contain any characters.
-   * @param {boolean} isInside true inside parentheses; closing parentheses at the end of the word are then excluded
+   * @param {boolean} isInside true inside parentheses; the returned word then excludes closing parentheses at its end
    * @returns {Token | null}
    */
   nextRawWord(isInside) {

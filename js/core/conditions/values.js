@@ -1,5 +1,5 @@
-// Compiles the values in a condition: numbers, places, sums, program names, watch names and front-panel names. A compiled value is a
-// function of the bench's answers about its places.
+// Compiles the values in a condition: numbers, places, sums, program names, watch names and front-panel names. A compiled value computes a
+// number from the bench's answers about the places in the value.
 
 import { listKeyInputs, createTestInput } from "../explore/search_inputs.js";
 import { findSimilarWords } from "../text/similar_words.js";
@@ -23,12 +23,12 @@ import * as say from "../../words/conditions.js";
  * @typedef {"cycles" | "seen" | "printed"} Need
  */
 
-/** The places that `state` reports and `trace` does not. Only commands change them. */
+/** The places that `state` reports and `trace` does not: the TEST pin, a pending second cycle, and the pressed keys. */
 export const STATE_PLACES = new Set(["test", "owed", "keys"]);
 /** The maximum nesting depth of watch names: the expression of a watch name can contain other watch names. */
 const MAX_NAME_DEPTH = 3;
-/** The number of the last nibble in a RAM bank. The number of a nibble is the SRC byte that selects it. */
-const LAST_CHARACTER = 255;
+/** The number of the last nibble in a RAM bank. The number of a nibble is the byte that SRC sends to select the nibble. */
+const LAST_NIBBLE = 255;
 /** The hints for words that other assemblers and emulators use instead of a place name, by word. */
 const NAME_HINTS = new Map([["a", say.ACCUMULATOR_HINT], ["accu", say.ACCUMULATOR_HINT], ["accumulator", say.ACCUMULATOR_HINT],
   ["c", say.CARRY_HINT], ["carry", say.CARRY_HINT], ["ip", say.COUNTER_HINT], ["bank", say.BANK_HINT]]);
@@ -91,7 +91,7 @@ function bitwiseAnd(one, other) {
 const OPERATIONS = { "+": (one, other) => one + other, "-": (one, other) => one - other, "&": bitwiseAnd };
 
 /**
- * Creates a value that is 0 or 1.
+ * Creates a value that is either 0 or 1.
  * @param {string} name
  * @param {number} index the index of the value's answer in the list of answers
  * @param {(answer: string) => number} readBit
@@ -146,8 +146,8 @@ export function keyValue(name, { face }, dependencies) {
 }
 
 /**
- * Looks up a program name. Prefers an exact match. Otherwise returns the name that is equal apart from case, if there is exactly one such
- * name; undefined if not.
+ * Looks up a program name. Prefers an exact match. Otherwise returns the only name that is equal apart from case; undefined if there is no
+ * such name or several.
  * @param {string} name
  * @param {Names["map"]} map
  */
@@ -188,8 +188,8 @@ function placeValue(place, { board }, dependencies) {
 }
 
 /**
- * Returns the value of a port with a direction. `rom1 in` is the value that RDR reads; an output line reads as the bit in the port mask.
- * `rom1 out` and `ram0.1 out` are the value in the port latch, with 0 for input lines.
+ * Returns the value of a port with a direction. `rom1 in` is the value that RDR reads; an output line reads as its bit in the port mask of
+ * the board. `rom1 out` and `ram0.1 out` are the value in the port latch, with 0 for input lines.
  * @param {NameNode} node
  * @param {Names} names
  * @param {Dependencies} dependencies
@@ -246,7 +246,7 @@ function failForUnknownName(text, names) {
 }
 
 /**
- * Returns the value of a watch name. Its expression can contain other watch names.
+ * Returns the value of a watch name, whose expression can contain other watch names.
  * @param {string} name
  * @param {string} text the expression of the watch name
  * @param {Names} names
@@ -295,22 +295,22 @@ function nameValue(node, names, dependencies) {
 }
 
 /**
- * Returns the values of consecutive RAM characters, starting at a place.
+ * Returns the values of consecutive RAM nibbles, starting at a place.
  * @param {NameNode} node
  * @param {number} count
  * @param {Names} names
  * @param {Dependencies} dependencies
  * @returns {Value[]}
  */
-export function characterValues({ text, column }, count, names, dependencies) {
+export function nibbleValues({ text, column }, count, names, dependencies) {
   return withErrorColumn(column, () => {
     const place = parsePlace(text);
     const [, bank, byte] = /^ram\.(\d)\.0x(\w+)$/.exec(place ? place.name : "") || fail(say.isOneValue(place ? place.name : text));
     return Array.from({ length: count }, (_, index) => {
-      const characterAddress = parseInt(byte, 16) + index;
-      const characterPlace = characterAddress <= LAST_CHARACTER ? parsePlace(`ram.${bank}.${characterAddress}`) : null;
-      if (index > 0 && (!characterPlace || characterPlace.probesOn(names.board).length === 0)) fail(say.NO_RAM_FOR_LAST);
-      return placeValue(characterPlace || place, names, dependencies) || failForUnknownName(text, names);
+      const nibbleAddress = parseInt(byte, 16) + index;
+      const nibblePlace = nibbleAddress <= LAST_NIBBLE ? parsePlace(`ram.${bank}.${nibbleAddress}`) : null;
+      if (index > 0 && (!nibblePlace || nibblePlace.probesOn(names.board).length === 0)) fail(say.NO_RAM_FOR_LAST);
+      return placeValue(nibblePlace || place, names, dependencies) || failForUnknownName(text, names);
     });
   });
 }

@@ -1,6 +1,6 @@
 // Finds arrivals at soft breakpoints. A soft breakpoint does not stop the machine at every arrival: it has a condition or a hit count, or
-// it logs a note instead of stopping. A copy of the session runs in advance and stops at each arrival. There, queries read the places that
-// the conditions use.
+// it logs a note instead of stopping. A copy of the session runs in advance and stops at each arrival. At each stop, queries read the
+// places that the conditions and notes use.
 
 import { Probes } from "../conditions/probes.js";
 import { ForecastAnswers } from "../engine/forecast_answers.js";
@@ -19,9 +19,9 @@ import { plannedCycles } from "./goal_search.js";
  *   the note, and its text
  *
  * The breakpoint events that the next lines will cause. `cycles`: the cycles before the first stop, -1 for no stop. `id`: the id of the
- * breakpoint or watch that stops the machine, 0 for none. `hits`: the hit counts by breakpoint id. `notes`: the last logged notes; `noted`:
- * the number of all logged notes. `why`: "watch" if a change of a watched place stops the machine, and `change` describes this change.
- * `changes`: for each watch id, the number of changes that count (data_watches.js).
+ * breakpoint or watch that stops the machine, 0 for none. `hits`: the numbers of new hits, by breakpoint id. `notes`: the last logged
+ * notes; `noted`: the number of all logged notes. `why`: "watch" if a change of a watched place stops the machine; `change` describes this
+ * change. `changes`: for each watch id, the number of changes that count (data_watches.js).
  * @typedef {{ cycles: number, id: number, hits: Map<number, number>, notes: LoggedNote[], noted: number, why: "break" | "watch",
  *   change: string, changes: Map<number, number> }} BreakpointEvents
  */
@@ -47,7 +47,8 @@ export class Arrivals {
     this.byAddress = new Map(breakpoints.map((each) => [each.address, each]));
     this.places = ["pc", ...new Set(breakpoints.flatMap(({ places }) => places))];
     this.placeIndexes = new Map(breakpoints.map(({ id, places }) => [id, places.map((place) => this.places.indexOf(place))]));
-    this.first = breakpoints.map(({ address }) => `break ${address}\n`).join("");
+    /** The bench lines that set the breakpoints. */
+    this.setupLines = breakpoints.map(({ address }) => `break ${address}\n`).join("");
     /** The queries that follow each run. */
     this.probes = new Probes(this.places);
     /** The number of arrivals per cycle in the previous run. */
@@ -72,7 +73,7 @@ export class Arrivals {
     if (this.arrivalsPerCycle === 0 && this.hasNoArrival(engine, file, planned)) return events;
     if (this.copy.length !== file.length) this.copy = new Uint8Array(file.length);
     this.copy.set(file);
-    let [lines, count, done] = [this.first, this.breakpoints.length, 0];
+    let [lines, count, done] = [this.setupLines, this.breakpoints.length, 0];
     for (const each of planned) {
       if (each.change) {
         lines += `${each.line}\n`;
@@ -96,7 +97,8 @@ export class Arrivals {
    * @param {PlannedLine[]} planned
    */
   hasNoArrival(engine, file, planned) {
-    const answers = engine.ask(file, this.first + planned.map(({ line }) => `${line}\n`).join("")).answers.slice(this.breakpoints.length);
+    const answers = engine.ask(file, this.setupLines + planned.map(({ line }) => `${line}\n`).join("")).answers
+      .slice(this.breakpoints.length);
     return planned.every(({ change }, at) => change !== null || answers[at].endsWith(" end"));
   }
 
@@ -132,8 +134,8 @@ export class Arrivals {
   }
 
   /**
-   * Returns the breakpoint at the current address if its condition is true; otherwise null.
-   * @param {string[]} row the values of `places`
+   * Returns the breakpoint at the program counter if its condition is true; otherwise null.
+   * @param {string[]} row the values of `places`, beginning with the program counter
    */
   breakpointAt(row) {
     const found = this.byAddress.get(parseInt(row[0], 16));
@@ -157,7 +159,7 @@ export class Arrivals {
    */
   recordArrival(row, cycles, events) {
     const found = this.byAddress.get(parseInt(row[0], 16));
-    // A breakpoint that is not in this list always stops the machine. The session itself has such breakpoints.
+    // A breakpoint that is not in this list is a hard breakpoint of the session, which always stops the machine.
     if (!found) return true;
     const { id, holds, words, from } = found;
     const values = this.breakpointValues(found, row);
@@ -176,13 +178,13 @@ export class Arrivals {
     return true;
   }
 
-  /** The hit counts, in the order of the breakpoints. */
+  /** The hit counts, in the order of `breakpoints`. */
   get hits() {
     return this.breakpoints.map(({ hits }) => hits);
   }
 
   /**
-   * Restores earlier hit counts after lines have failed, because the counted hits did not happen.
+   * Restores the hit counts from before typed lines. Called if the lines fail, because the hits counted for them did not happen.
    * @param {number[]} hits
    */
   restoreHits(hits) {

@@ -31,13 +31,13 @@ const TOO_MANY_ENABLED = say.tooManyEnabled(MAX_ENABLED_BREAKPOINTS);
 /** The maximum number of sessions with a stored list. */
 const MAX_LISTS = 30;
 
-/** Keeps the list of breakpoints and the breakpoints of the bench equal. */
+/** Synchronizes the list of breakpoints with the breakpoints of the bench. */
 export class BreakpointManager {
   /** @param {ManagerCallbacks} calls */
   constructor(calls) {
     this.calls = calls;
     this.list = new BreakpointList();
-    /** @type {Map<string, BreakpointList>} the lists of recent sessions, by session id, newest last */
+    /** @type {Map<string, BreakpointList>} the lists of recent sessions, by session id, in the order in which they were last opened */
     this.lists = new Map();
     /** @type {SourceMap | null} the source map; null if the source is not the program in ROM */
     this.map = null;
@@ -101,8 +101,8 @@ export class BreakpointManager {
     if (this.benchAddresses) this.apply();
   }
 
-  /** Sends the list again after the bench has restarted, and thus has lost its breakpoints. */
-  again() {
+  /** Sends the list again after a restart of the bench, which deletes the bench's breakpoints. */
+  resend() {
     this.lastRequest = "";
     this.apply();
   }
@@ -121,7 +121,7 @@ export class BreakpointManager {
   /**
    * Sets the source map, and moves each breakpoint to an instruction of the program in ROM.
    * @param {SourceMap | null} map null if the source is not the program in ROM
-   * @param {string} words the reason why `map` is null
+   * @param {string} words the reason why `map` is null; "" if it is not null
    */
   setSourceMap(map, words) {
     this.map = map;
@@ -136,7 +136,7 @@ export class BreakpointManager {
    * Updates the list from the bench's breakpoint addresses.
    * @param {string[]} breaks the addresses, as hexadecimal digits
    */
-  take(breaks) {
+  updateFromBench(breaks) {
     const addresses = breaks.map((address) => parseInt(address, 16));
     const previousAddresses = this.benchAddresses;
     if (previousAddresses && this.isApplying) {
@@ -164,7 +164,7 @@ export class BreakpointManager {
   }
 
   /**
-   * Adds a bench breakpoint to the list.
+   * Adds a bench breakpoint to the list. If the list already has a breakpoint at the address, enables that breakpoint.
    * @param {number} address
    */
   addFromBench(address) {
@@ -190,7 +190,7 @@ export class BreakpointManager {
   }
 
   /**
-   * Adds hits to the hit counts.
+   * Adds the new hits in a tally to the hit counts of the list.
    * @param {Tally} tally
    */
   count({ hits }) {
@@ -202,7 +202,8 @@ export class BreakpointManager {
   // --- Actions of the user ---
 
   /**
-   * Toggles the breakpoint of a line. If the line has no instruction, the breakpoint moves to the next instruction.
+   * Removes the breakpoint of a line, or adds a breakpoint if the line has none. If the line has no instruction, adds the breakpoint at the
+   * next instruction.
    * @param {number} line
    */
   toggleLine(line) {
@@ -234,7 +235,7 @@ export class BreakpointManager {
   }
 
   /**
-   * Toggles the breakpoint at an address.
+   * Removes the breakpoint at an address, or adds a breakpoint if there is none.
    * @param {number} address
    */
   toggleAddress(address) {
@@ -249,7 +250,7 @@ export class BreakpointManager {
   }
 
   /**
-   * Adds a breakpoint. It is disabled if the maximum number of breakpoints is already enabled.
+   * Adds a breakpoint, which is disabled if the maximum number of breakpoints is already enabled.
    * @param {Partial<SavedBreakpoint>} fields
    */
   add(fields) {
@@ -270,11 +271,11 @@ export class BreakpointManager {
   }
 
   /**
-   * Saves the changes of a breakpoint while the user types them. The bench receives them when the user has finished (`change`).
+   * Saves the changes of a breakpoint while the user types. The bench receives the changes when the user has finished (`change`).
    * @param {number} id
    * @param {Partial<SavedBreakpoint>} changes the changed fields
    */
-  type(id, changes) {
+  saveTypedEdit(id, changes) {
     this.typedEdit = { id, changes };
     this.calls.changed();
     this.calls.listEdited();
@@ -361,7 +362,7 @@ export class BreakpointManager {
   }
 
   /**
-   * Sends the list at once, before any later request to the bench. Handles the answers in the order of the requests.
+   * Sends breakpoints to the bench at once, before any later request. Handles the answers in the order of the requests.
    * @param {LocatedBreakpoint[]} placed
    */
   send(placed) {
@@ -389,11 +390,11 @@ export class BreakpointManager {
     this.applyPostponedAddresses();
   }
 
-  /** Applies the addresses that the bench reported during a request. The user can have changed them by a typed line in the meantime. */
+  /** Applies the addresses that the bench reported during a request. They can differ from the list if the user typed `break` meanwhile. */
   applyPostponedAddresses() {
     const { postponedAddresses } = this;
     if (this.isApplying || !postponedAddresses) return;
     this.postponedAddresses = null;
-    this.take(postponedAddresses);
+    this.updateFromBench(postponedAddresses);
   }
 }

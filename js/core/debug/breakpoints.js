@@ -7,14 +7,15 @@ import * as say from "../../words/debug.js";
  * @typedef {import("../machine/source_map.js").SourceMap} SourceMap
  * @typedef {import("./soft_breakpoints.js").LocatedBreakpoint} LocatedBreakpoint
  *
- * A breakpoint. `line` counts from 1; it is 0 if the breakpoint has no line. `address` is the last known address, -1 if there was none.
+ * A breakpoint. `line` counts from 1; it is 0 if the breakpoint has no line. `address` is the last known address, -1 for none.
  * `isOn` is true if the breakpoint is enabled. The other fields are those of `LocatedBreakpoint`.
  * @typedef {{ id: number, line: number, address: number, isOn: boolean, condition: string, from: number, note: string, hits: number }}
  *   Breakpoint
  * @typedef {Omit<Breakpoint, "id" | "hits">} SavedBreakpoint a breakpoint as saved in a session or project
  *
- * An edit that replaces the text between two positions. `line` and `ch` (the column) count from 0. `text` and `removed` are the new and the
- * old lines. `isWhole` is true if the edit replaces the whole text.
+ * An edit that replaces the text from position `from` to position `to`. `line` and `ch` (the column) count from 0. `text` contains the new
+ * lines, and `removed` the old lines. `origin` is "undo" or "redo" for these commands. `isWhole` is true if the edit replaces the whole
+ * text.
  * @typedef {{ from: { line: number, ch: number }, to: { line: number, ch: number }, text: string[], removed?: string[],
  *   origin?: string, isWhole?: boolean }} Edit
  */
@@ -23,7 +24,7 @@ import * as say from "../../words/debug.js";
 export const MAX_ENABLED_BREAKPOINTS = 32;
 /** The maximum number of breakpoints in a list. */
 export const MAX_BREAKPOINTS = 256;
-/** The maximum number of deleted breakpoints that the list stores for undo, which restores them with their lines. */
+/** The maximum number of deleted breakpoints that the list stores. Undo restores a stored breakpoint together with its line. */
 const MAX_DELETED_BREAKPOINTS = 256;
 /** The maximum number of earlier texts whose breakpoints the list stores. */
 const MAX_TEXTS = 30;
@@ -136,7 +137,7 @@ export class BreakpointList {
     const storedBreakpoints = this.breakpointsByText.get(text.join("\n"));
     if (!storedBreakpoints) return false;
     const ids = new Set(storedBreakpoints.map(({ id }) => id));
-    // If a stored breakpoint has changed since, its changes are kept. A breakpoint without a line belongs to ROM, not to the text.
+    // Changes of a stored breakpoint since it was stored are kept. A breakpoint without a line belongs to ROM, not to the text.
     const restoredBreakpoints = storedBreakpoints.filter(({ id, line }) => line > 0 || this.get(id))
       .map((each) => ({ ...(this.get(each.id) || each), line: each.line, address: each.address }));
     const romBreakpoints = this.all.filter(({ id, line, address }) => (
@@ -158,7 +159,7 @@ export class BreakpointList {
     for (const oldest of [...this.breakpointsByText.keys()].slice(0, -MAX_TEXTS)) this.breakpointsByText.delete(oldest);
   }
 
-  /** Removes breakpoints above the maximum number, and disables breakpoints above the maximum number of enabled ones. */
+  /** Removes breakpoints above the maximum number, and disables breakpoints above the maximum number of enabled breakpoints. */
   enforceLimits() {
     let count = 0;
     this.all = this.all.slice(0, MAX_BREAKPOINTS).map((each) => {
@@ -168,12 +169,12 @@ export class BreakpointList {
   }
 
   /**
-   * Moves breakpoints with their lines, and deletes breakpoints whose lines are deleted. Returns whether any breakpoint has moved.
+   * Moves breakpoints with their lines, and deletes breakpoints whose lines are deleted. Returns whether any breakpoint has changed.
    * @param {Edit} edit
    */
   move(edit) {
-    const { first, last, count, isOther } = replacedLines(edit);
-    if (isOther) return this.detachAll();
+    const { first, last, count, isUnrelated } = replacedLines(edit);
+    if (isUnrelated) return this.detachAll();
     const shift = count - (last - first + 1);
     if (shift === 0) return false;
     const isMoved = this.all.some(({ line }) => line >= first);
@@ -229,8 +230,8 @@ export class BreakpointList {
   }
 
   /**
-   * Moves each breakpoint to an instruction of the program, and sets its address. Called after the source was assembled into ROM. Returns a
-   * message about each breakpoint that moved.
+   * Moves each breakpoint to an instruction of the program, and sets its address. Called after the source is assembled into ROM. Returns
+   * messages about breakpoints that moved or that no instruction follows.
    * @param {SourceMap} map
    */
   locate(map) {
@@ -283,10 +284,10 @@ export class BreakpointList {
 
 /**
  * Returns the number of lines that two texts have in common, at the start or at the end.
- * @param {string[]} oldLines the lines of one text
- * @param {string[]} newLines the lines of the other text
+ * @param {string[]} oldLines
+ * @param {string[]} newLines
  * @param {number} max the maximum result
- * @param {boolean} isAtEnd
+ * @param {boolean} isAtEnd true to count the lines at the end
  */
 function countEqualLines(oldLines, newLines, max, isAtEnd) {
   let count = 0;
@@ -298,8 +299,9 @@ function countEqualLines(oldLines, newLines, max, isAtEnd) {
 
 /**
  * Returns the first and the last line that an edit replaces, counted from 1, and the number of new lines. Lines that stay equal at the
- * start and the end are excluded. Text that is inserted at the start of a line counts as new lines before this line. `isOther` is true if
- * the edit replaces the whole text with a text that has no line in common.
+ * start and the end are excluded. Text that is inserted at the start of a line counts as new lines before this line. `isUnrelated` is true
+ * if the edit replaces the whole text with an unrelated text: both have more than two lines, and no nonblank line at the start or end is
+ * equal.
  * @param {Edit} edit
  */
 function replacedLines({ from, to, text, removed = Array(to.line - from.line + 1).fill("\n"), isWhole = false }) {
@@ -309,13 +311,13 @@ function replacedLines({ from, to, text, removed = Array(to.line - from.line + 1
   const secondCount = countEqualLines(removed, text, maxCount - firstCount, !isBefore);
   const [before, after] = isBefore ? [secondCount, firstCount] : [firstCount, secondCount];
   const unchangedLines = [...text.slice(0, before), ...text.slice(text.length - after)];
-  const isOther = isWhole && unchangedLines.join("").trim() === "" && removed.length > 2 && text.length > 2;
-  return { first: from.line + 1 + before, last: to.line + 1 - after, count: text.length - before - after, isOther };
+  const isUnrelated = isWhole && unchangedLines.join("").trim() === "" && removed.length > 2 && text.length > 2;
+  return { first: from.line + 1 + before, last: to.line + 1 - after, count: text.length - before - after, isUnrelated };
 }
 
 /**
- * Returns the line and the address of the instruction on a line. If the line has none, returns those of the next instruction, with a
- * message in `words`. If no instruction follows, the address is -1.
+ * Returns the line and the address of the instruction on a line. If the line has no instruction, returns the line and the address of the
+ * next instruction, with a message in `words`. If no instruction follows, the address is -1.
  * @param {number} line
  * @param {SourceMap} map
  */
@@ -333,8 +335,8 @@ export function instructionForLine(line, map) {
 }
 
 /**
- * Returns the line and the address of the instruction at an address. If the address is the second byte of an instruction, returns those of
- * the next instruction, or of this one if it is the last, with a message in `words`.
+ * Returns the line and the address of the instruction at an address. If the address is the second byte of an instruction, the result is the
+ * next instruction, or this instruction if no other follows, with a message in `words`.
  * @param {number} address
  * @param {SourceMap} map
  */

@@ -4,10 +4,10 @@
 // - a WRR at a port without outputs, or an RDR at a port without inputs;
 // - a write to a chip that is not on the board;
 // - an instruction at an address outside the program text;
-// - an instruction that uses a selection by SRC that the program made for another instruction.
+// - a WRR or RDR that uses another ROM than at its last execution, because the program sent the last SRC for another instruction.
 //
-// Before each run, this module asks the bench what the run will do. It does not simulate instructions. src_selection.js determines which
-// instructions use the chip and register that SRC selects.
+// Before each run, this module asks the bench what the run will do. It does not simulate instructions. src_selection.js tracks the chips
+// and registers that SRC selects.
 //
 //     const mistakes = new CommonMistakes(session);
 //     mistakes.begin();                                  before the machine runs; each kind is then reported once
@@ -35,8 +35,8 @@ import * as say from "../../words/debug.js";
  * kind was reported before.
  * @typedef {{ kind: Kind, address: number, cycles: number, words: string, isRepeat?: boolean }} CommonMistake
  * @typedef {import("../conditions/condition_language.js").Condition} Condition
- * @typedef {{ faults: CommonMistake[], stop: number }} FoundMistakes the mistakes in some lines, and the number of cycles before the one
- *   that stops the machine (-1 for none)
+ * @typedef {{ faults: CommonMistake[], stop: number }} FoundMistakes the mistakes in some lines, and the number of cycles before the
+ *   mistake that stops the machine (-1 for none)
  */
 
 /** The number of kinds of mistakes. */
@@ -50,8 +50,8 @@ const FULLY_CHECKED_CYCLES = 50000;
 const CALLS_PER_SAMPLE = 16;
 const SAMPLE_CYCLES = 2000;
 /**
- * The maximum number of cycles that a call of `searchLines` checks. At full speed, the lines of one call have more cycles, and a check of
- * all cycles would be too slow.
+ * The maximum number of cycles that a call of `searchLines` checks. At full speed, the lines of one call run for more cycles, and a check
+ * of all cycles would be too slow.
  */
 export const MAX_CYCLES_PER_CALL = 10000;
 
@@ -64,14 +64,14 @@ export class CommonMistakes {
   constructor(session) {
     this.session = session;
     /** @type {Set<Kind>} the kinds that stop the machine */
-    this.stops = new Set();
+    this.stoppingKinds = new Set();
     /** @type {Map<Kind, Condition>} by kind, the condition under which a mistake stops the machine; evaluated before the instruction */
     this.conditions = new Map();
     /** @type {SourceMap | null} the source map of the program in ROM; null if the source is unknown */
     this.map = null;
     /** @type {Uint8Array | null} the contents of ROM; null until they are read */
     this.codes = null;
-    /** @type {SrcSelection | null} the tracked selection by SRC; null until the board is read */
+    /** @type {SrcSelection | null} the chips and registers that SRC has selected; null until the board is read */
     this.selection = null;
     /** @type {Set<Kind>} the kinds reported since the machine started */
     this.reportedKinds = new Set();
@@ -86,7 +86,7 @@ export class CommonMistakes {
     this.callCount = 0;
   }
 
-  /** Prepares for a run: each kind of mistake can be reported again. */
+  /** Prepares for a run, so that each kind of mistake is reported again. */
   begin() {
     this.reportedKinds.clear();
     this.remainingCycles = FULLY_CHECKED_CYCLES;
@@ -124,7 +124,7 @@ export class CommonMistakes {
    * @param {Uint8Array} file the session before these lines
    */
   stopsMachine({ kind, cycles }, planned, file) {
-    if (!this.stops.has(kind)) return false;
+    if (!this.stoppingKinds.has(kind)) return false;
     const condition = this.conditions.get(kind);
     if (!condition) return true;
     const linesBefore = truncateLines(planned, cycles);
@@ -144,7 +144,7 @@ export class CommonMistakes {
     const cycles = planned.reduce((sum, each) => sum + plannedCycles(each), 0);
     if (planned.some(({ change }) => change !== null)) this.remainingCycles = FULLY_CHECKED_CYCLES;
     this.callCount += 1;
-    const isAll = this.stops.size > 0 && cycles <= MAX_CYCLES_PER_CALL;
+    const isAll = this.stoppingKinds.size > 0 && cycles <= MAX_CYCLES_PER_CALL;
     const sample = this.callCount % CALLS_PER_SAMPLE === 0 ? SAMPLE_CYCLES : 0;
     const maxCycles = isAll ? cycles : Math.min(cycles, MAX_CYCLES_PER_CALL, Math.max(this.remainingCycles, sample));
     this.remainingCycles = Math.max(0, this.remainingCycles - maxCycles);
@@ -219,7 +219,7 @@ export class CommonMistakes {
   }
 
   /**
-   * Adds a mistake unless its kind was reported before.
+   * Adds a mistake. Ignores a mistake whose kind was reported before, unless that kind has a condition.
    * @param {CommonMistake[]} faults receives the mistake
    * @param {number} address the address of the instruction
    * @param {number} cycles the cycles before the instruction
@@ -236,7 +236,7 @@ export class CommonMistakes {
   }
 
   /**
-   * Returns the mistake of a call, a return, or an instruction address; null if there is none.
+   * Returns the mistake if an instruction is outside the program, a return without a call, or a fourth nested call; otherwise null.
    * @param {Uint8Array} codes the bytes of ROM
    * @param {number} address
    * @param {string[]} values the values of src, dcl and ret before the instruction

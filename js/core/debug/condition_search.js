@@ -1,4 +1,4 @@
-// Searches forward or back for the moment at which a condition becomes true.
+// Compiles the goals of searches: a change of a place, or the moment at which a condition becomes true.
 
 import { compileExpression, compileTracedCondition } from "../conditions/condition_language.js";
 import { parsePlace } from "../conditions/places.js";
@@ -13,7 +13,8 @@ import * as say from "../../words/debug.js";
  */
 
 /**
- * Compiles a condition for a search. `fault` is an error message with a column, "" for none.
+ * Compiles a condition for a search. `fault` is an error message with a column, "" for none. A condition that uses no place is an error,
+ * because its value never changes.
  * @param {string} text
  * @param {Names} names
  * @returns {{ searchCondition: SearchCondition | null, fault: string }}
@@ -21,7 +22,7 @@ import * as say from "../../words/debug.js";
 export function compileSearchCondition(text, names) {
   const { condition, ...conditionError } = compileTracedCondition(text, names);
   if (!condition) {
-    // If the text is an unknown name instead of a comparison, the message names it.
+    // If the text is not a valid expression either, for example an unknown name, the expression's error is more specific.
     const value = compileExpression(text, names);
     const { fault, column } = value.expression ? conditionError : value;
     return { searchCondition: null, fault: inColumn(fault, column) };

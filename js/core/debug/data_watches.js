@@ -1,6 +1,6 @@
-// Finds the changes of watched places. A data watch stops the machine when its place changes. The place is a register, a port, the lamps, a
-// chain, or a RAM character that the bench cannot watch, for example because the watch has a condition. Queries find the changes before the
-// session runs. The session file contains no data watch.
+// Finds the changes of watched places. A data watch stops the machine when its place changes. The place is a register, a port, the lamps,
+// or a chain. It can also be a RAM character that the bench cannot watch, for example because the watch has a condition. Queries find the
+// changes before the session runs. The session file contains no data watch.
 
 import { readBoard } from "../bench/answers.js";
 import { MAX_PLACES } from "../bench/inputs.js";
@@ -73,7 +73,7 @@ export class DataWatches {
   constructor(watches) {
     this.watches = watches;
     this.places = [...new Set(watches.flatMap(({ probes, condition }) => [...probes, ...(condition ? condition.places : [])]))];
-    /** For each watch id, the columns of a trace row that its place uses, and those that its condition uses. */
+    /** For each watch id, the columns of a trace row for its place, and the columns for its condition. */
     this.columns = new Map(watches.map(({ id, probes, condition }) => (
       [id, [probes, condition ? condition.places : []].map((places) => places.map((place) => this.places.indexOf(place)))])));
   }
@@ -113,7 +113,7 @@ export class DataWatches {
   }
 
   /**
-   * Returns the address of the instruction whose change stops the machine first, and the cycles before it; null if there is none.
+   * Returns the first instruction whose change stops the machine: its address, and the cycles before it. Returns null if there is none.
    * @param {string} row the values before the run
    * @param {string[]} lines the trace lines
    * @param {WatchEvents} events receives the counts, and the change that stops the machine
@@ -136,11 +136,11 @@ export class DataWatches {
   }
 
   /**
-   * Counts a change of a watch. Returns whether the change stops the machine.
+   * Counts a change of a watched place. Returns whether the change stops the machine.
    * @param {DataWatch} watch
-   * @param {string[]} before the values of all places
-   * @param {string[]} after
-   * @param {WatchEvents} events
+   * @param {string[]} before the values of all places before an instruction
+   * @param {string[]} after the values of all places after the instruction
+   * @param {WatchEvents} events receives the count
    */
   countChange(watch, before, after, { hits }) {
     if (!this.isCountedChange(watch, before, after)) return false;
@@ -152,8 +152,8 @@ export class DataWatches {
   /**
    * Returns whether a change of a watched place counts: the place differs, and the condition is true after the change.
    * @param {DataWatch} watch
-   * @param {string[]} before the values of all places
-   * @param {string[]} after
+   * @param {string[]} before the values of all places before an instruction
+   * @param {string[]} after the values of all places after the instruction
    */
   isCountedChange({ id, condition }, before, after) {
     const [placeColumns, conditionColumns] = this.columns.get(id) || [[], []];
@@ -230,8 +230,8 @@ function splitLine(planned) {
 }
 
 /**
- * Finds, in advance, the stops at soft breakpoints (arrivals.js) and at data watches. The earliest stop ends the run. This class has the
- * same interface as `Arrivals`.
+ * Finds, in advance, the stops at soft breakpoints (arrivals.js) and at data watches. The earliest stop ends the run. Callers use an object
+ * of this class like an `Arrivals` object.
  */
 export class SoftStopFinder {
   /**
@@ -280,7 +280,7 @@ export class SoftStopFinder {
   }
 
   /**
-   * Restores earlier hit counts after lines have failed, because the counted hits did not happen.
+   * Restores the hit counts from before typed lines. Called if the lines fail, because the hits counted for them did not happen.
    * @param {number[]} hits
    */
   restoreHits(hits) {

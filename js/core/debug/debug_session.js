@@ -2,16 +2,16 @@
 // prompt and the tests use this class.
 //
 //     const engine = await Engine.load(bytes of the module);         (engine/engine.js)
-//     const session = new DebugSession(engine, { board, program });  both are texts; `file` instead of them: the bytes of a session file
-//     session.rejectedTexts;                                         the texts that the bench rejected
+//     const session = new DebugSession(engine, { board, program });  the texts; or { file }, the bytes of an existing session file
+//     session.rejectedTexts;                                         the errors in the texts that the bench rejected
 //     session.breakpoints.add({ line: 12, condition: "r9 = 9" }); await session.applyBreakpoints();
-//     const stop = await session.go();                               runs up to a stop; go({ kind: "over" | "out" | "here" | "change" .. })
+//     const stop = await session.runToGoal();                       runs up to a stop, or to a goal { kind: "over" | "out" | "here" .. }
 //     stop.why, stop.words, session.line, session.values(["r4", "pc", "lamps"]), session.returns;
-//     await session.into(); await session.back({ kind: "instruction" }); session.forward();
+//     await session.stepInto(); await session.goBack({ kind: "instruction" }); session.goForward();
 //     await session.setProgram(text);                                assembles another text; breakpoints move with their lines
 //
-// `go` runs as fast as possible, not in real time. It runs in pieces, and calls `shouldContinue` between pieces. A DebugSession writes
-// nothing to disk: `session.file` contains the bytes of the session file.
+// `runToGoal` runs as fast as possible, not in real time. It runs in pieces, and calls `shouldContinue` between pieces. A DebugSession
+// writes nothing to disk: `session.file` contains the bytes of the session file.
 
 import { readBoard, readRegisters, readRun, parseRefusal } from "../bench/answers.js";
 import { Face } from "../board/face.js";
@@ -33,10 +33,14 @@ import * as say from "../../words/debug.js";
  * @typedef {import("./debugger.js").Stop} Stop
  * @typedef {import("./debugger.js").Tally} Tally
  * @typedef {import("./goals.js").Goal} Goal
- * @typedef {{ file?: Uint8Array, board?: string, program?: string }} SessionContents the contents of a new session: the bytes of a session
- *   file, and the texts of the board and the program
- * @typedef {Stop & { words: string, tally: Tally }} DescribedStop the end of a run; `words` is its description. `why` is "pause" if
- *   `shouldContinue` ended the run, and "lacks" if the board lacks the place in the goal
+ *
+ * The contents of a new session. `file`: the bytes of a session file. Without `file`, the constructor sends the texts of the board and the
+ * program to the bench. With `file`, these texts only supply names and source lines.
+ * @typedef {{ file?: Uint8Array, board?: string, program?: string }} SessionContents
+ *
+ * The end of a run. `words` is the message about the stop. Additional values of `why`: "pause" if `shouldContinue` ended the run, "passed"
+ * if all requested cycles have run, and "lacks" or "outside" if the goal does not exist (`SearchResult`).
+ * @typedef {Stop & { words: string, tally: Tally }} DescribedStop
  */
 
 /** The maximum length of the first piece of a run, in cycles. */
@@ -44,7 +48,7 @@ const MAX_FIRST_PIECE_CYCLES = 50000;
 /** The maximum length of a piece in cycles: a step back replays at most one piece (engine/timeline.js). */
 export const MAX_PIECE_CYCLES = 500000;
 
-/** @type {ShouldContinue} a callback that lets the work continue to its end */
+/** @type {ShouldContinue} the default callback, which never ends a run or a search early */
 const continueAlways = async () => true;
 
 /** A session with a debugger. */
@@ -55,7 +59,7 @@ export class DebugSession {
    */
   constructor(engine, { file, board = "", program = "" }) {
     const bytes = file ? file.slice() : engine.begin();
-    /** @type {{ word: "wire" | "asm", refusal: Refusal }[]} the texts that the bench rejected, with its errors */
+    /** @type {{ word: "wire" | "asm", refusal: Refusal }[]} the commands whose texts the bench rejected, with the errors */
     this.rejectedTexts = [];
     this.boardText = board;
     this.program = program;
@@ -73,10 +77,10 @@ export class DebugSession {
   }
 
   /**
-   * Sends a text to the bench, unless the text is empty.
+   * Sends a text to the bench, unless the text is empty. Adds an error of the bench to `rejectedTexts`.
    * @param {Engine} engine
    * @param {Uint8Array} file the session file; changed
-   * @param {"wire" | "asm"} word
+   * @param {"wire" | "asm"} word the bench command for the text
    * @param {string} text
    */
   sendText(engine, file, word, text) {
@@ -97,7 +101,7 @@ export class DebugSession {
 
   // --- Program and breakpoints ---
 
-  /** The names that conditions can contain. */
+  /** The objects that define the names in conditions: front panel, board, and source map. */
   get names() {
     return { face: new Face(this.boardText), board: readBoard(this.debugger.session.statusQueries.board), map: this.map };
   }
@@ -119,8 +123,8 @@ export class DebugSession {
   }
 
   /**
-   * Sets the breakpoints of the list in the debugger. Resolves to an object: `moved` are messages about breakpoints that moved to another
-   * instruction; `faults` are the ids and error messages of breakpoints that cannot be compiled.
+   * Sends the breakpoint list to the debugger and the bench. In the result, `moved` contains messages about breakpoints that moved to
+   * another instruction. `faults` contains the ids and error messages of breakpoints that cannot be compiled.
    */
   async applyBreakpoints() {
     const { session } = this.debugger;
@@ -139,14 +143,14 @@ export class DebugSession {
    * @param {ShouldContinue} [shouldContinue]
    * @returns {Promise<DescribedStop>}
    */
-  async go(goal = null, shouldContinue = continueAlways) {
+  async runToGoal(goal = null, shouldContinue = continueAlways) {
     const debug = this.debugger;
     if (!goal) {
       debug.begin();
       return this.runInPieces(null, shouldContinue);
     }
     debug.names = this.names;
-    const { found, tally } = await debug.goOn(goal, nearDistance(goal), shouldContinue);
+    const { found, tally } = await debug.runToGoal(goal, nearDistance(goal), shouldContinue);
     this.breakpoints.count(tally.hits);
     if (debug.isMoving) return this.runInPieces(goal, shouldContinue);
     const { cycles, isReached, end, id, returns, change } = found;
@@ -203,7 +207,7 @@ export class DebugSession {
   }
 
   /**
-   * Describes the condition of a breakpoint that stops the machine.
+   * Describes the condition of a breakpoint that stopped the machine.
    * @param {number} id
    */
   describeBreakpoint(id) {
@@ -211,10 +215,10 @@ export class DebugSession {
   }
 
   /**
-   * Runs one instruction. If it is a call, the next instruction is the first of the subroutine.
+   * Runs one instruction. After a call, the machine is at the first instruction of the subroutine.
    * @returns {Promise<DescribedStop>}
    */
-  async into() {
+  async stepInto() {
     const { first } = await this.debugger.session.serve("step\n", continueAlways);
     const run = readRun(first);
     const isDone = run !== null && run.end === "end";
@@ -227,27 +231,27 @@ export class DebugSession {
    * @param {BackGoal} goal
    * @param {ShouldContinue} [shouldContinue]
    */
-  async back(goal, shouldContinue = continueAlways) {
+  async goBack(goal, shouldContinue = continueAlways) {
     this.debugger.names = this.names;
     const result = await this.debugger.goBack(goal, (done = 0) => shouldContinue(done));
     return { ...result, words: describeTimeTravel(goal, result, this.counterText, this.breakpoints.get(result.id)) };
   }
 
-  /** Moves forward again, to the moment before the last move back. */
-  forward() {
+  /** Undoes the last move back: returns to the moment from which that move started. */
+  goForward() {
     const result = this.debugger.goForward();
     return { ...result, words: describeTimeTravel({ kind: "forward" }, result, this.counterText) };
   }
 
   /**
-   * Serves typed lines. A run in these lines ends at its first breakpoint. In the result, `words` is a message if a breakpoint ended the
-   * last line, otherwise "".
+   * Executes typed bench lines. A `run` line ends at its first breakpoint. In the result, `words` is a message if a breakpoint ended the
+   * last line early, otherwise "".
    * @param {string} lines
-   * @param {(done: number) => Promise<boolean>} [shouldContinue] called with the number of processed characters. If it returns false, no
-   *   line takes effect
+   * @param {(done: number) => Promise<boolean>} [shouldContinue] called with the number of processed characters. If it resolves to false,
+   *   `serve` throws CancelledError and no line takes effect
    */
   async serve(lines, shouldContinue = continueAlways) {
-    const { result, typed: { id, why, change, cut, cycles, tally } } = await this.debugger.serveTyped(lines, shouldContinue);
+    const { result, typed: { id, why, change, cut: cut, cycles, tally } } = await this.debugger.serveTyped(lines, shouldContinue);
     this.breakpoints.count(tally.hits);
     if (id === 0) return { ...result, tally, words: "" };
     const { words } = this.describeStop(null, { why, id, cycles, returns: false, change }, tally);
@@ -270,7 +274,7 @@ export class DebugSession {
     return this.map.lineOf(this.address);
   }
 
-  /** The address of the next instruction as text. */
+  /** The address of the next instruction as text, with its label if it has one. */
   get counterText() {
     return addressWithName(this.registers.counter, this.map);
   }
@@ -281,8 +285,8 @@ export class DebugSession {
   }
 
   /**
-   * Returns the values of places as text. conditions/places.js defines the place names.
-   * @param {string[]} names
+   * Returns the current values of places as text; "" for a place that the board lacks.
+   * @param {string[]} names place names (conditions/places.js)
    */
   values(names) {
     return this.debugger.values(names);

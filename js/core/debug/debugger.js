@@ -1,5 +1,6 @@
 // The debugger of a session. It handles breakpoints, moves to a goal, stop reasons, values, and moves back in time. It runs in the page's
-// worker and in Node. All that it reports comes from answers of the bench. It adds only runs and breakpoints to the session.
+// worker and in Node. All its reports are based on answers of the bench. Apart from typed lines, it adds only runs and breakpoint changes
+// to the session.
 //
 //     const session = new WorkerSession(engine, file);               (debug_session.js does this, and also stores the source)
 //     const debug = new Debugger(session);
@@ -45,13 +46,13 @@ import { CommonMistakes } from "./common_mistakes.js";
  * @typedef {import("./common_mistakes.js").CommonMistake} CommonMistake
  * @typedef {import("../engine/past_search.js").BackSearchResult} BackSearchResult
  * @typedef {import("../engine/past_search.js").BackGoal} BackGoal
- * @typedef {import("../engine/timeline.js").Present} Present
+ * @typedef {import("../engine/timeline.js").SessionAtMoment} Present
  * @typedef {import("../engine/worker_session.js").Frame} Frame
  * @typedef {import("../engine/worker_session.js").LinesResult} LinesResult
  * @typedef {import("../engine/worker_session.js").WorkerSession} WorkerSession
  *
- * A callback that is called after each piece of work. It resolves to true to continue. `done` is the number of cycles searched or run so
- * far. `tally` contains the breakpoint events of the last piece of a run.
+ * A callback that the debugger calls after each piece of a run or search. It resolves to true to continue, or to false to stop. `done` is
+ * the number of cycles searched or run so far. `tally` contains the breakpoint events of the last piece of a run.
  * @typedef {(done: number, tally?: Tally) => Promise<boolean>} ShouldContinue
  *
  * A stop. `why` is the reason: "goal", the bench's reason for the end of a run ("break", "watch", "code"), an error answer of the bench,
@@ -64,14 +65,19 @@ import { CommonMistakes } from "./common_mistakes.js";
  * `noted`: the number of all logged notes, which can exceed the length of `notes`. `usual`: the common mistakes (common_mistakes.js).
  * @typedef {{ hits: [number, number][], notes: LoggedNote[], noted: number, usual: CommonMistake[] }} Tally
  *
- * The result of typed lines. If a breakpoint ended the last line, `id` is the id of the breakpoint and `cut` is the line. Otherwise `id` is
- * 0 and `cut` is "".
+ * The result of typed lines. If a breakpoint ended the last line early, `id` is the id of the breakpoint and `cut` is the line as typed.
+ * Otherwise `id` is 0 and `cut` is "".
  * @typedef {{ id: number, why: string, change: string, cut: string, cycles: number, tally: Tally }} TypedResult
  * @typedef {Frame & { stop: Stop | null, tally: Tally }} DebugFrame
  * @typedef {{ found: SearchResult & { id: number, returns: boolean, change?: string },
  *   result: (LinesResult & { snapshot: string[] }) | null, tally: Tally }} RunResult the result of a move; `result` is null if no line was
- *   served
+ *   executed
+ *
+ * The result of a move back or forward. `isDone` is false if the goal was not found. `wires` is true if the board has changed. `cycles` is
+ * the distance of the move.
  * @typedef {Omit<BackSearchResult, "moment" | "present"> & { isDone: boolean, wires: boolean, cycles: number }} BackResult
+ *
+ * The last change of a place: the number of cycles since the change, and the address of the instruction that made it (-1 for a typed line).
  * @typedef {Omit<BackSearchResult, "moment" | "present"> & { isFound: boolean, cycles: number, address: number }} LastChange
  */
 
@@ -163,12 +169,12 @@ export class Debugger {
    * @param {SoftBreakpoint[]} breakpoints
    */
   createStopFinder(breakpoints) {
-    return new SoftStopFinder(new Arrivals(breakpoints), this.watches, () => this.session.codes);
+    return new SoftStopFinder(new Arrivals(breakpoints), this.watches, () => this.session.romBytes);
   }
 
   /**
-   * Sets the data watches. The bench still watches its own RAM characters. Returns the error messages of watches that cannot be compiled,
-   * by watch id.
+   * Replaces the data watches. The RAM characters that the bench watches do not change. Returns the error messages of watches that cannot
+   * be compiled, by watch id.
    * @param {RequestedWatch[]} requestedWatches
    * @param {Names} names
    */
@@ -176,7 +182,7 @@ export class Debugger {
     const hits = new Map(this.watches.watches.map((watch) => [watch.id, watch.hits]));
     const { watches, faults } = compileWatches(requestedWatches, names);
     this.watches = new DataWatches(watches.map((watch) => ({ ...watch, hits: hits.get(watch.id) || 0 })));
-    this.arrivals = new SoftStopFinder(this.arrivals.arrivals, this.watches, () => this.session.codes);
+    this.arrivals = new SoftStopFinder(this.arrivals.arrivals, this.watches, () => this.session.romBytes);
     return faults;
   }
 
@@ -184,7 +190,7 @@ export class Debugger {
   breakLines() {
     const { hardBreakpoints } = this;
     if (!hardBreakpoints) return "";
-    const benchAddresses = new Set(this.session.breaks);
+    const benchAddresses = new Set(this.session.breakpointAddresses);
     const removedAddresses = [...benchAddresses].filter((address) => !hardBreakpoints.has(address));
     const removalLines = removedAddresses.map((address) => `unbreak 0x${hex(address, 3)}\n`);
     const addedAddresses = [...hardBreakpoints.keys()].filter((address) => !benchAddresses.has(address));
@@ -217,27 +223,27 @@ export class Debugger {
     if (cyclesBeforeGoal >= 0) planned = truncateLines(planned, cyclesBeforeGoal);
     const events = this.arrivals.searchLines(engine, file, planned);
     if (events.cycles >= 0) planned = truncateLines(planned, events.cycles);
-    const isLate = isHurried && this.commonMistakes.stops.size === 0 && session.recording === null;
+    const isLate = isHurried && this.commonMistakes.stoppingKinds.size === 0 && session.recording === null;
     const mistakes = isLate ? { faults: [], stop: -1 } : this.commonMistakes.searchLines(planned);
     if (mistakes.stop >= 0) planned = truncateLines(planned, mistakes.stop);
     const countBefore = session.count.total;
     const frame = session.advanceBy(planned);
     this.arrivals.count(events);
     this.uncheckedLines = isLate ? planned : null;
-    const stop = this.findOtherStop(frame, mistakes.stop) || this.findStop(frame, events, cyclesBeforeGoal);
+    const stop = this.findMistakeOrRecordingStop(frame, mistakes.stop) || this.findStop(frame, events, cyclesBeforeGoal);
     if (stop) this.endMove();
     const tally = { ...this.createTally(events, stop, countBefore), usual: [...this.takeLateMistakes(), ...mistakes.faults] };
     return { ...frame, stop, tally };
   }
 
   /**
-   * Checks the last lines for mistakes, if `advance` has not checked them. The session file from before these lines is still in
-   * `session.next`.
+   * Checks the last lines for mistakes, if `advance` has not checked them. `session.next` still contains the session file from before these
+   * lines.
    */
   checkLastLines() {
     const { uncheckedLines } = this;
     this.uncheckedLines = null;
-    if (uncheckedLines) this.lateMistakes.push(...this.commonMistakes.searchLines(uncheckedLines, this.session.next).faults);
+    if (uncheckedLines) this.lateMistakes.push(...this.commonMistakes.searchLines(uncheckedLines, this.session.nextFile).faults);
   }
 
   /** Removes and returns the mistakes that `checkLastLines` found. */
@@ -246,15 +252,15 @@ export class Debugger {
   }
 
   /**
-   * Returns the stop for a mistake or for the end of a recording; null if there is none.
+   * Returns the stop at a common mistake or at the end of a recording; null if there is neither.
    * @param {Frame} frame
    * @param {number} cyclesToMistake the cycles before the mistake, -1 for none
    */
-  findOtherStop(frame, cyclesToMistake) {
+  findMistakeOrRecordingStop(frame, cyclesToMistake) {
     if (cyclesToMistake >= 0 && frame.cycles === cyclesToMistake) return this.createStop("usual");
     const { recorder } = this.session;
-    if (!recorder || !recorder.stops || frame.end) return null;
-    recorder.stops = false;
+    if (!recorder || !recorder.mustStopMachine || frame.end) return null;
+    recorder.mustStopMachine = false;
     return this.createStop("recorded");
   }
 
@@ -330,11 +336,11 @@ export class Debugger {
    * @param {ShouldContinue} shouldContinue
    * @returns {Promise<RunResult>}
    */
-  async goOn(requestedGoal, maxDistance, shouldContinue) {
+  async runToGoal(requestedGoal, maxDistance, shouldContinue) {
     this.begin();
     const { session } = this;
     const goal = this.compileGoal(requestedGoal);
-    const codes = () => session.codes;
+    const codes = () => session.romBytes;
     const watcher = createWatcher(session.engine, session.file, goal, codes);
     const returns = watcher !== null && watcher.returns;
     const searchResult = { ...await searchGoal(session.engine, session.file, goal, shouldContinue, maxDistance, codes), id: 0, returns };
@@ -381,9 +387,9 @@ export class Debugger {
   }
 
   /**
-   * Serves typed lines, either all or none. A run in these lines ends at its first breakpoint.
+   * Executes typed bench lines, either all or none. A `run` line ends at its first breakpoint.
    * @param {string} lines
-   * @param {(done: number) => Promise<boolean>} shouldContinue called with the number of processed characters; returns true to continue
+   * @param {(done: number) => Promise<boolean>} shouldContinue called with the number of processed characters; resolves to true to continue
    * @returns {Promise<{ result: LinesResult & { snapshot: string[] }, typed: TypedResult }>}
    */
   async serveTyped(lines, shouldContinue) {
@@ -428,7 +434,7 @@ export class Debugger {
     const { session } = this;
     const { moment, present: found, ...report } = await this.findBackTarget(goal, shouldContinue);
     if (!moment) return { ...report, isDone: false, wires: false, cycles: 0 };
-    const present = found || await session.timeline.at(session.engine, moment, shouldContinue);
+    const present = found || await session.timeline.sessionAt(session.engine, moment, shouldContinue);
     session.timeline.goBack(moment, session);
     return { ...report, ...this.enterMoment(present) };
   }
@@ -454,15 +460,14 @@ export class Debugger {
    * @returns {SoftBreakpoint[]}
    */
   stoppingBreakpoints() {
-    const hardBreakpoints = this.hardBreakpoints || new Map(this.session.breaks.map((address) => [address, 0]));
+    const hardBreakpoints = this.hardBreakpoints || new Map(this.session.breakpointAddresses.map((address) => [address, 0]));
     const unconditional = { from: 1, hits: 0, places: [], holds: () => true, words: null };
     const softBreakpoints = this.arrivals.arrivals.breakpoints.filter(({ words }) => !words);
     return [...[...hardBreakpoints].map(([address, id]) => ({ ...unconditional, id, address })), ...softBreakpoints];
   }
 
   /**
-   * Finds the last change of a place without going back in time. Resolves to the number of cycles since the change, and the address of the
-   * instruction that made the change (-1 if a typed line made the change).
+   * Finds the last change of a place without going back in time.
    * @param {string} place
    * @param {(done?: number) => Promise<boolean>} shouldContinue
    * @returns {Promise<LastChange>}
@@ -471,13 +476,13 @@ export class Debugger {
     const { session } = this;
     const { moment, present, ...report } = await findBackTarget(session.engine, session, { kind: "change", place }, shouldContinue);
     if (!moment) return { ...report, isFound: false, cycles: 0, address: -1 };
-    const { file, count } = present || await session.timeline.at(session.engine, moment, shouldContinue);
+    const { file, count } = present || await session.timeline.sessionAt(session.engine, moment, shouldContinue);
     const { counter } = parseCounter(session.engine.ask(file, "regs\n").answers[0]);
     return { ...report, isFound: true, cycles: session.count.total - count.total, address: report.line ? -1 : counter };
   }
 
   /**
-   * Moves forward again, to the moment before the last move back.
+   * Undoes the last move back: returns to the moment from which that move started.
    * @returns {BackResult}
    */
   goForward() {
@@ -489,7 +494,7 @@ export class Debugger {
   }
 
   /**
-   * Replaces the state of the session with that of another moment, but with the current breakpoints.
+   * Replaces the state of the session with the state at another moment, but keeps the current breakpoints.
    * @param {Present} present
    */
   enterMoment(present) {
@@ -506,9 +511,8 @@ export class Debugger {
   // --- Values ---
 
   /**
-   * Returns the current values of places as text; "" for a place that the board does not have. conditions/places.js defines the place
-   * names.
-   * @param {string[]} names
+   * Returns the current values of places as text; "" for a place that the board does not have.
+   * @param {string[]} names place names (conditions/places.js)
    * @returns {string[]}
    */
   values(names) {

@@ -33,7 +33,7 @@ function pieceLines(watcher, cycles) {
  * Searches the answers to run lines for the goal or a stop. Returns null if the runs reach neither.
  * @param {ForecastAnswers} answers
  * @param {Watcher} watcher
- * @returns {SearchResult | null} the cycles count from the start of the first run
+ * @returns {SearchResult | null} the result; `cycles` counts from the start of the first run
  */
 function searchAnswers(answers, watcher) {
   let done = 0;
@@ -60,7 +60,7 @@ export async function searchGoal(engine, file, goal, shouldContinue, maxCycles, 
   const copy = file.slice();
   const watcher = createWatcher(engine, file, goal, codes);
   if (!watcher) return { cycles: 0, isReached: false, end: missingGoalEnd(goal) };
-  if (watcher.first) engine.serve(copy, watcher.first, copy);
+  if (watcher.setupLine) engine.serve(copy, watcher.setupLine, copy);
   const piece = new PieceSize(FIRST_PIECE_CYCLES, 1, MAX_PIECE_CYCLES);
   for (let done = 0; done < maxCycles;) {
     const cycles = Math.min(piece.size, watcher.maxRun(), maxCycles - done);
@@ -91,8 +91,8 @@ export function plannedCycles({ line, change }) {
 export function cyclesToGoal(engine, file, planned, watcher) {
   const lines = planned.map((each) => (
     each.change ? `${each.line}\n` : `${watcher.before(plannedCycles(each))}${each.line}\n${watcher.after}`));
-  const answers = new ForecastAnswers(engine.ask(file, watcher.first + lines.join("")).answers);
-  if (watcher.first) answers.take();
+  const answers = new ForecastAnswers(engine.ask(file, watcher.setupLine + lines.join("")).answers);
+  if (watcher.setupLine) answers.take();
   let done = 0;
   for (const { change } of planned) {
     if (change) {
@@ -108,7 +108,7 @@ export function cyclesToGoal(engine, file, planned, watcher) {
 }
 
 /**
- * Returns the first of the given lines, up to a number of cycles. Shortens the last run if necessary.
+ * Returns the given lines up to a number of cycles. Shortens the last run if necessary.
  * @param {PlannedLine[]} planned
  * @param {number} cycles
  * @returns {PlannedLine[]}

@@ -26,10 +26,10 @@ import { becomesTrue } from "./condition_search.js";
  * subroutine.
  * @typedef {{ cycles: number, isReached: boolean, end: string }} SearchResult
  *
- * The watcher of a goal. `first`: a bench line to send once before all runs, "" for none. `maxRun`: returns the maximum length of the next
- * run in cycles. `before`: returns the queries before a run. `after`: the queries after a run. `take`: reads the answers to the queries and
- * to the run, and returns the result. `returns`: true if a return from a subroutine reaches the goal.
- * @typedef {{ first: string, maxRun: () => number, before: (cycles: number) => string, after: string,
+ * The watcher of a goal. `setupLine`: a bench line to send once before all runs, "" for none. `maxRun`: returns the maximum length of the
+ * next run in cycles. `before`: returns the queries before a run. `after`: the queries after a run. `take`: reads the answers to the
+ * queries and to the run, and returns the result. `returns`: true if a return from a subroutine reaches the goal.
+ * @typedef {{ setupLine: string, maxRun: () => number, before: (cycles: number) => string, after: string,
  *   take: (answers: ForecastAnswers) => SearchResult, returns: boolean }} Watcher
  */
 
@@ -37,12 +37,13 @@ import { becomesTrue } from "./condition_search.js";
 export const MAX_PIECE_CYCLES = 4 * MAX_RUN_CYCLES;
 
 /**
- * Reads an answer to `regs`. Returns the program counter, and whether the second cycle of an instruction is pending (`isOwed`).
+ * Parses an answer to `regs`. Returns the program counter, and whether the second cycle of an instruction is pending
+ * (`isSecondCyclePending`).
  * @param {string} regs
  */
 export function parseCounter(regs) {
   const { counter, owed } = readCounter(regs);
-  return { counter: parseInt(counter, 16), isOwed: owed === "1" };
+  return { counter: parseInt(counter, 16), isSecondCyclePending: owed === "1" };
 }
 
 /**
@@ -53,7 +54,7 @@ export function parseCounter(regs) {
  */
 function traceWatcher(places, goal) {
   return {
-    first: "",
+    setupLine: "",
     maxRun: () => MAX_PIECE_CYCLES,
     before: (cycles) => `trace ${cycles}${places}\n`,
     after: "",
@@ -71,8 +72,8 @@ function traceWatcher(places, goal) {
 }
 
 /**
- * Returns a watcher for a condition. If a key change between two runs made the condition true, the goal is one cycle after the start of the
- * second run.
+ * Returns a watcher for a condition that becomes true. If a key change between two runs makes the condition true, the goal is one cycle
+ * after the start of the second run.
  * @param {SearchCondition} condition
  * @returns {Watcher}
  */
@@ -97,9 +98,9 @@ function conditionWatcher(condition) {
 }
 
 /**
- * Returns a watcher for a return to a call depth. The depth is 0 at first. Each JMS adds 1, and each BBL subtracts 1.
+ * Returns a watcher for a return to a call depth. The depth is 0 at the start of the move. Each JMS adds 1, and each BBL subtracts 1.
  * @param {Uint8Array} codes the bytes of ROM
- * @param {number} level the depth: 0 for the return from the next call, -1 for the return from the current subroutine
+ * @param {number} level the depth to reach: 0 for the return from the next call, -1 for the return from the current subroutine
  * @returns {Watcher}
  */
 function returnWatcher(codes, level) {
@@ -116,23 +117,23 @@ function returnWatcher(codes, level) {
 /**
  * Returns a watcher for a number of instructions. Each cycle completes at most one instruction.
  * @param {number} count the number of instructions
- * @param {boolean} isOwed true if the second cycle of an instruction is pending
+ * @param {boolean} isSecondCyclePending true if the second cycle of an instruction is pending
  * @returns {Watcher}
  */
-function countWatcher(count, isOwed) {
+function countWatcher(count, isSecondCyclePending) {
   let instructionsLeft = count;
-  let wasOwed = isOwed;
+  let wasSecondCyclePending = isSecondCyclePending;
   return {
-    first: "",
+    setupLine: "",
     maxRun: () => instructionsLeft,
     before: (cycles) => `count ${cycles}\n`,
     after: "regs\n",
     take: (answers) => {
       const startedCount = answers.takeCounts().reduce((sum, each) => sum + each.begun, 0);
       const run = answers.takeRun();
-      const isNowOwed = parseCounter(answers.take()).isOwed;
-      instructionsLeft -= startedCount + Number(wasOwed) - Number(isNowOwed);
-      wasOwed = isNowOwed;
+      const isNowSecondCyclePending = parseCounter(answers.take()).isSecondCyclePending;
+      instructionsLeft -= startedCount + Number(wasSecondCyclePending) - Number(isNowSecondCyclePending);
+      wasSecondCyclePending = isNowSecondCyclePending;
       return instructionsLeft === 0 ? { cycles: run.cycles, isReached: true, end: "" } : { ...run, isReached: false };
     },
     returns: false,
@@ -148,25 +149,25 @@ function countWatcher(count, isOwed) {
  * @returns {Watcher}
  */
 function addressWatcher(engine, file, address) {
-  const first = `break ${address}\n`;
-  const [answer] = engine.ask(file, first).answers;
+  const setupLine = `break ${address}\n`;
+  const [answer] = engine.ask(file, setupLine).answers;
   if (!answer.startsWith("ok ")) return instructionWatcher(address);
   return {
-    first,
+    setupLine,
     maxRun: () => MAX_PIECE_CYCLES,
     before: () => "",
     after: "regs\n",
     take: (answers) => {
       const run = answers.takeRun();
-      const { counter, isOwed } = parseCounter(answers.take());
-      return !isOwed && counter === address ? { cycles: run.cycles, isReached: true, end: "" } : { ...run, isReached: false };
+      const { counter, isSecondCyclePending } = parseCounter(answers.take());
+      return !isSecondCyclePending && counter === address ? { cycles: run.cycles, isReached: true, end: "" } : { ...run, isReached: false };
     },
     returns: false,
   };
 }
 
 /**
- * Returns a watcher that examines the addresses of all instructions, except the first one, which is at the current position.
+ * Returns a watcher that compares the address of each instruction with an address. It skips the instruction at which the move starts.
  * @param {number} address
  */
 function instructionWatcher(address) {
@@ -212,8 +213,8 @@ export function createWatcher(engine, file, goal, codes = () => romCodes(engine,
   }
   if (goal.kind === "when") return goal.searchCondition ? conditionWatcher(goal.searchCondition) : null;
   const [regs] = engine.ask(file, "regs\n").answers;
-  const { counter, isOwed } = parseCounter(regs);
-  if (goal.kind === "count") return countWatcher(goal.count, isOwed);
+  const { counter, isSecondCyclePending } = parseCounter(regs);
+  if (goal.kind === "count") return countWatcher(goal.count, isSecondCyclePending);
   if (goal.kind === "out") return isInSubroutine(regs, codes()) ? returnWatcher(codes(), -1) : null;
-  return isOwed || !isCall(codes()[counter]) ? countWatcher(1, isOwed) : returnWatcher(codes(), 0);
+  return isSecondCyclePending || !isCall(codes()[counter]) ? countWatcher(1, isSecondCyclePending) : returnWatcher(codes(), 0);
 }

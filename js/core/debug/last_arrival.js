@@ -1,6 +1,6 @@
 // Searches the past for the last arrival at a breakpoint, the last change of a watched place, or the call of a subroutine that has not
-// returned. A copy of the session, with the current breakpoints, replays the past in blocks. The search ignores hit counts, and breakpoints
-// that log a note.
+// returned. A copy of the session, with the current breakpoints, replays the past in blocks. The search ignores hit counts. It also ignores
+// breakpoints that log a note instead of stopping.
 
 import { readItems, watchedPlaces } from "../bench/answers.js";
 import { searchResult, makeChangeFinder, searchPast } from "../engine/past_search.js";
@@ -12,7 +12,7 @@ import { parseCounter } from "./goals.js";
  * @typedef {import("../engine/past_search.js").BackSearchResult} BackSearchResult
  * @typedef {import("../engine/past_search.js").Finder} Finder
  * @typedef {import("../engine/timeline.js").ShouldContinue} ShouldContinue
- * @typedef {import("../engine/timeline.js").Present} Present
+ * @typedef {import("../engine/timeline.js").SessionAtMoment} Present
  * @typedef {import("../engine/replay_units.js").Unit} Unit
  * @typedef {import("../engine/worker_session.js").WorkerSession} WorkerSession
  * @typedef {import("./arrivals.js").SoftBreakpoint} SoftBreakpoint
@@ -50,16 +50,17 @@ class LastArrivalFinder {
     const removalLines = [
       ...breaks.map((each) => `unbreak 0x${each}\n`), ...watches.map((each) => `unwatch ${each.replace(".", " 0x")}\n`)];
     this.copy = file.slice();
-    engine.serve(this.copy, removalLines.join("") + arrivals.first, this.copy);
+    engine.serve(this.copy, removalLines.join("") + arrivals.setupLines, this.copy);
     this.total = count.total;
   }
 
   /**
-   * Replays a part of the past, given as units. Returns the last arrival in these units; null if there is none.
+   * Replays units (replay_units.js), which are consecutive parts of the past. Returns the last arrival in these units; null if there is
+   * none.
    * @param {Unit[]} units
    * @returns {BackSearchResult | null}
    */
-  among(units) {
+  findLastIn(units) {
     const { engine, arrivals, copy, presentMoment } = this;
     /** @type {BackSearchResult | null} */
     let found = null;
@@ -91,7 +92,7 @@ class LastArrivalFinder {
 }
 
 /**
- * Returns the search result with the later moment: `one` if the moments are equal, and the other result if one of them is null.
+ * Returns the search result with the later moment, or `one` if the moments are equal. If one result is null, returns the other result.
  * @param {BackSearchResult | null} one
  * @param {BackSearchResult | null} other
  */
@@ -110,17 +111,18 @@ function laterResult(one, other) {
 function combineFinders(finders) {
   return {
     begin: ({ file, count }) => finders.forEach((finder) => finder.begin({ file: file.slice(), count })),
-    among: (units) => finders.map((finder) => finder.among(units)).reduce(laterResult, null),
+    findLastIn: (units) => finders.map((finder) => finder.findLastIn(units)).reduce(laterResult, null),
   };
 }
 
 /**
- * The places to search that the bench does not watch: `place` ("" for none), and those of the data watches.
+ * The places to search in addition to the places that the bench watches: `place` ("" for none), and the places of the data watches.
  * @typedef {{ place: string, watches?: import("./data_watches.js").DataWatches }} ExtraWatches
  */
 
 /**
- * Finds the last arrival or change before the present. Resolves to its moment, or to the start of the recorded past if there is none.
+ * Finds the last arrival at a breakpoint, or the last change of a watched place, before the present. Resolves to that moment, or to the
+ * start of the recorded past if neither happened.
  * @param {WorkerSession} session
  * @param {SoftBreakpoint[]} breakpoints the breakpoints that stop the machine
  * @param {ExtraWatches} extraWatches

@@ -1,8 +1,8 @@
-// Collects the changes of the machine state that each of the last source lines made. At each pause, adds the changes that the last step
+// Collects the changes of the machine state that the last executed source lines made. At each pause, adds the changes that the last step
 // made. A step is one instruction, or a call that the user stepped over.
 //
 //     const changes = new LineChanges();
-//     changes.addPause(machineState, cycles, map);   at a pause; `machineState` is the machine state, `cycles` is the cycle count
+//     changes.addPause(machineState, cycles, map);   at a pause; `cycles` is the total cycle count of the session
 //     changes.lines                              Map { 12 => "acc 5 cy 1" }, newest line last
 
 import { splitStatement } from "../text/assembly.js";
@@ -23,8 +23,9 @@ const MAX_CHANGES = 6;
  * @param {MachineState} after
  */
 export function describeChanges(before, after) {
-  const oldValues = before.all();
-  const descriptions = [...after.all()].filter(([name, value]) => oldValues.get(name) !== value).map(([name, value]) => `${name} ${value}`);
+  const oldValues = before.allValues();
+  const changedValues = [...after.allValues()].filter(([name, value]) => oldValues.get(name) !== value);
+  const descriptions = changedValues.map(([name, value]) => `${name} ${value}`);
   const omittedCount = descriptions.length - MAX_CHANGES;
   return descriptions.slice(0, MAX_CHANGES).join(" ") + (omittedCount > 0 ? say.andMore(omittedCount) : "");
 }
@@ -50,7 +51,7 @@ function findSteppedLine({ registers: before }, { registers: after }, cycles, ma
   return name === "JMS" && isBack ? line : 0;
 }
 
-/** The changes of the machine state that the last source lines made. */
+/** The changes of the machine state that the last executed source lines made. */
 export class LineChanges {
   constructor() {
     /** @type {MachineState | null} the state at the last pause; `cycles` is the cycle count at that pause */
@@ -67,9 +68,9 @@ export class LineChanges {
   }
 
   /**
-   * Adds a pause.
-   * @param {MachineState} machineState the state
-   * @param {number} cycles the cycle count
+   * Adds the changes since the last pause, if they were made by one step. Otherwise removes all changes, unless the machine has not run.
+   * @param {MachineState} machineState the state at the pause
+   * @param {number} cycles the total cycle count of the session at the pause
    * @param {SourceMap | null} map the source map of the program in ROM; null if the source is unknown
    */
   addPause(machineState, cycles, map) {

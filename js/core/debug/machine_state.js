@@ -81,7 +81,7 @@ export class MachineState {
   /**
    * Returns the contents of a RAM register; undefined if the board does not have this register.
    * @param {number} bank
-   * @param {number} register 0 to 15, numbered through all chips of the bank
+   * @param {number} register 0 to 15: four times the chip number, plus the number of the register in the chip
    */
   ramRegister(bank, register) {
     const ram = this.ram.get(bank);
@@ -101,7 +101,7 @@ export class MachineState {
   /**
    * Returns the value of a status character; "" if the board does not have this character.
    * @param {number} bank
-   * @param {number} register 0 to 15, numbered through all chips of the bank
+   * @param {number} register 0 to 15: four times the chip number, plus the number of the register in the chip
    * @param {number} number the number of the status character, 0 to 3
    */
   status(bank, register, number) {
@@ -129,10 +129,11 @@ export class MachineState {
   }
 
   /**
-   * Returns all values that an instruction can change, by name, in the order in which they are reported.
+   * Returns the registers, SRC bytes, RAM and status characters, and outputs of ports and chains, by name. Messages about changes list the
+   * values in the same order.
    * @returns {Map<string, string>}
    */
-  all() {
+  allValues() {
     const { registers, ports } = this;
     /** @type {Map<string, string>} */
     const all = new Map([["acc", registers.accumulator], ["cy", registers.carry], ["dcl", registers.bank]]);

@@ -27,7 +27,7 @@ function romLevels(chip, machineState, { roms }) {
 }
 
 /**
- * Returns the value of a register or of a place without a number in its name; undefined for any other place.
+ * Returns the value of an index register, or of a place without a number in its name; undefined for any other place.
  * @param {string} place
  * @param {MachineState} machineState
  * @returns {string | undefined}
@@ -52,7 +52,7 @@ function registerValue(place, machineState) {
 }
 
 /**
- * Returns the value of a place; "0", as `trace` does, if the board does not have the place.
+ * Returns the value of a place. If the board does not have the place, returns "0", as `trace` does.
  * @param {string} place a place that `trace` or `state` reports
  * @param {MachineState} machineState
  * @param {Board} board

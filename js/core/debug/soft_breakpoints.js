@@ -25,8 +25,8 @@ export function isSoft({ condition, from, note }) {
 }
 
 /**
- * Compiles the text in a pair of braces of a note. The text is a place, whose value is spelled as in an answer to `trace`, another
- * expression, or a condition.
+ * Compiles the text between two braces of a note: a place, a condition, or another expression. The value of a place is spelled as in an
+ * answer to `trace`.
  * @param {string} text
  * @param {Names} names
  * @returns {{ note: Note, fault: "", column: -1 } | { note: null, fault: string, column: number }}

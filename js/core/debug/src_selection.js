@@ -12,7 +12,7 @@ import * as say from "../../words/debug.js";
  * @typedef {{ kind: Kind, words: string }} SelectionMistake a mistake: its kind, and a message
  */
 
-/** The mnemonics of the instructions that write to a RAM bank, by opcode; and the opcodes of the instructions that read from one. */
+/** The instructions that write to a RAM bank: mnemonics by opcode. The opcodes of the instructions that read from a RAM bank. */
 const RAM_WRITES = new Map([[0xE0, "WRM"], [0xE1, "WMP"], [0xE4, "WR0"], [0xE5, "WR1"], [0xE6, "WR2"], [0xE7, "WR3"]]);
 const RAM_READS = new Set([0xE8, 0xE9, 0xEB, 0xEC, 0xED, 0xEE, 0xEF]);
 
@@ -32,7 +32,7 @@ export function usesSelection(code) {
   return code >> 4 === 0xE || isSrc(code);
 }
 
-/** Tracks the selection by SRC, and the instructions that have used this selection. */
+/** Tracks the chips and registers that SRC has selected, and the instructions that have used this selection. */
 export class SrcSelection {
   /** @param {Board} board */
   constructor(board) {
@@ -45,7 +45,7 @@ export class SrcSelection {
     /** The address of the last SRC, -1 before the first SRC. */
     this.srcAddress = -1;
     /** @type {Set<string>} the kinds of instructions that used the last SRC: "WRR", "RDR", or "RAM" */
-    this.userKinds = new Set();
+    this.instructionKinds = new Set();
     /** @type {Map<number, number>} the ROM chips that WRR and RDR last used, by address of the instruction */
     this.lastChips = new Map();
   }
@@ -71,10 +71,10 @@ export class SrcSelection {
     if (isSrc(code)) {
       this.latchedBytes.set(parseNumber(bank), parseInt(source, 16));
       this.srcAddress = address;
-      this.userKinds.clear();
-    } else if (RAM_WRITES.has(code) || RAM_READS.has(code)) this.userKinds.add("RAM");
+      this.instructionKinds.clear();
+    } else if (RAM_WRITES.has(code) || RAM_READS.has(code)) this.instructionKinds.add("RAM");
     else if (code === WRR || code === RDR) {
-      this.userKinds.add(code === WRR ? "WRR" : "RDR");
+      this.instructionKinds.add(code === WRR ? "WRR" : "RDR");
       this.lastChips.set(address, parseInt(source[0], 16));
     }
   }
@@ -107,10 +107,10 @@ export class SrcSelection {
     if (isWrite && !/[01]/.test(port)) return { kind: "lines", words: say.noOutputs(action, this.description) };
     if (!isWrite && !port.includes("i")) return { kind: "lines", words: say.noInputs(action, this.description) };
     const lastChip = this.lastChips.get(address);
-    const otherUser = [...this.userKinds].find((each) => each !== name);
-    if (otherUser === undefined || lastChip === undefined || lastChip === chip) return null;
+    const otherKind = [...this.instructionKinds].find((each) => each !== name);
+    if (otherKind === undefined || lastChip === undefined || lastChip === chip) return null;
     const message = say.selectedByEarlierSrc(action, lastChip, this.srcAddress < 0 ? "" : say.atAddress(hex(this.srcAddress, 3)));
-    return { kind: "source", words: say.sourceWasFor(message, otherUser) };
+    return { kind: "source", words: say.sourceWasFor(message, otherKind) };
   }
 
   /** A part of a message that names the address of the last SRC; "" before the first SRC. */

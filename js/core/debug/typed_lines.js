@@ -1,5 +1,5 @@
-// Plans how to serve typed lines, so that a `run` in these lines also ends at soft breakpoints. A copy of the session serves the lines
-// first. If a run reaches a soft breakpoint that stops the machine, the plan shortens the run so that it ends there.
+// Plans the execution of typed lines, so that a `run` in these lines also ends at soft breakpoints. A copy of the session executes the
+// lines first. If a run reaches a soft breakpoint that stops the machine, the plan shortens the run to end at this breakpoint.
 
 import { readRun } from "../bench/answers.js";
 import { CancelledError } from "../bench/bench_errors.js";
@@ -13,9 +13,9 @@ import { MAX_RUN_CYCLES } from "../engine/key_queue.js";
  * @typedef {import("./data_watches.js").SoftStopFinder} SoftStopFinder
  * @typedef {import("./arrivals.js").BreakpointEvents} BreakpointEvents
  *
- * The plan. `lines`: the lines to serve. `runs`: the breakpoint events of each run, and the number of cycles before the run. If a
- * breakpoint ends the last line early, `id` is the id of the breakpoint, `cut` is the line as typed, and `why` and `change` are those of
- * `BreakpointEvents`. Otherwise `id` is 0 and the texts are "".
+ * The plan. `lines`: the lines to execute. `runs`: the breakpoint events of each run, and the number of cycles before the run. If a
+ * breakpoint ends the last line early, `id` is the id of the breakpoint, `cut` is the line as typed, and `why` and `change` have the same
+ * meaning as in `BreakpointEvents`. Otherwise `id` is 0, and `cut`, `why` and `change` are "".
  * @typedef {{ lines: string, runs: { events: BreakpointEvents, done: number }[], id: number, cut: string, why: string,
  *   change: string }} TypedPlan
  */

@@ -17,12 +17,12 @@ import * as say from "../../words/debug.js";
  * @typedef {import("./word_values.js").Piece} Piece
  * @typedef {import("../conditions/condition_language.js").Names} Names
  *
- * A watch expression. `text` is its saved text. `value` is the expression without the name. `place` is the name of a RAM or status
- * character, "" for any other expression. `pieces` returns the current value.
- * @typedef {{ name: string, text: string, place: string, value: string, pieces: Reader }} WatchExpression
+ * A watch expression. `name` is the name that the user gave, or else the expression. `text` is the saved text. `value` is the expression
+ * without the name. `place` is the name of a RAM or status character, "" for any other expression. `pieces` returns the current value.
+ * @typedef {{ name: string, text: string, place: string, value: string, pieces: ValueReader }} WatchExpression
  *
  * A function that returns the value of a watch expression in a machine state, as pieces of text.
- * @typedef {(machineState: MachineState, names: Names) => Piece[]} Reader
+ * @typedef {(machineState: MachineState, names: Names) => Piece[]} ValueReader
  */
 
 /** The maximum number of watch expressions, and the maximum length of a watch expression in characters. */
@@ -34,8 +34,8 @@ const MAX_DECIMAL_ONLY_VALUE = 9;
 /**
  * Returns the reader of a place whose value the user can edit.
  * @param {string} place
- * @param {(machineState: MachineState) => string} value
- * @returns {Reader}
+ * @param {(machineState: MachineState) => string} value returns the value in a machine state, "" if the board lacks the place
+ * @returns {ValueReader}
  */
 function editableReader(place, value) {
   return (machineState) => {
@@ -45,7 +45,8 @@ function editableReader(place, value) {
 }
 
 /**
- * @type {Record<string, (machineState: MachineState) => string>} functions that return the value of a register, by the name of the register
+ * @type {Record<string, (machineState: MachineState) => string>} functions that return the accumulator, the carry or the selected bank, by
+ *   place name
  */
 const REGISTERS = {
   acc: ({ registers }) => registers.accumulator, cy: ({ registers }) => registers.carry, dcl: ({ registers }) => registers.bank,
@@ -54,7 +55,7 @@ const REGISTERS = {
 /**
  * Returns the reader of a register or register pair; null for any other place.
  * @param {string} place
- * @returns {Reader | null}
+ * @returns {ValueReader | null}
  */
 function registerReader(place) {
   if (Object.prototype.hasOwnProperty.call(REGISTERS, place)) return editableReader(place, REGISTERS[place]);
@@ -69,7 +70,7 @@ function registerReader(place) {
 /**
  * Returns the reader of a RAM or status character; null for any other place.
  * @param {string} place
- * @returns {Reader | null}
+ * @returns {ValueReader | null}
  */
 function memoryReader(place) {
   const [kind, bank, at, number] = place.split(".");
@@ -80,7 +81,7 @@ function memoryReader(place) {
 /**
  * Returns the reader of a port; null for any other place.
  * @param {string} place
- * @returns {Reader | null}
+ * @returns {ValueReader | null}
  */
 function portReader(place) {
   const rom = /^rom(\d+)$/.exec(place);
@@ -101,7 +102,7 @@ function portReader(place) {
 /**
  * Returns the reader of a place whose value the user cannot edit.
  * @param {import("../conditions/places.js").Place} place
- * @returns {Reader}
+ * @returns {ValueReader}
  */
 function placeReader(place) {
   return (machineState, { board }) => {
@@ -113,7 +114,7 @@ function placeReader(place) {
 /**
  * Returns the reader of any other expression, such as a sum, a comparison or a name.
  * @param {string} text
- * @returns {Reader}
+ * @returns {ValueReader}
  */
 function expressionReader(text) {
   return (machineState, names) => {
@@ -160,7 +161,7 @@ function expressionError(value, begin, names) {
 }
 
 /**
- * Parses a watch expression. `fault` is an error message, or "".
+ * Parses a watch expression. `fault` is an error message, "" for none.
  * @param {string} text
  * @param {Names | null} [names] the names of the board and the program, if known
  * @returns {{ watched: WatchExpression | null, fault: string }}

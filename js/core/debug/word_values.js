@@ -16,9 +16,11 @@ import * as say from "../../words/debug.js";
  * @typedef {{ place: string, name: string, value: string }} Value
  * @typedef {string | Value} Piece
  *
- * Two functions that explain the words of a program. `nameOf` returns the value and the description of a program name.
- * `describeInstruction` returns the description of an instruction; "" for any other word.
+ * A program name: its value, and its description (`words`). A name is a label or a constant.
  * @typedef {{ value: number, isLabel: boolean, words: string }} NamedValue
+ *
+ * Two functions that explain the words of a program. `nameOf` returns the named value; undefined for any other word. `describeInstruction`
+ * returns the description of an instruction; "" for any other word.
  * @typedef {{ nameOf: (name: string) => NamedValue | undefined, describeInstruction: (word: string) => string }} Program
  */
 
@@ -107,7 +109,7 @@ function registerPieces(word, { head }, machineState) {
 
 /**
  * Describes the port or character that an instruction accesses, as selected by SRC. Returns no pieces for an instruction that accesses
- * none.
+ * neither.
  * @param {string} name the upper-case mnemonic
  * @param {MachineState} machineState
  * @returns {Piece[]}

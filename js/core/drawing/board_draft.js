@@ -1,5 +1,5 @@
 // Parses the board text in the editor: its parts, their positions in the text, and the board that the text describes. Only the bench
-// decides whether a text is valid. Therefore the page edits the text only if the bench's answer to `board` equals `boardAnswers`.
+// decides whether a text is valid. Therefore, the board editor edits the text only if the bench's answer to `board` equals `boardAnswers`.
 
 import { readBoard } from "../bench/answers.js";
 import { PART_KEYS, PART_KINDS } from "../bench/board_form.js";
@@ -15,7 +15,7 @@ import { readBoardText } from "../text/board_reader.js";
  */
 
 /**
- * Formats a value as the bench writes it.
+ * Formats a value as in the bench's answer to `board`.
  * @param {Value} value
  * @returns {string}
  */
@@ -30,18 +30,19 @@ export class BoardDraft {
   constructor(text) {
     this.text = text;
     this.lines = text.split("\n");
-    /** The offset in the text at which each line starts, followed by the offset after the last line. */
+    /** The offset of the start of each line in the text, and then the text length + 1. */
     this.lineOffsets = [0];
     for (const line of this.lines) this.lineOffsets.push(this.lineOffsets[this.lineOffsets.length - 1] + line.length + 1);
     const { entries, keys, faults } = readBoardText(text);
     /** The TOML keys that belong to no table. The value of such a key can be an array of parts. */
     this.keys = keys;
     this.entries = entries;
+    /** True if the text has no TOML syntax error. */
     this.isToml = faults.length === 0;
   }
 
   /**
-   * Returns the parts of a kind, in text order.
+   * Returns the parts of a kind, in the order of the text.
    * @param {Kind} kind
    */
   partsOfKind(kind) {
@@ -53,14 +54,14 @@ export class BoardDraft {
    * @param {Kind} kind
    * @param {number} index
    */
-  entry(kind, index) {
+  requirePart(kind, index) {
     const found = this.partsOfKind(kind)[index];
     if (!found) throw new Error(`the text has no ${kind} ${index}`);
     return found;
   }
 
   /**
-   * Returns a TOML key of a part by name. Throws if the part lacks the key.
+   * Returns the TOML key with a name in a part. Throws if the part lacks the key.
    * @param {Entry} entry
    * @param {string} name
    */
@@ -71,13 +72,13 @@ export class BoardDraft {
   }
 
   /**
-   * Returns the ROM with a chip number, or the RAM with a bank number.
+   * Returns the ROM with a chip number, or the RAM with a bank number. Throws if there is no such part.
    * @param {"rom" | "ram"} kind
    * @param {number} number
    */
   partByNumber(kind, number) {
     const key = PART_KEYS[kind][0];
-    return this.entry(kind, this.partsOfKind(kind).findIndex((entry) => this.requireKey(entry, key).value.inner === number));
+    return this.requirePart(kind, this.partsOfKind(kind).findIndex((entry) => this.requireKey(entry, key).value.inner === number));
   }
 
   /**
@@ -85,16 +86,16 @@ export class BoardDraft {
    * @param {number} line the line number from 1
    * @param {number} column the column from 0
    */
-  offset(line, column) {
+  offsetAt(line, column) {
     return this.lineOffsets[line - 1] + column;
   }
 
   /**
    * Returns the offset of the first character of a value, key or part.
-   * @param {Value | Key | Entry} from
+   * @param {Value | Key | Entry} element
    */
   startOffset({ line, from }) {
-    return this.offset(line, from);
+    return this.offsetAt(line, from);
   }
 
   /**
@@ -102,11 +103,11 @@ export class BoardDraft {
    * @param {{ end?: End, line: number, to: number }} value
    */
   endOffset({ end, line, to }) {
-    return end ? this.offset(end.line, end.to) : this.offset(line, to);
+    return end ? this.offsetAt(end.line, end.to) : this.offsetAt(line, to);
   }
 
   /**
-   * Returns the last line number of a part.
+   * Returns the number of the last line of a part.
    * @param {Entry} entry
    */
   lastLine({ line, keys, end }) {
@@ -134,7 +135,7 @@ export class BoardDraft {
     return lines;
   }
 
-  /** @returns {Board} */
+  /** @returns {Board} the board that the text describes; throws if a part lacks a key */
   get board() {
     const { boardAnswers } = this;
     if (!boardAnswers) throw new Error("the text does not describe a board");
@@ -142,7 +143,7 @@ export class BoardDraft {
   }
 
   /**
-   * Returns whether the text describes the board that the bench reports.
+   * Returns whether the text describes the same board as an answer of the bench.
    * @param {string[]} answers the answer to `board` after the bench has wired the text
    */
   matchesAnswers(answers) {

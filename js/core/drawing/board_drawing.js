@@ -19,35 +19,36 @@ import * as say from "../../words/drawing.js";
  * @typedef {import("./text_edits.js").TextEdit} TextEdit
  *
  * The state that the view shows. `board` and `face`: the board that the text describes, and its front panel. `isWired`: true if the session
- * has the same board. `fault`: the message if the board cannot be drawn, or "". `shelf`: the parts that the user can add; each has a
- * message if it cannot be added now, or "". `selected` and `fields`: the selected part or pin, and its form. `wireStart`: the start pin of
- * an unfinished wire, or "". `ends`: the possible end pins of that wire. `lastMessage`: the last message to the user.
+ * has the same board. `fault`: the message if the board cannot be drawn, or "". `shelf`: the kinds of parts that the user can add, with the
+ * reason why a part cannot be added now, or "". `selected`: the selected part or pin, "" for none. `fields`: the form for the selection.
+ * `wireStart`: the start pin of an unfinished wire, or "". `ends`: the possible end pins of that wire. `lastMessage`: the last message to
+ * the user.
  * @typedef {{ board: Board, face: Face, isWired: boolean, fault: string, shelf: Map<ShelfPart, string>, selected: string,
  *   fields: import("./selection_form.js").SelectionForm, wireStart: string, ends: Set<string>, lastMessage: string }} DrawingState
  */
 
 /**
- * The callbacks of a drawing, to the text editor and to the bench.
+ * The callbacks of the board editor, to the text editor and to the bench.
  * @typedef {object} DrawingCalls
  * @property {() => string} text Returns the board text in the editor.
- * @property {(lines: string) => Promise<string[]>} ask Resolves to the bench's answers to lines. The session does not change.
- * @property {(edits: TextEdit[]) => void} edit Edits the text. One undo reverts all these edits.
+ * @property {(lines: string) => Promise<string[]>} ask Resolves to the bench's answers to lines, without changing the session.
+ * @property {(edits: TextEdit[]) => void} edit Edits the text. One undo step reverts all these edits.
  * @property {() => boolean} undo Undoes the last step; returns false if there is none.
  * @property {() => boolean} redo Repeats the last undone step; returns false if there is none.
  * @property {(number: number) => string} describeRefusal Returns the message of a refusal.
  */
 
-/** The board editor. */
+/** The board editor: its state and its actions. */
 export class Drawing {
   /**
    * @param {DrawingCalls} calls
-   * @param {(shown: DrawingState) => void} show
+   * @param {(state: DrawingState) => void} show shows a state in the view
    */
   constructor(calls, show) {
     this.calls = calls;
     this.show = show;
     /**
-     * The bench's answers to `board`: for the session as one text (`wiredAnswers`), and for the text in the editor as lines (`answers`).
+     * The bench's answers to `board`: `wiredAnswers` for the session's board, as one text; `answers` for the text in the editor, as lines.
      */
     this.wiredAnswers = "";
     this.answers = ["board"];
@@ -57,7 +58,7 @@ export class Drawing {
     this.fault = "";
     /** @type {Map<ShelfPart, string>} */
     this.shelf = new Map();
-    /** The last text that was read from the editor; null before the first one. */
+    /** The text that the board editor last read from the text editor; null before the first read. */
     this.text = /** @type {string | null} */ (null);
     this.selected = "";
     this.wireStart = "";
@@ -76,8 +77,8 @@ export class Drawing {
     this.wiredAnswers = answers.join("\n");
   }
 
-  /** Clears the text, the selection and the message when another session is shown. */
-  forget() {
+  /** Forgets the text, the selection and the message, for another session. */
+  reset() {
     this.text = null;
     this.selected = "";
     this.wireStart = "";
@@ -85,7 +86,7 @@ export class Drawing {
   }
 
   /**
-   * Runs an action after all earlier actions.
+   * Runs an action after all earlier actions. Returns the promise of the action.
    * @param {() => Promise<void>} action
    */
   runInOrder(action) {
@@ -94,7 +95,7 @@ export class Drawing {
     return result;
   }
 
-  /** After all earlier actions, reads the text if it has changed, and shows the board. */
+  /** Waits for all earlier actions, reads the text if it has changed, and shows the board. */
   refresh() {
     return this.runInOrder(() => this.readText());
   }
@@ -103,9 +104,9 @@ export class Drawing {
   async readText() {
     const text = this.calls.text();
     if (text !== this.text) {
-      const { refused, answers } = await this.ask(text);
-      if (refused || matchesBench(text, answers)) this.take(text, refused ? this.answers : answers, refused);
-      else this.take(text, answers, say.CANNOT_READ);
+      const { errorMessage, answers } = await this.checkText(text);
+      if (errorMessage || matchesBench(text, answers)) this.storeText(text, errorMessage ? this.answers : answers, errorMessage);
+      else this.storeText(text, answers, say.CANNOT_READ);
     }
     this.reportChange();
   }
@@ -116,8 +117,8 @@ export class Drawing {
    * @param {string[]} answers the answer to `board`
    * @param {string} fault the message if the board cannot be drawn, or ""
    */
-  take(text, answers, fault) {
-    this.movedParts.follow(this.text, text);
+  storeText(text, answers, fault) {
+    this.movedParts.updateForTextChange(this.text, text);
     this.text = text;
     this.answers = answers;
     this.face = new Face(text);
@@ -129,15 +130,15 @@ export class Drawing {
   }
 
   /**
-   * Has the bench wire a board text, without changing the session. Resolves to the answer to `board`, and to the message if the bench
-   * rejects the text.
+   * Asks the bench to wire a board text, without changing the session. Resolves to the bench's answer to `board`, and to an error message
+   * if the bench rejects the text, otherwise "".
    * @param {string} text
    */
-  async ask(text) {
+  async checkText(text) {
     const [first, ...answers] = await this.calls.ask(`wire\n${sentText(text, "#")}.\nboard\n`);
     const refusal = parseRefusal(first);
     const message = refusal ? say.benchRefuses(this.calls.describeRefusal(refusal.number)) : "";
-    return { refused: message, answers };
+    return { errorMessage: message, answers };
   }
 
   /**
@@ -157,7 +158,7 @@ export class Drawing {
     return inputLines(board).has(name) || boardLines(board).some((line) => line.name === name);
   }
 
-  /** The pins at which the unfinished wire can end. */
+  /** The pins at which the unfinished wire can end; none if there is no unfinished wire. */
   get ends() {
     const { board, wireStart } = this;
     if (wireStart === "" || this.fault) return new Set(/** @type {string[]} */ ([]));
@@ -177,14 +178,14 @@ export class Drawing {
    * Shows a message.
    * @param {string} message
    */
-  say(message) {
+  showMessage(message) {
     this.lastMessage = message;
     this.reportChange();
   }
 
   /**
-   * Handles a click, tap or Enter on a part or pin. If an unfinished wire can end at the pin, connects it. Otherwise selects the part or
-   * pin and, if it is a pin, begins a wire there.
+   * Handles a click, tap or Enter on a part or pin. If an unfinished wire can end at the pin, connects the wire. Otherwise, selects the
+   * part or pin and, if a wire can start there, begins a wire. A second click on the start pin removes the unfinished wire.
    * @param {string} name
    */
   handleClick(name) {
@@ -194,33 +195,33 @@ export class Drawing {
     this.wireStart = isSamePin ? "" : name;
     if (this.ends.size === 0) this.wireStart = "";
     const count = this.ends.size;
-    this.say(this.wireStart ? say.wireBegins(pinName(name), formatQuantity(count, "pin")) : "");
+    this.showMessage(this.wireStart ? say.wireBegins(pinName(name), formatQuantity(count, "pin")) : "");
     return Promise.resolve();
   }
 
   /**
-   * Ends the unfinished wire at a pin.
+   * Connects the unfinished wire to a pin.
    * @param {string} name the name of the pin
    */
   endWire(name) {
     const { wireStart, board } = this;
     const [line, target] = inputLines(board).has(wireStart) ? [name, wireStart] : [wireStart, name];
-    return this.act({ kind: "wire", line, target });
+    return this.performInOrder({ kind: "wire", line, target });
   }
 
-  /** Drops the unfinished wire. Without an unfinished wire, clears the selection. */
+  /** Removes the unfinished wire. If there is none, clears the selection. */
   cancelWire() {
     const message = this.wireStart ? say.NO_WIRE : "";
     if (!this.wireStart) this.selected = "";
     this.wireStart = "";
-    this.say(message);
+    this.showMessage(message);
   }
 
   /**
    * Performs an action after all earlier actions.
    * @param {DrawingAction} action
    */
-  act(action) {
+  performInOrder(action) {
     return this.runInOrder(() => this.perform(action));
   }
 
@@ -232,17 +233,17 @@ export class Drawing {
   async perform(action) {
     const text = this.calls.text();
     const result = applyAction(text, action);
-    if (result.refusal) return this.say(result.refusal);
-    if (result.edits.length === 0) return this.say(say.NO_CHANGE);
-    const { refused, answers } = await this.ask(result.text);
-    if (refused || !matchesBench(result.text, answers)) return this.say(say.notDone(refused || say.CANNOT_READ));
-    // If the user edited the text during the check, perform the action on the new text.
+    if (result.refusal) return this.showMessage(result.refusal);
+    if (result.edits.length === 0) return this.showMessage(say.NO_CHANGE);
+    const { errorMessage, answers } = await this.checkText(result.text);
+    if (errorMessage || !matchesBench(result.text, answers)) return this.showMessage(say.notDone(errorMessage || say.CANNOT_READ));
+    // If the user edited the text while the bench checked the result, perform the action on the new text.
     if (this.calls.text() !== text) return this.perform(action);
     this.calls.edit(result.edits);
-    this.movedParts.note(text, result.text, result.deletedChains);
-    this.take(result.text, answers, "");
+    this.movedParts.recordDeletion(text, result.text, result.deletedChains);
+    this.storeText(result.text, answers, "");
     this.selected = this.isOnBoard(result.part) ? result.part : "";
-    return this.say(result.words);
+    return this.showMessage(result.words);
   }
 
   /**

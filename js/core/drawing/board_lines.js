@@ -1,6 +1,6 @@
-// Lists the signal lines of a board, the inputs that can be connected to them, and the allowed connections. The bench decides which
-// connections are allowed; a unit test compares this module with the bench for each pair of a line and an input. A buzzer is defined only
-// in the front panel. Like a lamp, it is connected to one signal line.
+// Lists the connections between the signal lines and the inputs of a board, and the connections that are allowed. The bench decides which
+// connections are allowed; a unit test compares this module with the bench for each pair of a line and an input. Only the front panel
+// defines a buzzer. Like a lamp, a buzzer is connected to one signal line.
 
 import { BITS_PER_CHIP, boardLines } from "../bench/board_form.js";
 import { indices } from "../bench/numbers.js";
@@ -11,15 +11,16 @@ import * as say from "../../words/drawing.js";
  * @typedef {import("../bench/answers.js").Board & { buzzer?: string }} Board a board, with the signal line of its buzzer ("" for none)
  * @typedef {import("../bench/board_form.js").BoardLine} BoardLine
  *
- * The name of an input that a signal line can be connected to: `lamp 3`, `buzzer 0`, `clock 0` or `data 0` for chain 0, and `row 1` or
+ * The name of an input to which a signal line can be connected: `lamp 3` or `buzzer 0`; `clock 0` or `data 0` for chain 0; `row 1` or
  * `column 2` for the keys.
  * @typedef {string} Target
  */
 
+/** The input name of the buzzer. A board has at most one buzzer. */
 export const BUZZER = "buzzer 0";
 
 /**
- * Adds the signal line of the buzzer, which the front panel defines, to a board.
+ * Returns a board with the signal line of the buzzer that its front panel defines.
  * @param {import("../bench/answers.js").Board} board
  * @param {import("../board/face.js").Face} face
  * @returns {Board}
@@ -69,7 +70,7 @@ export function targetName(target) {
 }
 
 /**
- * Parses the name of a chain bit, such as `chain0.5`. Returns the number of the chain and of the bit.
+ * Parses the name of a chain bit, such as `chain0.5`. Returns the numbers of the chain and of the bit.
  * @param {string} line
  */
 export function parseChainBit(line) {
@@ -83,7 +84,7 @@ export function parseChainBit(line) {
  * @param {BoardLine} line
  * @param {Target} target
  */
-export function canWire({ chains, matrix }, { name, kind, isInput }, target) {
+export function canConnect({ chains, matrix }, { name, kind, isInput }, target) {
   const [targetKind, number] = splitTarget(target);
   if (targetKind === "column") return isInput;
   if (targetKind === "lamp" || target === BUZZER) return !isInput;
@@ -95,7 +96,7 @@ export function canWire({ chains, matrix }, { name, kind, isInput }, target) {
 }
 
 /**
- * Returns the inputs that a line can be connected to, without the inputs that it is already connected to.
+ * Returns the inputs to which a line can be connected, without the inputs to which it is already connected.
  * @param {Board} board
  * @param {string} name the name of the line
  * @returns {Target[]}
@@ -103,17 +104,17 @@ export function canWire({ chains, matrix }, { name, kind, isInput }, target) {
 export function possibleTargets(board, name) {
   const line = boardLines(board).find((each) => each.name === name);
   if (!line) return [];
-  const targets = [...inputLines(board)].filter(([target, currentLine]) => currentLine !== name && canWire(board, line, target));
+  const targets = [...inputLines(board)].filter(([target, currentLine]) => currentLine !== name && canConnect(board, line, target));
   return targets.map(([target]) => target);
 }
 
 /**
- * Returns the lines that can be connected to an input, including the current one.
+ * Returns the names of the lines that can be connected to an input, including the line that is connected now.
  * @param {Board} board
  * @param {Target} target
  */
 export function possibleSources(board, target) {
-  return boardLines(board).filter((line) => canWire(board, line, target)).map(({ name }) => name);
+  return boardLines(board).filter((line) => canConnect(board, line, target)).map(({ name }) => name);
 }
 
 /**

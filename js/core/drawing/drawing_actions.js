@@ -4,13 +4,13 @@
 import { boardLines } from "../bench/board_form.js";
 import { formatQuantity } from "../bench/numbers.js";
 import { Face } from "../board/face.js";
-import { BUZZER, parseChainBit, canWire, targetName, splitTarget, inputLines } from "./board_lines.js";
+import { BUZZER, parseChainBit, canConnect, targetName, splitTarget, inputLines } from "./board_lines.js";
 import {
   INPUT_MASK, OUTPUT_MASK, addBuzzer, addChain, addColumn, addDisplay, addKeys, addLamp, addRam, addRom, addMultiplexedDisplay,
-  displayedPartName, ensureRom, requireOutputs, setChips, setRows,
+  displayedPartName, ensureRom, checkFrontPanelOutputs, setChips, setRows,
 } from "./part_addition.js";
 import { deletePart, displayAt, lampsInSameGroup } from "./part_deletion.js";
-import { COLOURS, colourLamp, moveBuzzer, nameKey, nameLamp, setLineText, toWord } from "./face_edits.js";
+import { COLOURS, setLampColour, moveBuzzer, setKeyName, setLampName, setLineText, toWord } from "./face_edits.js";
 import { replaceValue, setValue } from "./part_edits.js";
 import { ImpossibleAction, EditedBoard } from "./edited_board.js";
 import * as say from "../../words/drawing.js";
@@ -18,13 +18,14 @@ import * as say from "../../words/drawing.js";
 /**
  * @typedef {import("./text_edits.js").TextEdit} TextEdit
  *
- * The actions:
- * - `add`: adds a part from the shelf; `line` is an optional signal line for a lamp or buzzer; `digits` is the number of display digits
+ * The actions of the board editor:
+ * - `add`: adds a part from the shelf; `line` is the signal line of a lamp or buzzer (by default, a free line); `digits` is the number of
+ * digits of a display
  * - `wire`: connects a signal line to an input
- * - `port`: makes a ROM line an input (`i`), or an output that reads as `0` or `1`
+ * - `port`: makes a ROM line an input (`as` is `i`), or an output that RDR reads as `0` or `1`
  * - `chips`, `rows`: sets the number of chips in a chain, or the number of key rows
  * - `column`: adds a key column
- * - `delete`, `copy`: deletes a part, or adds a copy of it
+ * - `delete`, `copy`: deletes a part, or adds a copy of the part
  * - `name`: names a part, a key (`key ROW COLUMN`), the board (`title`) or the button or switch at the TEST pin (`test`); "" removes the
  * name
  * - `colour`: sets the lamp colour; "" for the default colour
@@ -36,8 +37,8 @@ import * as say from "../../words/drawing.js";
  *   | "buzzer"} ShelfPart a kind of part on the shelf: `rom` is a ROM with outputs, `inputs` a ROM with inputs, `digit` a display with BCD
  *   digits, `segments` a display with seven-segment digits, and `scanned` a multiplexed display
  *
- * The result of an action: the edits in order, the text after all edits, the affected part, a message (`words`), and the numbers of deleted
- * chains. If the action is impossible, `refusal` is a message and there are no edits; otherwise `refusal` is "".
+ * The result of an action: the edits in order, the text after all edits, the affected part ("" for none), a message (`words`), and the
+ * numbers of the deleted chains. If the action is impossible, `refusal` is a message and there are no edits; otherwise `refusal` is "".
  * @typedef {{ edits: TextEdit[], text: string, part: string, words: string, deletedChains: number[], refusal: string }} Result
  */
 
@@ -47,7 +48,7 @@ export const SHELF_PARTS = ["rom", "inputs", "ram", "chain", "keys", "lamp", "bu
 /**
  * Adds a part from the shelf; returns its name.
  * @param {EditedBoard} editedBoard
- * @param {Extract<DrawingAction, { kind: "add" }>} act
+ * @param {Extract<DrawingAction, { kind: "add" }>} action
  * @returns {string}
  */
 function addFromShelf(editedBoard, { part, line, digits = 1 }) {
@@ -83,24 +84,24 @@ function addTestPinPart(editedBoard, kind) {
  * Connects a signal line to an input; throws `ImpossibleAction` if the connection is not allowed.
  * @param {EditedBoard} editedBoard
  * @param {string} name the name of the line
- * @param {string} target the input
+ * @param {string} target the name of the input
  */
 function connectLine(editedBoard, name, target) {
   const { board, draft } = editedBoard;
   const line = boardLines(board).find((each) => each.name === name);
   if (!line || !inputLines(board).has(target)) throw new ImpossibleAction(say.boardHasNo(line ? target : name));
-  if (!canWire(board, line, target)) throw new ImpossibleAction(wireErrorMessage(line, target));
+  if (!canConnect(board, line, target)) throw new ImpossibleAction(wireErrorMessage(line, target));
   const [kind, number] = splitTarget(target);
-  if (kind === "clock" || kind === "data") editedBoard.edit([setValue(draft, draft.entry("chain", number), kind, name)]);
-  if (kind === "lamp") editedBoard.edit([setValue(draft, draft.entry("lamp", number), "line", name)]);
+  if (kind === "clock" || kind === "data") editedBoard.edit([setValue(draft, draft.requirePart("chain", number), kind, name)]);
+  if (kind === "lamp") editedBoard.edit([setValue(draft, draft.requirePart("lamp", number), "line", name)]);
   if (kind === "buzzer") editedBoard.edit(moveBuzzer(draft, name));
   if (kind === "column") {
-    const columns = draft.requireKey(draft.entry("keys", 0), "columns").value;
+    const columns = draft.requireKey(draft.requirePart("keys", 0), "columns").value;
     editedBoard.edit([replaceValue(draft, /** @type {import("../text/board_reader.js").Value[]} */ (columns.inner)[number], name)]);
   }
   if (kind === "row") {
     const { chain, bit } = parseChainBit(name);
-    const keys = draft.entry("keys", 0);
+    const keys = draft.requirePart("keys", 0);
     editedBoard.edit([setValue(draft, keys, "chain", chain), setValue(draft, keys, "first", bit - number)]);
   }
 }
@@ -119,27 +120,27 @@ function wireErrorMessage({ name, kind, isInput }, target) {
 }
 
 /**
- * Makes a ROM line an input or an output; throws `ImpossibleAction` if a connected part needs the current direction.
+ * Makes a ROM port line an input or an output; throws `ImpossibleAction` if a connected part needs the current direction.
  * @param {EditedBoard} editedBoard
  * @param {string} line
- * @param {string} mode `i`, `0` or `1`
+ * @param {string} mode `i` for an input, `0` or `1` for an output that RDR reads as this value
  */
-function setPort(editedBoard, line, mode) {
+function setLineMode(editedBoard, line, mode) {
   const [chip, at] = line.replace("rom", "").split(".").map(Number);
   const { draft, board } = editedBoard;
   const entry = draft.partByNumber("rom", chip);
   const port = String(draft.requireKey(entry, "port").value.inner);
-  const users = [...inputLines(board)].filter(([target, name]) => name === line && target !== BUZZER).map(([target]) => target);
+  const targets = [...inputLines(board)].filter(([target, name]) => name === line && target !== BUZZER).map(([target]) => target);
   const changesDirection = (port[3 - at] === "i") !== (mode === "i");
-  if (changesDirection && users.length > 0) {
-    throw new ImpossibleAction(say.lineInUse(line, users.map(targetName).join(say.AND)));
+  if (changesDirection && targets.length > 0) {
+    throw new ImpossibleAction(say.lineInUse(line, targets.map(targetName).join(say.AND)));
   }
-  requireOutputs(editedBoard, (each) => changesDirection && each === line);
+  checkFrontPanelOutputs(editedBoard, (each) => changesDirection && each === line);
   editedBoard.edit([setValue(draft, entry, "port", port.slice(0, 3 - at) + mode + port.slice(4 - at))]);
 }
 
 /**
- * Adds a copy of an existing part; returns its name.
+ * Adds a copy of a part; returns the name of the copy.
  * @param {EditedBoard} editedBoard
  * @param {string} part
  */
@@ -158,7 +159,7 @@ function copyPart(editedBoard, part) {
 }
 
 /**
- * Names a lamp; throws `ImpossibleAction` if the new name would change which lamps the front-panel grid shows.
+ * Renames a lamp; throws `ImpossibleAction` if the grid of the front panel would then show other lamps.
  * @param {EditedBoard} editedBoard
  * @param {number} lamp
  * @param {string} name
@@ -167,21 +168,21 @@ function renameLamp(editedBoard, lamp, name) {
   /** @type {(text: string) => string} */
   const describeGrid = (text) => new Face(text).grid.map((each) => `${each.row} ${each.column} ${each.lamp}`).join();
   const grid = describeGrid(editedBoard.text);
-  editedBoard.edit(nameLamp(editedBoard.draft, lamp, name));
+  editedBoard.edit(setLampName(editedBoard.draft, lamp, name));
   if (describeGrid(editedBoard.text) !== grid) throw new ImpossibleAction(say.GRID_DIFFERS);
 }
 
 /**
- * Names a part; throws `ImpossibleAction` if the name is not allowed.
+ * Renames a part, a key, the board, or the button or switch at the TEST pin; throws `ImpossibleAction` if the name is not allowed.
  * @param {EditedBoard} editedBoard
- * @param {string} part
- * @param {string} name
+ * @param {string} part the `part` of a `name` action
+ * @param {string} name the new name, "" for none
  */
 function renamePart(editedBoard, part, name) {
   const { draft, text, board } = editedBoard;
   const [kind, number] = splitTarget(part);
   if (kind === "lamp") renameLamp(editedBoard, number, name);
-  else if (kind === "key") editedBoard.edit(nameKey(draft, { row: number, column: Number(part.split(" ")[2]) }, name));
+  else if (kind === "key") editedBoard.edit(setKeyName(draft, { row: number, column: Number(part.split(" ")[2]) }, name));
   else if (kind === "title") editedBoard.edit(setLineText(draft, "title", "", name));
   else if (kind === "test") {
     const { test } = new Face(text);
@@ -195,14 +196,14 @@ function renamePart(editedBoard, part, name) {
 }
 
 /**
- * Sets the lamp colour; throws `ImpossibleAction` for an unknown colour.
+ * Sets the colour of a lamp; throws `ImpossibleAction` for an unknown colour.
  * @param {EditedBoard} editedBoard
  * @param {number} lamp
  * @param {string} colour "" for the default
  */
 function setColour(editedBoard, lamp, colour) {
   if (colour !== "" && !COLOURS.has(colour)) throw new ImpossibleAction(say.noColour(colour, [...COLOURS].join(", ")));
-  editedBoard.edit(colourLamp(editedBoard.draft, lamp, colour));
+  editedBoard.edit(setLampColour(editedBoard.draft, lamp, colour));
 }
 
 /**
@@ -245,7 +246,7 @@ function perform(editedBoard, action) {
       connectLine(editedBoard, action.line, action.target);
       return [action.target, say.lineWired(action.line, targetName(action.target))];
     case "port":
-      setPort(editedBoard, action.line, action.as);
+      setLineMode(editedBoard, action.line, action.as);
       return [action.line, say.lineIs(action.line, action.as === "i" ? say.INPUT : say.outputReadsAs(action.as))];
     case "chips":
       return [setChips(editedBoard, action.chain, action.chips), say.chainHas(action.chain, formatQuantity(action.chips, "chip"))];
@@ -268,7 +269,7 @@ function perform(editedBoard, action) {
 }
 
 /**
- * Returns the message for an error in the front panel that an action has caused; "" if there is none.
+ * Returns the message for an error that an action has caused in the front panel; "" if the action has caused none.
  * @param {string} textBefore the text before the action
  * @param {string} textAfter the text after the action
  */
@@ -281,7 +282,7 @@ function findNewPanelError(textBefore, textAfter) {
 }
 
 /**
- * Returns the result of an action on a board text.
+ * Performs an action on a board text, and returns the result.
  * @param {string} text
  * @param {DrawingAction} action
  * @returns {Result}
@@ -313,7 +314,7 @@ export function reasonNotToAdd(text, part) {
 }
 
 /**
- * Returns whether the page and the bench read the same board from a text. If not, the drawing cannot edit the text.
+ * Returns whether the page and the bench read the same board from a text. If not, the board editor cannot edit the text.
  * @param {string} text
  * @param {string[]} answers the answer to `board` after the bench has wired the text
  */

@@ -1,10 +1,11 @@
-// Finds the lines of a board text that define the drawn parts.
+// Finds the lines of a board text that define each part of the board drawing.
 
 import { partLines } from "../bench/part_lines.js";
 import { Face } from "../board/face.js";
 
 /**
- * Returns the range of lines that define each part. Comment lines define the buzzer, and the button or switch at the TEST pin.
+ * Returns the range of lines that define each part, by part name. Front-panel comments define the buzzer, and the button or switch at the
+ * TEST pin.
  * @param {string} text
  */
 export function drawnPartLines(text) {

@@ -1,5 +1,5 @@
-// Edits the front panel in a board text: sets names and colours, and, when parts are deleted, removes their entries and renumbers the
-// others.
+// Edits the front panel in a board text: sets names and colours. When parts are deleted, removes their front-panel entries and renumbers
+// the remaining entries.
 
 import { COLOURS, LINE_KINDS } from "../board/face_words.js";
 import { addFaceLine, faceLines, headNumber, removeFaceLine, removeWords, setWord } from "./face_lines.js";
@@ -31,12 +31,12 @@ export function toWord(name) {
 }
 
 /**
- * Sets the name or colour of a lamp. The edit changes the list that contains the lamp, extends the list that ends just before the lamp, or
- * adds a line.
+ * Sets the name or colour of a lamp. Changes the list that contains the lamp, extends the list that ends just before the lamp, or adds a
+ * line.
  * @param {BoardDraft} draft
  * @param {"lamp" | "colour"} kind
  * @param {number} lamp
- * @param {string} text "" for none
+ * @param {string} text the name or colour, "" for none
  * @returns {TextEdit[]}
  */
 function setListWord(draft, kind, lamp, text) {
@@ -54,12 +54,12 @@ function setListWord(draft, kind, lamp, text) {
 }
 
 /**
- * Sets the name of a lamp, also in the lines of the grid.
+ * Sets the name of a lamp, in its list of names and in the grid rows that contain the old name.
  * @param {BoardDraft} draft
  * @param {number} lamp
  * @param {string} name "" for none
  */
-export function nameLamp(draft, lamp, name) {
+export function setLampName(draft, lamp, name) {
   const word = toWord(name);
   const lines = faceLines(draft);
   const nameLine = lines.find((line) => line.kind === "lamp" && headNumber(line) <= lamp && lamp < headNumber(line) + line.words.length);
@@ -70,13 +70,13 @@ export function nameLamp(draft, lamp, name) {
 }
 
 /**
- * Sets the colour of a lamp.
+ * Sets the colour of a lamp. A colour range that contains the lamp becomes a list of colours, unless all its colours are then equal.
  * @param {BoardDraft} draft
  * @param {number} lamp
  * @param {string} colour "" for the default colour
  * @returns {TextEdit[]}
  */
-export function colourLamp(draft, lamp, colour) {
+export function setLampColour(draft, lamp, colour) {
   const range = faceLines(draft).find((line) => line.kind === "colour" && line.last && headNumber(line) <= lamp
     && lamp <= Number(line.last.text));
   if (!range || !range.first || !range.last) return setListWord(draft, "colour", lamp, colour);
@@ -90,13 +90,13 @@ export function colourLamp(draft, lamp, colour) {
 }
 
 /**
- * Sets the name of a key. If the list of its row is too short, the keys before this key get their default names, such as `0.1`.
+ * Sets the name of a key. If the list of names in its row is too short, the keys before this key get their default names, such as `0.1`.
  * @param {BoardDraft} draft
  * @param {{ row: number, column: number }} key
  * @param {string} name "" for a position without a key
  * @returns {TextEdit[]}
  */
-export function nameKey(draft, { row, column }, name) {
+export function setKeyName(draft, { row, column }, name) {
   const word = toWord(name) || EMPTY_ENTRY;
   const line = faceLines(draft).find((each) => each.kind === "row" && headNumber(each) === row);
   const count = line ? line.words.length : 0;
@@ -107,11 +107,11 @@ export function nameKey(draft, { row, column }, name) {
 }
 
 /**
- * Sets the text of a line such as `# port rom0: keys` or `# title: Lock`. Adds, changes or removes the line.
+ * Sets the text after the colon in a line such as `# port rom0: keys` or `# title: Lock`. Adds, changes or removes the line.
  * @param {BoardDraft} draft
  * @param {"title" | "test" | "port" | "buzzer"} kind
  * @param {string} head the port or port line before the colon, "" for none
- * @param {string} words "" removes the line
+ * @param {string} words the new text; "" removes the line
  * @returns {TextEdit[]}
  */
 export function setLineText(draft, kind, head, words) {
@@ -134,9 +134,9 @@ export function moveBuzzer(draft, line) {
 }
 
 /**
- * Adds the line for a group of lamps, such as a display or a bar.
+ * Adds the front-panel line of a group of lamps, such as a display or a bar.
  * @param {BoardDraft} draft
- * @param {string} kind
+ * @param {string} kind the first word of the line, such as `display`
  * @param {number} first the number of the first lamp
  * @param {string} text the text after the colon
  */
@@ -145,7 +145,7 @@ export function addGroup(draft, kind, first, text) {
 }
 
 /**
- * Renumbers the lamps after a deletion.
+ * Removes deleted lamps from the front panel, and renumbers the other lamps.
  * @param {BoardDraft} draft
  * @param {Set<number>} deletedLamps
  * @returns {TextEdit[]}
@@ -162,7 +162,7 @@ export function renumberLamps(draft, deletedLamps) {
 }
 
 /**
- * Renumbers the lamps in a list of names or colours, or in a group.
+ * Renumbers the lamps in the line of a list (names or colours) or of a group. Removes the line if no lamps remain.
  * @param {BoardDraft} draft
  * @param {FaceLine} line
  * @param {Set<number>} deletedLamps
@@ -184,7 +184,7 @@ function renumberList(draft, line, deletedLamps, newNumber) {
 }
 
 /**
- * Renumbers the lamps in a colour range.
+ * Renumbers the lamps in the line of a colour range. Removes the line if no lamps remain.
  * @param {BoardDraft} draft
  * @param {FaceLine} line
  * @param {Set<number>} deletedLamps
@@ -202,7 +202,7 @@ function renumberRange(draft, line, deletedLamps, newNumber) {
 }
 
 /**
- * Renumbers the lamps in a grid row.
+ * Renumbers the lamps in a grid row. Removes the row if no lamps remain.
  * @param {BoardDraft} draft
  * @param {FaceLine} line
  * @param {Set<number>} deletedLamps
@@ -223,9 +223,9 @@ function renumberGrid(draft, line, deletedLamps, newNumber) {
 }
 
 /**
- * Renames ports and chains in the front panel after a deletion.
+ * Renames ports and chains in the front panel after a deletion. Removes the lines of deleted ports and chains.
  * @param {BoardDraft} draft
- * @param {(port: string) => string} newPortName returns the new name of a port, "" for a deleted port
+ * @param {(port: string) => string} newPortName returns the new name of a port or chain, "" if it was deleted
  * @returns {TextEdit[]}
  */
 export function renamePorts(draft, newPortName) {
@@ -240,10 +240,10 @@ export function renamePorts(draft, newPortName) {
 }
 
 /**
- * Returns the new name of a port or port line; "" if it was deleted.
- * @param {string} text the name
+ * Returns the new name of a port or port line; "" if the port was deleted.
+ * @param {string} text the old name
  * @param {boolean} isLine true for a port line
- * @param {(port: string) => string} newPortName
+ * @param {(port: string) => string} newPortName returns the new name of a port or chain, "" if it was deleted
  */
 function renamePort(text, isLine, newPortName) {
   const end = isLine ? text.lastIndexOf(".") : text.length;
@@ -252,7 +252,7 @@ function renamePort(text, isLine, newPortName) {
 }
 
 /**
- * Removes the names of deleted key rows.
+ * Removes the lines with the key names of deleted rows.
  * @param {BoardDraft} draft
  * @param {number} rowCount the number of remaining rows
  */
@@ -261,7 +261,7 @@ export function removeRows(draft, rowCount) {
 }
 
 /**
- * Removes the names of deleted key columns.
+ * Removes the key names of deleted columns.
  * @param {BoardDraft} draft
  * @param {Set<number>} deletedColumns
  */

@@ -8,9 +8,9 @@ import { removeLines } from "./part_edits.js";
  * @typedef {import("./text_edits.js").TextEdit} TextEdit
  * @typedef {{ text: string, from: number, to: number }} FaceWord a word, and the offsets of its start and its end
  *
- * A front-panel line, such as `# colour 0 to 3: green`. `line`: the line number in the text. `kind`: the first word. `first` and `last`:
- * the first and last number or port before the colon, null for none. `words`: the words after the colon. `end`: the offset at which the
- * line ends. All offsets count from the start of the text.
+ * A front-panel line, such as `# colour 0 to 3: green`. `line`: the line number in the text, from 1. `kind`: the first word. `first`: the
+ * number, port or port line before the colon; null for none. `last`: the number after `to`; null for none. `words`: the words after the
+ * colon. `end`: the offset at which the line ends. All offsets count from the start of the text.
  * @typedef {{ line: number, kind: string, first: FaceWord | null, last: FaceWord | null, words: FaceWord[], end: number }} FaceLine
  */
 
@@ -31,7 +31,7 @@ function splitWithOffsets(text, from) {
 }
 
 /**
- * Returns the front-panel lines.
+ * Returns the front-panel lines of a board text.
  * @param {BoardDraft} draft
  * @returns {FaceLine[]}
  */
@@ -49,7 +49,7 @@ export function faceLines(draft) {
 }
 
 /**
- * Returns the first number before the colon; NaN if there is none.
+ * Returns the first number before the colon; NaN if there is no number.
  * @param {FaceLine} line
  */
 export function headNumber({ first }) {
@@ -57,11 +57,11 @@ export function headNumber({ first }) {
 }
 
 /**
- * Adds a line after the last line of its kind. If there is none, adds it after the last front-panel line; without a front panel, after the
- * comment at the top of the text.
+ * Adds a front-panel line after the last line of its kind. If there is no such line, adds it after the last front-panel line. If there is
+ * no front-panel line, adds it after the comment at the top of the text.
  * @param {BoardDraft} draft
- * @param {string} kind
- * @param {string} text
+ * @param {string} kind the first word of the line
+ * @param {string} text the complete line
  * @returns {TextEdit[]}
  */
 export function addFaceLine(draft, kind, text) {
@@ -84,9 +84,9 @@ export function removeFaceLine(draft, { line }) {
 }
 
 /**
- * Replaces a word.
+ * Replaces a word of a front-panel line.
  * @param {FaceWord} word
- * @param {string} text
+ * @param {string} text the new word
  * @returns {TextEdit[]}
  */
 export function setWord(word, text) {
@@ -94,7 +94,7 @@ export function setWord(word, text) {
 }
 
 /**
- * Deletes words of a line and the blanks before them.
+ * Deletes words after the colon of a line, and the blanks before them.
  * @param {FaceLine} line
  * @param {(at: number) => boolean} isDeleted returns whether to delete the word at an index
  * @returns {TextEdit[]}
@@ -104,7 +104,7 @@ export function removeWords({ words, first, last }, isDeleted) {
   return words.flatMap(({ from, to }, at) => {
     if (!isDeleted(at)) return [];
     const previousEnd = words[at - 1] ? words[at - 1].to : from;
-    // If no word stays before this one, delete the blanks after it instead, so that the blank after the colon stays.
+    // If no earlier word remains, delete the blanks after this word instead, so that the blank after the colon stays.
     const next = words[at + 1];
     if (at === 0 || words.slice(0, at).every((_, each) => isDeleted(each))) return [{ from, to: next ? next.from : to, insert: "" }];
     return head ? [{ from: previousEnd, to, insert: "" }] : [];

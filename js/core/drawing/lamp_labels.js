@@ -1,12 +1,13 @@
-// Creates the labels of lamps in the drawing. The label is the name of the lamp; for an unnamed lamp of a display, its digit and segment.
+// Creates the labels of lamps in the board drawing. The label of a lamp is its name. For an unnamed lamp of a display, the label is its
+// digit and its segment.
 
-import { isScanned, lampNames, groupLamps } from "../board/face_board.js";
+import { isMultiplexed, lampNames, groupLamps } from "../board/face_board.js";
 import { indices } from "../bench/numbers.js";
 import * as say from "../../words/drawing.js";
 
 /** @typedef {import("../board/face.js").Face} Face */
 
-/** The labels of the lamps in a BCD digit, and in a seven-segment digit. */
+/** The labels of the lamps in a BCD digit, in a seven-segment digit, and at a decimal point. */
 const BCD_LABELS = ["8", "4", "2", "1"];
 const SEGMENT_LABELS = ["a", "b", "c", "d", "e", "f", "g"];
 const POINT_LABEL = "point";
@@ -29,12 +30,12 @@ export function lampLabels(face, count) {
 }
 
 /**
- * Returns the labels of the lamps in a display.
+ * Returns the labels of the lamps in a display, in the order of `groupLamps`.
  * @param {import("../board/face.js").Group} group
  */
 function displayLabels(group) {
   const { rows, columns } = group;
   const lamps = [...(columns < SEGMENT_LABELS.length ? BCD_LABELS : SEGMENT_LABELS), POINT_LABEL].slice(0, columns);
-  if (isScanned(group)) return [...lamps.map((lamp) => say.allDigits(lamp)), ...indices(rows).map((digit) => `digit ${digit}`)];
+  if (isMultiplexed(group)) return [...lamps.map((lamp) => say.allDigits(lamp)), ...indices(rows).map((digit) => `digit ${digit}`)];
   return indices(rows).flatMap((digit) => lamps.map((lamp) => `digit ${digit}: ${lamp}`));
 }

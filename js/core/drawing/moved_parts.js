@@ -1,34 +1,35 @@
-// The positions of parts that the user dragged in the drawing. When a chain is deleted, later chains get new numbers; their positions move
-// to the new numbers. Undo restores the positions together with the text.
+// The positions of parts that the user dragged in the board drawing. When a chain is deleted, later chains get new numbers, and their
+// positions follow. Undo restores the positions together with the text.
 
 /**
  * @typedef {import("../board/wiring.js").Positions} Positions
  * @typedef {import("../board/wiring.js").Point} Point
  *
- * A text edit that deletes chains: the text before and after the edit, the numbers of the deleted chains, and their positions.
+ * A text edit that deletes chains: the text before and after the edit, the numbers of the deleted chains, and the positions of the deleted
+ * chains that the user had dragged.
  * @typedef {{ before: string, after: string, chains: number[], points: Positions }} Deletion
  */
 
 const CHAIN_NAME = /^chain (\d+)$/;
 
-/** The positions of dragged parts. */
+/** The positions of the parts that the user dragged. */
 export class MovedParts {
   constructor() {
-    /** @type {Positions} */
-    this.moved = new Map();
-    /** @type {Deletion[]} */
+    /** @type {Positions} the positions, by part name */
+    this.positions = new Map();
+    /** @type {Deletion[]} the recorded edits that delete chains */
     this.deletions = [];
     /** True if positions have changed since the last call of `takeChanges`. */
     this.hasChanged = false;
   }
 
   /**
-   * Replaces all positions with those of another session.
-   * @param {[string, Point][]} points
+   * Replaces all positions with the positions of another session.
+   * @param {[string, Point][]} points the part names and positions
    */
-  begin(points) {
-    this.moved.clear();
-    for (const [part, point] of points) this.moved.set(part, point);
+  load(points) {
+    this.positions.clear();
+    for (const [part, point] of points) this.positions.set(part, point);
     this.deletions = [];
   }
 
@@ -38,18 +39,18 @@ export class MovedParts {
    * @param {string} textAfter the text after the edit
    * @param {number[]} numbers the numbers of the deleted chains
    */
-  note(textBefore, textAfter, numbers) {
+  recordDeletion(textBefore, textAfter, numbers) {
     if (numbers.length === 0) return;
     const chains = [...numbers].sort((one, other) => one - other);
     this.deletions.push({ before: textBefore, after: textAfter, chains, points: new Map() });
   }
 
   /**
-   * Updates the positions if a change of the text performs or undoes one of the recorded deletions.
+   * Updates the positions if a change of the text performs or undoes a recorded deletion.
    * @param {string | null} textBefore
    * @param {string} textAfter
    */
-  follow(textBefore, textAfter) {
+  updateForTextChange(textBefore, textAfter) {
     const done = this.deletions.find(({ before, after }) => before === textBefore && after === textAfter);
     const undone = this.deletions.find(({ before, after }) => before === textAfter && after === textBefore);
     if (done) this.removeChains(done);
@@ -64,13 +65,13 @@ export class MovedParts {
   }
 
   /**
-   * Removes the positions of deleted chains, and renumbers the other chains.
+   * Moves the positions of deleted chains to the record of the deletion, and renumbers the other chains.
    * @param {Deletion} deletion
    */
   removeChains({ chains, points }) {
     for (const [number, point] of this.takeChains()) {
       if (chains.includes(number)) points.set(`chain ${number}`, point);
-      else this.moved.set(`chain ${number - chains.filter((each) => each < number).length}`, point);
+      else this.positions.set(`chain ${number - chains.filter((each) => each < number).length}`, point);
     }
   }
 
@@ -81,20 +82,20 @@ export class MovedParts {
   restoreChains({ chains, points }) {
     for (const [currentNumber, point] of this.takeChains()) {
       const number = chains.reduce((sum, each) => (each <= sum ? sum + 1 : sum), currentNumber);
-      this.moved.set(`chain ${number}`, point);
+      this.positions.set(`chain ${number}`, point);
     }
-    for (const [part, point] of points) this.moved.set(part, point);
+    for (const [part, point] of points) this.positions.set(part, point);
   }
 
   /** Removes the positions of all chains. Returns them as pairs of the chain number and the position. */
   takeChains() {
     /** @type {[number, Point][]} */
     const chains = [];
-    for (const [part, point] of this.moved) {
+    for (const [part, point] of this.positions) {
       const found = CHAIN_NAME.exec(part);
       if (found) chains.push([Number(found[1]), point]);
     }
-    for (const [number] of chains) this.moved.delete(`chain ${number}`);
+    for (const [number] of chains) this.positions.delete(`chain ${number}`);
     this.hasChanged = true;
     return chains;
   }

@@ -1,11 +1,11 @@
-// Adds parts to a board and connects them to free signal lines. If there are too few free lines, adds chips that have more.
+// Adds parts to a board text and connects them to free signal lines. If there are too few free lines, adds chips with more lines.
 
 import { formatQuantity, indices } from "../bench/numbers.js";
 import { Face } from "../board/face.js";
 import { printerLines } from "../board/face_board.js";
-import { limit } from "../board/face_words.js";
+import { findLimit } from "../board/face_words.js";
 import { BITS_PER_CHIP, MAX_COLUMNS, MAX_PARTS, VALUE_RANGES } from "../bench/board_form.js";
-import { addGroup, colourLamp, setLineText } from "./face_edits.js";
+import { addGroup, setLampColour, setLineText } from "./face_edits.js";
 import { BUZZER, parseChainBit, freeLines, inputLines } from "./board_lines.js";
 import { addPart, appendElement, setValue, formatToml } from "./part_edits.js";
 import { ImpossibleAction } from "./edited_board.js";
@@ -16,9 +16,10 @@ import * as say from "../../words/drawing.js";
  * @typedef {import("./board_lines.js").Board} Board
  */
 
-/** The port masks of a ROM with four outputs, and of a ROM with four inputs. */
+/** The port masks of a ROM with four outputs that RDR reads as 0, and of a ROM with four inputs. */
 export const OUTPUT_MASK = "0000";
 export const INPUT_MASK = "iiii";
+/** The number of signal lines of a BCD digit (`digit`) and of a seven-segment digit (`segments`). */
 const LINES_PER_DIGIT = { digit: 4, segments: 7 };
 
 /**
@@ -43,7 +44,7 @@ export function addRom(editedBoard, port) {
 }
 
 /**
- * Adds a RAM chip; returns its name.
+ * Adds a RAM chip, in the first bank with fewer than four chips or in a new bank. Returns the name of the chip.
  * @param {EditedBoard} editedBoard
  */
 export function addRam(editedBoard) {
@@ -61,7 +62,7 @@ export function addRam(editedBoard) {
 }
 
 /**
- * Adds a part because the new part needs it; returns its name.
+ * Adds a part that another new part needs, and records its name for the message; returns the name.
  * @param {EditedBoard} editedBoard
  * @param {() => string} add adds the part and returns its name
  */
@@ -92,19 +93,19 @@ export function ensureRom(editedBoard) {
 }
 
 /**
- * Adds parts until there are enough free lines; returns the first `count` free lines.
+ * Adds parts until the board has enough free lines of the required kind; returns the names of the first `count` such lines.
  * @param {EditedBoard} editedBoard
  * @param {number} count the number of lines
- * @param {(board: Board) => string[]} find returns the suitable free lines
- * @param {() => string} add adds a part with suitable lines
+ * @param {(board: Board) => string[]} findLines returns the free lines of the required kind
+ * @param {() => string} addLines adds a part with such lines, and returns its name
  */
-function ensureLines(editedBoard, count, find, add) {
-  while (find(editedBoard.board).length < count) addRequired(editedBoard, add);
-  return find(editedBoard.board).slice(0, count);
+function ensureLines(editedBoard, count, findLines, addLines) {
+  while (findLines(editedBoard.board).length < count) addRequired(editedBoard, addLines);
+  return findLines(editedBoard.board).slice(0, count);
 }
 
 /**
- * Returns the free output lines of ports.
+ * Returns the names of the free output lines of ports.
  * @param {Board} board
  */
 function freeOutputs(board) {
@@ -112,7 +113,7 @@ function freeOutputs(board) {
 }
 
 /**
- * Returns the free input lines.
+ * Returns the names of the free input lines.
  * @param {Board} board
  */
 function freeInputs(board) {
@@ -120,7 +121,7 @@ function freeInputs(board) {
 }
 
 /**
- * Returns the free lines for lamps: first RAM port lines, then ROM port lines, then chain bits.
+ * Returns the names of the free lines for lamps: first RAM port lines, then ROM port lines, then chain bits.
  * @param {Board} board
  */
 function freeLampLines(board) {
@@ -131,7 +132,7 @@ function freeLampLines(board) {
 /**
  * Adds a chain; returns its name.
  * @param {EditedBoard} editedBoard
- * @param {number} chips
+ * @param {number} chips the number of chips
  */
 export function addChain(editedBoard, chips = 1) {
   const chainNumber = editedBoard.board.chains.length;
@@ -142,11 +143,11 @@ export function addChain(editedBoard, chips = 1) {
 }
 
 /**
- * Returns the first `count` consecutive free bits of a chain; null if no chain has that many.
+ * Finds `count` consecutive free bits in a chain. Returns the chain number and the number of the first bit; null if no chain has such bits.
  * @param {Board} board
  * @param {number} count
  */
-function freeBits(board, count) {
+function findFreeBits(board, count) {
   const freeNames = new Set(freeLines(board).map(({ name }) => name));
   for (const [chain, { chips }] of board.chains.entries()) {
     const starts = indices(Math.max(0, BITS_PER_CHIP * chips - count + 1));
@@ -157,17 +158,17 @@ function freeBits(board, count) {
 }
 
 /**
- * Returns `count` consecutive free bits of a chain; adds a chain if necessary.
+ * Finds `count` consecutive free bits in a chain; adds a chain if necessary. Returns the chain number and the number of the first bit.
  * @param {EditedBoard} editedBoard
  * @param {number} count
  */
 function ensureBits(editedBoard, count) {
-  if (!freeBits(editedBoard.board, count)) addRequired(editedBoard, () => addChain(editedBoard, Math.ceil(count / BITS_PER_CHIP)));
-  return /** @type {{ chain: number, first: number }} */ (freeBits(editedBoard.board, count));
+  if (!findFreeBits(editedBoard.board, count)) addRequired(editedBoard, () => addChain(editedBoard, Math.ceil(count / BITS_PER_CHIP)));
+  return /** @type {{ chain: number, first: number }} */ (findFreeBits(editedBoard.board, count));
 }
 
 /**
- * Adds a key matrix with one row, and with a column for each free input line (at most four columns). Returns its name.
+ * Adds a key matrix with one row, and with a column for each free input line (at most four columns). Returns the name of the part.
  * @param {EditedBoard} editedBoard
  */
 export function addKeys(editedBoard) {
@@ -194,7 +195,7 @@ export function setRows(editedBoard, rows) {
   if (matrix.first + rows > BITS_PER_CHIP * chains[matrix.chain].chips) {
     throw new ImpossibleAction(say.noBitForRow(matrix.chain));
   }
-  editedBoard.edit([setValue(editedBoard.draft, editedBoard.draft.entry("keys", 0), "rows", rows)]);
+  editedBoard.edit([setValue(editedBoard.draft, editedBoard.draft.requirePart("keys", 0), "rows", rows)]);
   return "keys";
 }
 
@@ -208,12 +209,12 @@ export function addColumn(editedBoard) {
   if (matrix.columns.length >= MAX_COLUMNS) throw new ImpossibleAction(say.maxColumns(MAX_COLUMNS));
   const [line] = ensureLines(editedBoard, 1, freeInputs, () => addRom(editedBoard, INPUT_MASK));
   const { draft } = editedBoard;
-  editedBoard.edit(appendElement(draft, draft.requireKey(draft.entry("keys", 0), "columns").value, formatToml(line)));
+  editedBoard.edit(appendElement(draft, draft.requireKey(draft.requirePart("keys", 0), "columns").value, formatToml(line)));
   return "keys";
 }
 
 /**
- * Throws `ImpossibleAction` if `count` more lamps exceed the maximum.
+ * Throws `ImpossibleAction` if `count` more lamps would exceed the maximum.
  * @param {EditedBoard} editedBoard
  * @param {number} count
  */
@@ -222,9 +223,9 @@ function checkLampCount({ board }, count) {
 }
 
 /**
- * Adds one lamp at each line.
+ * Adds a lamp to each of several signal lines.
  * @param {EditedBoard} editedBoard
- * @param {string[]} lines
+ * @param {string[]} lines the names of the lines
  */
 function addLamps(editedBoard, lines) {
   for (const line of lines) editedBoard.edit(addPart(editedBoard.draft, "lamp", { line }));
@@ -244,7 +245,7 @@ export function addLamp(editedBoard, line = "", colour = "") {
   // If the board has no RAM, add a RAM chip for its first lamp, so that later lamps can use the same port.
   if (!line && !hasRam && lampNumber === 0) addRequired(editedBoard, () => addRam(editedBoard));
   addLamps(editedBoard, [line || ensureLines(editedBoard, 1, freeLampLines, () => addRam(editedBoard))[0]]);
-  if (colour) editedBoard.edit(colourLamp(editedBoard.draft, lampNumber, colour));
+  if (colour) editedBoard.edit(setLampColour(editedBoard.draft, lampNumber, colour));
   return `lamp ${lampNumber}`;
 }
 
@@ -262,7 +263,8 @@ export function addBuzzer(editedBoard, line = "") {
 }
 
 /**
- * Adds a display; returns the name of its first lamp. Each BCD digit uses a RAM port; seven-segment digits use chain bits.
+ * Adds a display without multiplexing; returns the name of its first lamp. Each BCD digit uses a RAM port. All seven-segment digits use the
+ * bits of one chain.
  * @param {EditedBoard} editedBoard
  * @param {"digit" | "segments"} kind
  * @param {number} digits
@@ -272,8 +274,8 @@ export function addDisplay(editedBoard, kind, digits) {
   checkLampCount(editedBoard, digits * LINES_PER_DIGIT[kind]);
   ensureRom(editedBoard);
   const firstLamp = editedBoard.board.lamps.length;
-  if (kind === "digit") for (let digit = 0; digit < digits; digit++) addLamps(editedBoard, takeDigitPort(editedBoard));
-  else addLamps(editedBoard, takeSegmentBits(editedBoard, digits * LINES_PER_DIGIT.segments));
+  if (kind === "digit") for (let digit = 0; digit < digits; digit++) addLamps(editedBoard, ensureDigitPort(editedBoard));
+  else addLamps(editedBoard, ensureSegmentBits(editedBoard, digits * LINES_PER_DIGIT.segments));
   // (The next literal is a comment in the board text, in the syntax of tools/lib/face.txt.)
   // eslint-disable-next-line no-restricted-syntax
   const display = `${formatQuantity(digits, "digit")}${kind === "segments" ? " of 7 segments" : ""}`;
@@ -287,15 +289,15 @@ export function addDisplay(editedBoard, kind, digits) {
  * @param {number} digits
  */
 export function addMultiplexedDisplay(editedBoard, digits) {
-  const maxDigits = limit("scanned");
+  const maxDigits = findLimit("scanned");
   if (!Number.isInteger(digits) || digits < 1 || digits > maxDigits) throw new ImpossibleAction(say.maxMultiplexed(maxDigits));
   const count = LINES_PER_DIGIT.segments + digits;
   checkLampCount(editedBoard, count);
   ensureRom(editedBoard);
   const firstLamp = editedBoard.board.lamps.length;
   /** @type {(board: Board) => string[]} */
-  const find = (board) => freeLampLines(board).filter((line) => line.startsWith("ram"));
-  addLamps(editedBoard, ensureLines(editedBoard, count, find, () => addRam(editedBoard)));
+  const findRamLines = (board) => freeLampLines(board).filter((line) => line.startsWith("ram"));
+  addLamps(editedBoard, ensureLines(editedBoard, count, findRamLines, () => addRam(editedBoard)));
   // (The next literal is a comment in the board text, in the syntax of tools/lib/face.txt.)
   // eslint-disable-next-line no-restricted-syntax
   const display = `${formatQuantity(digits, "digit")} of 7 segments scanned by ${firstLamp + LINES_PER_DIGIT.segments}`;
@@ -304,10 +306,10 @@ export function addMultiplexedDisplay(editedBoard, digits) {
 }
 
 /**
- * Returns the lines of a free RAM port, line 3 first; adds a RAM chip if necessary.
+ * Returns the line names of a free RAM port, line 3 first; adds a RAM chip if necessary.
  * @param {EditedBoard} editedBoard
  */
-function takeDigitPort(editedBoard) {
+function ensureDigitPort(editedBoard) {
   const freeNames = new Set(freeOutputs(editedBoard.board));
   for (const { bank, chips } of editedBoard.board.banks) {
     for (const chip of indices(chips)) {
@@ -320,11 +322,11 @@ function takeDigitPort(editedBoard) {
 }
 
 /**
- * Returns consecutive free chain bits for segments.
+ * Returns the line names of consecutive free chain bits for segments; adds a chain if necessary.
  * @param {EditedBoard} editedBoard
  * @param {number} count
  */
-function takeSegmentBits(editedBoard, count) {
+function ensureSegmentBits(editedBoard, count) {
   const { chain, first } = ensureBits(editedBoard, count);
   return indices(count).map((bit) => `chain${chain}.${first + bit}`);
 }
@@ -332,9 +334,9 @@ function takeSegmentBits(editedBoard, count) {
 /**
  * Throws `ImpossibleAction` if an action takes an output line away from the buzzer or the printer.
  * @param {EditedBoard} editedBoard
- * @param {(line: string) => boolean} isLost returns true if a line is no longer an output after the action
+ * @param {(line: string) => boolean} isLost returns whether a line is no longer an output after the action
  */
-export function requireOutputs({ text }, isLost) {
+export function checkFrontPanelOutputs({ text }, isLost) {
   const { buzzer, printer } = new Face(text);
   if (buzzer && isLost(buzzer.place)) throw new ImpossibleAction(say.buzzerIsAt(buzzer.place));
   const line = printer && printerLines(printer).find(isLost);
@@ -353,9 +355,9 @@ export function setChips(editedBoard, chain, chips) {
   if (chips < from) throw new ImpossibleAction(say.MIN_CHIPS);
   /** @type {(line: string) => boolean} */
   const isBeyond = (line) => line.startsWith(`chain${chain}.`) && parseChainBit(line).bit >= BITS_PER_CHIP * chips;
-  requireOutputs(editedBoard, isBeyond);
+  checkFrontPanelOutputs(editedBoard, isBeyond);
   const lostLine = [...inputLines(editedBoard.board).values()].find(isBeyond);
   if (lostLine) throw new ImpossibleAction(say.inUse(lostLine));
-  editedBoard.edit([setValue(editedBoard.draft, editedBoard.draft.entry("chain", chain), "chips", chips)]);
+  editedBoard.edit([setValue(editedBoard.draft, editedBoard.draft.requirePart("chain", chain), "chips", chips)]);
   return `chain ${chain}`;
 }

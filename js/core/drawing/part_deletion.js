@@ -3,7 +3,7 @@
 
 import { formatQuantity } from "../bench/numbers.js";
 import { Face } from "../board/face.js";
-import { isScanned, groupLamps } from "../board/face_board.js";
+import { isMultiplexed, groupLamps } from "../board/face_board.js";
 import { removeColumns, removeRows, renamePorts, renumberLamps, setLineText } from "./face_edits.js";
 import { BUZZER, splitTarget } from "./board_lines.js";
 import { displayedPartName, setRows } from "./part_addition.js";
@@ -16,12 +16,12 @@ import * as say from "../../words/drawing.js";
  * @typedef {import("./edited_board.js").EditedBoard} EditedBoard
  * @typedef {import("../text/board_reader.js").Value} Value
  *
- * The parts to delete: ROMs by number, RAM chips as `bank.chip`, chains, columns and lamps.
+ * The parts to delete. RAM chips have the form `bank.chip`; other parts are numbers. `keys` is true if the complete key matrix is deleted.
  * @typedef {{ roms: Set<number>, rams: Set<string>, chains: Set<number>, keys: boolean, columns: Set<number>,
  *   lamps: Set<number> }} DeletedParts
  */
 
-/** @returns {DeletedParts} the parts to delete, at first none */
+/** @returns {DeletedParts} no parts to delete; the caller adds parts */
 function createDeletedParts() {
   return { roms: new Set(), rams: new Set(), chains: new Set(), keys: false, columns: new Set(), lamps: new Set() };
 }
@@ -43,22 +43,23 @@ function isLineDeleted({ roms, rams, chains }, line) {
  * @param {number} lamp
  */
 export function lampsInSameGroup(face, lamp) {
-  const all = face.groups.map(groupLamps).find((lamps) => lamps.includes(lamp));
-  return all || [lamp];
+  const groupWithLamp = face.groups.map(groupLamps).find((lamps) => lamps.includes(lamp));
+  return groupWithLamp || [lamp];
 }
 
 /**
- * Returns the display that begins at a lamp if the editor can add a copy of it; otherwise undefined.
+ * Returns the display that begins at a lamp if the board editor can copy this display; otherwise undefined. The editor can copy displays
+ * without decimal points and without multiplexing.
  * @param {Face} face
  * @param {number} lamp
  */
 export function displayAt(face, lamp) {
   return face.groups.find((group) => group.kind === "display" && group.first === lamp && (group.columns === 4 || group.columns === 7)
-    && !isScanned(group));
+    && !isMultiplexed(group));
 }
 
 /**
- * Extends the parts to delete by the parts that depend on them.
+ * Adds the parts that depend on the parts to delete.
  * @param {Board} board
  * @param {Face} face
  * @param {DeletedParts} deletedParts
@@ -73,7 +74,7 @@ function addDependents(board, face, deletedParts) {
     deletedParts.keys = deletedParts.keys || deletedParts.chains.has(matrix.chain) || deletedParts.columns.size === matrix.columns.length;
   }
   board.lamps.forEach((line, at) => isLineDeleted(deletedParts, line) && deletedParts.lamps.add(at));
-  // The whole group of a deleted lamp is deleted. The loop also visits the lamps that are added to the set while the loop runs.
+  // With a lamp, all lamps of its group are deleted. The loop also visits the lamps that it adds to the set.
   for (const at of deletedParts.lamps) {
     const groups = face.groups.map(groupLamps).filter((lamps) => lamps.includes(at));
     for (const lamp of groups.flat()) if (lamp < board.lamps.length) deletedParts.lamps.add(lamp);
@@ -97,8 +98,8 @@ function removeAll(editedBoard, deletedParts) {
 }
 
 /**
- * Returns numbers in descending order. If parts are removed in this order, a removal does not change the numbers of the parts still to be
- * removed.
+ * Returns numbers in descending order. If parts are removed in this order, a removal does not change the numbers of the other parts to
+ * remove.
  * @param {Set<number>} numbers
  */
 function sortDescending(numbers) {
@@ -116,7 +117,7 @@ function removeLamps(editedBoard, lamps) {
 }
 
 /**
- * Removes the keys and their names.
+ * Removes the key matrix and the names of its keys.
  * @param {EditedBoard} editedBoard
  */
 function removeKeys(editedBoard) {
@@ -125,7 +126,7 @@ function removeKeys(editedBoard) {
 }
 
 /**
- * Removes key columns and their names.
+ * Removes key columns and the names of their keys.
  * @param {EditedBoard} editedBoard
  * @param {Set<number>} columns
  */
@@ -133,12 +134,12 @@ function removeKeyColumns(editedBoard, columns) {
   editedBoard.edit(removeColumns(editedBoard.draft, columns));
   for (const column of sortDescending(columns)) {
     const { draft } = editedBoard;
-    editedBoard.edit(removeElement(draft, draft.requireKey(draft.entry("keys", 0), "columns").value, column));
+    editedBoard.edit(removeElement(draft, draft.requireKey(draft.requirePart("keys", 0), "columns").value, column));
   }
 }
 
 /**
- * Removes a chain, and renumbers the later chains and their bits.
+ * Removes a chain, and renumbers the later chains wherever the text names them or their bits.
  * @param {EditedBoard} editedBoard
  * @param {number} chain
  */
@@ -159,7 +160,7 @@ function removeChain(editedBoard, chain) {
 }
 
 /**
- * Removes a ROM.
+ * Removes a ROM, and the front-panel lines about its port.
  * @param {EditedBoard} editedBoard
  * @param {number} rom the chip number
  */
@@ -170,7 +171,7 @@ function removeRom(editedBoard, rom) {
 }
 
 /**
- * Removes a RAM chip. The chip must be the last one of its bank.
+ * Removes a RAM chip, and the front-panel lines about its port. The chip must be the last chip of its bank.
  * @param {EditedBoard} editedBoard
  * @param {string} ram `bank.chip`
  */
@@ -225,7 +226,7 @@ function markRamDeleted({ banks }, deletedParts, ram) {
 
 /**
  * Deletes a part: `rom 1`, `ram 0.1`, `chain 0`, `keys`, `row 1` (the last row), `column 2`, `lamp 3`, `lamps`, `test` or `buzzer`. Returns
- * a description of the dependent parts that were also deleted, "" if there are none.
+ * a list of the dependent parts that it has also deleted, as text; "" if there are none.
  * @param {EditedBoard} editedBoard
  * @param {string} part
  */
@@ -264,18 +265,18 @@ function deleteRow(editedBoard, row) {
 }
 
 /**
- * Describes the parts that are deleted together with a part.
+ * Lists, as text, the parts that are deleted because they depend on a deleted part.
  * @param {Board} board
- * @param {DeletedParts} deletedParts
- * @param {string} part
+ * @param {DeletedParts} deletedParts the part and its dependent parts
+ * @param {string} part the part that the user deletes
  */
 function describeDependents({ buzzer }, deletedParts, part) {
   const { chains, keys, columns, lamps } = deletedParts;
   const others = [...chains].map((chain) => `chain ${chain}`).filter((name) => name !== part);
-  const otherLamps = part === "lamps" || (part.startsWith("lamp ") && lamps.size === 1) ? 0 : lamps.size;
+  const otherLampCount = part === "lamps" || (part.startsWith("lamp ") && lamps.size === 1) ? 0 : lamps.size;
   if (keys && part !== "keys") others.push(displayedPartName("keys"));
   else if (!keys && columns.size > 0 && !part.startsWith("column")) others.push(say.ofKeys(formatQuantity(columns.size, "column")));
-  if (otherLamps > 0) others.push(part.startsWith("lamp ") ? say.allLampsOf(otherLamps) : formatQuantity(otherLamps, "lamp"));
+  if (otherLampCount > 0) others.push(part.startsWith("lamp ") ? say.allLampsOf(otherLampCount) : formatQuantity(otherLampCount, "lamp"));
   if (buzzer && isLineDeleted(deletedParts, buzzer)) others.push(say.THE_BUZZER);
   return say.listOf(others);
 }

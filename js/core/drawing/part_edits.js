@@ -1,4 +1,4 @@
-// Adds parts to a board text, removes them, and changes their values. Comments stay. New parts follow the style of the existing parts.
+// Adds parts to a board text, removes them, and changes their values. Keeps the comments. New parts have the style of the existing parts.
 
 import { tomlWords } from "../text/toml_words.js";
 import { PART_KEYS } from "../bench/board_form.js";
@@ -27,11 +27,11 @@ export function formatToml(value) {
 }
 
 /**
- * Returns the `key = value` lines of a part.
+ * Returns the `key = value` lines of a new part.
  * @param {Kind} kind
  * @param {PartValues} values
  */
-function valueLines(kind, values) {
+function formatValueLines(kind, values) {
   return PART_KEYS[kind].map((key) => `${key} = ${formatToml(values[key])}`);
 }
 
@@ -53,7 +53,7 @@ function isCompact({ entries, lines }) {
 }
 
 /**
- * Adds a part after the last part of its kind.
+ * Adds a part after the last part of its kind. If there is no such part, adds it at the end of the text.
  * @param {BoardDraft} draft
  * @param {Kind} kind
  * @param {PartValues} values
@@ -61,20 +61,20 @@ function isCompact({ entries, lines }) {
  */
 export function addPart(draft, kind, values) {
   const array = draft.keys.find(({ name, value }) => name === kind && Array.isArray(value.inner));
-  if (array) return appendElement(draft, array.value, `{ ${valueLines(kind, values).join(", ")} }`);
-  const block = [kind === "keys" ? "[keys]" : `[[${kind}]]`, ...valueLines(kind, values)].join("\n");
+  if (array) return appendElement(draft, array.value, `{ ${formatValueLines(kind, values).join(", ")} }`);
+  const block = [kind === "keys" ? "[keys]" : `[[${kind}]]`, ...formatValueLines(kind, values)].join("\n");
   const gap = isCompact(draft) ? "\n" : "\n\n";
   const last = draft.partsOfKind(kind).pop();
   if (!last) return [appendTable(draft, gap, block)];
   const line = draft.lastLine(last);
-  const insertionOffset = draft.offset(line, draft.lines[line - 1].length);
+  const insertionOffset = draft.offsetAt(line, draft.lines[line - 1].length);
   return [{ from: insertionOffset, to: insertionOffset, insert: gap + block }];
 }
 
 /**
  * Adds a table at the end of the text.
  * @param {BoardDraft} draft
- * @param {string} gap the line feeds before the table
+ * @param {string} gap the line feeds between the last line of the text and the table
  * @param {string} block the lines of the table
  * @returns {TextEdit}
  */
@@ -82,32 +82,33 @@ function appendTable({ text, lines }, gap, block) {
   const endOffset = text.length;
   if (text.trim() === "") return { from: 0, to: endOffset, insert: `${block}\n` };
   if (!text.endsWith("\n")) return { from: endOffset, to: endOffset, insert: `${gap}${block}\n` };
-  const isSpaced = isBlank(lines[lines.length - 2]);
-  return { from: endOffset, to: endOffset, insert: `${isSpaced ? "" : gap.slice(1)}${block}\n` };
+  const endsWithBlankLine = isBlank(lines[lines.length - 2]);
+  return { from: endOffset, to: endOffset, insert: `${endsWithBlankLine ? "" : gap.slice(1)}${block}\n` };
 }
 
 /**
- * Returns the TOML tokens before and after a range, with their offsets; null if there is none. Line ends do not count as tokens.
+ * Returns the TOML tokens before (`before`) and after (`next`) a range, with their offsets; null for a missing token. Line ends do not
+ * count as tokens.
  * @param {BoardDraft} draft
- * @param {number} from
- * @param {number} to
+ * @param {number} from the offset of the start of the range
+ * @param {number} to the offset of its end
  */
 function tokensAround(draft, from, to) {
   const tokens = tomlWords(draft.lines).filter(({ kind }) => kind !== "end");
   /** @type {(word: TomlWord | undefined) => { text: string, from: number, to: number } | null} */
   const withOffsets = (word) => (word
-    ? { text: word.text, from: draft.offset(word.line, word.from), to: draft.offset(word.line, word.to) } : null);
-  const next = tokens.find((word) => draft.offset(word.line, word.from) >= to);
-  const before = tokens.filter((word) => draft.offset(word.line, word.to) <= from).pop();
+    ? { text: word.text, from: draft.offsetAt(word.line, word.from), to: draft.offsetAt(word.line, word.to) } : null);
+  const next = tokens.find((word) => draft.offsetAt(word.line, word.from) >= to);
+  const before = tokens.filter((word) => draft.offsetAt(word.line, word.to) <= from).pop();
   return { before: withOffsets(before), next: withOffsets(next) };
 }
 
 /**
- * Adds an element at the end of an array. The element gets a new line if the earlier elements are on separate lines, or if the last line is
- * full.
+ * Adds an element at the end of an array. The element gets a new line if the earlier elements are on separate lines, or if the last line
+ * would become longer than MAX_LINE_LENGTH.
  * @param {BoardDraft} draft
  * @param {Value} array
- * @param {string} element
+ * @param {string} element the element as TOML
  * @returns {TextEdit[]}
  */
 export function appendElement(draft, array, element) {
@@ -123,17 +124,17 @@ export function appendElement(draft, array, element) {
   const { next } = tokensAround(draft, elementEnd, elementEnd);
   const hasComma = next !== null && next.text === ",";
   const indent = last.line > array.line ? (/^[ \t]*/.exec(line) || [""])[0] : INDENT;
-  // The new line goes before the closing bracket if that is on the same line, otherwise after the whole line.
-  const end = next && next.text === "]" && array.end.line === last.end.line ? elementEnd : draft.offset(last.end.line, line.length);
+  // The new line goes before the closing bracket if the bracket is on the line of the last element; otherwise after that line.
+  const end = next && next.text === "]" && array.end.line === last.end.line ? elementEnd : draft.offsetAt(last.end.line, line.length);
   const comma = { from: elementEnd, to: elementEnd, insert: "," };
   return [{ from: end, to: end, insert: `\n${indent}${element}${hasComma ? "," : ""}` }, ...(hasComma ? [] : [comma])];
 }
 
 /**
- * Deletes whole lines. If the deletion leaves adjacent blank lines, also deletes one of them.
+ * Deletes complete lines. If two blank lines would then be adjacent, also deletes one of them.
  * @param {BoardDraft} draft
  * @param {number} first the number of the first line, from 1
- * @param {number} last the number of the last line
+ * @param {number} last the number of the last line, from 1
  * @returns {TextEdit}
  */
 export function removeLines({ lines, lineOffsets, text }, first, last) {
@@ -147,10 +148,10 @@ export function removeLines({ lines, lineOffsets, text }, first, last) {
 }
 
 /**
- * Deletes a range within a line. Deletes the whole line if only blanks remain.
+ * Deletes a range within a line, and adjacent blanks. Deletes the complete line if it contains nothing else.
  * @param {BoardDraft} draft
- * @param {number} from
- * @param {number} to
+ * @param {number} from the offset of the start of the range
+ * @param {number} to the offset of its end
  * @returns {TextEdit}
  */
 function removeRange({ text }, from, to) {
@@ -187,7 +188,7 @@ export function removeElement(draft, array, index) {
  * @returns {TextEdit[]}
  */
 export function removePart(draft, kind, index) {
-  const entry = draft.entry(kind, index);
+  const entry = draft.requirePart(kind, index);
   if (!entry.end) return [removeLines(draft, entry.line, draft.lastLine(entry))];
   const key = draft.keys.find(({ name }) => name === kind);
   if (!key) throw new Error(`the text has no ${kind}`);
@@ -200,7 +201,7 @@ export function removePart(draft, kind, index) {
  * @param {BoardDraft} draft
  * @param {Entry} entry
  * @param {string} name the key of the value
- * @param {string | number} value
+ * @param {string | number} value the new value
  * @returns {TextEdit}
  */
 export function setValue(draft, entry, name, value) {
@@ -211,7 +212,7 @@ export function setValue(draft, entry, name, value) {
  * Replaces a value in the text.
  * @param {BoardDraft} draft
  * @param {Value} oldValue
- * @param {string | number} value
+ * @param {string | number} value the new value
  * @returns {TextEdit}
  */
 export function replaceValue(draft, oldValue, value) {

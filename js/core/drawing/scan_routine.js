@@ -1,4 +1,4 @@
-// Generates the source of a routine that scans the key matrix on the session's board.
+// Generates the source of a routine that scans the key matrix of a board.
 
 import { indices } from "../bench/numbers.js";
 import * as say from "../../words/key_scan.js";
@@ -8,14 +8,15 @@ import * as say from "../../words/key_scan.js";
  * @typedef {import("../bench/answers.js").Matrix} Matrix
  *
  * The port of a signal line. `bank`: the RAM bank that DCL must select, or -1 for a ROM port. `source`: the byte that SRC must send to
- * select the port. `write`: the instruction that writes to the port. `title`: the name of the port. `bit`: the value of the line's bit in
- * the port (1, 2, 4 or 8).
+ * select the port. `write`: the instruction that writes to the port. `title`: the name of the port in comments. `bit`: the value of the
+ * line's bit in the port (1, 2, 4 or 8).
  * @typedef {{ bank: number, source: number, write: string, title: string, bit: number }} Port
  *
- * A source line: its label ("" for none), its instruction with operands, and its comment.
+ * A source line: its label ("" for none), the words of its instruction (mnemonic and operands), and its comment.
  * @typedef {[label: string, instruction: string[], comment?: string]} Line
  */
 
+/** The columns at which instructions and comments start. */
 const LABEL_WIDTH = 12;
 const COMMENT_COLUMN = 32;
 /** The number of values of a 4-bit register, which is the maximum number of iterations of an ISZ loop. */
@@ -33,7 +34,7 @@ function portForLine(line) {
   return { bank: numbers[0], source: numbers[1] * 64, write: "WMP", title: say.ramPort(numbers[0], numbers[1]), bit };
 }
 
-/** @type {(one: Port, other: Port) => boolean} returns whether two ports are the same */
+/** @type {(one: Port, other: Port) => boolean} returns whether two signal lines belong to one port */
 const isSamePort = (one, other) => one.title === other.title;
 
 /** @type {(byte: number) => string} formats a byte as a hexadecimal numeral */
@@ -59,22 +60,22 @@ function formatLine([label, instruction, comment = ""]) {
   return comment === "" ? code : `${code.padEnd(COMMENT_COLUMN)}; ${comment}`;
 }
 
-/** Creates the labels of the routine. They start with a prefix that does not occur in the source. */
+/** Creates the labels of the routine. The labels start with a prefix that does not occur in the source. */
 class Labels {
-  /** @param {string} text */
+  /** @param {string} text the source that will contain the routine */
   constructor(text) {
     const number = indices(1000).find((each) => !text.includes(`keys${each || ""}_`)) || 0;
     this.prefix = `keys${number || ""}`;
   }
 
-  /** @param {string} ending */
-  labelFor(ending) {
-    return `${this.prefix}_${ending}`;
+  /** @param {string} suffix the label after the prefix and the underscore */
+  labelFor(suffix) {
+    return `${this.prefix}_${suffix}`;
   }
 }
 
 /**
- * Returns the source lines that shift the 1 in the chain to the bit of row 0.
+ * Returns the source lines that shift the 1 from bit 0 of the chain to the bit of row 0.
  * @param {number} first the number of the bit for row 0
  * @param {Labels} labels
  * @returns {Line[]}
@@ -94,8 +95,8 @@ function firstRowLines(first, labels) {
 }
 
 /**
- * Returns the source lines that read the columns and jump at the first column that is 1.
- * @param {string[]} columns
+ * Returns the source lines that read the columns. At the first column that is 1, they jump to the label of the column.
+ * @param {string[]} columns the signal lines of the columns
  * @param {Labels} labels
  * @returns {Line[]}
  */
@@ -117,7 +118,8 @@ function columnLines(columns, labels) {
 }
 
 /**
- * Returns the subroutine that shifts one bit into the chain. It expects the value for the data port in the accumulator.
+ * Returns the source lines of the subroutine that shifts one bit into the chain. The subroutine expects the value for the data port in the
+ * accumulator.
  * @param {Port} clock
  * @param {Port} data
  * @param {Labels} labels
@@ -137,7 +139,7 @@ function shiftLines(clock, data, labels) {
 }
 
 /**
- * Returns the comment lines above the routine.
+ * Returns the comment lines above the routine: its purpose, its call, the registers that it changes, and the ports that it writes.
  * @param {Matrix} matrix
  * @param {Port} clock
  * @param {Port} data
@@ -165,7 +167,7 @@ export function keyScanSource({ matrix, chains }, text) {
   const { rows, first, columns } = matrix;
   const [clock, data] = [portForLine(chains[matrix.chain].clock), portForLine(chains[matrix.chain].data)];
   const labels = new Labels(text);
-  const [scan, row, shift, out] = ["scan", "row", "shift", "out"].map((ending) => labels.labelFor(ending));
+  const [scan, row, shift, out] = ["scan", "row", "shift", "out"].map((suffix) => labels.labelFor(suffix));
   /** @type {Line[]} */
   const callingProgram = /^\s*[^\s;]/m.test(text) ? [] : [["start", ["JMS", scan], say.WAITS], ["", ["JUN", "start"]]];
   /** @type {Line[]} */
@@ -186,10 +188,10 @@ export function keyScanSource({ matrix, chains }, text) {
 }
 
 /**
- * Returns the edit that inserts a routine into a text, with blank lines around it. The routine is inserted after the line with the caret,
- * or at the end if there is no caret.
+ * Returns the edit that inserts a routine into a text, after the line with the caret or, if there is no caret, at the end. A blank line
+ * separates the routine from the text before and after it.
  * @param {string} text
- * @param {number} line the caret line, 0 for none
+ * @param {number} line the number of the line with the caret, from 1; 0 for no caret
  * @param {string} code the routine
  * @returns {{ edit: import("./text_edits.js").TextEdit, first: number, isEnd: boolean }} `first`: the number of the first routine
  *   line; `isEnd`: true if no text follows the routine

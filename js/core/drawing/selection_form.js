@@ -1,4 +1,4 @@
-// Creates the form for the selected part or pin, with fields such as its name, its colour, its signal line, and its number of chips. Each
+// Creates the form for the selected part or pin, with fields such as the name, the colour, the signal line and the number of chips. Each
 // field has a function that returns the action for a new value.
 
 import { indices } from "../bench/numbers.js";
@@ -13,12 +13,12 @@ import * as say from "../../words/drawing.js";
  * @typedef {import("../board/face.js").Face} Face
  * @typedef {import("./drawing_actions.js").DrawingAction} DrawingAction
  *
- * A field of the form: its label, its value, the values to choose from with their titles (null for free text), and a function that returns
- * the action for a new value.
+ * A field of the form: its label, its value, its options (null for free text), and a function that returns the action for a new value. An
+ * option is a value and its displayed text (`words`).
  * @typedef {{ label: string, value: string, options: { value: string, words: string }[] | null,
  *   act: (value: string) => DrawingAction }} Field
  *
- * A button: its label and its action.
+ * A button of the form: its label (`word`) and its action.
  * @typedef {{ word: string, act: DrawingAction }} Button
  *
  * The form for the selection: its title, the name of the part in the board text ("" for none), its fields and its buttons.
@@ -26,7 +26,7 @@ import * as say from "../../words/drawing.js";
  */
 
 /**
- * Creates a field with free text.
+ * Creates a field for free text. It shows blanks instead of the underscores in the value.
  * @param {string} label
  * @param {string} value
  * @param {(value: string) => DrawingAction} act
@@ -37,7 +37,7 @@ function textField(label, value, act) {
 }
 
 /**
- * Creates a field with options.
+ * Creates a field with options to choose from.
  * @param {string} label
  * @param {string} value
  * @param {string[] | { value: string, words: string }[]} options
@@ -49,7 +49,7 @@ function choiceField(label, value, options, act) {
 }
 
 /**
- * Returns the numbers of a range, formatted as text.
+ * Returns the numbers of a range as texts.
  * @param {{ from: number, to: number }} range
  */
 function rangeNumbers({ from, to }) {
@@ -57,10 +57,10 @@ function rangeNumbers({ from, to }) {
 }
 
 /**
- * Returns the field for the signal line of an input.
+ * Returns the field for the signal line that is connected to an input.
  * @param {Board} board
- * @param {string} target
- * @param {string} [label]
+ * @param {string} target the name of the input
+ * @param {string} [label] the displayed name of the input
  */
 function lineField(board, target, label = targetName(target)) {
   const currentLine = inputLines(board).get(target) || "";
@@ -78,7 +78,7 @@ function portNameField(face, part) {
 }
 
 /**
- * Returns the field for the direction of a ROM line.
+ * Returns the field for the direction of a ROM port line.
  * @param {string} line
  * @param {string} port the port mask of the ROM
  * @returns {Field}
@@ -127,7 +127,7 @@ function chainForm(board, face, part) {
 }
 
 /**
- * Returns the form for the keys.
+ * Returns the form for the key matrix.
  * @param {Board} board
  * @param {Face} face
  * @returns {SelectionForm}

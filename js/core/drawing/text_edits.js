@@ -1,5 +1,5 @@
-// Applies and inverts text edits. An edit replaces a range of characters. In a list of edits, each edit applies to the text that the
-// earlier edits produced.
+// Applies and inverts text edits. An edit replaces a range of characters. In a list of edits, the offsets of each edit refer to the text
+// after the earlier edits.
 
 /**
  * An edit: `insert` replaces the characters from offset `from` up to offset `to`.

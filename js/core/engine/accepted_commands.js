@@ -1,5 +1,5 @@
-// Finds the commands that the bench has accepted, and the cycles that each of them ran. A session uses them to count its cycles and to
-// replay its past.
+// Finds the commands that the bench has accepted, and the number of cycles that each of them ran. A session needs this to count its cycles
+// and to replay its past.
 
 import { readRun } from "../bench/answers.js";
 
@@ -14,7 +14,7 @@ import { readRun } from "../bench/answers.js";
 const RESET_COMMANDS = { reset: true, wire: true };
 
 /**
- * Returns the lines that repeat a command: the command itself, and the text after a `wire` or `asm` command.
+ * Returns the lines to send to repeat a command: the command itself, and the text after a `wire` or `asm` command.
  * @param {Input} input
  */
 function repeatedLines({ line, text, kind }) {
@@ -22,7 +22,7 @@ function repeatedLines({ line, text, kind }) {
 }
 
 /**
- * Returns the commands that the bench accepted among some inputs.
+ * Returns the inputs that are commands and that the bench accepted.
  * @param {Input[]} inputs
  * @param {string[][]} answers the answer lines of each input
  * @returns {AcceptedCommand[]}

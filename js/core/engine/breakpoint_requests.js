@@ -1,4 +1,4 @@
-// Requests that set the breakpoints, and the kinds of common mistakes at which time stops.
+// Requests that set the breakpoints, and the kinds of common mistakes that stop the machine.
 
 import { readBoard } from "../bench/answers.js";
 import { Face } from "../board/face.js";
@@ -35,11 +35,11 @@ export class BreakpointRequests {
   }
 
   /**
-   * Sets the kinds of common mistakes at which time stops.
+   * Sets the kinds of common mistakes that stop the machine.
    * @param {Kind[]} kinds
    */
   stopAtFaults(kinds) {
     this.bench.stopKinds = kinds;
-    if (this.bench.currentDebugger) this.bench.currentDebugger.commonMistakes.stops = new Set(kinds);
+    if (this.bench.currentDebugger) this.bench.currentDebugger.commonMistakes.stoppingKinds = new Set(kinds);
   }
 }

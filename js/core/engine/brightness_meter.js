@@ -1,37 +1,37 @@
-// While time runs, measures how long each lamp is on, and how long each digit of a display shows each pattern. The data come from a `trace`
-// query before each run, which forecasts the run.
+// While the machine runs, measures how long each lamp is on, and how long each digit of a display shows each pattern of segments. The data
+// come from a `trace` query before each run, which forecasts the run.
 
 import { digitPatterns, UNLIT_PATTERN, isLit } from "../board/digit_patterns.js";
-import { fittingGroups, isScanned } from "../board/face_board.js";
+import { fittingGroups, isMultiplexed } from "../board/face_board.js";
 import { ForecastAnswers, parseTraceLine } from "./forecast_answers.js";
 
 /**
  * @typedef {import("../board/face.js").Face} Face
  * @typedef {import("../board/face.js").Group} Group
  *
- * The changes within an interval, as times in cycles: before the first change (`first`), the longest between two changes (`longest`), and
- * since the last change (`rest`). Null if nothing changed.
+ * The times between changes within an interval, in cycles: before the first change (`first`), the longest time between two changes
+ * (`longest`), and after the last change (`rest`). Null if nothing changed.
  * @typedef {{ first: number, longest: number, rest: number } | null} ChangeSummary
  *
- * The contents of a display during an interval. `patterns`: the pattern of each digit at the end. `moved`: the pattern changes. If there
- * were any, `shown` lists for each digit its patterns with their durations in cycles.
+ * The contents of a display during an interval. `patterns`: the segment pattern of each digit at the end. `moved`: the times between
+ * pattern changes. If a pattern changed, `shown` lists for each digit its patterns with their durations in cycles.
  * @typedef {{ patterns: number[], moved: ChangeSummary, shown: [number, number][][] }} ShownDisplay
  *
- * The light during an interval of `cycles` cycles. `face`: the number that the page gave to the front panel. `marks`: one character per
- * lamp at the end, `*` for on. `lamps`: the number of cycles for which each lamp was on. `moved`: the changes of each lamp. `scanned`: for
- * each multiplexed group except displays, the number of cycles for which each of its lamps was on, row by row.
+ * The lamp measurements of an interval of `cycles` cycles. `face`: the number that the page gave to the front panel. `marks`: one character
+ * per lamp at the end, `*` for on. `lamps`: the number of cycles for which each lamp was on. `moved`: the times between changes of each
+ * lamp. `scanned`: for each multiplexed group except displays, the number of cycles for which each of its lamps was on, row by row.
  * @typedef {{ face: number, cycles: number, marks: string, lamps: number[], moved: ChangeSummary[], displays: ShownDisplay[],
  *   scanned: number[][] }} LitShares
  */
 
 /**
- * The maximum number of cycles of a run that is measured. At full speed, runs are longer; `measureAhead` then measures the next 30 ms
+ * The maximum number of cycles that a measured run can have. At full speed, runs are longer; `forecastMeters` then forecasts the next 30 ms
  * instead.
  */
 export const MAX_MEASURED_CYCLES = 20000;
 
 /**
- * Returns whether any of `count` lamps has changed.
+ * Returns whether any of `count` consecutive lamps has changed.
  * @param {string} marks
  * @param {string} marksBefore the marks before the change
  * @param {number} first the number of the first lamp
@@ -58,7 +58,7 @@ class ChangeTimes {
   }
 
   /**
-   * Returns the changes of the current interval, and starts a new interval.
+   * Returns the times between the changes in the current interval, and starts a new interval.
    * @param {number} cycles the length of the interval
    * @returns {ChangeSummary}
    */
@@ -71,7 +71,7 @@ class ChangeTimes {
   }
 }
 
-/** Measures how long each digit of a display shows each pattern. */
+/** Measures how long each digit of a display shows each segment pattern. */
 class PatternTimes {
   /** @param {Group} group a display */
   constructor(group) {
@@ -184,7 +184,8 @@ export class BrightnessMeter {
     this.number = number;
     const groups = fittingGroups(face, count);
     this.displays = groups.filter(({ kind }) => kind === "display").map((group) => new PatternTimes(group));
-    this.scannedLamps = groups.filter((group) => isScanned(group) && group.kind !== "display").map((group) => new ScannedLampTimes(group));
+    this.scannedLamps = groups.filter((group) => isMultiplexed(group) && group.kind !== "display")
+      .map((group) => new ScannedLampTimes(group));
     this.cycles = 0;
     /** The current lamp marks; "" before the first report. */
     this.marks = "";
@@ -215,8 +216,8 @@ export class BrightnessMeter {
   }
 
   /**
-   * Returns the light since the previous call. It is computed from the answers to the queries before the runs.
-   * @param {string[][]} answerLists one list of answers for each planned line
+   * Returns the lamp measurements since the previous call, computed from the answers to the queries before the runs.
+   * @param {string[][]} answerLists one list of answers for each planned line; empty for a line that is not a run
    * @returns {LitShares}
    */
   take(answerLists) {
@@ -235,7 +236,7 @@ export class BrightnessMeter {
     return litShares;
   }
 
-  /** @param {string[]} answers the lines of the answer to one `trace` query. An instruction takes effect after its first cycle */
+  /** @param {string[]} answers the lines of the answer to one `trace` query; an instruction takes effect after its first cycle */
   add(answers) {
     const { row, lines, cycles } = new ForecastAnswers(answers).takeTrace();
     const startCycles = this.cycles;

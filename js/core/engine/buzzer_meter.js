@@ -1,5 +1,5 @@
-// Reports the edges of a signal line while time runs, so that the page can play the buzzer. Reads the edges from the answers to a `trace`
-// before each run.
+// Reports the edges of a signal line while the machine runs, so that the page can play the buzzer. Reads the edges from the answers to a
+// `trace` query before each run.
 
 import { ForecastAnswers, parseTraceLine } from "./forecast_answers.js";
 
@@ -10,7 +10,7 @@ import { ForecastAnswers, parseTraceLine } from "./forecast_answers.js";
  */
 
 export class BuzzerMeter {
-  /** @param {string} line `rom0.3`, `ram0.1.3` or `chain0.5` */
+  /** @param {string} line the signal line, such as `rom0.3`, `ram0.1.3` or `chain0.5` */
   constructor(line) {
     this.line = line;
   }
@@ -38,7 +38,7 @@ export class BuzzerMeter {
   /**
    * Returns the levels of the line since the previous call, from the answers to the queries before the runs. A line changes after the first
    * cycle of an instruction.
-   * @param {string[][]} answerLists one list of answers for each planned line
+   * @param {string[][]} answerLists one list of answers for each planned line; empty for a line that is not a run
    * @returns {BuzzerLevels}
    */
   take(answerLists) {

@@ -1,24 +1,25 @@
-// Calls the proved WebAssembly module. A call receives lines and the bytes of a session file; it returns answers and the new bytes of the
-// file. The module does not store a session between calls.
+// Calls the proved WebAssembly module. A call receives the bytes of a session file, and lines (commands and queries) to execute in that
+// session. It returns the answers and the new bytes of the file. The module does not store a session between calls.
 
 import { BenchRefusal, BenchTrap, OUT_OF_MEMORY } from "../bench/bench_errors.js";
 
 /**
- * The result of serving lines: the shell's exit status, the answer `session N` to the opening of the session (`opened`), and the answers to
- * the lines.
+ * The result of executing lines: the shell's exit status, the answer `session N` to the opening of the session (`opened`), and the answers
+ * to the lines.
  * @typedef {{ status: number, opened: string, answers: string[] }} ServedAnswers
  *
- * A buffer in the memory of the module. `room` is its size in bytes.
- * @typedef {{ offset: bigint, room: number }} ModuleBuffer
+ * A buffer in the memory of the module: its address (`offset`), and its size in bytes (`capacity`).
+ * @typedef {{ offset: bigint, capacity: number }} ModuleBuffer
  *
  * @typedef {"bench_serve_and_settle" | "bench_ask"} ServingCall
- * @typedef {(file: bigint, fileSize: bigint, input: bigint, inputSize: bigint, answers: bigint, room: bigint, report: bigint) => number}
- *   ServeFunction
+ * @typedef {(file: bigint, fileSize: bigint, input: bigint, inputSize: bigint, answers: bigint, capacity: bigint,
+ *   report: bigint) => number} ServeFunction
  *
  * The exports of the module.
  * @typedef {{ memory: WebAssembly.Memory, bench_file_size: () => bigint, bench_buffer: (count: bigint) => bigint, bench_buffer_back:
  * (offset: bigint) => void, bench_begin: (file: bigint, size: bigint) => number, bench_serve_and_settle: ServeFunction, bench_ask:
- * ServeFunction, bench_prove: (question: bigint, size: bigint, answers: bigint, room: bigint, report: bigint) => number }} ModuleExports
+ * ServeFunction, bench_prove: (question: bigint, size: bigint, answers: bigint, capacity: bigint,
+ *   report: bigint) => number }} ModuleExports
  */
 
 /** The initial size of the input and answer buffers, in bytes. */
@@ -44,23 +45,23 @@ class Instance {
 
   /**
    * Allocates a buffer. Throws a BenchRefusal if the allocation fails.
-   * @param {number} room the size of the buffer in bytes
+   * @param {number} capacity the size of the buffer in bytes
    * @returns {ModuleBuffer}
    */
-  allocate(room) {
-    const offset = this.calls.bench_buffer(BigInt(room));
+  allocate(capacity) {
+    const offset = this.calls.bench_buffer(BigInt(capacity));
     if (offset === BigInt(0)) throw new BenchRefusal(OUT_OF_MEMORY);
-    return { offset, room };
+    return { offset, capacity };
   }
 
   /**
-   * Returns a buffer of at least `room` bytes: the given buffer, or a larger replacement.
+   * Returns a buffer of at least `capacity` bytes: the given buffer, or a larger replacement.
    * @param {ModuleBuffer} buffer
-   * @param {number} room
+   * @param {number} capacity
    */
-  ensureRoom(buffer, room) {
-    if (room <= buffer.room) return buffer;
-    const larger = this.allocate(room);
+  ensureCapacity(buffer, capacity) {
+    if (capacity <= buffer.capacity) return buffer;
+    const larger = this.allocate(capacity);
     this.calls.bench_buffer_back(buffer.offset);
     return larger;
   }
@@ -84,11 +85,11 @@ class Instance {
    */
   copyLines(lines, encoder) {
     // A UTF-16 code unit needs at most three bytes in UTF-8.
-    if (lines.length * 3 <= this.input.room) {
-      return encoder.encodeInto(lines, this.view(this.input, this.input.room)).written || 0;
+    if (lines.length * 3 <= this.input.capacity) {
+      return encoder.encodeInto(lines, this.view(this.input, this.input.capacity)).written || 0;
     }
     const bytes = encoder.encode(lines);
-    this.input = this.ensureRoom(this.input, bytes.length);
+    this.input = this.ensureCapacity(this.input, bytes.length);
     this.view(this.input, bytes.length).set(bytes);
     return bytes.length;
   }
@@ -98,7 +99,7 @@ class Instance {
    * @param {Uint8Array} file
    */
   copyFile(file) {
-    this.file = this.ensureRoom(this.file, file.length);
+    this.file = this.ensureCapacity(this.file, file.length);
     this.view(this.file, file.length).set(file);
   }
 
@@ -171,7 +172,7 @@ export class Engine {
   }
 
   /**
-   * Serves lines on the session in a file. The new file contains a snapshot of the state instead of the log of commands.
+   * Executes lines in the session of a file. The new file contains a snapshot of the state instead of the log of commands.
    * @param {Uint8Array} file
    * @param {string} lines
    * @param {Uint8Array} target the array for the new file; can be `file`
@@ -184,7 +185,7 @@ export class Engine {
   }
 
   /**
-   * Returns the answers that `serve` would return. The session does not change.
+   * Returns the result that `serve` would return. The session does not change.
    * @param {Uint8Array} file
    * @param {string} lines
    * @returns {ServedAnswers}
@@ -202,7 +203,7 @@ export class Engine {
     const size = instance.copyLines(question, this.encoder);
     let { isDone, number, count } = this.tryToProve(size);
     if (!isDone && number === 0) {
-      instance.answers = instance.ensureRoom(instance.answers, count);
+      instance.answers = instance.ensureCapacity(instance.answers, count);
       ({ isDone, number, count } = this.tryToProve(size));
     }
     return isDone ? this.decoder.decode(instance.view(instance.answers, count)) : `no ${number}`;
@@ -215,17 +216,18 @@ export class Engine {
   tryToProve(size) {
     const { instance } = this;
     const { input, answers, report } = instance;
-    const isDone = this.call((calls) => calls.bench_prove(input.offset, BigInt(size), answers.offset, BigInt(answers.room), report.offset));
+    const isDone = this.call((calls) => (
+      calls.bench_prove(input.offset, BigInt(size), answers.offset, BigInt(answers.capacity), report.offset)));
     return { isDone, ...instance.readReport() };
   }
 
-  /** Does nothing. `keep` is part of the interface of hosts, but this host has nothing to optimise. */
+  /** Does nothing. `keep` is part of the interface EngineHost, but this host has nothing to prepare for later runs. */
   keep() {
-    // The bytes of a state are all that this host uses.
+    // This host uses only the bytes of a state.
   }
 
   /**
-   * Returns a copy of a state, which is also a session file.
+   * Returns a copy of a state. For this host, the bytes of a state are those of the session file.
    * @param {Uint8Array} file
    */
   bytesOf(file) {
@@ -241,7 +243,7 @@ export class Engine {
   }
 
   /**
-   * Serves lines. Repeats the call with a larger buffer if the answers do not fit.
+   * Calls the module to execute lines. Repeats the call with a larger buffer if the answers do not fit.
    * @param {ServingCall} name
    * @param {Uint8Array} file
    * @param {string} lines
@@ -252,7 +254,7 @@ export class Engine {
     const inputSize = instance.copyLines(lines, this.encoder);
     let report = this.tryToServe(name, file, inputSize);
     if (report.requiredSize > 0) {
-      instance.answers = instance.ensureRoom(instance.answers, report.requiredSize);
+      instance.answers = instance.ensureCapacity(instance.answers, report.requiredSize);
       report = this.tryToServe(name, file, inputSize);
     }
     const answers = this.decoder.decode(instance.view(instance.answers, report.count)).split("\n");
@@ -273,7 +275,7 @@ export class Engine {
     instance.copyFile(file);
     const { file: bytes, input, answers, report } = instance;
     const isServed = this.call((calls) => calls[name](bytes.offset, BigInt(file.length), input.offset, BigInt(inputSize),
-      answers.offset, BigInt(answers.room), report.offset));
+      answers.offset, BigInt(answers.capacity), report.offset));
     const { number, count } = instance.readReport();
     if (!isServed && number !== 0) throw new BenchRefusal(number);
     return { number, count, requiredSize: isServed ? 0 : count };

@@ -1,5 +1,6 @@
-// The interface of a host, which runs sessions: given a state and lines, it returns the answers and the next state. There are two hosts:
-// the module (engine.js) and the native program (js/node/native_engine.mjs). js/test/engine_hosts.test.js tests both hosts.
+// The interface of a host, which runs sessions: given a state and lines, it executes the lines and returns the answers and the next state.
+// There are two hosts: the module (engine.js) and the native program (js/node/native_engine.mjs). js/test/engine_hosts.test.js tests both
+// hosts.
 
 /**
  * The state of a session. Only the host that created a state can interpret its bytes. A copy of the bytes is the same state. All states of
@@ -11,13 +12,13 @@
  * @typedef {object} EngineHost
  * @property {number} size the length of a state in bytes
  * @property {(into?: State) => State} begin returns the state of a new session
- * @property {(state: State, lines: string, into: State) => ServedAnswers} serve serves lines on a state, and writes the next state into
+ * @property {(state: State, lines: string, into: State) => ServedAnswers} serve executes lines on a state, and writes the next state into
  *   `into`, which can be the same array
- * @property {(state: State, lines: string) => ServedAnswers} ask returns the answers of `serve`; the state does not change
+ * @property {(state: State, lines: string) => ServedAnswers} ask returns the result that `serve` would return; the state does not change
  * @property {(state: State) => void} keep informs the host that many runs will start from this state, so that it can make them faster
  * @property {(state: State) => Uint8Array} bytesOf returns the bytes of the session file
- * @property {(bytes: Uint8Array) => State} stateOf returns the state in a session file; if the bytes are not a session, the next call that
- *   serves lines on it rejects them
+ * @property {(bytes: Uint8Array) => State} stateOf returns the state in a session file; if the bytes are not a valid session, the next
+ *   `serve` or `ask` with this state rejects them
  * @property {(question: string) => string} [prove] asks the prover, and returns the line that the program mcs4-prove would print; only the
  *   module has it
  */

@@ -49,7 +49,7 @@ export class FileRequests {
   }
 
   /**
-   * Returns source texts for a session file, which itself contains none.
+   * Returns source texts for a session file. The file itself contains no source texts.
    * @param {Uint8Array} file
    */
   texts(file) {
@@ -57,7 +57,7 @@ export class FileRequests {
   }
 
   /**
-   * Loads imported texts into a new session. Returns its file, and the texts that the bench rejected.
+   * Loads imported texts into a new session. Returns the session file, and the texts that the bench rejected.
    * @param {import("./dry_run.js").Texts} texts
    */
   dryRun(texts) {

@@ -3,16 +3,17 @@
 import { readRun } from "../bench/answers.js";
 
 /**
- * A traced instruction: the cycles before it, its address, and the row of traced values after it. In a row, a blank precedes each value.
+ * A traced instruction: the number of cycles before it, its address, and the row of traced values after it. In a row, a blank precedes each
+ * value.
  * @typedef {{ cycles: number, address: number, row: string }} TracedInstruction
  *
- * The counts of an instruction in a run: how often it started (`begun`), and how often it jumped (-1 if it cannot jump).
+ * The counts of an instruction in a run: how often it started (`begun`), and how often it jumped (`jumped`, -1 if it cannot jump).
  * @typedef {{ address: number, begun: number, jumped: number }} InstructionCount
  *
- * A trace: the row before the run, the instruction lines, and the cycles of the run.
+ * A trace of a run: the row of traced values before the run, one line per instruction, and the number of cycles.
  * @typedef {{ row: string, lines: string[], cycles: number }} Trace
  *
- * The result of a run: its cycles, and the reason for its end ("end" if nothing stopped it).
+ * The result of a run: the number of cycles, and the reason for its end ("end" if nothing stopped the run).
  * @typedef {{ cycles: number, end: string }} RunResult
  */
 
@@ -89,7 +90,7 @@ export class ForecastAnswers {
   }
 
   /**
-   * Consumes and parses the next answer to a run. If the bench rejected the run, `end` is the whole answer.
+   * Consumes and parses the next answer to a run. If the bench rejected the run, `end` is the complete answer.
    * @returns {RunResult}
    */
   takeRun() {

@@ -1,4 +1,5 @@
-// Adds queries before each planned run and sends them in the same call. In its answers, the bench forecasts what happens during the run.
+// Adds queries before each planned run, to send them in the same call. In the answers to these queries, the bench forecasts what happens
+// during the run.
 
 import { plannedCycles } from "../debug/goal_search.js";
 import { ForecastAnswers } from "./forecast_answers.js";
@@ -6,7 +7,7 @@ import { ForecastAnswers } from "./forecast_answers.js";
 /**
  * @typedef {import("./accepted_commands.js").AcceptedCommand} AcceptedCommand
  *
- * A line to send. `change` is null for a run; for any other line it is the change that the line makes.
+ * A line to send. `change` is null for a run; for any other line, it describes the change that the line makes, such as a key change.
  * @typedef {{ line: string, change: object | null }} SentLine
  *
  * A source of queries before each run, such as the recorder or the printer. `queries` returns the query lines for a run of `cycles` cycles.
@@ -29,8 +30,8 @@ export function linesWithQueries(plannedLines, querySources) {
 }
 
 /**
- * Separates the answers to planned lines from the answers to queries. `answers` are those to the planned lines and to all lines after them.
- * `sourceAnswers[s][p]` contains the answers to the queries of source `s` for planned line `p`.
+ * Separates the answers to planned lines from the answers to queries. `answers` contains the answers to the planned lines and to all lines
+ * after them. `sourceAnswers[s][p]` contains the answers to the queries of source `s` for planned line `p`.
  * @param {SentLine[]} plannedLines
  * @param {QuerySource[]} querySources
  * @param {string[]} allAnswers

@@ -17,8 +17,9 @@ const MAX_BATCH_CYCLES = 8000000;
 const HIDDEN_REPORT_INTERVAL = 1000;
 
 /**
- * Returns an empty report. `end` is the answer that ended the run early, `stop` the reason why time stopped, and `tally` the breakpoint
- * events. At full speed, the lamps (`litShares`), the buzzer (`heard`) and RAM changes (`warmed`) are not measured.
+ * Returns an empty report. `end` is the answer that ended the run early ("" for none), `stop` is the reason why the machine stopped, and
+ * `tally` contains the breakpoint events. At full speed, the lamps (`litShares`), the buzzer (`heard`) and RAM changes (`warmed`) are not
+ * measured.
  * @returns {Omit<DebugFrame, "ran">}
  */
 function emptyFrame() {
@@ -42,7 +43,7 @@ export class FullSpeed {
   start(isHidden) {
     this.isOn = true;
     this.isHidden = isHidden;
-    this.take();
+    this.takeReport();
   }
 
   stop() {
@@ -53,7 +54,7 @@ export class FullSpeed {
    * Runs one batch, adds its result to the pending report, and adapts the size of the next batch.
    * @param {Machine} machine
    */
-  batch(machine) {
+  runBatch(machine) {
     const start = performance.now();
     const frame = machine.advance(this.batchCycles);
     const time = performance.now() - start;
@@ -86,7 +87,7 @@ export class FullSpeed {
    * Returns the report on all batches since the previous report, and starts a new one.
    * @returns {DebugFrame}
    */
-  take() {
+  takeReport() {
     this.lastReport = performance.now();
     const { pendingReport } = this;
     this.pendingReport = emptyFrame();

@@ -4,7 +4,7 @@
 
 import { CancelledError } from "../bench/bench_errors.js";
 import { hex, indices } from "../bench/numbers.js";
-import { CHARACTERS, STATUS_CHARACTERS_PER_REGISTER } from "../conditions/places.js";
+import { NIBBLES_PER_REGISTER, STATUS_CHARACTERS_PER_REGISTER } from "../conditions/places.js";
 import { reportChanges } from "./past_changes.js";
 import { FIRST_PIECE_CYCLES, SEARCH_PIECE_CYCLES, SEARCH_PIECE_UNITS } from "./piece_size.js";
 import { rowValues } from "./forecast_answers.js";
@@ -20,8 +20,8 @@ import { sumCycles, splitIntoPieces, splitUnits, unitsBetween } from "./replay_u
  * @typedef {import("./replay_units.js").Unit} Unit
  *
  * A RAM nibble that has changed: its name in `poke` commands, and its number of changes. `ago` is the number of cycles since its last
- * change, and `address` is the address of the instruction that made this change. If a command made it, `address` is -1 and `line` is the
- * command.
+ * change, and `address` is the address of the instruction that made this change. If a command made this change, `address` is -1 and `line`
+ * is the command.
  * @typedef {{ place: string, count: number, ago: number, address: number, line: string }} HeatCell
  *
  * The changes in the last `cycles` cycles. This number is smaller than requested if the past is shorter.
@@ -41,8 +41,10 @@ export const GROUPS_PER_CHIP = REGISTERS_PER_CHIP + 1;
  */
 export function nibbleGroups({ banks }) {
   return banks.flatMap(({ bank, chips }) => indices(chips).flatMap((chip) => [
-    ...indices(REGISTERS_PER_CHIP).map((register) => (
-      indices(CHARACTERS).map((at) => `ram.${bank}.0x${hex((chip * REGISTERS_PER_CHIP + register) * CHARACTERS + at, 2)}`))),
+    ...indices(REGISTERS_PER_CHIP).map((register) => {
+      const first = (chip * REGISTERS_PER_CHIP + register) * NIBBLES_PER_REGISTER;
+      return indices(NIBBLES_PER_REGISTER).map((at) => `ram.${bank}.0x${hex(first + at, 2)}`);
+    }),
     indices(REGISTERS_PER_CHIP).flatMap((register) => (
       indices(STATUS_CHARACTERS_PER_REGISTER).map((at) => `st.${bank}.${chip * REGISTERS_PER_CHIP + register}.${at}`))),
   ]));
@@ -67,7 +69,7 @@ export class ChangeCounter {
   /** @param {string[][]} groups */
   constructor(groups) {
     this.groups = groups;
-    /** The number of cycles so far. */
+    /** The number of cycles in which changes were counted so far. */
     this.cycles = 0;
     /** @type {Map<string, HeatCell & { at: number }>} */
     this.cells = new Map();
@@ -88,12 +90,12 @@ export class ChangeCounter {
   }
 
   /**
-   * Replays units on a file, and counts their changes.
+   * Replays units on a session file, and counts the changes of RAM nibbles in them.
    * @param {Engine} engine
    * @param {Uint8Array} file
    * @param {Unit[]} units
    */
-  follow(engine, file, units) {
+  countChanges(engine, file, units) {
     /** @type {Map<Unit, number>} the cycles before each unit */
     const unitStarts = new Map();
     for (const unit of units) {
@@ -110,7 +112,7 @@ export class ChangeCounter {
 }
 
 /**
- * Resolves to the heat map for the last cycles.
+ * Resolves to the heat map for the last `cycles` cycles.
  * @param {Engine} engine
  * @param {Timeline} timeline
  * @param {Board} board
@@ -128,9 +130,9 @@ export async function measureHeat(engine, timeline, board, cycles, shouldContinu
   for (; from.segment <= end.segment; from = { segment: from.segment + 1, entry: 0, cycles: 0 }) {
     const { entries } = timeline.segments[from.segment];
     const to = from.segment === end.segment ? end : { segment: from.segment, entry: entries.length, cycles: 0 };
-    const { file } = await timeline.at(engine, from, shouldContinue);
+    const { file } = await timeline.sessionAt(engine, from, shouldContinue);
     for (const units of splitIntoPieces(splitUnits(unitsBetween(timeline, from, to), maxCycles), maxCycles, SEARCH_PIECE_UNITS)) {
-      counter.follow(engine, file, units);
+      counter.countChanges(engine, file, units);
       if (!(await shouldContinue(sumCycles(units)))) throw new CancelledError();
     }
   }

@@ -1,5 +1,5 @@
-// Reports the RAM nibbles that change while time runs, from the answers to `trace` queries before each run. Watches one chip at a time, so
-// that the work per frame does not grow with the number of chips.
+// Reports the RAM nibbles that change while the machine runs, from the answers to `trace` queries before each run. Watches one RAM chip per
+// frame, so that the work per frame does not grow with the number of chips.
 
 import { ChangeCounter, GROUPS_PER_CHIP, nibbleGroups } from "./heat_map.js";
 import { ForecastAnswers, parseTraceLine } from "./forecast_answers.js";
@@ -8,7 +8,7 @@ import { ForecastAnswers, parseTraceLine } from "./forecast_answers.js";
  * @typedef {import("../bench/answers.js").Board} Board
  * @typedef {import("./heat_map.js").Heat} Heat
  *
- * The changes in one RAM chip. `chips` is the number of RAM chips on the board.
+ * The changes in one RAM chip. `chips` is the number of all RAM chips on the board.
  * @typedef {Heat & { chips: number }} ChipHeat
  */
 
@@ -47,8 +47,8 @@ export class HeatMeter {
   }
 
   /**
-   * Returns the changes in the watched chip, from the answers to the queries before the runs. Then watches the next chip.
-   * @param {string[][]} answerLists one list of answers for each planned line
+   * Returns the changes in the watched chip, from the answers to the queries before the runs. Then switches to the next chip.
+   * @param {string[][]} answerLists one list of answers for each planned line; empty for a line that is not a run
    * @returns {ChipHeat}
    */
   take(answerLists) {

@@ -1,5 +1,5 @@
-// Records the signal lines of a board while time runs. The recorder adds queries before each run, and the bench forecasts the run. The
-// recorder stops time only at the end of a triggered recording. The page fetches the recording in parts.
+// Records the signal lines of a board while the machine runs. The recorder adds queries before each run, and the bench forecasts the run.
+// The recorder can stop the machine only at the end of a triggered recording. The page receives the recording in parts.
 
 import { readBoard, readRun } from "../bench/answers.js";
 import { ADDRESS_COUNT } from "../bench/rom_bytes.js";
@@ -19,7 +19,7 @@ import { RECORDING_PIECE_CYCLES, RECORDING_PIECE_UNITS } from "./piece_size.js";
  * @typedef {import("./wave_recorder.js").Texts} Texts
  * @typedef {import("../waves/trigger.js").Trigger} Trigger
  *
- * Settings: the number of cycles to record after the trigger (`behind`), and whether time stops at the end of the recording.
+ * Settings: the number of cycles to record after the trigger (`behind`), and whether the machine stops at the end of the recording.
  * @typedef {{ behind: number, stopsTime: boolean }} LiveSetup
  *
  * A part of a recording. `triggerMoment`: the moment of the trigger, -1 before the trigger. `over`: the reason why the recording ended, or
@@ -51,8 +51,8 @@ export class LiveRecorder {
     this.over = "";
     /** True if the trigger condition was true at the last check. At first true, because only a change to true triggers. */
     this.wasTrue = true;
-    /** True if time must stop because the recording is complete. */
-    this.stops = false;
+    /** True if the machine must stop because the recording is complete. */
+    this.mustStopMachine = false;
     /** 1 for each address whose listing line was already sent to the page. */
     this.listedAddresses = new Uint8Array(ADDRESS_COUNT);
     /** The places in the trigger condition, for `trace`; "" if there are none, and after the trigger. */
@@ -108,7 +108,7 @@ export class LiveRecorder {
     if (this.isOn) this.over = reason;
   }
 
-  // --- While time runs ---
+  // --- While the machine runs ---
 
   /**
    * Returns the queries before a run.
@@ -129,8 +129,8 @@ export class LiveRecorder {
   }
 
   /**
-   * Records the effect of planned lines. Returns the number of cycles after which time must stop, counted from the first line; -1 if time
-   * continues.
+   * Records the effect of planned lines. Returns the number of cycles, counted from the first line, after which the machine must stop; -1
+   * if the machine continues.
    * @param {SentLine[]} plannedLines
    * @param {string[][]} tracedAnswers the answers to the queries before each line
    * @param {string[]} answers the answers to the lines, followed by the answer to `state`
@@ -199,7 +199,8 @@ export class LiveRecorder {
   }
 
   /**
-   * Sets the trigger moment to the next start of an instruction at an address. An instruction at the start of the recording does not count.
+   * Sets the trigger moment to the next start of an instruction at an address. The instruction at which the recording starts does not
+   * count.
    * @param {number} address
    * @param {number} earlierCount the number of earlier instructions
    */
@@ -211,8 +212,8 @@ export class LiveRecorder {
   }
 
   /**
-   * Ends the recording if it is complete. Returns the number of cycles after `startMoment` at which time must stop, or -1 if time
-   * continues. Time stops at the next instruction.
+   * Ends the recording if it is complete. Returns the number of cycles after `startMoment` at which the machine must stop, which is the
+   * start of the next instruction. Returns -1 if the machine continues.
    * @param {number} startMoment
    * @param {number} earlierCount the number of instructions before `startMoment`
    */
@@ -223,19 +224,19 @@ export class LiveRecorder {
     if (builder.elapsed < end) return -1;
     this.stop("trigger");
     if (!options.stopsTime) return -1;
-    this.stops = true;
+    this.mustStopMachine = true;
     const next = builder.moments.all.subarray(earlierCount).find((moment) => moment >= end);
     return (next === undefined ? builder.elapsed : next) - startMoment;
   }
 
-  // --- While time is paused ---
+  // --- While the machine is paused ---
 
   /**
-   * Records the effect of lines that were served while time was paused, by serving them again on a copy of the session.
-   * @param {Uint8Array} file the session file before the lines; changed
+   * Records the effect of lines that were executed while the machine was paused, by executing them again on a copy of the session.
+   * @param {Uint8Array} file a copy of the session file before the lines; changed
    * @param {AcceptedCommand[]} commands
    */
-  follow(file, commands) {
+  recordCommands(file, commands) {
     const { engine } = this;
     if (commands.some(({ line }) => /^\s*wire/.test(line))) this.stop("board");
     else if (commands.some(({ line }) => /^\s*(asm|poke\s+rom)/.test(line))) this.stop("program");
@@ -247,7 +248,7 @@ export class LiveRecorder {
       const served = engine.serve(file, `${linesWithQueries(plannedLines, [this])}state\n`, file);
       const { sourceAnswers: [tracedAnswers], answers } = splitAnswers(plannedLines, [this], served.answers);
       this.take(plannedLines, tracedAnswers, answers);
-      this.stops = false;
+      this.mustStopMachine = false;
     }
   }
 }

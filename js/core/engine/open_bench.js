@@ -21,11 +21,11 @@ import { findDifference, readProgram } from "./program_check.js";
  * @typedef {import("../debug/debugger.js").Debugger} Debugger
  * @typedef {import("./engine.js").Engine} Engine
  *
- * The texts that give names to the lines of a recording. `values` are the names of registers and RAM nibbles to record in addition to the
- * board lines. `watched` are the watch expressions.
+ * The texts that define names for a recording. `values` are the names of registers and RAM nibbles to record in addition to the signal
+ * lines of the board. `watched` are the watch expressions.
  * @typedef {{ board: string, program: string, values?: string[], watched?: string[] }} WaveTexts
  *
- * A callback during a long task. It receives the progress, and resolves to true if the task must continue.
+ * A callback during a long task. It receives the amount of work done and the total amount, and resolves to true to continue the task.
  * @typedef {(done: number, total: number) => Promise<boolean>} ShouldContinue
  */
 
@@ -90,7 +90,7 @@ export class OpenBench {
   }
 
   /**
-   * Serves lines, either all or none.
+   * Executes lines in the session, either all or none.
    * @param {string} lines
    * @returns {Promise<LinesReply>}
    */
@@ -99,7 +99,7 @@ export class OpenBench {
   }
 
   /**
-   * Calls a function that serves lines. Resolves to the result of these lines, together with the new state for the page.
+   * Calls a function that executes lines. Resolves to the result of these lines, together with the new state for the page.
    * @param {() => Promise<import("./worker_session.js").ResultAndSnapshot>} serve
    * @returns {Promise<LinesReply>}
    */
@@ -113,7 +113,7 @@ export class OpenBench {
   }
 
   /**
-   * Returns the state for the page without serving lines.
+   * Returns the reply to a request that executed no lines, with the current state for the page.
    * @returns {LinesReply}
    */
   replyWithoutServing() {
@@ -148,7 +148,7 @@ export class OpenBench {
   }
 
   /**
-   * Returns the names and labels for the lines of a recording.
+   * Returns the texts for a recording, with the program checked against ROM.
    * @param {WaveTexts} texts
    */
   recordingTexts({ board, program, values = [] }) {
@@ -156,16 +156,16 @@ export class OpenBench {
   }
 
   /**
-   * Returns the full-speed report since the previous report.
+   * Returns the report on the full-speed batches since the previous report.
    * @returns {Frame}
    */
   takeUnreported() {
-    const { tally, ...result } = this.fullSpeed.take();
+    const { tally, ...result } = this.fullSpeed.takeReport();
     const lateTally = { ...NO_TALLY, usual: this.debugger.takeLateMistakes() };
     return { ...result, tally: joinTallies(lateTally, tally), ...this.snapshotReport(this.session.takeSnapshot(), false) };
   }
 
-  /** Runs the debugger's checks of the last lines, which were postponed until after the report to the page. */
+  /** Runs the debugger's checks of the lines that were executed last. The debugger postpones these checks until the page has its report. */
   checkLastLines() {
     if (this.currentDebugger) this.currentDebugger.checkLastLines();
   }
@@ -176,9 +176,9 @@ export class OpenBench {
    * @returns {Frame | null}
    */
   batch() {
-    this.fullSpeed.batch(this.debugger);
+    this.fullSpeed.runBatch(this.debugger);
     if (!this.fullSpeed.isReportDue(this.spareBuffers.length > 0)) return null;
-    const { snapshot, ...result } = this.fullSpeed.take();
-    return { ...result, ...this.session.measureAhead(), ...this.snapshotReport(snapshot, false) };
+    const { snapshot, ...result } = this.fullSpeed.takeReport();
+    return { ...result, ...this.session.forecastMeters(), ...this.snapshotReport(snapshot, false) };
   }
 }

@@ -1,4 +1,5 @@
-// Requests that start or end the reports on lamps, RAM, the buzzer and the printer. While time runs, each frame contains these reports.
+// Requests that start or end the reports on lamps, RAM, the buzzer and the printer. While the machine runs, each frame that the worker
+// sends to the page contains these reports.
 
 import { readBoard } from "../bench/answers.js";
 import { Face } from "../board/face.js";
@@ -18,9 +19,9 @@ export class OutputRequests {
   }
 
   /**
-   * Starts reports on lamp brightness while time runs, if the board has lamps.
+   * Starts reports on lamp brightness while the machine runs, if the board has lamps.
    * @param {string} boardText the board text with the front panel
-   * @param {number} number the page's number of the front panel; repeated in the reports
+   * @param {number} number the number by which the page identifies the front panel; the reports repeat this number
    */
   watchLamps(boardText, number) {
     if (!this.bench.currentDebugger) return;
@@ -29,7 +30,7 @@ export class OutputRequests {
   }
 
   /**
-   * Starts or ends reports on RAM nibbles that change while time runs, if the board has RAM.
+   * Starts or ends reports on RAM nibbles that change while the machine runs. A board without RAM has no such reports.
    * @param {boolean} isOn
    */
   watchRam(isOn) {
@@ -39,7 +40,7 @@ export class OutputRequests {
   }
 
   /**
-   * Starts reports on the edges of a signal line while time runs.
+   * Starts reports on the edges of a signal line while the machine runs.
    * @param {string} line the signal line; "" ends the reports
    */
   listenTo(line) {
@@ -47,8 +48,8 @@ export class OutputRequests {
   }
 
   /**
-   * Starts reports on the codes that are sent to a printer. If it is not the current printer, starts a new printout.
-   * @param {{ strobe: string, port: string } | null} printer null ends the reports
+   * Starts reports on the codes that the program sends to a printer. If this printer is not the current one, starts a new printout.
+   * @param {{ strobe: string, port: string } | null} printer the strobe line and the code port of the printer; null ends the reports
    */
   printOn(printer) {
     if (!this.bench.currentDebugger) return;

@@ -9,8 +9,8 @@ import { ForecastAnswers, parseTraceLine } from "./forecast_answers.js";
  * @typedef {import("./replay_units.js").Unit} Unit
  *
  * A change in a group of values: the trace rows before and after the change, the unit with the change, and the number of cycles from the
- * start of the unit to the change. `address` is the address of the instruction that made the change; it is -1 if the command `line` made
- * it.
+ * start of the unit to the change. `address` is the address of the instruction that made the change, or -1 if the command `line` made the
+ * change.
  * @typedef {{ group: number, before: string, after: string, unit: Unit, cycles: number, address: number, line: string }} PastChange
  */
 
@@ -24,9 +24,9 @@ import { ForecastAnswers, parseTraceLine } from "./forecast_answers.js";
  */
 function traceUnits(engine, file, units, groups) {
   /** @type {(cycles: number) => string} */
-  const ask = (cycles) => groups.map((places) => `trace ${cycles} ${places.join(" ")}\n`).join("");
-  const lines = units.map(({ line, cycles }) => `${ask(Math.max(1, cycles))}${line}\n`).join("");
-  const answers = new ForecastAnswers(engine.serve(file, lines + ask(1), file).answers);
+  const traceQueries = (cycles) => groups.map((places) => `trace ${cycles} ${places.join(" ")}\n`).join("");
+  const lines = units.map(({ line, cycles }) => `${traceQueries(Math.max(1, cycles))}${line}\n`).join("");
+  const answers = new ForecastAnswers(engine.serve(file, lines + traceQueries(1), file).answers);
   return [...units, null].map((unit) => {
     const traces = groups.map(() => answers.takeTrace());
     if (unit) answers.take();
@@ -35,7 +35,7 @@ function traceUnits(engine, file, units, groups) {
 }
 
 /**
- * Replays units of the past on a file, and reports each change of the watched values.
+ * Replays units of the past on a session file, and reports each change of the watched values.
  * @param {Engine} engine
  * @param {Uint8Array} file
  * @param {Unit[]} units
@@ -47,7 +47,7 @@ export function reportChanges(engine, file, units, groups, report) {
   const traces = traceUnits(engine, file, units, groups);
   groups.forEach((_, group) => {
     let previousRow = traces[0][group].row;
-    /** @type {(after: string, where: Omit<PastChange, "group" | "before" | "after">) => void} */
+    /** @type {(after: string, details: Omit<PastChange, "group" | "before" | "after">) => void} */
     const reportIfChanged = (after, details) => {
       if (after !== previousRow) report({ group, before: previousRow, after, ...details });
       previousRow = after;

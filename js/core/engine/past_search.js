@@ -1,5 +1,5 @@
-// Finds the target of a move back: the last stop, the start of the last instruction, or the moment before the last change of a place. (For
-// the last arrival at a breakpoint, see last_arrival.js.)
+// Finds the target of a move back: the last stop, the start of the last instruction, the moment before the last change of a place, or the
+// moment before a condition became true. (For the last arrival at a breakpoint, see last_arrival.js.)
 
 import { readBoard, readCounter } from "../bench/answers.js";
 import { CancelledError } from "../bench/bench_errors.js";
@@ -18,24 +18,25 @@ import { sumCycles, splitIntoPieces, unitsBetween } from "./replay_units.js";
  * @typedef {import("./timeline.js").Timeline} Timeline
  * @typedef {import("./replay_units.js").Unit} Unit
  *
- * The target of a move back. "stop": the last moment at which time was paused. "instruction": the start of the last instruction. "change":
- * the moment before the last change of `place`. "arrival": the last breakpoint, or the moment before a change of a watched value or of
- * `place` ("" for none). "when": the moment before a condition became true; `searchCondition` is the compiled condition. "call": the call
- * of a subroutine that has not returned, given by the address of its JMS and the return addresses before the call.
+ * The target of a move back. "stop": the last moment at which the machine was paused. "instruction": the start of the last instruction.
+ * "change": the moment before the last change of `place`. "arrival": the last breakpoint, or the moment before a change of a watched value
+ * or of `place` ("" for none). "when": the moment before a condition became true; `searchCondition` is the compiled condition. "call": the
+ * call of a subroutine that has not returned, given by the address of its JMS and the return addresses before the call.
  * @typedef {{ kind: "stop" } | { kind: "instruction" } | { kind: "change", place: string } | { kind: "arrival", place: string }
  *   | { kind: "when", condition: string, searchCondition?: import("../debug/condition_search.js").SearchCondition }
  *   | { kind: "call", call: number, returns: string[] }} BackGoal
  *
  * The result of a search of the past. If nothing was found, `moment` is null and `why` is the reason: the past is too short ("short"), or
- * the board does not have the place ("lacks"). For a change, the result has its place, the old value (`from`), the new value (`to`), and
- * the command that made it ("" for an instruction). For an arrival, `end` is its kind: a breakpoint (with its `id`), a change, or the start
- * of the stored past. `present` is the session at that moment, if known.
+ * the board does not have the place ("lacks"). For a change, the result has the changed place, the old value (`from`), the new value
+ * (`to`), and the command that made the change (`line`, "" for an instruction). For an arrival, `end` is its kind: a breakpoint (with its
+ * `id`), a change, or the start of the stored past. `present` is the session at `moment`, null if not known.
  * @typedef {{ moment: Moment | null, why: "" | "short" | "lacks", place: string, from: string, to: string, line: string, end: "" | "break"
- * | "change" | "beginning", id: number, present: import("./timeline.js").Present | null }} BackSearchResult
+ * | "change" | "beginning", id: number, present: import("./timeline.js").SessionAtMoment | null }} BackSearchResult
  *
- * An object that searches a part of the past. `begin` sets the session at the start of the next units. `among` replays consecutive units
- * from there, and returns the last match in them.
- * @typedef {{ begin: (present: import("./timeline.js").Present) => void, among: (units: Unit[]) => BackSearchResult | null }} Finder
+ * An object that searches a part of the past. `begin` sets the session from which to replay. `among` replays consecutive units from that
+ * session, and returns the last match in these units.
+ * @typedef {{ begin: (present: import("./timeline.js").SessionAtMoment) => void,
+ *   findLastIn: (units: Unit[]) => BackSearchResult | null }} Finder
  */
 
 /**
@@ -59,8 +60,8 @@ export function searchResult(fields) {
 }
 
 /**
- * Resolves to the start of the last instruction. It is one cycle ago, or two cycles ago if the last cycle was the second cycle of an
- * instruction.
+ * Resolves to the start of the last instruction. This instruction started one cycle ago, or two cycles ago if the last cycle was its second
+ * cycle.
  * @param {Engine} engine
  * @param {Timeline} timeline
  * @param {ShouldContinue} shouldContinue
@@ -69,7 +70,7 @@ async function findLastInstruction(engine, timeline, shouldContinue) {
   for (const cycles of [1, 2]) {
     const moment = timeline.before(cycles);
     if (!moment) break;
-    const present = await timeline.at(engine, moment, shouldContinue);
+    const present = await timeline.sessionAt(engine, moment, shouldContinue);
     if (readCounter(engine.ask(present.file, "regs\n").answers[0]).owed === "0") return searchResult({ moment, present });
   }
   return searchResult({ why: "short" });
@@ -89,13 +90,13 @@ export class LastChangeFinder {
     this.file = new Uint8Array(0);
   }
 
-  /** @param {import("./timeline.js").Present} present */
+  /** @param {import("./timeline.js").SessionAtMoment} present */
   begin({ file }) {
     this.file = file;
   }
 
   /** @param {Unit[]} units */
-  among(units) {
+  findLastIn(units) {
     const { engine, file, probes } = this;
     /** @type {BackSearchResult | null} */
     let match = null;
@@ -108,7 +109,7 @@ export class LastChangeFinder {
   }
 
   /**
-   * Returns the fields that describe a change; null if the change does not match.
+   * Returns the result fields that describe a change; null if the change is not one that this finder looks for.
    * @param {string} rowBefore the trace row before the change
    * @param {string} rowAfter
    * @returns {Partial<BackSearchResult> | null}
@@ -160,11 +161,11 @@ export async function searchPast(engine, timeline, finder, shouldContinue) {
     }
     const wanted = timeline.before(size, to);
     const from = wanted && wanted.segment === to.segment ? wanted : { segment: to.segment, entry: 0, cycles: 0 };
-    finder.begin(await timeline.at(engine, from, shouldContinue));
+    finder.begin(await timeline.sessionAt(engine, from, shouldContinue));
     /** @type {BackSearchResult | null} */
     let match = null;
     for (const units of splitIntoPieces(unitsBetween(timeline, from, to), SEARCH_PIECE_CYCLES, SEARCH_PIECE_UNITS)) {
-      match = finder.among(units) || match;
+      match = finder.findLastIn(units) || match;
       if (!(await shouldContinue(sumCycles(units)))) throw new CancelledError();
     }
     if (match) return { found: match, beginning: from };

@@ -1,9 +1,9 @@
-// Forecasts how a board is perceived in the next 30 ms if the keys do not change: the brightness of its lamps, and the text of its
+// Forecasts what a person sees on a board in the next 30 ms if the keys do not change: the brightness of its lamps, and the text on its
 // displays.
 
 import { Brightness } from "../board/brightness.js";
 import { DisplayText } from "../board/display_text.js";
-import { isScanned } from "../board/face_board.js";
+import { isMultiplexed } from "../board/face_board.js";
 import { EYE_CYCLES } from "../time/mcs4_time.js";
 import { BrightnessMeter } from "./brightness_meter.js";
 
@@ -15,15 +15,15 @@ import { BrightnessMeter } from "./brightness_meter.js";
 export const LAMPS_FORECAST_QUERY = `trace ${EYE_CYCLES} lamps\n`;
 
 /**
- * Returns whether a front panel has a multiplexed display. Such a display never shows the whole number at one instant.
+ * Returns whether a front panel has a multiplexed display. The digits of such a display are never all lit at the same instant.
  * @param {Face} face
  */
 export function hasScannedDisplay(face) {
-  return face.groups.some((group) => group.kind === "display" && isScanned(group));
+  return face.groups.some((group) => group.kind === "display" && isMultiplexed(group));
 }
 
 /**
- * Returns the brightness of the lamps during the 30 ms that the query forecasts. Earlier light does not count.
+ * Returns the brightness of the lamps during the 30 ms that LAMPS_FORECAST_QUERY forecasts. Light from before this period does not count.
  * @param {Face} face
  * @param {number} count the number of lamps on the board
  * @param {string[]} answers the answer to LAMPS_FORECAST_QUERY
@@ -59,6 +59,6 @@ export class PerceivedText {
    * @param {Brightness} brightness
    */
   readBrightness(brightness) {
-    return this.text.words(brightness.patterns, (lamp) => brightness.isOn[lamp]);
+    return this.text.readPerceived(brightness.patterns, (lamp) => brightness.isOn[lamp]);
   }
 }

@@ -6,7 +6,7 @@ const PIECE_MILLISECONDS = 40;
 export const FIRST_PIECE_CYCLES = 1000;
 /** The maximum number of cycles in a piece of a search. */
 export const SEARCH_PIECE_CYCLES = 400000;
-/** The maximum number of units in a piece of a search. */
+/** The maximum number of units (see replay_units.js) in a piece of a search. */
 export const SEARCH_PIECE_UNITS = 500;
 /** The maximum number of cycles in a piece of a recording. */
 export const RECORDING_PIECE_CYCLES = 50000;
@@ -28,12 +28,12 @@ export class PieceSize {
   /**
    * Runs a piece, and computes the size of the next piece from the duration of this one.
    * @template Result
-   * @param {() => Result} act
+   * @param {() => Result} runPiece
    * @returns {Result}
    */
-  measure(act) {
+  measure(runPiece) {
     const start = performance.now();
-    const result = act();
+    const result = runPiece();
     const wanted = this.size * Math.min(4, Math.max(0.25, PIECE_MILLISECONDS / Math.max(1, performance.now() - start)));
     this.size = Math.round(Math.min(this.max, Math.max(this.min, wanted)));
     return result;

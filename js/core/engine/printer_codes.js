@@ -1,5 +1,6 @@
-// Collects the codes that a program sends to the printer. Reads them from the answers to a `trace` before each run. Each code is stored
-// with its cycle. Therefore the printout depends only on the session, and a move back in time removes the later codes.
+// Collects the codes that a program sends to the printer. Reads them from the answers to a `trace` query before each run. Each code is
+// stored with the cycle count at which it was sent. Therefore the printout depends only on the session, and a move back in time removes the
+// later codes.
 
 import { linesWithQueries, splitAnswers, replayLine } from "./forecast_queries.js";
 import { RECORDING_PIECE_CYCLES, RECORDING_PIECE_UNITS } from "./piece_size.js";
@@ -9,7 +10,8 @@ import { ForecastAnswers, parseTraceLine, rowValues } from "./forecast_answers.j
  * @typedef {import("./accepted_commands.js").AcceptedCommand} AcceptedCommand
  * @typedef {import("./engine_host.js").EngineHost} Engine
  *
- * The strobe line and code port of a printer, and the received codes as pairs of the cycle count and the code.
+ * The strobe line and the code port of a printer, and the received codes. Each code is a pair: the cycle count at which it was sent, and
+ * the code.
  * @typedef {{ strobe: string, port: string, codes: [number, number][] }} PrintoutData
  */
 
@@ -22,7 +24,7 @@ export class PrinterCodes {
     this.strobe = strobe;
     this.port = port;
     this.codes = [...codes];
-    /** Identifies the last report: the number of codes, and the cycle count of the last code. */
+    /** The number of codes and the cycle count of the last code in the last report, as text. */
     this.lastReportKey = "";
   }
 
@@ -47,9 +49,9 @@ export class PrinterCodes {
    */
   takeChanges(total) {
     const count = this.countAt(total);
-    const news = `${count} ${count > 0 ? this.codes[count - 1][0] : ""}`;
-    if (news === this.lastReportKey) return null;
-    this.lastReportKey = news;
+    const reportKey = `${count} ${count > 0 ? this.codes[count - 1][0] : ""}`;
+    if (reportKey === this.lastReportKey) return null;
+    this.lastReportKey = reportKey;
     return { strobe: this.strobe, port: this.port, codes: this.codes.slice(0, count) };
   }
 
@@ -85,7 +87,7 @@ export class PrinterCodes {
 
   /**
    * Reads the codes from the answers to the queries before the runs. An instruction takes effect after its first cycle.
-   * @param {string[][]} answerLists one list of answers for each planned line
+   * @param {string[][]} answerLists one list of answers for each planned line; empty for a line that is not a run
    * @param {number} total the cycle count before the first line
    */
   take(answerLists, total) {
@@ -107,13 +109,13 @@ export class PrinterCodes {
   }
 
   /**
-   * Reads the codes that already served lines sent to the printer, by serving the lines again on a copy of the session.
+   * Collects the codes that executed lines sent to the printer, by executing these lines again on a copy of the session.
    * @param {Engine} engine
-   * @param {Uint8Array} file the session file before the lines; changed
+   * @param {Uint8Array} file a copy of the session file before the lines; changed
    * @param {AcceptedCommand[]} commands
    * @param {number} total the cycle count before the lines
    */
-  follow(engine, file, commands, total) {
+  collectCodes(engine, file, commands, total) {
     let cyclesBefore = total;
     for (let at = 0; at < commands.length;) {
       const startIndex = at;

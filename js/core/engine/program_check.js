@@ -23,7 +23,7 @@ export const ALL_ROMS = `wire\n${PAGE_NUMBERS.map((chip) => `[[rom]]\nchip = ${c
 
 /**
  * Returns the reason why a text cannot be sent to the bench, or null if it can be sent. Either the text is too long, or one of its lines is
- * only a dot, which would end the text. The second reason has no error number, so `number` is 0.
+ * only a dot, which would end the text. A line with only a dot has no error number, so `number` is 0.
  * @param {string} text
  * @returns {Refusal | null}
  */
@@ -71,7 +71,7 @@ function filledAddresses(map) {
 export function findLeftovers(engine, file, program) {
   const bytes = parseRomBytes(engine.ask(file, listQueries(PAGE_NUMBERS)).answers);
   const left = indices(ADDRESS_COUNT).filter((address) => program.bytes[address] === NO_BYTE && bytes[address] > 0);
-  return { size: program.bytes.filter((byte) => byte !== NO_BYTE).length, left };
+  return { size: program.bytes.filter((byte) => byte !== NO_BYTE).length, remainingAddresses: left };
 }
 
 /**

@@ -15,7 +15,8 @@ export class ProofRequests {
   }
 
   /**
-   * Starts to prove properties. Returns the errors in the texts, and the number of properties to prove.
+   * Starts to prove the properties in a text and the common mistakes. Returns the errors in the texts, and the number of properties to
+   * decide.
    * @param {import("../explore/sliced_search.js").ExploredTexts} texts
    * @param {number} maxStates the maximum number of states per prover question
    */
@@ -33,10 +34,10 @@ export class ProofRequests {
     return { faults, count: proving ? proving.total : 0 };
   }
 
-  /** Proves the next property. Resolves to the line with its result, or to null if no property is left. */
+  /** Decides the next property. Resolves to the property with its verdict, or to null if no property is left. */
   async proveNext() {
     if (!this.proving) throw new Error("nothing is proved");
-    const judged = await this.proving.next();
+    const judged = await this.proving.judgeNext();
     return judged && createPropertyVerdict(judged);
   }
 }

@@ -33,8 +33,9 @@ export class RecordingRequests {
   }
 
   /**
-   * Starts a recording that continues until `endRecording`. Returns the start of the recording. Each later report to the page contains the
-   * next part as `waves`. If the trigger has an error, nothing is recorded and `fault` is the message.
+   * Starts a recording that continues while the machine runs. It ends at a call of `endRecording`, or earlier for one of the reasons in
+   * LivePart. Returns the start of the recording. Each later report to the page contains the next part as `waves`. If the trigger has an
+   * error, nothing is recorded and `fault` is the error message.
    * @param {WaveTexts} texts
    * @param {{ trigger: string } & LiveSetup} options
    * @returns {{ recorded: Recording | null, fault: string }}

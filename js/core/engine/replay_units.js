@@ -4,7 +4,7 @@
  * @typedef {import("./timeline.js").Moment} Moment
  * @typedef {import("./timeline.js").Timeline} Timeline
  *
- * A unit: a command, its cycles, and the moment at which it starts.
+ * A unit: a command, the number of cycles that it runs, and the moment at which it starts.
  * @typedef {{ line: string, cycles: number, moment: Moment }} Unit
  */
 
@@ -53,7 +53,7 @@ export function sumCycles(units) {
 }
 
 /**
- * Yields units in pieces. A piece ends after at least `maxCycles` cycles or `maxUnits` units.
+ * Yields units in pieces. A piece ends when it runs at least `maxCycles` cycles or contains `maxUnits` units.
  * @param {Unit[]} units
  * @param {number} maxCycles
  * @param {number} maxUnits

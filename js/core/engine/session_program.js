@@ -13,7 +13,7 @@ import { readProgram } from "./program_check.js";
  *
  * The first difference between ROM and the program: the address, the byte in ROM (`is`), the source line, and the byte that this line
  * assembles to (`makes`).
- * @typedef {{ address: string, is: string, line: number, makes: string }} OtherByte
+ * @typedef {{ address: string, romByte: string, line: number, sourceByte: string }} OtherByte
  *
  * The source text of a session's program, compared with ROM. `faults` are the errors in the text, `other` is the first difference from ROM
  * (null for none), and `map` is the source map.
@@ -30,7 +30,7 @@ import { readProgram } from "./program_check.js";
 function firstDifference(codes, bytes, map) {
   const address = bytes.findIndex((byte, index) => byte >= 0 && byte !== codes[index]);
   if (address < 0) return null;
-  return { address: hex(address, 3), is: hex(codes[address], 2), line: map.lineOf(address), makes: hex(bytes[address], 2) };
+  return { address: hex(address, 3), romByte: hex(codes[address], 2), line: map.lineOf(address), sourceByte: hex(bytes[address], 2) };
 }
 
 /**

@@ -1,4 +1,4 @@
-// Requests that open a session, serve lines and answer queries.
+// Requests that open a session, execute lines in it, or answer queries.
 
 import { BenchRefusal } from "../bench/bench_errors.js";
 import { NO_TALLY, Debugger } from "../debug/debugger.js";
@@ -19,7 +19,7 @@ export class SessionRequests {
   }
 
   /**
-   * Opens a session, which replaces the current one.
+   * Opens a session, which replaces the current one. Returns its state for the page.
    * @param {Uint8Array} file
    * @param {number} [totalCycles] the cycle count
    * @param {number} [resetCycles] the cycle count at the last reset
@@ -30,14 +30,14 @@ export class SessionRequests {
     session.printing = printout && new PrinterCodes(printout);
     const snapshot = session.takeSnapshot();
     this.bench.currentDebugger = new Debugger(session);
-    this.bench.currentDebugger.commonMistakes.stops = new Set(this.bench.stopKinds);
+    this.bench.currentDebugger.commonMistakes.stoppingKinds = new Set(this.bench.stopKinds);
     this.bench.fullSpeed.stop();
     return this.bench.snapshotReport(snapshot, true);
   }
 
   /**
-   * Restores the past that the page has stored for this session. Returns the number of entries used from the last segment, or -1 if the
-   * stored past does not lead to this session.
+   * Restores the past that the page has stored for this session. Returns the number of entries used from the last stored segment, or -1 if
+   * the stored past does not lead to this session.
    * @param {import("./timeline.js").StoredSegment[]} segments
    */
   recall(segments) {
@@ -51,7 +51,7 @@ export class SessionRequests {
   }
 
   /**
-   * Serves lines, either all or none.
+   * Executes lines in the session, either all or none.
    * @param {string} lines
    * @returns {Promise<LinesReply>}
    */
@@ -60,7 +60,7 @@ export class SessionRequests {
   }
 
   /**
-   * Serves lines that the user typed, either all or none. A `run` command in these lines ends at the first breakpoint.
+   * Executes lines that the user typed, either all or none. A `run` command in these lines ends at the first breakpoint.
    * @param {string} lines
    * @returns {Promise<TypedReply>}
    */

@@ -1,5 +1,6 @@
-// Creates source texts for a session file, which stores neither comments nor names. If an example has the same board or program, its texts
-// are used. Otherwise the board text comes from the bench's answers, and the program is disassembled from ROM.
+// Creates source texts for a session file, which stores neither comments nor names. If an example has the same board and the same ROM
+// contents, all its texts are used. If only the board is the same, its board text is used, and the program is disassembled from ROM.
+// Without such an example, the board text comes from the bench's answer to `board`.
 
 import { readListing } from "../bench/answers.js";
 import { exampleLines } from "./examples.js";
@@ -13,7 +14,7 @@ import { MAX_LISTING_LINES, PAGE_NUMBERS, listQueries } from "../bench/rom_bytes
  * @typedef {import("./engine_host.js").EngineHost} Engine
  */
 
-/** The tests and properties of a session whose program is not that of an example: none. */
+/** The empty tests and properties of a session whose program is not that of an example. */
 const NO_TEST_TEXTS = { testText: "", propertiesText: "" };
 /** The queries that list all ROMs. */
 const LIST_ALL_ROMS = listQueries(PAGE_NUMBERS);

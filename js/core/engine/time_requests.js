@@ -1,4 +1,4 @@
-// Requests that run time, press and release keys meanwhile, and start and end full speed.
+// Requests that run the machine, press and release keys while it runs, and start and end full speed.
 
 /**
  * @typedef {import("./open_bench.js").OpenBench} OpenBench
@@ -13,7 +13,7 @@ export class TimeRequests {
   }
 
   /**
-   * Runs the next cycles.
+   * Runs the next `cycles` cycles.
    * @param {number} cycles
    * @param {Key | null} [key] a key to press; earlier key changes are made first
    * @returns {Frame}
@@ -25,7 +25,7 @@ export class TimeRequests {
   }
 
   /**
-   * Presses a key while time runs. Returns the waiting key changes.
+   * Presses a key while the machine runs. Returns the waiting key changes.
    * @param {Key} key
    */
   press(key) {
@@ -34,7 +34,7 @@ export class TimeRequests {
   }
 
   /**
-   * Releases a key while time runs. Returns the waiting key changes.
+   * Releases a key while the machine runs. Returns the waiting key changes.
    * @param {Key} key
    */
   release(key) {
@@ -43,7 +43,7 @@ export class TimeRequests {
   }
 
   /**
-   * Removes the waiting changes of a key. Returns the remaining changes.
+   * Removes the waiting changes of a key. Returns the changes that still wait.
    * @param {Key} key
    */
   forget(key) {

@@ -1,7 +1,7 @@
-// Stores the past of a session, so that the session can move back in time: the session file at some moments, and the accepted commands
-// after each of these moments. To compute a past state, it runs the commands again on a copy of such a file. When the past becomes too
-// long, segments without stops are removed first. The past is stored in the memory of this worker. The page receives the additions
-// (session/stored_history.js), and restores the past after a reload.
+// Stores the past of a session, so that the session can move back in time. The past consists of segments. A segment has the session file at
+// its start and the accepted commands since then. To compute a past state, the timeline runs the commands again on a copy of such a file.
+// When the past becomes too long, segments without a stop (a moment at which the machine was paused) are removed first. The past is stored
+// in the memory of this worker. The page receives the additions (session/stored_history.js), and restores the past after a reload.
 
 import { CancelledError } from "../bench/bench_errors.js";
 import { stripSeq } from "../bench/state_line.js";
@@ -11,30 +11,32 @@ import { CycleCount } from "./accepted_commands.js";
  * @typedef {import("./accepted_commands.js").AcceptedCommand} AcceptedCommand
  * @typedef {import("./engine_host.js").EngineHost} Engine
  *
- * A command. `isStop` is true if time was paused before the command.
+ * A command. `cycles` is the number of cycles that it ran, and `resets` is true if it reset the machine. `isStop` is true if the machine
+ * was paused before the command.
  * @typedef {{ line: string, cycles: number, resets: boolean, isStop: boolean }} Entry
  *
- * A part of the past: the session file and the cycle count at its start, and the commands after that, which run `cycles` cycles. `letters`
- * is the total length of the command lines in characters. `follows` is true if the segment starts where the previous segment ends.
- * @typedef {{ file: Uint8Array, count: CycleCount, entries: Entry[], cycles: number, letters: number, follows: boolean, marks: Mark[] }}
+ * A part of the past: the session file and the cycle count at its start, and the commands since then, which ran `cycles` cycles.
+ * `characters` is the total length of the command lines. `follows` is true if the segment starts where the previous segment ends.
+ * @typedef {{ file: Uint8Array, count: CycleCount, entries: Entry[], cycles: number, characters: number, follows: boolean, marks: Mark[] }}
  * Segment
  *
- * A state that is stored within a segment: the session after the first `entry` entries, which ran `cycles` cycles.
+ * A mark, which is an additional session state within a segment: the state after the first `entry` entries, which ran `cycles` cycles.
  * @typedef {{ entry: number, file: Uint8Array, count: CycleCount, cycles: number }} Mark
  *
  * A moment: after `entry` entries of a segment, and `cycles` cycles into the next entry.
  * @typedef {{ segment: number, entry: number, cycles: number }} Moment
  *
  * A session at a moment: its file and its cycle count.
- * @typedef {{ file: Uint8Array, count: CycleCount }} Present
+ * @typedef {{ file: Uint8Array, count: CycleCount }} SessionAtMoment
  *
- * The entries since the last report to the page. If `isNewPast` is true, they replace the past that was reported before.
- * @typedef {{ isNewPast: boolean, entries: Entry[] }} News
+ * The entries since the last report to the page. If `isNewPast` is true, they replace all entries that were reported before.
+ * @typedef {{ isNewPast: boolean, entries: Entry[] }} PastChanges
  *
- * A segment that the page restores: the file and the cycle counts at its start, and its entries.
+ * A segment as the page stores it: the session file and the cycle counts (`total`, and `reset` for the last reset) at its start, and its
+ * entries.
  * @typedef {{ file: Uint8Array, total: number, reset: number, entries: Entry[] }} StoredSegment
  *
- * A callback that receives the number of cycles searched, and resolves to true to continue.
+ * A callback that receives the number of cycles searched since its last call, and resolves to true to continue.
  * @typedef {(done?: number) => Promise<boolean>} ShouldContinue
  */
 
@@ -45,11 +47,11 @@ const MAX_SEGMENT_CHARACTERS = 200000;
 /** The maximum number of segments. Each segment contains a file of 164 KB. */
 const MAX_SEGMENTS = 48;
 /**
- * The minimum distance between two marks in a segment, in cycles. Only the last two segments have marks. A short move back then replays few
- * cycles.
+ * The minimum distance between two marks in a segment, in cycles. Marks make short moves back fast, because few cycles are replayed. Only
+ * the last two segments have marks.
  */
 const MARK_INTERVAL = 250000;
-/** The maximum number of moves back that moves forward can undo. */
+/** The maximum number of moves back that can be undone. */
 export const MAX_FORWARD_MOVES = 64;
 /** The maximum length of a replayed command, in characters. After a longer command, a new segment starts. */
 const MAX_LINE_LENGTH = 20000;
@@ -63,15 +65,18 @@ const MAX_PIECE_CYCLES = 1000000;
 const MAX_PIECE_LINES = 500;
 
 export class Timeline {
-  /** @param {Present} present */
+  /** @param {SessionAtMoment} present */
   constructor(present) {
     /** @type {Segment[]} */
     this.segments = [segmentAt(present, false)];
-    /** True if time is paused; the next entry then starts at a stop. */
+    /** True if the machine is paused; the next entry then starts at a stop. */
     this.isStopped = true;
-    /** @type {({ segments: Segment[] } & Present)[]} the targets of moves forward; the next move forward goes to the last of them */
+    /**
+     * @type {({ segments: Segment[] } & SessionAtMoment)[]} the sessions to which moves forward return; the next move forward returns to
+     *   the last one
+     */
     this.future = [];
-    /** @type {News} */
+    /** @type {PastChanges} */
     this.news = { isNewPast: true, entries: [] };
   }
 
@@ -83,8 +88,9 @@ export class Timeline {
   }
 
   /**
-   * Restores the past before the first segment, as stored by the page. If the stored past is newer than the session, its later entries are
-   * dropped. Returns the number of entries used from the last segment, or -1 if this past does not lead to the first segment.
+   * Restores the past before the first segment, as stored by the page. If the stored past is newer than the session, drops its later
+   * entries. Returns the number of entries used from the last stored segment, or -1 if the stored past does not lead to the start of the
+   * first segment.
    * @param {Engine} engine
    * @param {StoredSegment[]} stored consecutive segments
    */
@@ -109,13 +115,13 @@ export class Timeline {
   /**
    * Puts stored segments before the first segment. Returns `count`.
    * @param {StoredSegment[]} stored
-   * @param {number} count the number of entries to use from the last segment
+   * @param {number} count the number of entries to use from the last stored segment
    */
   prepend(stored, count) {
     const [first, ...more] = this.segments;
-    const before = stored.map((each, at) => restoreSegment(
+    const momentBefore = stored.map((each, at) => restoreSegment(
       at === stored.length - 1 ? { ...each, entries: each.entries.slice(0, count) } : each, at));
-    this.segments = [...before, { ...first, follows: true }, ...more];
+    this.segments = [...momentBefore, { ...first, follows: true }, ...more];
     return count;
   }
 
@@ -128,7 +134,7 @@ export class Timeline {
     return this.segments.reduce((sum, { cycles }) => sum + cycles, 0);
   }
 
-  /** Notes that time is paused, so that the next entry starts at a stop. */
+  /** Records that the machine is paused, so that the next entry starts at a stop. */
   stop() {
     this.isStopped = true;
   }
@@ -136,7 +142,7 @@ export class Timeline {
   /**
    * Appends commands to the past. A stored entry never changes.
    * @param {AcceptedCommand[]} commands
-   * @param {Present} present the session after the commands
+   * @param {SessionAtMoment} present the session after the commands
    */
   record(commands, present) {
     if (commands.length === 0) return;
@@ -150,13 +156,13 @@ export class Timeline {
         last.entries.push(entry);
         this.news.entries.push(entry);
         last.cycles += cycles;
-        last.letters += line.length;
+        last.characters += line.length;
         this.isStopped = false;
       }
     }
-    this.mark(present);
-    const { cycles: segmentCycles, entries, letters } = last;
-    const isFull = segmentCycles >= MAX_SEGMENT_CYCLES || entries.length >= MAX_SEGMENT_ENTRIES || letters >= MAX_SEGMENT_CHARACTERS;
+    this.addMarkIfDue(present);
+    const { cycles: segmentCycles, entries, characters } = last;
+    const isFull = segmentCycles >= MAX_SEGMENT_CYCLES || entries.length >= MAX_SEGMENT_ENTRIES || characters >= MAX_SEGMENT_CHARACTERS;
     if (isTooLong || isFull) {
       this.segments.push(segmentAt(present, !isTooLong));
       if (this.segments.length > 2) this.segments[this.segments.length - 3].marks = [];
@@ -165,10 +171,10 @@ export class Timeline {
   }
 
   /**
-   * Stores a mark if at least MARK_INTERVAL cycles have run since the previous mark.
-   * @param {Present} present
+   * Stores the present state as a mark if at least MARK_INTERVAL cycles have run since the previous mark.
+   * @param {SessionAtMoment} present
    */
-  mark({ file, count }) {
+  addMarkIfDue({ file, count }) {
     const { entries, cycles, marks } = this.last;
     const before = marks.length > 0 ? marks[marks.length - 1].cycles : 0;
     if (cycles - before >= MARK_INTERVAL) marks.push({ entry: entries.length, file: file.slice(), count: count.copy(), cycles });
@@ -202,8 +208,8 @@ export class Timeline {
   }
 
   /**
-   * Returns the moment `cycles` cycles before another moment; null if the past is too short. If commands without cycles were entered at
-   * that time, the moment is after them.
+   * Returns the moment that is `cycles` cycles before another moment; null if the past is too short. If commands that run no cycles were
+   * entered at that time, the moment is after these commands.
    * @param {number} cycles 1 or more
    * @param {Moment} [from]
    * @returns {Moment | null}
@@ -230,9 +236,9 @@ export class Timeline {
    * @param {Engine} engine
    * @param {Moment} moment
    * @param {ShouldContinue} shouldContinue
-   * @returns {Promise<Present>}
+   * @returns {Promise<SessionAtMoment>}
    */
-  async at(engine, moment, shouldContinue) {
+  async sessionAt(engine, moment, shouldContinue) {
     const { file, count, entries, marks } = this.segments[moment.segment];
     const mark = [...marks].reverse().find(({ entry }) => entry <= moment.entry) || { entry: 0, file, count };
     const replayed = [...entries.slice(mark.entry, moment.entry), ...firstCycles(entries[moment.entry], moment.cycles)];
@@ -248,9 +254,9 @@ export class Timeline {
   }
 
   /**
-   * Makes a moment the present. A move forward returns to the former present.
+   * Makes a past moment the present. `goForward` returns to the former present.
    * @param {Moment} moment
-   * @param {Present} present the session at that moment
+   * @param {SessionAtMoment} present the session at that moment
    */
   goBack(moment, present) {
     const { segments } = this;
@@ -266,8 +272,8 @@ export class Timeline {
   }
 
   /**
-   * Returns to the moment before the last move back. Returns null if there was no move back.
-   * @returns {Present | null}
+   * Undoes the last move back. Returns the session before that move, or null if there is no move back to undo.
+   * @returns {SessionAtMoment | null}
    */
   goForward() {
     const target = this.future.pop();
@@ -280,14 +286,14 @@ export class Timeline {
 }
 
 /**
- * Converts a segment that the page stored.
+ * Converts a segment from the form in which the page stores it.
  * @param {StoredSegment} stored
  * @param {number} index the index of the segment
  * @returns {Segment}
  */
 function restoreSegment({ file, total, reset, entries }, index) {
-  const [cycles, letters] = [entries.map((entry) => entry.cycles), entries.map(({ line }) => line.length)].map(addUp);
-  return { ...segmentAt({ file, count: new CycleCount(total, reset) }, index > 0), entries, cycles, letters };
+  const [cycles, characters] = [entries.map((entry) => entry.cycles), entries.map(({ line }) => line.length)].map(addUp);
+  return { ...segmentAt({ file, count: new CycleCount(total, reset) }, index > 0), entries, cycles, characters };
 }
 
 /** @param {number[]} numbers */
@@ -305,9 +311,9 @@ function queryState(engine, file) {
 }
 
 /**
- * Returns the next piece of entries to replay in one call.
+ * Returns the next entries to replay, as many as one call can replay.
  * @param {Entry[]} entries
- * @param {number} from an index
+ * @param {number} from the index of the first of these entries
  */
 function nextPiece(entries, from) {
   let cycles = 0;
@@ -321,12 +327,12 @@ function nextPiece(entries, from) {
 
 /**
  * Creates an empty segment that starts at the given session.
- * @param {Present} present
+ * @param {SessionAtMoment} present
  * @param {boolean} follows true if the segment starts where the previous one ends
  * @returns {Segment}
  */
 function segmentAt({ file, count }, follows) {
-  return { file: file.slice(), count: count.copy(), entries: [], cycles: 0, letters: 0, follows, marks: [] };
+  return { file: file.slice(), count: count.copy(), entries: [], cycles: 0, characters: 0, follows, marks: [] };
 }
 
 /**

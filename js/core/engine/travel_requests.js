@@ -1,4 +1,4 @@
-// Requests that run the session to a goal, move it back or forward in time, and search its past.
+// Requests that run the session to a goal, move the session back or forward in time, or search its past.
 
 import { readBoard } from "../bench/answers.js";
 import { nearDistance } from "../debug/debugger.js";
@@ -28,26 +28,27 @@ export class TravelRequests {
   }
 
   /**
-   * Runs to a goal, or to a breakpoint before it. If neither is within `maxCycles` cycles, the session does not change; it then approaches
-   * the goal while time runs.
+   * Runs to a goal, or to a breakpoint if the session reaches it first. If neither is within `maxCycles` cycles, the session does not
+   * change. The debugger then keeps the goal, and the following frames run towards it.
    * @param {Goal} goal
    * @param {number} [maxCycles]
    * @returns {Promise<GoalReply>}
    */
   async goOn(goal, maxCycles = nearDistance(goal)) {
-    const { found, result, tally } = await this.bench.debugger.goOn(goal, maxCycles, (done) => this.bench.shouldContinue(done, maxCycles));
+    const shouldContinue = (/** @type {number} */ done) => this.bench.shouldContinue(done, maxCycles);
+    const { found, result, tally } = await this.bench.debugger.runToGoal(goal, maxCycles, shouldContinue);
     if (!result) return { ...this.bench.replyWithoutServing(), found, tally };
     const { snapshot, ...served } = result;
     return { ...served, ...this.bench.snapshotReport(snapshot, false), found, tally };
   }
 
-  /** Gives up the goal, because the user starts or pauses time. */
+  /** Abandons the goal, because the user starts or pauses the machine. */
   drop() {
     this.bench.debugger.begin();
   }
 
   /**
-   * Moves back. A move forward returns to the former present.
+   * Moves the session back in time to a goal. `goForward` undoes this move.
    * @param {BackGoal} goal
    * @returns {Promise<TravelResult>}
    */
@@ -59,7 +60,7 @@ export class TravelRequests {
   }
 
   /**
-   * Returns to the moment before the last move back.
+   * Undoes the last move back in time.
    * @returns {TravelResult}
    */
   goForward() {
@@ -67,8 +68,8 @@ export class TravelRequests {
   }
 
   /**
-   * Finds the last change of a place.
-   * @param {string} place
+   * Resolves to the last change of a place in the stored past.
+   * @param {string} place a register, RAM nibble, port or other place that conditions can name
    */
   async lastChange(place) {
     const totalCycles = this.bench.session.timeline.cycles;
@@ -77,7 +78,7 @@ export class TravelRequests {
   }
 
   /**
-   * Resolves to the heat map for the last cycles.
+   * Resolves to the heat map for the last `cycles` cycles.
    * @param {number} cycles
    */
   heat(cycles) {
@@ -89,15 +90,15 @@ export class TravelRequests {
 }
 
 /**
- * Returns the result of a move in time, with the new present for the page.
+ * Returns the result of a move in time, with the new state of the session for the page.
  * @param {OpenBench} bench
- * @param {string} word the name of the move in the log
+ * @param {string} word the name of the move in the console
  * @param {BackResult} outcome
  * @returns {TravelResult}
  */
 function travelResult(bench, word, outcome) {
   const { session } = bench;
-  const { isDone, wires } = outcome;
+  const { isDone, wires: wires } = outcome;
   const entries = isDone ? [{ line: `(${word})`, textLines: 0, answers: [bench.engine.ask(session.file, "").opened] }] : [];
   return { entries, first: "", status: 0, hasChangedRom: isDone, ...outcome, ...bench.snapshotReport(session.takeSnapshot(), wires) };
 }

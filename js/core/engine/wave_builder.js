@@ -11,13 +11,14 @@ import { parseTraceLine, rowValues } from "./forecast_answers.js";
  * @typedef {import("../waves/track.js").TrackData} TrackData
  * @typedef {import("../waves/wave_lines.js").WaveLine} WaveLine
  *
- * A reader of a signal line: the index of the line, and a function that converts the reported value of a place to the value of the line.
+ * A reader of a signal line: the index of the line (`member`), and a function that converts the value of a `trace` place to the value of
+ * the line.
  * @typedef {{ member: number, read: (answer: string) => number }} Reader
  *
  * A `trace` place, the readers of its signal lines, and the character positions at which its value starts and ends in each row.
  * @typedef {{ place: string, readers: Reader[], from: number, to: number }} Field
  *
- * The places of one query, and the last row of their values.
+ * The places of one query, and the last row of their values that the bench reported; "" before the first row.
  * @typedef {{ fields: Field[], row: string }} QueryGroup
  *
  * The part of a recording since the last call of `take`. RecordedPart in wave_recorder.js explains the members.
@@ -31,19 +32,19 @@ const ZERO_CODE = 48;
 const NINE_CODE = 57;
 
 /**
- * Returns the value of an upper-case hexadecimal digit.
+ * Returns the value of the upper-case hexadecimal digit at an index in a line.
  * @param {string} line
  * @param {number} index
  */
 function digitAt(line, index) {
-  const letter = line.charCodeAt(index);
-  return letter <= NINE_CODE ? letter - ZERO_CODE : letter - 55;
+  const code = line.charCodeAt(index);
+  return code <= NINE_CODE ? code - ZERO_CODE : code - 55;
 }
 
 /**
  * Returns the `trace` place that reports a board line, and a function that reads the line from the value. A port reports a digit whose bit
  * k is line k. A chain reports its bits.
- * @param {string} line `rom0.3`, `ram0.1.3`, `chain0.5`
+ * @param {string} line the board line, such as `rom0.3`, `ram0.1.3` or `chain0.5`
  */
 function placeOfBoardLine(line) {
   const dot = line.lastIndexOf(".");
@@ -71,7 +72,8 @@ function fieldsForKind(lines, kind) {
 }
 
 /**
- * Returns one place per digit of a value. The function that reads a digit returns the value that consists of all digits read so far.
+ * Returns one `trace` place per digit of a value. Each digit has a function that reads it. This function returns the value that consists of
+ * all digits read so far.
  * @param {string[]} places most significant digit first
  */
 function placesOfDigits(places) {
@@ -86,8 +88,8 @@ function placesOfDigits(places) {
 }
 
 /**
- * Returns the `trace` places of signal lines in groups, one group per query. Ports and values are in separate groups because values change
- * far more often.
+ * Returns the `trace` places of signal lines in groups, one group per query. Board lines and values are in separate groups because values
+ * change far more often.
  * @param {WaveLine[]} lines
  */
 function groupPlaces(lines) {
@@ -114,7 +116,7 @@ function setPositions({ fields }, row) {
 }
 
 /**
- * Returns whether two rows are equal in a range.
+ * Returns whether two rows are equal in a range of characters.
  * @param {string} left
  * @param {string} right
  * @param {number} from
@@ -143,12 +145,12 @@ export class WaveBuilder {
     this.tracks = lines.map(({ width }) => new Track(emptyTrack(width)));
     this.moments = new NumberQueue(new Uint32Array(0));
     this.counters = new NumberQueue(new Uint16Array(0));
-    /** The end of the previous part. */
+    /** The moment at which the previous part ended. */
     this.from = 0;
   }
 
   /**
-   * Returns the queries before a run: a `trace` of all instructions, and a `trace` for each group of places.
+   * Returns the queries to ask before a run: a `trace` of all instructions, and a `trace` for each group of places.
    * @param {number} cycles the length of the run
    */
   queries(cycles) {
@@ -170,7 +172,7 @@ export class WaveBuilder {
   }
 
   /**
-   * Reads the answers to the queries and to the run.
+   * Records a run from the answers to the queries before it and to the run itself.
    * @param {ForecastAnswers} answers
    */
   takeRun(answers) {
@@ -181,7 +183,7 @@ export class WaveBuilder {
   }
 
   /**
-   * Reads the answers to the queries before a run.
+   * Records the forecast of a run from the answers to the queries before the run.
    * @param {ForecastAnswers} answers
    */
   takeForecast(answers) {
@@ -198,15 +200,15 @@ export class WaveBuilder {
   }
 
   /**
-   * Reads an instruction line such as `5 00A`. A frame has more than a thousand such lines, so this method parses them character by
-   * character.
+   * Records the instruction of a trace line such as `5 00A`. A frame has more than a thousand such lines, so this method parses them
+   * character by character.
    * @param {string} line
    */
   takeInstructionLine(line) {
     let cycles = 0;
     let at = 0;
-    for (let letter = line.charCodeAt(0); letter !== BLANK_CODE; letter = line.charCodeAt(at)) {
-      cycles = 10 * cycles + letter - ZERO_CODE;
+    for (let code = line.charCodeAt(0); code !== BLANK_CODE; code = line.charCodeAt(at)) {
+      cycles = 10 * cycles + code - ZERO_CODE;
       at += 1;
     }
     const address = 256 * digitAt(line, at + 1) + 16 * digitAt(line, at + 2) + digitAt(line, at + 3);
@@ -214,7 +216,7 @@ export class WaveBuilder {
   }
 
   /**
-   * Ends a run.
+   * Adds the length of a run to `elapsed`, and records whether an invalid opcode stopped the run.
    * @param {import("./forecast_answers.js").RunResult} run
    */
   takeEnd({ cycles, end }) {
@@ -223,8 +225,8 @@ export class WaveBuilder {
   }
 
   /**
-   * Reads the answer to `state` after a command and at the end.
-   * @param {string} state
+   * Records the keys, the TEST pin and the program counter. Called after a command, and at the end of the recording.
+   * @param {string} state the answer to `state`
    */
   takeState(state) {
     const keys = `,${stateValue(state, "keys")},`;
@@ -240,7 +242,7 @@ export class WaveBuilder {
   }
 
   /**
-   * Records the start of an instruction. Replaces an earlier record for the same moment.
+   * Records the start of an instruction. Replaces the recorded program counter if an instruction was already recorded at this moment.
    * @param {number} moment
    * @param {number} counter the program counter
    */

@@ -1,5 +1,5 @@
-// Records the signal lines of a board for the next or the last cycles of a session. To do so, it runs a copy of the session in the worker,
-// and asks the bench for a forecast before each run.
+// Records the signal lines of a board for the next or the last cycles of a session. To do so, this module runs a copy of the session in the
+// worker, and asks the bench for a forecast before each run.
 
 import { readBoard } from "../bench/answers.js";
 import { CancelledError } from "../bench/bench_errors.js";
@@ -22,21 +22,22 @@ import { copyWithoutStops } from "./free_running_copy.js";
  * The program in ROM: its text, the source lines by address (0 for none), and its labels in ascending address order.
  * @typedef {{ text: string, lines: Uint16Array, labels: { address: number, name: string }[] }} RecordedProgram
  *
- * A recording in a message to the page, or the next part of one. A moment is a number of cycles since the start of the recording; the value
- * of a line at a moment is its value after that many cycles.
+ * A part of a recording, as sent to the page. A moment is a number of cycles since the start of the recording; the value of a line at a
+ * moment is its value after that many cycles.
  * - `from`, `cycles`: the moments at which the part starts and ends;
  * - `isStuck`: true if the next opcode is not an instruction;
- * - `tracks`: the signal lines over time;
- * - `moments`, `counters`: the moments at which instructions start, followed by the end; and the program counter at each of them;
+ * - `tracks`: the values of each signal line over time;
+ * - `moments`, `counters`: the moments at which instructions start, and the end of the part; and the program counter at each of these
+ *   moments;
  * - `isOwed`: true if the first of these moments is the second cycle of an instruction;
  * - `listing`: the address and the listing line of each instruction that has not occurred in earlier parts.
  * @typedef {import("./wave_builder.js").WavePart & { listing: [number, string][] }} RecordedPart
  *
- * A complete recording with its signal lines. `program` is null if the text is not the program in ROM.
+ * A recording from its start, with the list of its signal lines. `program` is null if the program text does not match ROM.
  * @typedef {RecordedPart & { lines: WaveLine[], program: RecordedProgram | null }} Recording
  *
- * The texts for a recording: the board text for names, the program in ROM, and the names of registers and RAM nibbles to record in addition
- * to the board lines.
+ * The texts for a recording: the board text, which defines names; the program in ROM; and the names of registers and RAM nibbles to record
+ * in addition to the board lines.
  * @typedef {{ board: string, program: RecordedProgram | null, values: string[] }} Texts
  *
  * A callback that receives the number of completed cycles, and resolves to true to continue.
@@ -120,8 +121,8 @@ export async function recordNextCycles(engine, file, cycles, texts, shouldContin
 }
 
 /**
- * Returns the moment at which a recording of the past starts: `cycles` cycles ago, or at the start of the past. If the board changed later,
- * the recording starts after that change.
+ * Returns the moment at which a recording of the past starts: `cycles` cycles ago, or at the start of the past. If the board changed after
+ * that moment, the recording starts after the last such change.
  * @param {Timeline} timeline
  * @param {number} cycles
  * @returns {Moment}
@@ -154,8 +155,8 @@ function unitsFrom(timeline, from) {
 }
 
 /**
- * Records the last cycles before the present, as far as the past reaches, by running these cycles and all commands between them again on a
- * copy.
+ * Records the last cycles before the present, or fewer if the stored past is shorter. Replays these cycles, with all commands between them,
+ * on a copy of the session.
  * @param {Engine} engine
  * @param {Timeline} timeline
  * @param {number} cycles
@@ -164,7 +165,7 @@ function unitsFrom(timeline, from) {
  */
 export async function recordLastCycles(engine, timeline, cycles, texts, shouldContinue) {
   const from = findRecordingStart(timeline, cycles);
-  const { file } = await timeline.at(engine, from, () => shouldContinue(0));
+  const { file } = await timeline.sessionAt(engine, from, () => shouldContinue(0));
   const recorder = new WaveRecorder(engine, file, texts);
   for (const units of splitIntoPieces(unitsFrom(timeline, from), RECORDING_PIECE_CYCLES, RECORDING_PIECE_UNITS)) {
     recorder.record(units);

@@ -1,5 +1,5 @@
-// Records the signal lines of a board piece by piece, while a file of the recording is written. Only one piece is in memory at a time, even
-// for a long recording.
+// Records the signal lines of a board piece by piece, while the caller writes the recording to a file. Only one piece is in memory at a
+// time, even for a long recording.
 
 import { Waves } from "../waves/wave_recording.js";
 import { ForecastAnswers } from "./forecast_answers.js";
@@ -38,9 +38,10 @@ export function linesWithMembers(lines, chosenLines) {
 }
 
 /**
- * Records the next cycles of a state without breakpoints and watches. Yields the recording at its start and after each piece.
+ * Records the next cycles of a state, which must have no breakpoints and no watches. Yields the recording at its start and after each
+ * piece.
  * @param {EngineHost} engine
- * @param {State} state the state; changed to the state at the end of the recording
+ * @param {State} state the state at the start; changed to the state at the end of the recording
  * @param {{ lines: WaveLine[], program: RecordedProgram | null, cycles: number }} recording
  * @param {() => Promise<any>} yieldToMessages called between pieces
  */

@@ -1,5 +1,5 @@
-// The session in the worker: the bytes of its file, the queued key changes, and the calls that use them. A call either succeeds completely,
-// or throws and changes nothing.
+// The session in the worker: the bytes of its file, the queued key changes, and the methods that use and change them. A method either
+// succeeds completely, or throws and changes nothing.
 
 import { CycleCount, findAcceptedCommands } from "./accepted_commands.js";
 import { linesWithQueries, splitAnswers } from "./forecast_queries.js";
@@ -34,22 +34,22 @@ import { MAX_SEGMENT_ENTRIES, Timeline } from "./timeline.js";
  * An input, the number of lines in its text, and its answer lines.
  * @typedef {{ line: string, textLines: number, answers: string[] }} ServedInput
  *
- * The result of serving lines: the last inputs, the first answer, the shell's exit status, and whether the lines can have changed ROM
- * (`hasChangedRom`) or the board (`wires`).
+ * The result of executing lines: the last inputs with their answers (`entries`), the first answer (`first`), the shell's exit status, and
+ * whether the lines can have changed ROM (`hasChangedRom`) or the board (`wires`).
  * @typedef {{ entries: ServedInput[], first: string, status: number, hasChangedRom: boolean, wires: boolean }} LinesResult
  * @typedef {LinesResult & { snapshot: string[] }} ResultAndSnapshot
  *
- * The result of running cycles. `ran` are the executed lines. `end` is the answer that ended the run early, or "". `litShares`, `heard` and
- * `warmed` are the lamp brightness, the buzzer levels and the RAM changes; each is null if not requested.
+ * The result of running cycles. `ran` lists the executed lines. `end` is the answer that ended the run early, or "". `litShares`, `heard`
+ * and `warmed` are the lamp brightness, the buzzer levels and the RAM changes; each is null if not requested.
  * @typedef {{ ran: RunEntry[], cycles: number, end: string, changesKeys: boolean, snapshot: string[], litShares: LitShares | null, heard:
  * BuzzerLevels | null, warmed: ChipHeat | null }} Frame
  */
 
-/** The maximum number of served inputs in a result. */
+/** The maximum number of executed inputs in a result. */
 export const MAX_ENTRIES = 400;
-/** The maximum number of cycles in served lines that a recording replays. Longer lines end the recording. */
+/** The maximum number of cycles in executed lines that a recording replays. If the lines ran more cycles, the recording ends. */
 const MAX_REPLAYED_CYCLES = 2000000;
-/** The first, the minimum and the maximum length of a piece of lines, in characters. */
+/** The initial, the minimum and the maximum length, in characters, of the pieces in which `serve` executes lines. */
 const FIRST_PIECE_LENGTH = 4096;
 const MIN_PIECE_LENGTH = 256;
 const MAX_PIECE_LENGTH = 1 << 20;
@@ -69,7 +69,7 @@ export class WorkerSession {
     this.file = file;
     this.count = count;
     /** The buffer for the next file. A call writes to the buffer and then swaps it with `file`. */
-    this.next = new Uint8Array(file.length);
+    this.nextFile = new Uint8Array(file.length);
     this.queue = new KeyQueue();
     this.statusQueries = makeStatusQueries(engine, file);
     this.timeline = new Timeline(this);
@@ -81,11 +81,11 @@ export class WorkerSession {
     this.recorder = null;
     /** @type {PrinterCodes | null} the printout of the board's printer */
     this.printing = null;
-    /** @type {BuzzerMeter | null} reports the edges of a signal line while time runs, if requested */
+    /** @type {BuzzerMeter | null} reports the edges of a signal line while the machine runs; null if not requested */
     this.buzzerMeter = null;
-    /** @type {BrightnessMeter | null} measures lamp brightness while time runs, if requested */
+    /** @type {BrightnessMeter | null} measures lamp brightness while the machine runs; null if not requested */
     this.brightnessMeter = null;
-    /** @type {HeatMeter | null} counts RAM changes while time runs, if requested */
+    /** @type {HeatMeter | null} counts RAM changes while the machine runs; null if not requested */
     this.heatMeter = null;
   }
 
@@ -102,7 +102,7 @@ export class WorkerSession {
   }
 
   /** The bytes in ROM. */
-  get codes() {
+  get romBytes() {
     if (!this.cachedRomBytes) this.cachedRomBytes = romCodes(this.engine, this.file);
     return this.cachedRomBytes;
   }
@@ -119,13 +119,13 @@ export class WorkerSession {
     return takeSnapshotOf(this.engine, this.file, this.statusQueries);
   }
 
-  /** Makes the file that the last call wrote the session file. */
+  /** Replaces the session file by the file in `next`, which the last call has written. */
   adoptResult() {
-    [this.file, this.next] = [this.next, this.file];
+    [this.file, this.nextFile] = [this.nextFile, this.file];
   }
 
   /**
-   * Runs the next cycles, including the due key changes, and takes a snapshot, all in one call.
+   * Runs the next cycles with the key changes that become due, and takes a snapshot, all in one call of the engine.
    * @param {number} cycles
    * @returns {Frame}
    */
@@ -134,7 +134,7 @@ export class WorkerSession {
   }
 
   /**
-   * Serves planned lines and takes a snapshot.
+   * Executes planned lines and takes a snapshot.
    * @param {PlannedLine[]} plannedLines
    * @returns {Frame}
    */
@@ -191,7 +191,7 @@ export class WorkerSession {
   }
 
   /** The breakpoint addresses in the bench. */
-  get breaks() {
+  get breakpointAddresses() {
     return readItems(this.ask("breaks\n")[0]).map((address) => parseInt(address, 16));
   }
 
@@ -207,8 +207,8 @@ export class WorkerSession {
   }
 
   /**
-   * Serves planned lines up to the first run that stops early, or up to the first rejected line. Tries all lines in one call. If a line
-   * before the last one stops early or is rejected, discards the result and serves only the lines up to that line.
+   * Executes planned lines up to the first run that stops early, or up to the first rejected line. Tries all lines in one call. If a line
+   * before the last one stops early or is rejected, discards the result and executes only the lines up to that line.
    * @param {PlannedLine[]} plannedLines
    */
   servePlannedLines(plannedLines) {
@@ -231,8 +231,8 @@ export class WorkerSession {
   }
 
   /**
-   * Returns the meters of lamps, buzzer and RAM that measure planned lines. A meter is null if it is not requested, or if the lines run too
-   * many cycles.
+   * Returns the meters of lamps, buzzer and RAM that must measure the effect of planned lines. A meter is null if it is not requested, or
+   * if the lines run too many cycles.
    * @param {PlannedLine[]} plannedLines
    */
   metersFor(plannedLines) {
@@ -242,7 +242,7 @@ export class WorkerSession {
   }
 
   /** Returns a forecast of the lamp brightness and the RAM changes in the next 30 ms; each is null if not requested. */
-  measureAhead() {
+  forecastMeters() {
     const { brightnessMeter, heatMeter } = this;
     return {
       litShares: brightnessMeter && brightnessMeter.take([this.ask(brightnessMeter.queries(EYE_CYCLES))]),
@@ -251,7 +251,8 @@ export class WorkerSession {
   }
 
   /**
-   * Serves planned lines together with all queries, in one call. Writes the result to `next`; `file` does not change.
+   * Executes planned lines together with all queries, in one call of the engine. Writes the new session file to `next`; `file` does not
+   * change.
    * @param {PlannedLine[]} plannedLines
    */
   tryPlannedLines(plannedLines) {
@@ -260,7 +261,7 @@ export class WorkerSession {
     /** @type {import("./forecast_queries.js").QuerySource[]} */
     const querySources = [printing, brightnessMeter, buzzerMeter, heatMeter, recording].flatMap((querySource) => querySource || []);
     const lines = linesWithQueries(plannedLines, querySources) + this.statusQueries.lines;
-    const { answers, sourceAnswers } = splitAnswers(plannedLines, querySources, this.engine.serve(this.file, lines, this.next).answers);
+    const { answers, sourceAnswers } = splitAnswers(plannedLines, querySources, this.engine.serve(this.file, lines, this.nextFile).answers);
     /** @type {(querySource: import("./forecast_queries.js").QuerySource) => string[][]} */
     const answersTo = (querySource) => sourceAnswers[querySources.indexOf(querySource)];
     const readMeters = () => {
@@ -275,20 +276,20 @@ export class WorkerSession {
   }
 
   /**
-   * Adds the effect of served lines to the recording. If there are too many lines or cycles, ends the recording instead.
+   * Adds the effect of executed lines to the recording. If there are too many lines or cycles, ends the recording instead.
    * @param {Uint8Array} fileBefore the session file before the lines
    * @param {AcceptedCommand[]} commands
    */
-  follow(fileBefore, commands) {
+  addToRecording(fileBefore, commands) {
     const { recording } = this;
     if (!recording) return;
     const total = commands.reduce((sum, { cycles }) => sum + cycles, 0);
     if (commands.length > MAX_SEGMENT_ENTRIES || total > MAX_REPLAYED_CYCLES) recording.stop("lines");
-    else recording.follow(fileBefore, commands);
+    else recording.recordCommands(fileBefore, commands);
   }
 
   /**
-   * Serves lines piece by piece, either all or none: nothing changes if a piece fails or the work is cancelled.
+   * Executes lines piece by piece, either all or none: nothing changes if a piece fails or the work is cancelled.
    * @param {string} lines
    * @param {(done: number) => Promise<boolean>} shouldContinue called after each piece with the number of processed characters; resolves to
    *   true to continue
@@ -298,8 +299,8 @@ export class WorkerSession {
     const report = new LinesReport(this.count.copy());
     const fileBefore = this.recording ? this.file.slice() : null;
     const printing = this.printing && this.printing.copy();
-    // Each piece is served on `from`. The session file does not change until all pieces are done.
-    let [from, to] = [this.file, this.next];
+    // Each piece runs on `from` and writes to `to`. The session file does not change until all pieces are done.
+    let [from, to] = [this.file, this.nextFile];
     const size = new PieceSize(FIRST_PIECE_LENGTH, MIN_PIECE_LENGTH, MAX_PIECE_LENGTH);
     for (let at = 0; at < lines.length;) {
       const end = findInputEnd(lines, at, size.size);
@@ -308,7 +309,7 @@ export class WorkerSession {
         const result = this.engine.serve(from, piece, to);
         const { total } = report.count;
         const accepted = report.add(piece, result);
-        if (printing) printing.follow(this.engine, from.slice(), accepted, total);
+        if (printing) printing.collectCodes(this.engine, from.slice(), accepted, total);
         return result;
       });
       [from, to] = [to, from === this.file ? new Uint8Array(from.length) : from];
@@ -319,7 +320,7 @@ export class WorkerSession {
     const statusQueries = report.wires ? makeStatusQueries(this.engine, from) : this.statusQueries;
     const snapshot = takeSnapshotOf(this.engine, from, statusQueries);
     // Nothing below can fail. The session changes now.
-    if (from !== this.file) [this.file, this.next] = [from, this.file];
+    if (from !== this.file) [this.file, this.nextFile] = [from, this.file];
     this.statusQueries = statusQueries;
     if (report.hasChangedRom) this.cachedRomBytes = null;
     this.timeline.stop();
@@ -330,18 +331,18 @@ export class WorkerSession {
     // The waiting key changes belong to the old board.
     if (report.wires) this.queue.clear();
     if (report.wires) this.forgetMeters();
-    if (fileBefore) this.follow(fileBefore, report.acceptedCommands);
+    if (fileBefore) this.addToRecording(fileBefore, report.acceptedCommands);
     return { ...report.result(), snapshot };
   }
 }
 
 /**
- * The answer to `board`, and the queries for a snapshot of that board: as lines, and parsed as inputs.
+ * The answer to `board`, and the snapshot queries for that board: as lines, and parsed as inputs.
  * @typedef {{ board: string[], lines: string, inputs: Input[] }} StatusQueries
  */
 
 /**
- * Returns the status queries of the board in a session file.
+ * Returns the status queries for the board in a session file.
  * @param {Engine} engine
  * @param {Uint8Array} file
  * @returns {StatusQueries}
@@ -362,7 +363,7 @@ function takeSnapshotOf(engine, file, { lines, inputs }) {
   return buildSnapshot(inputs, engine.ask(file, lines).answers);
 }
 
-/** Collects the results of all pieces of lines. */
+/** Collects the results of all pieces in which lines are executed. */
 class LinesReport {
   /** @param {CycleCount} count the cycle count before the first piece */
   constructor(count) {

@@ -1,10 +1,10 @@
-// Parses a properties text, which defines the inputs, the values that distinguish states, and the properties. The manual describes its
-// lines in the chapter "Looking for what breaks it".
+// Parses a properties text, which defines the inputs, the values that distinguish states, and the properties. The manual's chapter "Looking
+// for what breaks it" describes the lines of such a text.
 
 import { MAX_RUN_CYCLES } from "../engine/key_queue.js";
 import { hasScannedDisplay } from "../engine/perceived_text.js";
 import { compileTracedCondition } from "../conditions/condition_language.js";
-import { parseDuration, parseWholeDuration } from "../conditions/durations.js";
+import { parseDuration, parseExactDuration } from "../conditions/durations.js";
 import { parsePlace } from "../conditions/places.js";
 import { ConditionError, fail } from "../conditions/scanner.js";
 import { TOOL_KEY_DOWN_CYCLES, TOOL_KEY_UP_CYCLES, cyclesFromMilliseconds } from "../time/mcs4_time.js";
@@ -29,10 +29,11 @@ import { noKey } from "../../words/testing.js";
  * - `minWait`, `maxWait`: the range of waits between two changes;
  * - `maxHoldTime`, `minReleaseTime`: the maximum time for which an input stays down, and the minimum time for which it stays up;
  * - `begin`: the time at which the check of the properties starts;
- * - `command`: the external command of the model ("" for none); `down`, `up`: how long the model's keys are pressed and released;
+ * - `command`: the external command of the model ("" for none); `down`, `up`: the times for which each key in a sequence for the model is
+ *   pressed and then released;
  * - `notes`: the `trace` places whose values distinguish states;
- * - `from`: the start state, null for power-on; `before`: the test lines that lead to it; `calls`: the minimum and maximum number of calls
- *   that have not returned in it.
+ * - `from`: the start state, null for power-on; `before`: the test lines that lead to the start state; `calls`: the minimum and maximum
+ *   number of calls that have not returned in the start state.
  * @typedef {{ inputs: Input[], maxKeysDown: number, canReset: boolean, minWait: number, maxWait: number, maxHoldTime: number,
  *   minReleaseTime: number, begin: number, down: number, up: number, notes: string[], properties: Property[], command: string,
  *   from: StartState | null, before: string[], calls: { least: number, most: number } }} Campaign
@@ -48,12 +49,12 @@ import { noKey } from "../../words/testing.js";
  * @param {number} column
  */
 function columnInLine(originalLine, column) {
-  let place = originalLine.length - originalLine.trimStart().length;
-  for (let left = column; left > 0 && place < originalLine.length - 1; left--) {
-    place += 1;
-    while (/\s/.test(originalLine[place]) && /\s/.test(originalLine[place - 1]) && place < originalLine.length - 1) place += 1;
+  let at = originalLine.length - originalLine.trimStart().length;
+  for (let left = column; left > 0 && at < originalLine.length - 1; left--) {
+    at += 1;
+    while (/\s/.test(originalLine[at]) && /\s/.test(originalLine[at - 1]) && at < originalLine.length - 1) at += 1;
   }
-  return place;
+  return at;
 }
 
 /** The maximum number of places in all `note` lines. */
@@ -62,7 +63,7 @@ const MAX_NOTES = 16;
 const DEFAULT_MAX_KEYS_DOWN = 2;
 /** The default waits, 1 and 20 ms, in cycles. */
 const DEFAULT_WAITS = { minWait: cyclesFromMilliseconds(1), maxWait: cyclesFromMilliseconds(20) };
-/** The default times for which a model's keys are pressed and released, in cycles. */
+/** The default times for which each key in a sequence for a model is pressed and then released, in cycles. */
 const DEFAULT_PACE = { down: TOOL_KEY_DOWN_CYCLES, up: TOOL_KEY_UP_CYCLES };
 
 class PropertiesReader {
@@ -102,8 +103,8 @@ class PropertiesReader {
   }
 
   /**
-   * Parses a condition that violates a property, or reaches a goal, when it is true. With a `while` condition, the result is true only if
-   * both conditions are true.
+   * Parses a condition that violates a property, or reaches a goal, if the condition is true. If the line has a `while` guard, the result
+   * is true only while the guard's condition is true, too.
    * @param {string} text
    */
   parseViolation(text) {
@@ -112,8 +113,8 @@ class PropertiesReader {
   }
 
   /**
-   * Parses a condition that violates a property when it is false. With a `while` condition, the result is also true if the `while`
-   * condition is false.
+   * Parses a condition that violates a property if the condition is false. If the line has a `while` guard, the result is also true while
+   * the guard's condition is false.
    * @param {string} text
    */
   parseRequirement(text) {
@@ -122,7 +123,7 @@ class PropertiesReader {
   }
 
   /**
-   * Returns the address of a label; fails if there is no such label.
+   * Returns the address of a label; throws `ConditionError` if there is no such label.
    * @param {string} word the label, such as `@count`
    */
   parseLabel(word) {
@@ -133,7 +134,7 @@ class PropertiesReader {
   }
 
   /**
-   * Returns the front-panel input with a name; fails if there is none.
+   * Returns the front-panel input with a name; throws `ConditionError` if there is none.
    * @param {string} name
    */
   findInput(name) {
@@ -155,27 +156,27 @@ class PropertiesReader {
    * @param {string} syntax the error message if the text is not a time
    */
   parseTime(text, syntax) {
-    const cycles = parseWholeDuration(text.trim().split(/\s+/));
+    const cycles = parseExactDuration(text.trim().split(/\s+/));
     return cycles > 0 ? cycles : fail(syntax);
   }
 }
 
 /**
- * Parses two times, with or without `to` between them.
+ * Parses two times, with or without `to` between them. Returns their cycles.
  * @param {string[]} words
  * @param {string} syntax the error message if the words are not two times
  */
 function parseTwoTimes(words, syntax) {
   const first = parseDuration(words, 0);
   const rest = words.slice(first.words).filter((word, index) => index > 0 || word !== "to");
-  const second = parseWholeDuration(rest);
+  const second = parseExactDuration(rest);
   if (first.cycles === 0 || second === 0) fail(syntax);
   return [first.cycles, second];
 }
 
 
 /**
- * The parsers of lines for inputs and timing, by first word.
+ * The parsers of settings (inputs, timing, start state and noted places), by first word.
  * @type {Record<string, (reader: PropertiesReader, words: string[]) => void>}
  */
 const SETTING_PARSERS = {
@@ -235,13 +236,13 @@ const SETTING_PARSERS = {
 };
 
 /**
- * Returns whether a line of a properties text sets inputs or timing, rather than a property.
+ * Returns whether a line of a properties text is a setting rather than a property.
  * @param {string} line without leading blanks
  */
 export const isSetting = (line) => Object.prototype.hasOwnProperty.call(SETTING_PARSERS, line.split(/\s/)[0]);
 
 /**
- * Returns the `trace` places for a word of a `note` line; fails if `trace` does not report the word.
+ * Returns the `trace` places for a word of a `note` line; throws `ConditionError` if no `trace` place reports the word.
  * @param {PropertiesReader} reader
  * @param {string} word
  * @returns {string[]}
@@ -329,7 +330,7 @@ function splitGuard(text) {
 }
 
 /**
- * Parses a guard, except `while`.
+ * Parses a guard other than `while`.
  * @param {PropertiesReader} reader
  * @param {string} text the guard: `once C`, `after press K`, `after press K within TIME`
  * @returns {Guard}
@@ -347,7 +348,7 @@ function parseGuard(reader, text) {
  * Returns the property of a guarded line.
  * @param {PropertiesReader} reader
  * @param {string} text
- * @param {{ guard: string, rest: string } | null} firstGuard
+ * @param {{ guard: string, rest: string } | null} firstGuard the first guard and the text after it; null for a line without guards
  * @returns {Property | null} null for a line without guards
  */
 function parseGuardedLine(reader, text, firstGuard) {
@@ -385,7 +386,7 @@ const ONCE_PER_PRESS_LINE = /^(@\S+) at most once for each press$/;
 const WITHIN_LINE = /^(@\S+) to (@\S+) within (.+)$/;
 
 /**
- * Parses a line. A setting changes the reader; a property is returned.
+ * Parses a line. Stores a setting in the reader; returns a property.
  * @param {PropertiesReader} reader
  * @param {string} text the text of the line
  * @returns {Property | null} null for a setting
@@ -422,7 +423,7 @@ function parseUnguardedLine(reader, text) {
 }
 
 /**
- * Returns false if there is a model but no key that could be pressed for it.
+ * Returns false if there is a model but no input is a key, so that no key sequence could be sent to the model.
  * @param {PropertiesReader} reader
  */
 function hasKeysForModel({ command, inputs }) {
@@ -430,8 +431,8 @@ function hasKeysForModel({ command, inputs }) {
 }
 
 /**
- * If no line names an input, adds all inputs of the front panel. If no line names a place to note, adds the lamps. Returns whether the
- * search can change an input or cut the power.
+ * Adds all inputs of the front panel if no line names an input, and the lamps if no line names a place to note. Returns whether the search
+ * can change an input or cut the power.
  * @param {PropertiesReader} reader
  * @param {string} text
  */

@@ -15,8 +15,8 @@ import { createRandom } from "./walks.js";
  * @typedef {import("./search.js").Violation} Violation
  * @typedef {import("./subject.js").Subject} Subject
  *
- * A function that runs the test of a counterexample and returns whether it has the expected result: it must fail or, if the property is a
- * goal, pass.
+ * A function that runs the test of a counterexample and returns whether the test has the expected result: it must fail or, if the property
+ * is a goal, pass.
  * @typedef {(test: string, isGoal: boolean) => boolean | Promise<boolean>} ConfirmTest
  *
  * A confirmed counterexample: the index of its property, its test (in `found`), and its steps (in `violation`). `violation` is null if the
@@ -92,7 +92,7 @@ export class CampaignRun {
     return this.search.openProperties.length === 0 && !this.isModelOpen;
   }
 
-  /** True if the search still compares displays with the texts of the model. */
+  /** True if the search still compares the display with the model's output. */
   get isModelOpen() {
     return this.model !== null && this.counterexamples[this.modelIndex] === null
       && this.unconfirmedCounts[this.modelIndex] < MAX_UNCONFIRMED;
@@ -104,7 +104,7 @@ export class CampaignRun {
   }
 
   /**
-   * Compares the display with the model after several key sequences. Resolves to the first confirmed difference, or to null.
+   * Compares the display with the model's output after several key sequences. Resolves to the first confirmed difference, or to null.
    * @param {Model} model
    * @returns {Promise<ConfirmedViolation | null>}
    */
@@ -119,7 +119,8 @@ export class CampaignRun {
   }
 
   /**
-   * Searches for a number of milliseconds. If a counterexample is found, the call takes longer, because it also minimises it.
+   * Searches for a number of milliseconds. The call takes longer if it finds a counterexample, because it also minimises the
+   * counterexample.
    * @param {number} milliseconds
    * @returns {Promise<ConfirmedViolation | null>} the counterexample; null if none was found
    */
@@ -169,7 +170,7 @@ export class CampaignRun {
   }
 
   /**
-   * Stores the counterexample of a property, and ends the search for others.
+   * Stores the counterexample of a property, and ends the search for other counterexamples of this property.
    * @param {number} property
    * @param {Counterexample} counterexample
    */
@@ -179,7 +180,7 @@ export class CampaignRun {
   }
 
   /**
-   * Stores the test of a counterexample whose confirmation failed. If there are too many of them, ends the search for this property.
+   * Stores the test of a counterexample whose confirmation failed. After MAX_UNCONFIRMED such tests, ends the search for this property.
    * Returns null.
    * @param {number} property
    * @param {string} test
@@ -193,7 +194,7 @@ export class CampaignRun {
 
   /**
    * Returns the report of the search so far.
-   * @param {Pick<Report, "names" | "sums" | "seconds" | "isStopped">} details
+   * @param {Pick<Report, "names" | "sums" | "seconds" | "isStopped">} details the parts of the report that the caller supplies
    * @returns {Report}
    */
   report(details) {

@@ -1,5 +1,5 @@
-// Writes a counterexample as a test for `mcs4 test`. The test fails as long as the program still has the error; for a goal, the test
-// passes.
+// Writes a counterexample as a test for `mcs4 test`. The test fails as long as the program has the error. The test for a goal passes if the
+// program reaches the goal.
 
 import { readCounter } from "../bench/answers.js";
 import { hex } from "../bench/numbers.js";
@@ -67,7 +67,7 @@ class TestWriter {
   }
 
   /**
-   * Writes a run that ends at a time.
+   * Writes a `run` line that ends at a given time.
    * @param {number} time
    */
   writeRunUntil(time) {
@@ -101,7 +101,7 @@ class TestWriter {
   }
 
   /**
-   * Returns the condition for a program counter, with a label if the address has one.
+   * Returns the text of the condition that the program counter is at an address. Uses the label if the address has one.
    * @param {number} address
    */
   counterCondition(address) {
@@ -122,7 +122,7 @@ class TestWriter {
 }
 
 /**
- * The functions that write the last lines of a test, which check the property, by property form.
+ * The functions that write the last lines of a test, by property form. These lines check the property.
  * @type {Record<Property["form"], (writer: TestWriter) => void>}
  */
 const FINAL_LINES = {

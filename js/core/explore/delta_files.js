@@ -9,7 +9,7 @@
 const WORD_BYTES = 4;
 
 export class DeltaFiles {
-  /** @param {Uint8Array} first */
+  /** @param {Uint8Array} first the session file with which all other files are compared */
   constructor(first) {
     this.first = viewWords(first);
     this.scratch = new Uint32Array(first.length / WORD_BYTES);
@@ -20,11 +20,11 @@ export class DeltaFiles {
 
   /**
    * Returns the words of a file that differ from the first file.
-   * @param {Uint8Array} file
+   * @param {Uint8Array} restore
    * @returns {FileDelta}
    */
-  keep(file) {
-    const words = viewWords(file);
+  encode(restore) {
+    const words = viewWords(restore);
     const { first, indexes } = this;
     indexes.length = 0;
     for (let at = 0; at < first.length; at++) if (words[at] !== first[at]) indexes.push(at);

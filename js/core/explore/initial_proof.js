@@ -1,5 +1,5 @@
 // Asks the prover before the search starts, because a property that is proved for all inputs needs no search. The prover gets a part of the
-// search time. Each round asks about all properties that are not proved yet, with twice the bound on the number of states.
+// search time. Each round asks about all properties that are not proved yet, with twice the previous bound on the number of states.
 
 import { allMistakes } from "../prove/mistakes.js";
 import {
@@ -14,7 +14,7 @@ import {
  * @typedef {{ properties: number[], question: import("../prove/question.js").Question }} PropertyQuestion
  */
 
-/** The bound on the number of states in the first round, and its maximum. */
+/** The bound on the number of states in the first round, and the maximum bound. */
 const FIRST_BOUND = 100;
 const MAX_BOUND = 999999999;
 /**
@@ -43,13 +43,13 @@ export class InitialProof {
      */
     this.questions = combinableQuestions.length > 1 ? [joinQuestions(combinableQuestions), ...separateQuestions] : separateQuestions;
     this.bounds = boundsUpTo(MAX_BOUND, FIRST_BOUND);
-    /** The number of questions that this round has asked without a final answer; they are at the start of the list. */
+    /** The number of questions at the start of the list that this round has already asked without a final answer. */
     this.askedCount = 0;
     /** The duration of the last question in milliseconds. */
     this.lastDuration = 0;
   }
 
-  /** True if there is time for another question. */
+  /** True if there is another question and probably enough time for it. */
   get canContinue() {
     return this.questions.length > 0 && this.timeLeft > this.lastDuration;
   }

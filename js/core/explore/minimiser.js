@@ -13,7 +13,7 @@ import { downInputsAfter, initialDownInputs, areStepsAllowed, longestWaitAfter }
 
 /** The number of cycles that a step counts against the limit, in addition to its wait. */
 const STEP_COST = 500;
-/** The number of longer waits that `removeStart` tries for the first wait, one cycle apart. */
+/** The number of lengths that `removeStart` tries for the first wait. Each is one cycle longer than the previous one. */
 const MAX_EXTRA_CYCLES = 256;
 /** The fractions to which `shortenWaits` tries to shorten a wait. */
 const WAIT_FRACTIONS = [0, 1 / 4, 1 / 2, 3 / 4, 7 / 8, 15 / 16, 63 / 64];
@@ -25,7 +25,7 @@ export class Minimiser {
    * @param {import("./walk_watcher.js").WalkStart} start
    * @param {Violation} violation
    * @param {number} cycleLimit the maximum number of cycles to run; a limit in cycles gives the same result on every machine
-   * @param {() => Promise<void>} yieldToMessages called between two tries
+   * @param {() => Promise<void>} yieldToMessages called before each try
    */
   constructor(subject, campaign, start, violation, cycleLimit, yieldToMessages) {
     this.campaign = campaign;
@@ -54,7 +54,7 @@ export class Minimiser {
   }
 
   /**
-   * Replaces the current steps if the new steps also violate the property.
+   * Replaces the current steps if the new steps also violate the property. Returns whether the steps were replaced.
    * @param {WalkStep[]} steps
    */
   async tryWalk(steps) {
@@ -94,7 +94,8 @@ export class Minimiser {
   }
 
   /**
-   * Returns the steps that are not removed, with the waits of the removed steps added to theirs; null if a wait becomes too long.
+   * Returns the remaining steps. The wait of a removed step is added to the wait of the next remaining step. Returns null if a wait becomes
+   * too long.
    * @param {(index: number) => boolean} isRemoved
    */
   stepsWithout(isRemoved) {

@@ -1,6 +1,6 @@
-// A model: an external command that computes the expected display text. Its input has one line per key sequence: the key names, separated
-// by blanks. Its output has one line per sequence: the text that the display must show after these keys. An empty line accepts any text.
-// Each sequence begins in the start state and uses the press and release times of the properties text.
+// A model: an external command that computes the expected display text. The command's input has one line per key sequence: the key names,
+// separated by blanks. Its output has one line per sequence: the text that the display must show after these keys. An empty output line
+// accepts any text. Each sequence begins in the start state and uses the press and release times of the properties text.
 
 import { readItems } from "../bench/answers.js";
 import { DisplayText } from "../board/display_text.js";
@@ -15,9 +15,10 @@ import { runLines } from "../engine/key_queue.js";
  *
  * The output of the command: the expected text after each key sequence (`shown`), or an error message.
  * @typedef {{ shown: string[], fault: string }} ModelOutput
- * @typedef {(chains: string[]) => ModelOutput | Promise<ModelOutput>} ModelCommand
+ * @typedef {(keySequences: string[]) => ModelOutput | Promise<ModelOutput>} ModelCommand
  *
- * A key sequence after which the display differs from the expected text. `lampsOn` are the names of lamps that are on but must be off.
+ * A key sequence after which the display differs from the expected text. `keys` are the indices of the pressed inputs. `lampsOn` are the
+ * names of lamps that are on but must be off.
  * @typedef {{ keys: number[], expectedText: string, lampsOn: string[], cycles: number }} Difference
  */
 
@@ -47,7 +48,7 @@ export class Model {
   }
 
   /**
-   * Compares the display with the model after random key sequences. Resolves to a minimised difference, or to null.
+   * Compares the display with the model's output after random key sequences. Resolves to a minimised difference, or to null.
    * @returns {Promise<Difference | null>}
    */
   async trySequences() {
@@ -59,7 +60,7 @@ export class Model {
   }
 
   /**
-   * Resolves to the first difference between display and model after some key sequences, or to null.
+   * Resolves to the first difference between the display and the model's output after some key sequences, or to null.
    * @param {number[][]} keySequences
    * @returns {Promise<Difference | null>}
    */
@@ -71,8 +72,8 @@ export class Model {
       if (fault !== "") return null;
       const expectedText = expectedTexts[at].trim();
       const cycles = keys.length * (this.campaign.down + this.campaign.up);
-      const { number, whole, lampsOn } = this.displayAfter(keys);
-      if (expectedText !== "" && whole !== expectedText) {
+      const { number, fullText, lampsOn } = this.displayAfter(keys);
+      if (expectedText !== "" && fullText !== expectedText) {
         return { keys, expectedText, lampsOn: number === expectedText ? lampsOn : [], cycles };
       }
     }
@@ -80,8 +81,8 @@ export class Model {
   }
 
   /**
-   * Returns what the display shows after a key sequence: the number, the number with the lamp names that `mcs4 display` appends (`whole`),
-   * and the names of the other lamps that are on.
+   * Returns the state of the display and lamps after a key sequence: the number on the display, the number followed by lamp names as `mcs4
+   * display` prints them (`fullText`), and the names of all lamps that are on except the minus lamp.
    * @param {number[]} keys
    */
   displayAfter(keys) {
@@ -95,11 +96,11 @@ export class Model {
     const lamps = [...face.lamps].map(([at, { text }]) => ({ at, text }));
     const { number, names } = new DisplayText(face.groups.filter(({ kind }) => kind === "display"), lamps).read(marks);
     const lampsOn = lamps.filter(({ at, text }) => marks[at] === "*" && text !== "minus").map(({ text }) => text);
-    return { number, whole: names === "" ? number : `${number} ${names}`, lampsOn };
+    return { number, fullText: names === "" ? number : `${number} ${names}`, lampsOn };
   }
 
   /**
-   * Removes one key after another as long as the display still differs from the model.
+   * Removes one key after another as long as the display still differs from the model's output.
    * @param {Difference} difference
    */
   async shorten(difference) {
@@ -114,7 +115,7 @@ export class Model {
   }
 
   /**
-   * Returns the test for a difference.
+   * Returns the text of the test for a difference.
    * @param {string} name
    * @param {Difference} difference
    */

@@ -16,7 +16,7 @@ export class PlaceQueries {
   }
 
   /**
-   * Returns the `trace` lines for the next cycles.
+   * Returns the `trace` lines that query the places for the next cycles.
    * @param {number} cycles
    */
   lines(cycles) {
@@ -43,7 +43,7 @@ export function listConditions({ condition, guards }) {
 /** @type {boolean[]} the values of the guard conditions of a property without guards */
 const NO_GUARDS = [];
 
-/** The conditions of a property, with the indices of their values in the list of the values of all places. */
+/** The conditions of a property, each with the indices of its places in the list of all places. */
 export class Conditions {
   /**
    * @param {Property} property
@@ -65,7 +65,7 @@ export class Conditions {
   }
 
   /**
-   * Returns a list that says, for each guard, whether its condition is true.
+   * Returns for each guard whether its condition is true.
    * @param {string[]} values
    */
   areOpen(values) {
@@ -125,14 +125,14 @@ export class PlaceValues extends ForecastAnswers {
 
 /**
  * An instruction that changes values in a group of places: the cycles before it, its address, and the new values of the group. `from` is
- * the index of the first of them in the list of the values of all places.
+ * the index of the first new value in the list of the values of all places.
  * @typedef {{ cycles: number, address: number, from: number, values: string[] }} Change
  */
 
 /**
  * Parses a trace line.
  * @param {string} line
- * @param {number} from the index of its first value in the list of the values of all places
+ * @param {number} from the index of the line's first value in the list of the values of all places
  * @returns {Change}
  */
 function parseChange(line, from) {

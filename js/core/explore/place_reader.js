@@ -1,5 +1,5 @@
-// Reads the current values of `trace` places with the fastest queries. `lamps`, `regs`, `state` and `ram` report most of these values in
-// the same format as `trace`, but need no copy of the bench.
+// Reads the current values of `trace` places with the fastest queries. The queries `lamps`, `regs`, `state` and `ram` report most of these
+// values in the same format as `trace`. Unlike `trace`, they need no copy of the bench.
 
 import { parseNumber } from "../bench/numbers.js";
 import { PlaceQueries } from "./place_queries.js";

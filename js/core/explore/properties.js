@@ -1,6 +1,7 @@
 // Properties: requirements that a program must meet for all inputs, and goals that it must be able to reach. A property receives the events
-// of a walk in time order and returns the time at which it is violated, or at which its goal is reached. What it must remember of the walk
-// is a list of numbers, its memory. The memory is stored with each state, so that a walk can continue from there.
+// of a walk (walks.js) in time order, and returns the time at which it is violated, or at which its goal is reached. A property has a
+// memory: a list of numbers that summarises the earlier events of the walk. The memory is stored with each state, so that a walk can
+// continue from that state.
 
 import * as say from "../../words/explore.js";
 
@@ -16,10 +17,10 @@ import * as say from "../../words/explore.js";
  * @typedef {"values" | "label" | "down" | "reset" | "end" | "call" | "return"} Event
  *
  * The circumstances of an event. Times are in cycles since power-on.
- * - `time`: the time of the event; `changed`: for `values`, the end of the first cycle of the instruction that changed them;
- * - `address`: the address that the program counter reaches;
+ * - `time`: the time of the event; `changed`: for `values`, the end of the first cycle of the instruction that changed the values;
+ * - `address`: for `label`, the address that the program counter reaches;
  * - `holds`: true if the property's condition is true; `areOpen`: for each guard, true if its condition is true;
- * - `input`: the name of the input that goes down; `isDown`: the number of inputs that are down.
+ * - `input`: for `down`, the name of the input that goes down; `isDown`: the number of inputs that are down.
  * @typedef {{ time: number, changed: number, address: number, holds: boolean, areOpen: boolean[], input: string,
  *   isDown: number }} Moment
  *
@@ -31,10 +32,11 @@ import * as say from "../../words/explore.js";
  *
  * A property or a goal.
  * - `form`: the form of its line; `text`, `line`: its text and line number; `address`: the address of its label, -1 for none;
- * - `start`: for `within`, the address at which the time starts; `limit`: the time limit in cycles; `keys`: the keys in its text;
+ * - `start`: for `within`, the address at which the time measurement starts; `limit`: the time limit in cycles; `keys`: the keys in its
+ *   text;
  * - `from`: returns the initial memory; `update`: updates the memory after an event, and returns the time of the violation or -1;
  * - `newStateKey`: returns the part of the memory that distinguishes states, as text;
- * - `hasApplied`: returns whether anything in the walk was relevant to the property, such as a press of its key.
+ * - `hasApplied`: returns whether an event in the walk was relevant to the property, such as a press of its key.
  * @typedef {{ form: Form, text: string, line: number, condition: Condition | null, address: number, start: number, limit: number,
  *   isGoal: boolean, keys: string[], guards: Guard[], from: (time: number, isDown: number) => number[],
  *   update: (memory: number[], event: Event, moment: Moment) => number, newStateKey: (memory: number[]) => string,
@@ -246,7 +248,7 @@ export function afterPressProperty(text, key, condition, limit) {
 
 /**
  * Creates the property that the program counter reaches a label at most once per press. Memory: the number of presses, including the inputs
- * that were down at the start, minus the number of times that the label was reached; and 1 if it was ever reached.
+ * that were down at the start, minus the number of times that the label was reached; and 1 if the label was ever reached.
  * @param {string} text
  * @param {number} address
  * @returns {Property}
@@ -390,7 +392,7 @@ function countCalls(memory, event) {
 }
 
 /**
- * Creates the properties that every program is checked for.
+ * Creates the properties that are checked for every program.
  * @returns {Property[]}
  */
 export function standardProperties() {
@@ -407,7 +409,7 @@ export function standardProperties() {
       ...DEFAULT_PROPERTY, form: "returns", text: say.NO_LONE_RETURN, from: () => [0],
       update: (memory, event, { time }) => {
         countCalls(memory, event);
-        // The property `calls` reports a fourth call. Its return is not a return without a call.
+        // The property `calls` reports a fourth call. The return from that call does not count as a return without a call.
         memory[0] = Math.min(memory[0], MAX_OPEN_CALLS);
         return memory[0] < 0 ? time : UNSET;
       },

@@ -15,14 +15,16 @@ import { neverReached, proved } from "../../words/prove.js";
  * A counterexample: its test, its number of steps, its cycles, and the seed of the search that found it.
  * @typedef {{ test: string, steps: number, cycles: number, seed: number }} Counterexample
  *
- * The result for a property. `isSkipped`: true if it is a model whose command was not run. `applied`: true if something in the search was
- * relevant to it. `states`: the number of states in its proof for all inputs, 0 if it is not proved. `leftOut`: the guards that the proof
- * does not consider. `chains`: for a model, the number of key sequences that were compared. `found`: its counterexample.
+ * The result for a property. `isSkipped`: true if the property is a model whose command was not run. `applied`: true if an event in the
+ * search was relevant to the property; always true for a goal. `states`: the number of states in the proof for all inputs, 0 without a
+ * proof. `leftOut`: the guards that the proof does not consider. `chains`: for a model, the number of key sequences that were compared.
+ * `found`: the counterexample, null for none.
  * @typedef {{ text: string, line: number, isGoal: boolean, isSkipped: boolean, applied: boolean, states: number, leftOut: string,
  *   chains: number, found: Counterexample | null }} PropertyResult
  *
- * A report. `names` are the names of the files, `sums` their checksums, `steps` and `states` the numbers of steps and states so far, and
- * `covered` is the executed code, in the format of Coverage in search_coverage.js. `isStopped` is true if the user stopped the search.
+ * A report. `names` are the names of the files, `sums` are their checksums, and `steps` and `states` are the numbers of steps and states so
+ * far. `covered` is the executed code, in the text format of Coverage in search_coverage.js. `isStopped` is true if the user stopped the
+ * search.
  * @typedef {{ form: "explore 1", names: { board: string, program: string, properties: string }, sums: string, properties: PropertyResult[],
  *   seeds: number[], steps: number, states: number, seconds: number, covered: string, instructions: Instruction[],
  *   isStopped: boolean }} Report

@@ -1,7 +1,7 @@
-// Searches for violations by random walks that start at stored states. Of most walks, the search only reads a snapshot after each change.
-// If a walk shows something new, the search repeats it to count its instructions (walk_counter.js). It watches a walk instruction by
-// instruction (walk_watcher.js) if the walk executes code for the first time, if a property needs more data, or if a property seems
-// violated. It also watches a sample of the other walks.
+// Searches for violations by random walks that start at stored states. For most walks, the search only reads a snapshot after each change.
+// If a walk shows something new, the search repeats the walk to count its instructions (walk_counter.js). The search watches a walk
+// instruction by instruction (walk_watcher.js) if the walk executes code for the first time, if a property needs more data, or if a
+// property seems violated. It also watches a sample of the other walks.
 
 import { countWalk, isCountingSufficient } from "./walk_counter.js";
 import { Coverage } from "./search_coverage.js";
@@ -23,8 +23,8 @@ import { MAX_RUN_CYCLES, runLines } from "../engine/key_queue.js";
  * @typedef {import("./delta_files.js").FileDelta} FileDelta
  *
  * A stored state: its session file (`delta`), its time in cycles, the steps from its parent, and how many walks have started at it
- * (`resumeCount`). `down` are the inputs that are down, `ages` are the cycles since the last change of each input, and `memories` are those
- * of the properties.
+ * (`resumeCount`). `down` are the inputs that are down, `ages` are the cycles since the last change of each input, and `memories` are the
+ * memories of the properties. `depth` is the number of steps from the start state.
  * @typedef {{ delta: FileDelta, time: number, down: number[], ages: number[], memories: number[][], parent: State | null,
  *   steps: WalkStep[], depth: number, resumeCount: number }} State
  *
@@ -41,13 +41,14 @@ const MAX_WALK_STEPS = 16;
 const MAX_DEPTH = 120;
 const MAX_STATES = 20000;
 const MAX_SNAPSHOTS = 200000;
-/** One in this many walks is watched even if it shows nothing new. */
+/** One of WATCH_INTERVAL walks is watched even if the walk shows nothing new. */
 const WATCH_INTERVAL = 32;
 /**
- * The number of states that are picked at random for each walk. The walk starts at the one of them at which the fewest walks have started.
+ * The number of candidate states that are picked at random for each walk. The walk starts at the candidate at which the fewest walks have
+ * started.
  */
 const CANDIDATE_COUNT = 3;
-/** Half of all walks start at a recently stored state. This is the mean number of states that were stored after it. */
+/** The mean distance of a recent state from the last stored state, in stored states. Half of all walks start at a recent state. */
 const MEAN_STATES_BACK = 6;
 
 export class Search {
@@ -68,7 +69,7 @@ export class Search {
     this.conditions = campaign.properties.map((property) => new Conditions(property, this.places));
     /** @type {number[]} the indices of the properties for which the search still looks for a violation */
     this.openProperties = campaign.properties.flatMap(({ form }, at) => (form === "model" ? [] : [at]));
-    /** @type {Set<number>} the indices of the properties to which something in a walk was relevant */
+    /** @type {Set<number>} the indices of the properties to which an event in a walk was relevant */
     this.appliedProperties = new Set();
     this.steps = 0;
     this.walks = 0;
@@ -81,7 +82,7 @@ export class Search {
     this.files = new DeltaFiles(this.start.file);
     const { file, time, down, memories } = this.start;
     /** @type {State[]} */
-    this.states = [{ delta: this.files.keep(file), time, down, ages: initialAges(campaign), memories, parent: null, steps: [],
+    this.states = [{ delta: this.files.encode(file), time, down, ages: initialAges(campaign), memories, parent: null, steps: [],
       depth: 0, resumeCount: 0 }];
   }
 
@@ -129,8 +130,8 @@ export class Search {
   walkFor(milliseconds) {
     const end = performance.now() + milliseconds;
     do {
-      const find = this.walk();
-      if (find) return find;
+      const violation = this.walk();
+      if (violation) return violation;
     } while (performance.now() < end);
     return null;
   }
@@ -161,11 +162,12 @@ export class Search {
   }
 
   /**
-   * Repeats a walk up to its last new state to determine the memories of the properties. If instruction counts are sufficient and the walk
-   * executes no code for the first time, uses these. Otherwise, watches the walk.
+   * Repeats a walk up to its last new state to determine the memories of the properties. Uses instruction counts if they are sufficient and
+   * the walk executes no code for the first time. Otherwise, watches the walk.
    * @param {import("./walk_watcher.js").WalkStart} start
    * @param {WalkStep[]} steps
-   * @param {number[]} newSteps the steps that show something new; the steps that execute code for the first time are added
+   * @param {number[]} newSteps the indices of the steps that show something new; this method adds the steps that execute code for the first
+   *   time
    * @param {Snapshot[]} snapshots
    */
   rerunWalk(start, steps, newSteps, snapshots) {
@@ -189,7 +191,7 @@ export class Search {
   }
 
   /**
-   * Records the properties to which something in a walk was relevant.
+   * Records the properties to which an event in a walk was relevant.
    * @param {number[][]} memories
    */
   recordAppliedProperties(memories) {
@@ -236,8 +238,8 @@ export class Search {
   }
 
   /**
-   * The addresses of the labels at which a property can be violated, no matter what happened before. The bench stops there. There are at
-   * most 32 of them, the maximum number of breakpoints.
+   * The addresses of the labels at which a property can be violated, no matter what happened before. The search sets breakpoints at these
+   * addresses. There are at most 32 of them, because the bench has at most 32 breakpoints.
    * @returns {number[]}
    */
   get stopAddresses() {
@@ -275,13 +277,13 @@ export class Search {
       snapshots.push(snapshot);
       if (estimatedState.canBeViolated(step, snapshot, instructionCounts)) return { newSteps, isSuspect: true, snapshots };
       if (this.coverage.add(instructionCounts)) newSteps.push(at);
-      if (this.recordIfNew(snapshot, estimatedState.marks) && !newSteps.includes(at)) newSteps.push(at);
+      if (this.recordIfNew(snapshot, estimatedState.memoryKey) && !newSteps.includes(at)) newSteps.push(at);
     }
     return { newSteps, isSuspect: false, snapshots };
   }
 
   /**
-   * Returns the snapshot with a row of values.
+   * Returns the snapshot that results from a row of values.
    * @param {string} row the values of all places, separated by blanks
    * @returns {Snapshot}
    */
@@ -302,10 +304,10 @@ export class Search {
   /**
    * Records the state that a snapshot shows. Returns whether this state is new.
    * @param {Snapshot} snapshot
-   * @param {string} marks the parts of the property memories that distinguish states
+   * @param {string} memoryKey the parts of the property memories that distinguish states
    */
-  recordIfNew({ notes }, marks) {
-    const key = `${notes}${marks}`;
+  recordIfNew({ notes }, memoryKey) {
+    const key = `${notes}${memoryKey}`;
     if (this.seenKeys.has(key)) return false;
     this.seenKeys.add(key);
     return true;
@@ -313,11 +315,11 @@ export class Search {
 
   /**
    * Stores the states after some steps of a walk.
-   * @param {State} state
-   * @param {Uint8Array} file
+   * @param {State} state the state at which the walk started
+   * @param {Uint8Array} file the session file of that state; changed
    * @param {WalkStep[]} steps
-   * @param {import("./walk_watcher.js").StepState[]} after
-   * @param {number[]} newSteps
+   * @param {import("./walk_watcher.js").StepState[]} after the state after each step
+   * @param {number[]} newSteps the indices of the steps after which to store the state
    */
   storeStates(state, file, steps, after, newSteps) {
     let [from, parent] = [0, state];
@@ -327,7 +329,7 @@ export class Search {
       this.subject.engine.serve(file, walkLines(this.campaign, walkPart), file);
       const { time, down, memories } = after[at];
       const ages = walkPart.reduce(nextAges, parent.ages);
-      parent = { delta: this.files.keep(file), time, down, ages, memories, parent, steps: walkPart,
+      parent = { delta: this.files.encode(file), time, down, ages, memories, parent, steps: walkPart,
         depth: state.depth + at + 1, resumeCount: 0 };
       this.states.push(parent);
       from = at + 1;
@@ -371,8 +373,8 @@ function stopsAtLabel({ form, guards }) {
 }
 
 /**
- * The memories of the properties during a walk, estimated from snapshots and instruction counts. These show how often the program counter
- * reached a label during a wait, but not when.
+ * The memories of the properties during a walk, estimated from snapshots and instruction counts. Instruction counts show how often the
+ * program counter reached a label during a wait, but not when.
  */
 class EstimatedState {
   /**
@@ -415,7 +417,7 @@ class EstimatedState {
   }
 
   /**
-   * Updates the memory of a property with a label after a step. Returns whether the step can have violated it.
+   * Updates the memory of a property with a label after a step. Returns whether the step can have violated the property.
    * @param {Property} property
    * @param {number[]} memory
    * @param {import("./properties.js").Moment} moment the moment at the end of the wait
@@ -432,7 +434,7 @@ class EstimatedState {
       memory[0] = -1;
     }
     if (form === "every") {
-      // The label was reached during this wait. Assume the earliest possible time, which is the start of the wait.
+      // If the label was reached during this wait, assume the earliest possible time, which is the start of the wait.
       if (moment.time - memory[0] > limit) return true;
       if (count > 0) memory[0] = this.time;
     }
@@ -455,7 +457,7 @@ class EstimatedState {
     const isLate = () => memory[0] >= 0 && moment.time - memory[0] > limit;
     if (isLate()) return true;
     if (countAt(address) > 0) memory[0] = -1;
-    // The first label was reached during this wait. Assume the earliest possible time, which is the start of the wait.
+    // If the first label was reached during this wait, assume the earliest possible time, which is the start of the wait.
     if (countAt(start) > 0 && memory[0] < 0) memory[0] = this.time;
     if (isLate()) return true;
     if (step.kind === "reset") update(memory, "reset", moment);
@@ -463,12 +465,12 @@ class EstimatedState {
   }
 
   /** The parts of the property memories that distinguish states, as text. */
-  get marks() {
-    let marks = "";
+  get memoryKey() {
+    let memoryKey = "";
     for (const at of [...this.conditionProperties, ...this.labelProperties]) {
-      const mark = this.campaign.properties[at].newStateKey(this.memories[at]);
-      if (mark !== "") marks += `/${mark}`;
+      const propertyKey = this.campaign.properties[at].newStateKey(this.memories[at]);
+      if (propertyKey !== "") memoryKey += `/${propertyKey}`;
     }
-    return marks;
+    return memoryKey;
   }
 }

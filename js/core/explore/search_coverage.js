@@ -11,7 +11,7 @@ const JUMPED = 2;
 const CONTINUED = 4;
 
 export class Coverage {
-  /** @param {string} [text] a coverage in the format of the property `text` */
+  /** @param {string} [text] the coverage as text, as returned by `text` */
   constructor(text = "") {
     this.flags = new Uint8Array(ADDRESS_COUNT);
     [...text].forEach((digit, address) => {
@@ -20,7 +20,7 @@ export class Coverage {
   }
 
   /**
-   * Adds the counts in an answer to `count`. Returns whether a flag is new.
+   * Adds the counts in an answer to `count`. Returns whether a flag was set for the first time.
    * @param {{ address: number, begun: number, jumped: number }[]} counts
    */
   add(counts) {

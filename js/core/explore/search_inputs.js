@@ -5,8 +5,8 @@ import { keyLine, pinKey } from "../board/key_place.js";
 /**
  * @typedef {import("../board/key_place.js").Key} Key
  *
- * An input, which is either down or up. `down` and `up` are the bench lines that change its position, and `downWords` and `upWords` the
- * test lines that do the same. `isDown` is its position at power-on.
+ * An input, which is either down or up. `down` and `up` are the bench lines that change its position; `downWords` and `upWords` are the
+ * test lines for the same changes. `isDown` is its position at power-on.
  * @typedef {{ name: string, key: Key, isKey: boolean, down: string, up: string, downWords: string, upWords: string,
  *   isDown: boolean }} Input
  *

@@ -82,7 +82,7 @@ export class SlicedSearch {
    * @param {ExploredTexts} texts
    * @param {SearchSetup} searchSetup
    * @param {RunOptions} options
-   * @param {() => Promise<void>} yieldToMessages yields to messages during minimising
+   * @param {() => Promise<void>} yieldToMessages yields to other messages while a counterexample is minimised
    */
   constructor(engine, texts, { subject, campaign }, { seed, seconds }, yieldToMessages) {
     // A counterexample counts only after its test has failed; for a goal, after its test has passed.
@@ -93,7 +93,7 @@ export class SlicedSearch {
   }
 
   /**
-   * Searches for a number of milliseconds. A counterexample ends the search early, but takes longer because it is minimised.
+   * Searches for a number of milliseconds, or until it finds a counterexample. Minimising the counterexample can take additional time.
    * @param {number} milliseconds
    * @returns {Promise<Progress>}
    */

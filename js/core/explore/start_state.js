@@ -1,5 +1,5 @@
-// Starts a search at a state that a test has saved (`from STATE` in a properties text). Runs the tests that lead to this state once. Each
-// counterexample then begins with the lines of these tests.
+// Starts a search at a state that a test has saved (`from STATE` in a properties text). Runs the tests that lead to this state once. The
+// test for each counterexample then begins with the lines of these tests.
 
 import { parseState, parsePorts } from "../bench/state_line.js";
 import { PressedKeys } from "../board/key_place.js";
@@ -58,7 +58,7 @@ export function findLeadingTests(names, testText, state) {
 }
 
 /**
- * Returns the tests without the lines after the one that saves the state from which the next test continues.
+ * Returns the tests, each cut after the line that saves the state from which the next test continues.
  * @param {Test[]} tests
  * @param {string} state the name of the state that the last test saves
  * @returns {Test[]}

@@ -1,5 +1,5 @@
 // Determines, from the answers to `count`, the executed code of a walk and its number of open calls, which snapshots do not show. This is
-// much faster than watching the walk (walk_watcher.js), but cannot determine memories of properties that depend on the time of an event.
+// much faster than watching the walk (walk_watcher.js), but cannot determine the memory of a property that depends on the times of events.
 
 import { isCall, isReturn } from "../engine/rom_codes.js";
 import { PlaceValues } from "./place_queries.js";
@@ -12,7 +12,7 @@ import { downInputsAfter, changeLine } from "./walks.js";
  * @typedef {import("./walk_watcher.js").WalkStart} WalkStart
  */
 
-/** The memory of a property whose condition is false. */
+/** The memory of a `never for` property whose condition is false. */
 const FALSE_CONDITION_MEMORY = [-1];
 /** The forms of properties whose memory can be determined without watching, if they have no guards. */
 const COUNTABLE_FORMS = new Set(["code", "never", "always", "never for", "reach", "reach at", "model", "calls", "returns"]);
@@ -21,7 +21,7 @@ const COUNTABLE_FORMS = new Set(["code", "never", "always", "never for", "reach"
  * Returns whether snapshots and counts are sufficient to determine the memories of the open properties. A `never for` property needs
  * watching while its condition is true, because snapshots do not show how long a condition has been true.
  * @param {Property[]} properties
- * @param {number[]} openProperties the numbers of the open properties
+ * @param {number[]} openProperties the indices of the properties that are not decided yet
  * @param {boolean[][]} holds true if the condition is true after a step, by step and property
  */
 export function isCountingSufficient(properties, openProperties, holds) {

@@ -1,5 +1,5 @@
 // Watches a walk instruction by instruction: traces the places of the properties, counts the instructions, and reports all events to the
-// properties in time order. The search watches the walks that show something new, and a sample of all other walks.
+// properties in time order. search.js says which walks the search watches.
 
 import { instructionCycles, isCall, isReturn } from "../engine/rom_codes.js";
 import { parseTraceLine } from "../engine/forecast_answers.js";
@@ -27,8 +27,8 @@ import { downInputsAfter, changeLine } from "./walks.js";
  * for the first time.
  * @typedef {{ time: number, down: number[], memories: number[][], isNew: boolean }} StepState
  *
- * The bench's answers for one step: the values of all places before it, their changes, the instruction counts, and the answer to the run.
- * `list` contains all executed instructions; it is null if they were not queried.
+ * The bench's answers for one step: the values of all places before the step, their changes, the instruction counts, and the answer to the
+ * run. `list` contains all executed instructions; it is null if they were not queried.
  * @typedef {{ values: string[], changes: Change[], counts: InstructionCount[], runAnswer: string,
  *   list: { cycles: number, address: number }[] | null }} StepReport
  */
@@ -57,7 +57,7 @@ export class Watcher {
    * Watches a walk up to the first violation of an open property. Returns the violation, and the state after each complete step.
    * @param {WalkStart} start
    * @param {WalkStep[]} steps
-   * @param {number[]} openProperties the numbers of the open properties
+   * @param {number[]} openProperties the indices of the properties that are not decided yet
    * @returns {{ broken: WalkViolation | null, after: StepState[] }}
    */
   watch(start, steps, openProperties) {
@@ -78,10 +78,10 @@ export class Watcher {
   }
 
   /**
-   * Watches the change of a step without its wait.
+   * Watches only the input change of a step, without the wait before it.
    * @param {WalkStart} start
    * @param {WalkStep} step
-   * @param {number[]} openProperties the numbers of properties
+   * @param {number[]} openProperties the indices of the properties that are not decided yet
    * @returns {{ broken: WalkViolation | null, after: StepState[] }}
    */
   watchChange(start, step, openProperties) {
@@ -140,7 +140,8 @@ export class Watcher {
 
   /**
    * Returns whether all instructions of a step must be queried. This is necessary if the program counter reaches a label of a property. It
-   * is also necessary if a call or return does not change the return addresses, because the changes then do not show it.
+   * is also necessary if a call or return does not change the return addresses, because the recorded changes then do not show this call or
+   * return.
    * @param {StepReport} report
    * @param {boolean} asksCalls
    */
@@ -184,8 +185,8 @@ class Walk {
    */
   notify(event, time, { address = -1, input = "", changed = time } = {}) {
     const { watcher: { campaign: { properties }, conditions, callProperties }, values } = this;
-    const isOfCalls = event === "call" || event === "return";
-    for (const at of isOfCalls ? callProperties : this.openProperties) {
+    const isCallEvent = event === "call" || event === "return";
+    for (const at of isCallEvent ? callProperties : this.openProperties) {
       const { update, address: ownLabel, start } = properties[at];
       if (event === "label" && ownLabel !== address && start !== address) continue;
       const needsConditions = event === "values" || event === "label";
@@ -218,7 +219,7 @@ class Walk {
   }
 
   /**
-   * Reports a change of values.
+   * Reports to the properties that an instruction changed values.
    * @param {Change} change
    * @param {number} startTime the time at which the step starts
    * @param {number} end the length of the wait in cycles
@@ -246,8 +247,8 @@ class Walk {
   }
 
   /**
-   * Reports the changes of a step with listed instructions. The program counter reaches an instruction before the
-   * instruction changes anything.
+   * Reports the events of a step whose executed instructions are known. The program counter reaches an instruction before the instruction
+   * changes anything.
    * @param {StepReport} report
    * @param {number} startTime
    * @param {number} end
@@ -277,7 +278,7 @@ class Walk {
   }
 
   /**
-   * Reports the change at the end of a step.
+   * Reports the input change or the power cycle at the end of a step.
    * @param {WalkStep} step
    */
   notifyInputChange(step) {

@@ -44,9 +44,9 @@ export function initialDownInputs({ inputs }) {
   return inputs.flatMap(({ isDown }, at) => (isDown ? [at] : []));
 }
 
-/** The share of waits with the maximum length. The lengths of all other waits are distributed evenly on a logarithmic scale. */
+/** The fraction of waits with the maximum length. The lengths of all other waits are distributed evenly on a logarithmic scale. */
 const LONGEST_WAIT_SHARE = 0.6;
-/** The share of steps that are power cycles. */
+/** The fraction of steps that are power cycles. */
 const RESET_SHARE = 0.02;
 
 /**
@@ -179,7 +179,7 @@ export function changeLine({ inputs }, { kind, input }) {
 }
 
 /**
- * Returns the bench lines for steps.
+ * Returns the bench lines that execute steps.
  * @param {Campaign} campaign
  * @param {WalkStep[]} steps
  */

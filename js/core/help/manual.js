@@ -1,4 +1,4 @@
-// Reads the manual tables that the page shows. page/build extracts them from docs/MANUAL.md and page/help.md.
+// Reads the manual tables that the page shows. page/build extracts these tables from docs/MANUAL.md and page/help.md.
 
 import * as say from "../../words/help.js";
 
@@ -10,7 +10,8 @@ import * as say from "../../words/help.js";
  * A piece of the text in a table cell.
  * @typedef {{ text: string, isCode: boolean }} Piece
  *
- * The manual's description of an instruction. `form` is the mnemonic with operands; `does` describes the effect.
+ * The manual's description of an instruction. `form` is the mnemonic with operands. `code` is the opcode. `words` is the number of bytes.
+ * `does` describes the effect.
  * @typedef {{ form: string, code: string, words: string, cycles: string, does: string }} Instruction
  */
 
@@ -48,8 +49,8 @@ export function sectionRows(manual, title) {
 }
 
 /**
- * Searches the manual for words and ignores case. Returns the sections whose titles contain all words, and the matching rows of the other
- * sections.
+ * Searches the manual for words, ignoring case. Returns the sections whose titles contain all words. Of any other section, returns the rows
+ * that contain all words.
  * @param {ManualSection[]} manual
  * @param {string} query the words to search for
  * @returns {ManualSection[]}
@@ -101,8 +102,8 @@ export function readLineForms(manual) {
 }
 
 /**
- * Returns the bench lines that match a typed text. After the first word, these are the lines with the same first word. While the user types
- * the first word, these are the lines that start with the typed text.
+ * Returns the bench lines that match a typed text. If a blank follows the first word, returns the lines with this first word. Otherwise,
+ * returns the lines that start with the typed text.
  * @param {{ form: string, does: string }[]} lines
  * @param {string} typed
  */
@@ -115,7 +116,7 @@ export function matchLines(lines, typed) {
 
 /**
  * Returns the description of a cell of the machine; "" for none. If a name with a number, such as `R5` or `bank 0`, has no description,
- * returns that of `R` or `bank`.
+ * returns the description of the name without the number.
  * @param {Map<string, string>} words the descriptions, by cell name
  * @param {string} name
  */

@@ -1,10 +1,10 @@
 // Parses the story of an example: a text in steps, with links that run actions on the page. The first line is `# TITLE`. Each step starts
 // with `## TITLE`. Blank lines separate paragraphs. `[WORDS](ACTION)` is a link. The actions are:
 //
-//     run, stop, back, forward                runs time; pauses it; goes back to the previous stop; goes forward
-//     go to LABEL, run to LABEL               shows a line of the program; runs time to a line
+//     run, stop, back, forward                runs the machine; pauses it; goes back to the previous stop; undoes the last move back
+//     go to LABEL, run to LABEL               shows a line of the program; runs the machine to a line
 //     back to NAME                            goes back to the moment before the last change of, for example, r11, ram.0.0x12 or rom0.2
-//     press KEY, release KEY                  presses a key (it stays down while time is paused); releases a key
+//     press KEY, release KEY                  presses a key (which stays down while the machine is paused); releases a key
 //     show VIEW                               shows a text or a panel
 
 /**
@@ -22,7 +22,9 @@
 export const TEXTS = ["program", "board", "tests", "properties", "wiring", "waves"];
 export const PANELS = ["front", "processor", "listing", "memory", "ports"];
 
+/** Matches the text of an action. Captures the name of an action without an argument, or the name and the argument. */
 const ACTION_PATTERN = /^(?:(run|stop|back|forward)|(go to|run to|back to|press|release|show) ([^ ]+))$/;
+/** Matches a link, and captures its words and its action. */
 const LINK_PATTERN = /\[([^\]]+)\]\(([^()]+)\)/g;
 
 /**

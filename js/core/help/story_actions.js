@@ -16,12 +16,12 @@ import * as say from "../../words/help.js";
  * @property {(label: string) => number | undefined} addressOf Returns the address of a label of the program in ROM; undefined if there is
  *   no such label.
  * @property {() => BoardKey[]} keys Returns the keys of the displayed board.
- * @property {() => void} run Runs time without a goal.
- * @property {() => Promise<void>} pause Pauses time. Resolves when time is paused.
- * @property {(goal: Goal) => Promise<void>} goOn Runs time to a goal. Resolves when a near goal is reached. If the goal is far away,
- *   resolves as soon as time runs.
+ * @property {() => void} run Runs the machine to the next stop.
+ * @property {() => Promise<void>} pause Pauses the machine. Resolves when the machine is paused.
+ * @property {(goal: Goal) => Promise<void>} goOn Runs the machine to a goal. Resolves when a near goal is reached. If the goal is far away,
+ *   resolves as soon as the machine runs.
  * @property {(goal: BackGoal) => Promise<void>} goBack Goes back in time to a goal. Resolves when the session is at the goal.
- * @property {() => Promise<void>} goForward Returns to the state before the last move back.
+ * @property {() => Promise<void>} goForward Undoes the last move back: returns to the moment from which that move started.
  * @property {(address: number) => void} goTo Shows an address in the source and in the listing.
  * @property {() => boolean} isRunning Returns whether the machine runs; key changes are then queued.
  * @property {(key: BoardKey) => boolean} isDown Returns whether a key will be down after all queued changes.
@@ -44,7 +44,7 @@ async function callWithAddress(label, calls, act) {
 }
 
 /**
- * Calls a function with the key that has a certain legend. Returns an error message, "" for none.
+ * Calls a function with the key that has a legend. Returns an error message, "" for none.
  * @param {string} legend
  * @param {ActionCalls} calls
  * @param {(key: BoardKey) => unknown} act
@@ -74,7 +74,7 @@ const ACTIONS = {
 };
 
 /**
- * Calls a function that always succeeds; resolves to "".
+ * Calls a function whose action needs no check. Resolves to "", because there is no error message.
  * @param {() => unknown} act
  */
 async function perform(act) {
@@ -83,7 +83,7 @@ async function perform(act) {
 }
 
 /**
- * Runs an action of a link. Resolves to an error message, "" for none.
+ * Runs the action of a link. Resolves to an error message, "" for none.
  * @param {StoryAction} act
  * @param {ActionCalls} calls
  */

@@ -6,7 +6,7 @@ import * as say from "../../words/help.js";
 /**
  * The values that decide whether a step is done:
  * - `lamps`: one character for each lamp, `*` if the lamp is on;
- * - `patterns`: the number of different lamp patterns in this step;
+ * - `patterns`: the number of different lamp patterns since the start of this step;
  * - `keysDown`: the number of pressed keys;
  * - `end`: the reason for the last stop in this step, such as `break` or `watch`; "" for none.
  * @typedef {{ lamps: string, patterns: number, keysDown: number, end: string }} TourState
@@ -67,7 +67,7 @@ export const TOUR = [
 ];
 
 /**
- * Returns whether the tour can replace a text: true if the text is empty or the program of a step.
+ * Returns whether the tour can replace a program text: true if the text is empty or the program of a step.
  * @param {string} text
  */
 export function isTourText(text) {
@@ -120,7 +120,7 @@ export class TourProgress {
   }
 
   /**
-   * Records why time stopped.
+   * Records why the machine stopped.
    * @param {string} end the reason for the stop, such as `break`
    */
   recordEnd(end) {

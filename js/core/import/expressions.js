@@ -1,5 +1,5 @@
 // Evaluates expressions in the syntax of Intel's assembler and of the AS macro assembler. They contain names, numbers, parentheses and the
-// operators + - * / and &. The prefixes < and > select the low and the high byte. As operands, $ and * mean the address of the line.
+// operators + - * / and &. The prefixes < and > select the low and the high byte. As an operand, $ or * is the address of the line.
 
 import { upperCase } from "./source_lines.js";
 import * as say from "../../words/import.js";
@@ -16,12 +16,12 @@ import * as say from "../../words/import.js";
 const MAX_DEPTH = 50;
 /** The number of values of a byte. */
 const BYTE = 256;
-/** The value of the highest bit that the operator & can set in its result. */
+/** The value of the highest bit that the operator & evaluates. */
 const HIGHEST_BIT = 4096;
 const NAME = /[A-Za-z_.?@][A-Za-z0-9_.?@$]*/y;
 const BYTE_FUNCTION = /(LOW|HIGH|LO|HI|low|high|lo|hi)[ \t]*\(/y;
 const CHARACTER = /'[^']'|"[^"]"/y;
-/** The patterns of numbers and their bases, in the order in which the evaluator tries them. */
+/** The patterns of numbers, each with its base, in the order in which the evaluator tries the patterns. */
 const NUMBER_PATTERNS = [
   { pattern: /0[xX]([0-9A-Fa-f]+)/y, base: 16 },
   { pattern: /[$]([0-9A-Fa-f]+)/y, base: 16 },
@@ -141,9 +141,9 @@ class Evaluation {
 
   /** Parses a number, a name, a character, or an expression with a prefix or in parentheses. Returns its value. */
   parseOperand() {
-    const letter = this.peek();
-    if (letter === "(") return this.parseBracketed();
-    if (letter !== "" && "-+<>".includes(letter)) return this.parsePrefixed(letter);
+    const nextCharacter = this.peek();
+    if (nextCharacter === "(") return this.parseBracketed();
+    if (nextCharacter !== "" && "-+<>".includes(nextCharacter)) return this.parsePrefixed(nextCharacter);
     const byteFunction = this.match(BYTE_FUNCTION);
     if (byteFunction) {
       this.at += byteFunction[0].length - 1;
@@ -156,13 +156,13 @@ class Evaluation {
       const found = this.match(pattern);
       if (found) return this.parseNumber(found, base);
     }
-    if (letter === "$" || letter === "*") {
+    if (nextCharacter === "$" || nextCharacter === "*") {
       this.at += 1;
       return this.address;
     }
     const name = this.match(NAME);
     if (name) return this.parseName(name[0]);
-    this.fail(letter === "" ? say.NO_OPERAND : say.notUnderstood(this.text.slice(this.at)));
+    this.fail(nextCharacter === "" ? say.NO_OPERAND : say.notUnderstood(this.text.slice(this.at)));
     this.at += 1;
     return 0;
   }
@@ -203,8 +203,8 @@ class Evaluation {
    * @param {RegExpExecArray} found the match of the number's pattern
    * @param {number} base
    */
-  parseNumber([whole, digits], base) {
-    this.at += whole.length;
+  parseNumber([numeral, digits], base) {
+    this.at += numeral.length;
     if (/\w/.test(this.text[this.at] || "")) this.fault = say.noNumber(this.text);
     return parseDigits(digits, base);
   }
@@ -224,7 +224,7 @@ class Evaluation {
 }
 
 /**
- * Returns whether all characters of a text are ASCII.
+ * Returns whether all characters of a text are ASCII characters other than NUL.
  * @param {string} text
  */
 export function isAscii(text) {

@@ -1,5 +1,5 @@
 // Converts a program from the syntax of Intel's assembler or of the AS macro assembler to the bench's syntax, line by line. Several passes
-// over the lines compute the values of the names. A last pass then writes the converted lines.
+// over the lines compute the values of the program's names. A last pass then converts the lines.
 
 import { LAST_ADDRESS, hex } from "../bench/numbers.js";
 import { MAX_NAME_LENGTH } from "../text/assembly.js";
@@ -18,13 +18,13 @@ import * as say from "../../words/import.js";
  * @typedef {{ line: number, words: string }} ImportFault
  *
  * The rules for the value of an operand. `from` and `to` are its lowest and highest value. `modulus` is added to negative numbers; 0 means
- * that they are not allowed. `isNumber` is true if the output must contain the value of a name instead of the name.
+ * that negative numbers are not allowed. `isNumber` is true if the output must contain the value of a name instead of the name.
  * @typedef {{ from?: number, to: number, modulus?: number, isNumber?: boolean }} OperandRules
  */
 
 /** The maximum number of passes that compute the values of names. */
 const MAX_PASSES = 20;
-/** The numbers of values of a nibble and of a byte. */
+/** The number of values of a nibble, and of a byte. */
 const NIBBLE = 16;
 const BYTE = 256;
 /** The columns at which statements and comments start in the output, counted from 0. */
@@ -68,7 +68,7 @@ class ProgramImport {
     this.names = new Map();
     /** True if the program has the directive CPU, as programs for the AS macro assembler do. */
     this.isForAsAssembler = this.lines.some(({ word }) => word === "CPU");
-    /** The address of the line that is being converted. */
+    /** The address of the line that the import currently converts. */
     this.address = 0;
     /** @type {string[]} the original expressions that the comment of the current line repeats */
     this.originalTexts = [];
@@ -91,12 +91,12 @@ class ProgramImport {
    * Calls a function and returns its result. If the function throws a LineError, records the error and returns `fallback`.
    * @template Result
    * @param {number} line
-   * @param {() => Result} act
+   * @param {() => Result} convert
    * @param {Result} fallback
    */
-  attemptLine(line, act, fallback) {
+  attemptLine(line, convert, fallback) {
     try {
-      return act();
+      return convert();
     } catch (thrown) {
       if (!(thrown instanceof LineError)) throw thrown;
       this.faults.push({ line, words: thrown.message });
@@ -122,7 +122,10 @@ class ProgramImport {
     }, undefined);
   }
 
-  /** Chooses the spelling of each name in the output. This is the original spelling, unless the bench rejects it or another name has it. */
+  /**
+   * Chooses the spelling of each name in the output. This is the original spelling, unless the bench rejects that spelling or another name
+   * uses it.
+   */
   chooseSpellings() {
     const usedSpellings = new Set();
     /** @type {Map<string, number>} the next number to append to a spelling that is already in use, by spelling */
@@ -260,10 +263,10 @@ class ProgramImport {
     const parts = splitList(list);
     if (parts.length === 0) throw new LineError(say.NO_VALUES);
     return parts.flatMap((part) => {
-      const letters = quotedCharacters(part);
-      if (letters === null) return [this.operandText(part, { to: BYTE - 1, modulus: BYTE })];
-      if (!isAscii(letters)) throw new LineError(say.noCharacter(part));
-      return [...letters].map((letter) => `0x${hex(letter.charCodeAt(0), 2)}`);
+      const characters = quotedCharacters(part);
+      if (characters === null) return [this.operandText(part, { to: BYTE - 1, modulus: BYTE })];
+      if (!isAscii(characters)) throw new LineError(say.noCharacter(part));
+      return [...characters].map((character) => `0x${hex(character.charCodeAt(0), 2)}`);
     }).join(", ");
   }
 
@@ -301,7 +304,7 @@ class ProgramImport {
 
   /**
    * Converts an operand that is a name, a number or an expression. A name remains a name, unless `isNumber` is true. An expression becomes
-   * a number, and the comment of the line repeats its original text.
+   * a number, and the comment of the line repeats the original expression.
    * @param {string} text
    * @param {OperandRules} rules
    */

@@ -3,10 +3,11 @@
 
 /**
  * A source line. `word` is the mnemonic or directive in upper case; it is EQU for every definition of a name. `operand` is the text of all
- * operands. `isLong` is true if the line is longer than MAX_CODE_LENGTH.
+ * operands. `isLong` is true if the line without its comment is longer than MAX_CODE_LENGTH.
  * @typedef {{ text: string, label: string, word: string, operand: string, comment: string, isLong: boolean }} SourceLine
  *
- * The kind of an operand. A `digit` is a number from 0 to 15, and a `target` is an address to which the instruction jumps.
+ * The kind of an operand. A `digit` is a number from 0 to 15, a `byte` is a number from 0 to 255, and a `target` is an address to which the
+ * instruction jumps.
  * @typedef {"register" | "pair" | "digit" | "byte" | "target" | "condition"} OperandKind
  */
 
@@ -44,7 +45,7 @@ export const UNSUPPORTED_DIRECTIVES = new Set(["MACRO", "ENDM", "IF", "ELSE", "E
   "IRP", "WHILE", "STRUCT", "SECTION", "DW"]);
 /** The mnemonic of the instruction that writes to program RAM, which the bench does not have. */
 export const PROGRAM_RAM_MNEMONIC = "WPM";
-/** The mnemonics and directives, which cannot be labels. */
+/** The mnemonics and directives. At the start of a line, such a word is a label only if a colon or a comma follows. */
 const NON_LABEL_WORDS = [OPERAND_KINDS, INSTRUCTIONS_OF_4040, COMMENTED_DIRECTIVES, DIRECTIVES, UNSUPPORTED_DIRECTIVES,
   new Set([PROGRAM_RAM_MNEMONIC])];
 
@@ -77,11 +78,11 @@ export function trimBlanks(text) {
 function commentAt(line) {
   let quote = "";
   for (let at = 0; at < line.length; at++) {
-    const letter = line[at];
+    const character = line[at];
     if (quote !== "") {
-      if (letter === quote) quote = "";
-    } else if (letter === '"' || letter === "'") quote = letter;
-    else if (letter === ";" || (letter === "/" && (at === 0 || /[ \t]/.test(line[at - 1])))) return at;
+      if (character === quote) quote = "";
+    } else if (character === '"' || character === "'") quote = character;
+    else if (character === ";" || (character === "/" && (at === 0 || /[ \t]/.test(line[at - 1])))) return at;
   }
   return -1;
 }
@@ -95,12 +96,13 @@ function splitComment(text) {
   const begin = text.slice(0, MAX_CODE_LENGTH + 1);
   const commentStart = commentAt(begin);
   const code = commentStart < 0 ? begin : begin.slice(0, commentStart);
-  const isWhole = commentStart >= 0 || begin.length <= MAX_CODE_LENGTH;
-  return { code: isWhole ? code.replace(/[ \t]+$/, "") : code, comment: commentStart < 0 ? "" : text.slice(commentStart + 1) };
+  const isComplete = commentStart >= 0 || begin.length <= MAX_CODE_LENGTH;
+  return { code: isComplete ? code.replace(/[ \t]+$/, "") : code, comment: commentStart < 0 ? "" : text.slice(commentStart + 1) };
 }
 
 /**
- * Splits a line into its label and the code after the label. A name in the first column is a label, unless it is a mnemonic or a directive.
+ * Splits a line into its label and the code after the label. A name before a colon or a comma is a label. A name in the first column is
+ * also a label, unless the name is a mnemonic or a directive.
  * @param {string} line
  */
 function splitLabel(line) {
@@ -156,17 +158,17 @@ export function splitList(list) {
   if (list === "") return [];
   const parts = [""];
   let [depth, quote] = [0, ""];
-  for (const letter of list) {
+  for (const character of list) {
     if (quote !== "") {
-      if (letter === quote) quote = "";
-    } else if (letter === '"' || letter === "'") quote = letter;
-    else if (letter === "(") depth += 1;
-    else if (letter === ")") depth -= 1;
-    else if (letter === "," && depth === 0) {
+      if (character === quote) quote = "";
+    } else if (character === '"' || character === "'") quote = character;
+    else if (character === "(") depth += 1;
+    else if (character === ")") depth -= 1;
+    else if (character === "," && depth === 0) {
       parts.push("");
       continue;
     }
-    parts[parts.length - 1] += letter;
+    parts[parts.length - 1] += character;
   }
   return parts.map(trimBlanks);
 }

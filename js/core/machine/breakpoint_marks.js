@@ -7,14 +7,14 @@ import * as say from "../../words/machine.js";
  * @typedef {{ mark: string, words: string }} BreakpointMark
  */
 
-/** The marks of breakpoints that stop every time, stop if a condition is true, write a log text, or never stop. */
+/** The marks of breakpoints that stop every time, depend on a condition or a hit count, write a log text, or never stop. */
 const ALWAYS_STOPS_MARK = "\u25CF";
 const CONDITION_MARK = "\u25C6";
 const LOG_MARK = "\u25B8";
 const NEVER_STOPS_MARK = "\u25CB";
 
 /**
- * Describes the condition, the hit count and the log text of a breakpoint. Returns "" if it has none of them.
+ * Describes the condition, the hit count and the log text of a breakpoint. Returns "" if the breakpoint has none of them.
  * @param {Pick<Breakpoint, "condition" | "from" | "note">} breakpoint
  */
 export function describeDetails({ condition, from, note }) {
@@ -34,7 +34,7 @@ export function describeBreakpoint(breakpoint) {
 /**
  * Returns the mark of a breakpoint and its description.
  * @param {Breakpoint} breakpoint
- * @param {string} fault the error in its condition or log text, or ""; a breakpoint with an error stops every time
+ * @param {string} fault the error in the breakpoint's condition or log text, or ""; a breakpoint with an error stops every time
  * @returns {BreakpointMark}
  */
 export function breakpointMark(breakpoint, fault) {

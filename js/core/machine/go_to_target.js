@@ -7,7 +7,7 @@ import * as say from "../../words/machine.js";
 /**
  * @typedef {import("./source_map.js").SourceMap} SourceMap
  *
- * The target address; or an error message (`words`, "" for none).
+ * The target address (`address`), or an error message (`words`; "" for none).
  * @typedef {{ address: number, words: string }} GoToTarget
  */
 

@@ -43,7 +43,9 @@ export function heatLevels({ cycles, cells }, kind) {
     [place, kind === "often" ? scaleLevel(count, maxCount) : MAX_HEAT_LEVEL + 1 - scaleLevel(1 + ago - minAge, cycles)])));
 }
 
-/** Collects the changes of RAM nibbles in the last cycles while time runs. */
+/**
+ * The changes of RAM nibbles in the last cycles, collected while the session runs. `at` is the cycle count at the last change of a nibble.
+ */
 export class RecentHeat {
   constructor() {
     this.totalCycles = 0;
@@ -57,7 +59,7 @@ export class RecentHeat {
   }
 
   /**
-   * Adds changes, and removes those that are older than `storedCycles`.
+   * Adds changes, and removes the intervals that ended more than `storedCycles` cycles ago.
    * @param {ChipHeat} heat
    * @param {number} cycles the number of cycles since the previous call; at full speed, `heat` describes only some of these cycles
    * @param {number} storedCycles the number of cycles to store
@@ -98,7 +100,7 @@ function addChanges(changes, newChanges) {
  * @param {SourceMap | null} map
  */
 function describeCause({ address, line }, map) {
-  return line ? say.theLine(line) : addressWithName(hex(address, 3), map);
+  return line ? say.causeLine(line) : addressWithName(hex(address, 3), map);
 }
 
 /**
@@ -108,7 +110,7 @@ function describeCause({ address, line }, map) {
  */
 function describeLastChange(cell, map) {
   const cause = describeCause(cell, map);
-  return cell.ago === 0 ? say.by(cause) : say.byAgo(cause, formatCycles(cell.ago));
+  return cell.ago === 0 ? say.causedBy(cause) : say.causedByAgo(cause, formatCycles(cell.ago));
 }
 
 /**
@@ -125,22 +127,23 @@ function formatTimes(count) {
  * @param {SourceMap | null} map
  */
 export function describeChanges(cell, map) {
-  return `${formatTimes(cell.count)}${cell.count === 1 ? "" : say.LAST} ${describeLastChange(cell, map)}`;
+  return `${formatTimes(cell.count)}${cell.count === 1 ? "" : say.LAST_CHANGE} ${describeLastChange(cell, map)}`;
 }
 
 /**
- * Describes the changes of a nibble while time runs. Omits the time of the last change, because the reports are late and incomplete.
+ * Describes the changes of a nibble while the session runs. Omits the time of the last change, because the worker's reports are late and
+ * incomplete.
  * @param {HeatCell} cell
  * @param {SourceMap | null} map
  */
 export function describeChangesWhileRunning(cell, map) {
-  return say.seenBy(formatTimes(cell.count), describeCause(cell, map));
+  return say.changesSeenRunning(formatTimes(cell.count), describeCause(cell, map));
 }
 
 /**
- * Returns the status line of the heat map while time runs.
+ * Returns the status line of the heat map while the session runs.
  * @param {ChipHeat} heat
- * @param {boolean} isAll true if the changes in all cycles are counted
+ * @param {boolean} isAll true if the worker counts the changes in all cycles, false if it counts samples
  */
 export function describeHeatStatus({ chips }, isAll) {
   return say.heatCounted(chips, isAll);

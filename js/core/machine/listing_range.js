@@ -8,25 +8,28 @@ import { ADDRESS_COUNT, MAX_LISTING_LINES } from "../bench/rom_bytes.js";
 /**
  * @typedef {import("../bench/answers.js").ListingLine} ListingLine
  *
- * The part of a listing that shall be shown. The first visible line is the first line at or after address `from`. If `anchor` is not null,
- * a line must start at that address.
+ * The requested part of a listing. The first visible line is the first line at or after address `from`. If `anchor` is not null, a line
+ * must start at that address.
  * @typedef {{ from: number, anchor: number | null }} Goal
  */
 
-/** The number of bytes before the first visible line at which a listing starts, because it becomes aligned after a few instructions. */
+/**
+ * The number of bytes from the start of a listing to its first visible line. A misaligned listing becomes aligned within a few
+ * instructions.
+ */
 const BYTES_BEFORE = 12;
 /** The maximum number of tries. If a listing is misaligned, the next try starts one byte later. */
 const MAX_TRIES = 4;
 
 /**
- * Returns the start addresses to try for a listing, best first. The last one is the anchor itself.
+ * Returns the start addresses to try for a listing, best first. The last address is the anchor, if the goal has one.
  * @param {Goal} goal
  * @param {number} rows the number of visible lines
  */
 export function listingStarts({ from, anchor }, rows) {
   // At the end of ROM, the last lines fill the view. Each line has one or two bytes.
   const base = Math.min(from, ADDRESS_COUNT - 2 * rows) - BYTES_BEFORE;
-  const starts = indices(MAX_TRIES).map((delay) => Math.max(0, base + delay));
+  const starts = indices(MAX_TRIES).map((offset) => Math.max(0, base + offset));
   if (anchor !== null) starts.push(anchor);
   return [...new Set(starts)];
 }
@@ -63,7 +66,7 @@ export function visibleLines(lines, from, rows) {
 }
 
 /**
- * Returns whether an address is inside a line. The listing is then not aligned with the address.
+ * Returns whether an address is inside a line, after its first byte. The listing is then not aligned with the address.
  * @param {ListingLine[]} lines
  * @param {number} address
  */

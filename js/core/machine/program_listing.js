@@ -13,7 +13,7 @@ const TAB = " ".repeat(8);
 const LABEL_LINE = /^[A-Za-z_]\w*:$/;
 const NAME_DEFINITION = /^([A-Za-z_]\w*)=/;
 
-/** @type {(left: string, source: string) => string} returns a row; trailing blanks are removed */
+/** @type {(beforeSource: string, source: string) => string} returns a row without trailing blanks */
 const formatRow = (beforeSource, source) => `${beforeSource.padEnd(SOURCE_COLUMN)}${source}`.replace(/ +$/, "");
 
 /**
@@ -30,7 +30,8 @@ function byteRows(address, bytes, source) {
 }
 
 /**
- * Returns the text before a source line without bytes: the value that the line gives to a name, or the address of a line with only a label.
+ * Returns the text before a source line without bytes: the address for a line with only a label, the value for the definition of a name,
+ * otherwise "".
  * @param {string} line
  * @param {number} address
  * @param {SourceMap} map

@@ -10,7 +10,8 @@ import { PAIR, splitStatement } from "../text/assembly.js";
  */
 
 /**
- * Returns the named numbers that are probably SRC bytes: those that a FIM loads into a register pair that an SRC uses. Removes duplicates.
+ * Returns the named numbers that are probably SRC bytes: a FIM loads them into a register pair, and an SRC uses the same pair. Removes
+ * duplicates.
  * @param {SourceMap} map
  * @returns {{ name: string, byte: number }[]}
  */
@@ -28,7 +29,7 @@ export function namedSrcBytes(map) {
 }
 
 /**
- * Returns the names of RAM nibbles, by the form that `poke` accepts, such as `ram.0.0x12`. An SRC byte selects one nibble in each bank.
+ * Returns the names of RAM nibbles, by their place name in `poke`, such as `ram.0.0x12`. An SRC byte selects one nibble in each bank.
  * @param {Board} board
  * @param {Pick<WatchExpression, "name" | "place">[]} watched
  * @param {SourceMap | null} map null if the source is not the program in ROM

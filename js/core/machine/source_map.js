@@ -32,7 +32,7 @@ export class SourceMap {
     this.lines = new Uint16Array(ADDRESS_COUNT);
     this.sources = text.split("\n");
     this.read(answers);
-    /** For each address, the nearest address with a label at or below it, with no gap between the bytes; -1 for none. */
+    /** For each address, the nearest labelled address at or below it in the same contiguous range of program bytes; -1 for none. */
     this.labelledAddresses = this.findLabelledAddresses();
   }
 
@@ -60,7 +60,7 @@ export class SourceMap {
     if (name.isLabel) this.labels.set(name.value, [...this.labelsAt(name.value), name.name]);
   }
 
-  /** Returns, for each address, the nearest address with a label at or below it. */
+  /** Returns the value of `labelledAddresses`. */
   findLabelledAddresses() {
     const addresses = new Int16Array(ADDRESS_COUNT);
     let labelledAddress = -1;
@@ -129,8 +129,8 @@ export class SourceMap {
   }
 
   /**
-   * Returns the name of an address: its label, such as `put`, or the nearest label below it with an offset, such as `put + 2`. There must
-   * be no gap between the bytes. Returns "" if there is no name.
+   * Returns the name of an address: its label, such as `put`, or the nearest label below it with an offset, such as `put + 2`. The label
+   * must be in the same contiguous range of program bytes. Returns "" if there is no name.
    * @param {number} address
    */
   nameOf(address) {

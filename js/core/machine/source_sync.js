@@ -1,5 +1,5 @@
-// Keeps the source editor in step with the machine. If the source is that of the program in ROM, the editor marks the next line, and
-// addresses have names. The page checks this again after each change of the source or of ROM.
+// Keeps the source editor in step with the machine. If the source is the program in ROM, the editor marks the next line, and addresses have
+// names. The page compares the source with ROM again after each change of the source or of ROM.
 
 import { hex } from "../bench/numbers.js";
 import { SourceMap } from "./source_map.js";
@@ -20,8 +20,8 @@ import * as say from "../../words/machine.js";
  * @property {() => string} text Returns the source as sent to the bench.
  * @property {(text: string) => Promise<ProgramCheck>} check Compares a source with ROM. Resolves to the `map` answer or the error in the
  *   source, and the first difference from ROM.
- * @property {(map: SourceMap | null, words: string) => void} changed Called with the result of a check that differs from the last one. If
- *   the source is not the program in ROM, `map` is null and `words` is the reason.
+ * @property {(map: SourceMap | null, words: string) => void} changed Called with the result of a check if it differs from the result of the
+ *   previous check. If the source is not the program in ROM, `map` is null and `words` is the reason.
  * @property {(number: number) => string} describeRefusal Returns the message for an error number of the bench.
  */
 
@@ -46,7 +46,7 @@ export class SourceSync {
     this.lastResult = null;
     /** The text of the last check. */
     this.text = "";
-    /** The number of the last check that was started; results of older checks are discarded. */
+    /** The number of the last check that was started. `check` discards the results of older checks. */
     this.lastCheck = 0;
     /** @type {Promise<void> | null} the check for which all callers of `waitForCheck` wait; null for none */
     this.pendingCheck = null;
@@ -96,7 +96,7 @@ export class SourceSync {
    */
   mismatchReason({ refusal, difference }, map) {
     if (refusal) {
-      const lineText = refusal.line > 0 ? say.inThatLine(refusal.line) : "";
+      const lineText = refusal.line > 0 ? say.inSourceLine(refusal.line) : "";
       const errorText = refusal.number > 0 ? `no ${refusal.number}: ${this.calls.describeRefusal(refusal.number)}` : say.DOT_ENDS;
       return say.sourceHasError(lineText, errorText);
     }
@@ -107,7 +107,7 @@ export class SourceSync {
   }
 
   /**
-   * Marks the line of the next instruction. While time runs, no line is marked.
+   * Marks the line of the next instruction. Marks no line while the session runs.
    * @param {number} counter the program counter
    * @param {boolean} isRunning
    */
@@ -129,8 +129,8 @@ export class SourceSync {
 
   /** Waits until the current source has been checked. */
   async waitForCheck() {
-    // All callers wait for the same check. A newer check discards the result of an older one, so if each caller started its own check,
-    // perhaps no result would ever be accepted.
+    // All callers wait for the same check. A newer check discards the results of older checks, so if each caller started its own check,
+    // it could happen that no result is ever accepted.
     while (this.calls.text() !== this.text || !this.lastResult) {
       this.pendingCheck = this.pendingCheck || this.check().finally(() => {
         this.pendingCheck = null;

@@ -1,5 +1,5 @@
-// While time is paused, provides the values of words in the source, and the changes that the last executed lines have made. Both are read
-// from the last snapshot of the session.
+// While the session is paused, provides the values of words in the source, and the changes that the last executed lines have made. Reads
+// both from the last snapshot of the session.
 
 import { LineChanges } from "../debug/line_changes.js";
 import { MachineState } from "../debug/machine_state.js";
@@ -18,8 +18,8 @@ import { valuesAt } from "../debug/word_values.js";
  * @property {(lines: ReadonlyMap<number, string>) => void} showLines Shows the changes at the end of each line; line numbers count from 1.
  * @property {() => void} showWatched Shows the current values of the watch expressions.
  * @property {() => string[]} snapshot Returns the answers of the last snapshot.
- * @property {() => boolean} isRunning Returns whether time runs; values are shown only while it is paused.
- * @property {() => void} changed Called after the values have changed, and when they become unavailable because time starts.
+ * @property {() => boolean} isRunning Returns whether the session runs. The page shows values only while the session is paused.
+ * @property {() => void} changed Called after the values have changed, and when they become unavailable because the session starts to run.
  */
 
 /** @typedef {Program & ValueCalls} SourceValueCalls */
@@ -36,14 +36,14 @@ export class SourceValues {
     this.changes = new LineChanges();
   }
 
-  /** Clears the values because another session is shown. */
+  /** Clears the values because the page shows another session. */
   forget() {
     this.snapshot = [];
     this.state = null;
     this.changes.forget();
   }
 
-  /** @returns {MachineState | null} the state of the machine while time is paused; null while time runs */
+  /** @returns {MachineState | null} the state of the machine while the session is paused; null while it runs */
   get machineState() {
     if (this.calls.isRunning()) return null;
     const snapshot = this.calls.snapshot();
@@ -60,13 +60,13 @@ export class SourceValues {
    * @param {number} column
    * @returns {Piece[]}
    */
-  at(text, column) {
+  valueAt(text, column) {
     const { machineState } = this;
     return machineState ? valuesAt(text, column, machineState, this.calls) : [];
   }
 
   /**
-   * Handles a new snapshot. While time runs, only the first snapshot has an effect: it clears the values.
+   * Handles a new snapshot. While the session runs, only the first snapshot has an effect: it clears the values.
    * @param {number} cycles the cycle count
    */
   updateFromSnapshot(cycles) {

@@ -1,6 +1,7 @@
-// Lays out the lamps of a board as rows of characters: first the lamps of groups and of the grid, then the other named lamps.
+// Lays out the lamps of a board as rows of cells for the terminal: first the lamps of groups (except displays) and of the grid, then the
+// other named lamps.
 
-import { fittingGroups, isScanned, lampNames, lampsOutsideGroups } from "../board/face_board.js";
+import { fittingGroups, isMultiplexed, lampNames, lampsOutsideGroups } from "../board/face_board.js";
 import { lampAt, scannedLampAt } from "../board/lamp_state.js";
 import { indices } from "../bench/numbers.js";
 
@@ -9,8 +10,8 @@ import { indices } from "../bench/numbers.js";
  * @typedef {import("../board/face.js").Group} Group
  * @typedef {import("../board/lamp_state.js").LampReader} LampReader
  *
- * A cell in a row. `reader` reads the level of its lamp (null for a gap); `width` is its width in characters; `name` is the name of the
- * lamp ("" for none).
+ * A cell in a row. `reader` reads the state of its lamp (null for a gap); `width` is its width in characters; `name` is the name of the
+ * lamp and `colour` its colour ("" for none).
  * @typedef {{ reader: LampReader | null, width: number, name: string, colour: string }} LampCell
  */
 
@@ -18,7 +19,7 @@ import { indices } from "../bench/numbers.js";
 const MIN_NARROW_COLUMNS = 13;
 /** The width of a die cell in characters. */
 const DIE_WIDTH = 4;
-/** The number of characters around the name in a cell: `( ) ` before the name and a blank after it. */
+/** The number of characters around the name in a cell: `( ) ` before the name and a blank after the name. */
 const NAME_PADDING = 5;
 const DEFAULT_COLOUR = "red";
 /** The characters for lamps, by brightness level. */
@@ -33,12 +34,12 @@ class LampRows {
   constructor(face, count) {
     this.face = face;
     this.names = lampNames(face, count);
-    /** @type {LampCell[][]} */
+    /** @type {LampCell[][]} the rows; an empty row separates groups */
     this.rows = [];
-    let scanned = 0;
+    let multiplexedCount = 0;
     for (const group of fittingGroups(face, count)) {
       if (group.kind === "display") continue;
-      this.addGroup(group, isScanned(group) ? scanned++ : -1);
+      this.addGroup(group, isMultiplexed(group) ? multiplexedCount++ : -1);
     }
     this.addGrid(face.grid.filter(({ lamp }) => lamp < count));
     for (const lamp of lampsOutsideGroups(face, count)) {
@@ -56,19 +57,19 @@ class LampRows {
 
   /**
    * Returns a cell that shows a lamp.
-   * @param {LampReader} seenLamp
+   * @param {LampReader} reader reads the lamp
    * @param {number} lamp the lamp that determines the colour of the cell
    * @param {number} width
    * @param {string} name
    * @returns {LampCell}
    */
-  makeCell(seenLamp, lamp, width, name) {
+  makeCell(reader, lamp, width, name) {
     const colour = this.face.colours.get(lamp);
-    return { reader: seenLamp, width, name, colour: colour ? colour.text : DEFAULT_COLOUR };
+    return { reader, width, name, colour: colour ? colour.text : DEFAULT_COLOUR };
   }
 
   /**
-   * Returns the cell of a lamp together with its name.
+   * Returns a cell that shows a lamp and its name.
    * @param {number} lamp
    * @param {number} width
    */
@@ -79,15 +80,15 @@ class LampRows {
   /**
    * Adds the rows of a group.
    * @param {Group} group
-   * @param {number} number the index among the multiplexed groups; -1 for a group without multiplexing
+   * @param {number} number the index among the multiplexed groups that are not displays; -1 for a group without multiplexing
    */
   addGroup(group, number) {
     const { kind, first, rows, columns } = group;
     const width = kind === "die" ? DIE_WIDTH : columns < MIN_NARROW_COLUMNS ? 2 : 1;
     const cells = indices(rows * columns).map((at) => {
       if (number < 0) return this.makeCell(lampAt(first + at), first + at, width, "");
-      const seen = scannedLampAt(group, number, at);
-      return this.makeCell(seen, seen.column, width, "");
+      const lamp = scannedLampAt(group, number, at);
+      return this.makeCell(lamp, lamp.column, width, "");
     });
     if (kind === "die") this.addDie(cells);
     else for (const row of indices(rows)) this.rows.push(cells.slice(row * columns, (row + 1) * columns));
@@ -96,14 +97,17 @@ class LampRows {
 
   /**
    * Adds the three rows of a die: two, three and two pips.
-   * @param {LampCell[]} pips
+   * @param {LampCell[]} pips the seven cells of the pips
    */
   addDie([first, second, ...others]) {
     const space = gapCell(DIE_WIDTH);
     this.rows.push([first, space, second], others.slice(0, 3), [others[3], space, others[4]]);
   }
 
-  /** @param {Face["grid"]} grid */
+  /**
+   * Adds the rows of the grid.
+   * @param {Face["grid"]} grid the grid lamps that are on the board
+   */
   addGrid(grid) {
     if (grid.length === 0) return;
     const columns = indices(Math.max(...grid.map(({ column }) => column)) + 1);
@@ -137,7 +141,7 @@ export function buildLampRows(face, count) {
 }
 
 /**
- * Returns the text of a lamp: `(*) red`, or one character if the lamp has no name.
+ * Returns the text of a cell: `(*) red`, or one character if the lamp has no name. Blanks fill the cell.
  * @param {LampCell} cell
  * @param {number} level the brightness level
  */

@@ -1,4 +1,4 @@
-// Formats a number in large seven-segment digits: five rows of characters.
+// Formats a number as large seven-segment digits, which consist of five rows of characters.
 
 import { digitPattern } from "../board/digit_patterns.js";
 
@@ -10,7 +10,7 @@ const BLANK = " ";
 const hasSegment = (pattern, letter) => ((pattern >> "abcdefg".indexOf(letter)) & 1) === 1;
 
 /**
- * Returns the rows of a character.
+ * Returns the five rows of a large character.
  * @param {string} character a digit, another display character, or a dot
  */
 function characterRows(character) {
@@ -23,8 +23,8 @@ function characterRows(character) {
 }
 
 /**
- * Returns the rows for the text of a number.
- * @param {string} number
+ * Returns the five rows of a number in large digits.
+ * @param {string} number the number as text
  */
 export function largeDigitRows(number) {
   const characters = [...number].map(characterRows);

@@ -1,5 +1,5 @@
-// A session snapshot for the panel, built from the answers to queries: registers, keys, RAM, lamp brightness, and the instructions near the
-// program counter.
+// A snapshot of the session for the panel. It contains the registers, keys, RAM, lamp brightness, and the instructions near the program
+// counter, from the answers to queries.
 
 import { readRam } from "../bench/answers.js";
 import { joinLines, matchAnswers, readInputs } from "../bench/inputs.js";
@@ -23,11 +23,12 @@ import { visibleLines } from "../machine/listing_range.js";
 
 /** The number of screen rows per RAM chip: four registers and a port. */
 export const CHIP_ROWS = 5;
-/** The number of bytes from the start of a new listing to the program counter. */
+/** The number of bytes in a new listing before the program counter. */
 const BYTES_BEFORE = 6;
 /** If the program counter is in the last LINES_LEFT lines of the listing, or not in the listing, the panel reads a new listing. */
 const LINES_LEFT = 2;
 
+/** The state of the session that the panel shows. */
 export class PanelSnapshot {
   /** @param {Panel} panel */
   constructor(panel) {
@@ -51,18 +52,21 @@ export class PanelSnapshot {
     this.breakpoints = [];
     /** @type {Ram} the contents of the RAM chips that are visible on the screen */
     this.ram = { registers: new Map(), ports: new Map() };
-    /** @type {ListingLine[]} */
+    /** @type {ListingLine[]} the visible listing lines */
     this.listing = [];
   }
 
+  /** The TEST level, `0` or `1`; "" before the first snapshot. */
   get test() {
     return this.registers ? this.registers.test : "";
   }
 
+  /** The program counter. */
   get counter() {
     return this.registers ? parseInt(this.registers.counter, 16) : 0;
   }
 
+  /** True if there is a breakpoint at the program counter. */
   get isAtBreakpoint() {
     return this.breakpoints.includes(hex(this.counter, 3));
   }
@@ -88,20 +92,23 @@ export class PanelSnapshot {
    * Queries the session, and stores the answers as the new snapshot.
    * @param {number} rows the number of rows for RAM and listing; 0 to query only the state
    */
-  async take(rows) {
+  async refresh(rows) {
     const banks = new Set(this.shownChips(rows).map(({ bank }) => bank));
     const showsBrightness = rows > 0 && !this.panel.isPaused && this.panel.subject.board.lamps.length > 0;
     const questions = `${joinLines(["state", ...[...banks].map((bank) => `ram ${bank}`)])}${showsBrightness ? LAMPS_FORECAST_QUERY : ""}`;
     const answers = matchAnswers(readInputs(questions), await this.panel.ask(questions));
-    this.takeState(answers[0][0]);
-    this.takeRam(answers.slice(1, 1 + banks.size));
+    this.storeState(answers[0][0]);
+    this.storeRam(answers.slice(1, 1 + banks.size));
     const { face, board } = this.panel.subject;
     this.brightness = showsBrightness ? forecastBrightness(face, board.lamps.length, answers[answers.length - 1]) : null;
-    if (rows > 0) await this.takeListing(rows);
+    if (rows > 0) await this.refreshListing(rows);
   }
 
-  /** @param {string} answer the answer to `state` */
-  takeState(answer) {
+  /**
+   * Stores the state of the session.
+   * @param {string} answer the answer to `state`
+   */
+  storeState(answer) {
     const { registers, keys, lamps, breaks } = parseState(answer);
     this.commands = stateValue(answer, "seq");
     this.registers = parseRegisters(registers);
@@ -110,8 +117,11 @@ export class PanelSnapshot {
     this.breakpoints = parseItems(breaks);
   }
 
-  /** @param {string[][]} answers the answers to `ram B`, one for each visible bank */
-  takeRam(answers) {
+  /**
+   * Stores the contents of the visible RAM chips.
+   * @param {string[][]} answers the answers to `ram B`, one for each visible bank
+   */
+  storeRam(answers) {
     const rams = answers.map(readRam);
     this.ram = {
       registers: new Map(rams.flatMap(({ registers }) => [...registers])),
@@ -120,31 +130,31 @@ export class PanelSnapshot {
   }
 
   /**
-   * Reads the instructions near the program counter, unless the current listing still contains them.
-   * @param {number} rows
+   * Reads a new listing near the program counter, unless the current listing still contains enough lines after it.
+   * @param {number} rows the number of listing lines
    */
-  async takeListing(rows) {
+  async refreshListing(rows) {
     const { counter } = this;
     if (this.listing.slice(0, -LINES_LEFT).some(({ address }) => address === counter)) return;
     const from = Math.max(0, counter - BYTES_BEFORE);
     this.listing = visibleLines(await this.reader.read({ from, anchor: counter }, rows), from, rows);
   }
 
-  /** Clears the listing, so that the next snapshot reads it again. Called when the size of the terminal changes. */
+  /** Clears the listing, so that the next snapshot reads a new listing. The terminal calls this function when its size changes. */
   forgetListing() {
     this.listing = [];
   }
 
   /**
-   * Returns the brightness level of a lamp: the perceived level while time runs, otherwise the level at this instant.
+   * Returns the brightness level of a lamp: the perceived level if time is running, otherwise the level at the time of the snapshot.
    * @param {LampReader} lamp
    */
   lampLevel(lamp) {
-    if (this.brightness) return brightnessLevel(lamp.part(this.brightness));
+    if (this.brightness) return brightnessLevel(lamp.duty(this.brightness));
     return lamp.isLit(this.marks) ? FULL_LEVEL : 0;
   }
 
-  /** The text of the displays. */
+  /** The text of the displays and named lamps. */
   get display() {
     const { text } = this.text;
     return joinDisplayText(this.brightness ? this.text.readBrightness(this.brightness) : text.read(this.marks));

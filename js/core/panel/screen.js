@@ -1,6 +1,6 @@
-// Builds the rows of the panel screen. The top rows show the session, whether time runs, the display, the registers, and the source at the
-// program counter. Below them, RAM, the front panel and the listing are side by side. The last two rows are a message and the help for
-// keys. A row consists of text pieces. A piece that shows a lamp has the colour and the brightness level of the lamp.
+// Builds the rows of the panel screen. The top rows show the session, whether time is running, the display, the registers, and the source
+// at the program counter. Below the top rows, RAM, the front panel and the listing are side by side. The last two rows are a message and
+// the help for keys. A row consists of text pieces. A piece that shows a lamp has the colour and the brightness level of the lamp.
 // js/node/panel_terminal.mjs writes the rows to the terminal.
 
 import { hex, indices } from "../bench/numbers.js";
@@ -17,8 +17,8 @@ import * as say from "../../words/panel.js";
  * @typedef {import("../board/board_keys.js").BoardKey} BoardKey
  * @typedef {import("./terminal_panel.js").Panel} Panel
  *
- * @typedef {{ rows: number, columns: number }} ScreenSize
- * @typedef {{ text: string, colour: string, level: number }} Piece a text; `colour` is "" if the text does not show a lamp
+ * @typedef {{ rows: number, columns: number }} ScreenSize the size of the terminal, in characters
+ * @typedef {{ text: string, colour: string, level: number }} Piece a piece of text; `colour` is "" if it shows no lamp that is on
  * @typedef {{ pieces: Piece[], isInverse: boolean }} ScreenRow
  */
 
@@ -33,13 +33,14 @@ const RAM_WIDTH = 28;
 const FRONT_PANEL_WIDTH = 24;
 /** The minimum width of a key in characters. */
 const MIN_KEY_WIDTH = 3;
-/** The minimum number of printout rows. */
+/** The minimum number of rows for the printout. */
 const MIN_PRINTOUT_ROWS = 2;
-/** The maximum number of large digits, and the width that they need, in terminal columns. */
+/** The maximum number of characters that are shown as large digits. */
 const MAX_LARGE_CHARACTERS = 18;
+/** The minimum width of the large digits, in terminal columns. The display text is to the right of them. */
 const LARGE_WIDTH = 58;
 
-/** @type {(text: string) => Piece} creates a piece that does not show a lamp */
+/** @type {(text: string) => Piece} creates a piece that shows no lamp */
 const plainPiece = (text) => ({ text, colour: "", level: 0 });
 
 /**
@@ -66,7 +67,7 @@ export function fitsPanel({ rows, columns }) {
 }
 
 /**
- * Returns the number of rows of the middle part (RAM, front panel and listing).
+ * Returns the number of rows in the middle part (RAM, front panel and listing).
  * @param {ScreenSize} size
  */
 export function middleRows({ rows }) {
@@ -130,7 +131,7 @@ export class Screen {
     return [`${first.padEnd(LARGE_WIDTH)} ${say.display(escapeControls(display))}`, ...others];
   }
 
-  /** Returns the rows with the lamps, the registers and the register pairs. */
+  /** Returns the three rows with the lamps, the registers, and the register pairs. */
   registerRows() {
     const { snapshot, subject: { source } } = this.panel;
     if (!snapshot.registers) return ["", "", ""];
@@ -146,7 +147,7 @@ export class Screen {
   }
 
   /**
-   * Returns the name of an address; without a name, its hexadecimal digits.
+   * Returns the name of an address from the source; without a name, the hexadecimal digits of the address.
    * @param {number} address
    */
   addressName(address) {
@@ -154,7 +155,7 @@ export class Screen {
     return (source && source.map.nameOf(address)) || hex(address, 3);
   }
 
-  /** Returns the source line at the program counter. */
+  /** Returns the text of the source line at the program counter; "" if the source is unknown. */
   sourceText() {
     const { subject: { source }, snapshot: { counter } } = this.panel;
     if (!source) return "";
@@ -166,7 +167,7 @@ export class Screen {
   // --- RAM, front panel and listing ---
 
   /**
-   * Returns the RAM text in a row: a RAM register, or the port of a chip.
+   * Returns the RAM text in a row: a RAM register, or the port of a chip; "" if there is no chip.
    * @param {number} row the index of the row below the top rows
    */
   ramText(row) {
@@ -183,8 +184,8 @@ export class Screen {
   }
 
   /**
-   * Returns the listing text in a row, with marks for the program counter and a breakpoint. If an instruction of the source starts at the
-   * address, the text is the source line.
+   * Returns the listing text in a row, with marks for the program counter and for a breakpoint. If an instruction of the source starts at
+   * the address, the text is the source line without its comment.
    * @param {number} row the index of the row below the top rows
    */
   listingText(row) {
@@ -229,12 +230,12 @@ export class Screen {
   }
 
   /**
-   * Returns the rows with the last lines of the printout. There are at least MIN_PRINTOUT_ROWS rows; none if the board has no printer.
+   * Returns the rows with the last lines of the printout, at least MIN_PRINTOUT_ROWS rows. Returns no rows if the board has no printer.
    * @param {number} freeRows the number of rows that the keys and lamps leave free
    */
   printoutRows(freeRows) {
-    const { printing, printout, subject: { face } } = this.panel;
-    if (!printing || !face.printer) return [];
+    const { printerCodes, printout, subject: { face } } = this.panel;
+    if (!printerCodes || !face.printer) return [];
     const lines = printoutLines(printout, face.printer.words).map(escapeControls);
     const count = Math.max(MIN_PRINTOUT_ROWS, freeRows);
     const head = count > MIN_PRINTOUT_ROWS ? [say.PRINTOUT_TITLE] : [];
@@ -262,7 +263,7 @@ function keyLabel({ legend, letter, isNamed }) {
 }
 
 /**
- * Returns a source line without its comment. Reduces its indentation and each sequence of blanks.
+ * Returns a source line without its comment. Shortens its indentation to two blanks, and every other sequence of blanks to one blank.
  * @param {string} line
  */
 function stripComment(line) {

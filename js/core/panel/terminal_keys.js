@@ -1,18 +1,18 @@
-// Splits terminal input into keys: characters, and sequences that start with the escape character.
+// Splits terminal input into keys. A key is a character, or a sequence that starts with the escape character.
 
-/** Matches one key of the input. */
+/** Matches one key in the input. */
 // eslint-disable-next-line no-control-regex
 const KEY_PATTERN = /\u001b(?:\[[0-9;?]*[A-Za-z~]|O[A-Za-z]|[^\u001b[O])?|[^]/gu;
 /** @type {Record<string, string>} the arrow keys, by sequence without the escape character */
 const ARROWS = { "[C": "right", OC: "right", "[D": "left", OD: "left" };
 
 /**
- * A key. `text` is "left" or "right" for an arrow key, otherwise the characters of the key.
+ * A key that the user has typed. `text` is "left" or "right" for an arrow key; for any other key, it is the input of the key.
  * @typedef {{ kind: "arrow" | "sequence" | "escape" | "character", text: string }} TypedKey
  */
 
 /**
- * Splits an input into keys.
+ * Splits terminal input into keys.
  * @param {string} input
  * @returns {TypedKey[]}
  */

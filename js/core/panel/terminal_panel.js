@@ -1,6 +1,6 @@
 // Controls a session from a panel in a terminal. Time runs as fast as on a real 4004, or is paused. When the user types a character, the
-// panel presses a key of the board. For all this, it sends lines to the session. screen.js converts the state of the panel to rows of
-// characters.
+// panel presses a key of the board. To run cycles and to press keys, the panel sends lines to the session. screen.js converts the state of
+// the panel to rows of characters.
 
 import { parseRefusal, readRun } from "../bench/answers.js";
 import { joinLines } from "../bench/inputs.js";
@@ -29,21 +29,22 @@ import * as say from "../../words/panel.js";
  * A function that sends lines to the session and resolves to the answers. Throws if the session has ended.
  * @typedef {(lines: string) => Promise<string[]>} Ask
  *
- * The source of the program in ROM: its source map, its lines, and the number of lines before them in the file.
+ * The source of the program in ROM: its source map, its lines, and the number of lines before these lines in the file (`before`).
  * @typedef {{ map: SourceMap, lines: string[], before: number }} PanelSource
  *
  * The session that the panel controls: its name, its board and front panel, and the source of its program (null if unknown).
  * `describeRefusal` returns the message for an error number of the bench. `isPaused` is true if time is paused at the start. `note` is the
- * first message.
+ * message that the panel shows first.
  * @typedef {{ name: string, board: Board, face: Face, source: PanelSource | null, describeRefusal: (number: number) => string,
  *   isPaused: boolean, note: string }} PanelSubject
  */
 
-/** The maximum number of presses and releases in the key queue. */
+/** If the key queue contains this number of presses and releases, the panel ignores typed keys. */
 const MAX_CHANGES = 128;
 /** The maximum number of cycles of an instruction. */
 const STEP_CYCLES = 2;
 
+/** The panel: its state, and the actions of its keys. */
 export class Panel {
   /**
    * @param {Ask} ask
@@ -56,7 +57,7 @@ export class Panel {
     const { board, face } = subject;
     this.keys = boardKeys(board, { keys: face.keys, test: null });
     this.queue = new KeyQueue();
-    /** @type {Key[]} the keys that this panel has pressed and not released */
+    /** @type {Key[]} the keys that this panel has pressed and not yet released */
     this.heldKeys = [];
     this.time = new RealTime(now, now);
     this.isPaused = subject.isPaused;
@@ -67,7 +68,7 @@ export class Panel {
     this.firstChip = 0;
     this.isEnded = false;
     const printer = findPrinter(board, face);
-    this.printing = printer && new PrinterCodes({ ...printer, codes: [] });
+    this.printerCodes = printer && new PrinterCodes({ ...printer, codes: [] });
     /** The number of cycles that this panel has run. */
     this.cycles = 0;
     this.snapshot = new PanelSnapshot(this);
@@ -75,7 +76,7 @@ export class Panel {
 
   /** Takes the first snapshot. Pauses time if the session is at a breakpoint. */
   async begin() {
-    await this.snapshot.take(0);
+    await this.snapshot.refresh(0);
     if (this.snapshot.isAtBreakpoint) this.pause(REASONS.break);
   }
 
@@ -83,7 +84,7 @@ export class Panel {
 
   /**
    * Sends a command and resolves to its answer. Shows a message if the bench rejects the command.
-   * @param {string} line
+   * @param {string} line the command
    */
   async sendCommand(line) {
     const [answer] = await this.ask(joinLines([line]));
@@ -92,9 +93,9 @@ export class Panel {
   }
 
   /**
-   * Shows a message if an answer is an error.
+   * Shows a message if the bench has rejected a line.
    * @param {string} line
-   * @param {string} answer
+   * @param {string} answer the answer to the line
    */
   reportRefusal(line, answer) {
     const refusal = parseRefusal(answer);
@@ -103,13 +104,19 @@ export class Panel {
 
   // --- time ---
 
-  /** @param {string} reason the reason for the pause as text */
+  /**
+   * Pauses time.
+   * @param {string} reason the reason for the pause as text; "" if the user paused time
+   */
   pause(reason) {
     this.isPaused = true;
     this.pauseReason = reason;
   }
 
-  /** @param {number} now */
+  /**
+   * Lets time run again.
+   * @param {number} now the current time in milliseconds
+   */
   resume(now) {
     this.isPaused = false;
     this.pauseReason = "";
@@ -118,14 +125,14 @@ export class Panel {
 
   /**
    * Runs the cycles that a real 4004 would have run since the previous call, unless time is paused.
-   * @param {number} now
+   * @param {number} now the current time in milliseconds
    */
   async keepRealTime(now) {
     if (!this.isPaused) await this.advance(this.time.takeDueCycles(now));
   }
 
   /**
-   * Runs cycles, and presses and releases the queued keys when they are due. Ends early if the run stops.
+   * Runs cycles, and presses and releases the queued keys when they are due. Ends early if a run pauses time, such as at a breakpoint.
    * @param {number} cycles
    */
   async advance(cycles) {
@@ -140,8 +147,8 @@ export class Panel {
   async runNextEvent(cycles) {
     const [planned] = this.queue.plan(cycles);
     let cyclesRun = 0;
-    if (planned.change) await this.change(planned.change);
-    else cyclesRun = await this.run(planned);
+    if (planned.change) await this.changeKey(planned.change);
+    else cyclesRun = await this.runPlannedLine(planned);
     this.queue.markExecuted([planned], () => cyclesRun);
     return cyclesRun;
   }
@@ -150,7 +157,7 @@ export class Panel {
    * Presses or releases a key.
    * @param {Change} change
    */
-  async change(change) {
+  async changeKey(change) {
     const { word, key } = change;
     await this.sendCommand(keyLine(word, key));
     this.heldKeys = this.heldKeys.filter((each) => !isSameKey(each, key));
@@ -158,15 +165,15 @@ export class Panel {
   }
 
   /**
-   * Sends a planned `run` line. Resolves to the number of cycles run. If the bench rejects the line, resolves to the number of planned
-   * cycles.
+   * Sends a planned `run` line, and pauses time if the run stops early. Resolves to the number of cycles run. If the bench rejects the
+   * line, pauses time and resolves to the number of planned cycles.
    * @param {PlannedLine} plannedLine
    */
-  async run(plannedLine) {
-    const querySources = this.printing ? [this.printing] : [];
+  async runPlannedLine(plannedLine) {
+    const querySources = this.printerCodes ? [this.printerCodes] : [];
     const allAnswers = await this.ask(linesWithQueries([plannedLine], querySources));
     const { answers: [answer], sourceAnswers } = splitAnswers([plannedLine], querySources, allAnswers);
-    if (this.printing) this.printing.take(sourceAnswers[0], this.cycles);
+    if (this.printerCodes) this.printerCodes.take(sourceAnswers[0], this.cycles);
     const run = readRun(answer);
     this.cycles += run ? run.cycles : 0;
     this.reportRefusal(plannedLine.line, answer);
@@ -174,11 +181,11 @@ export class Panel {
     return run ? run.cycles : plannedCycles(plannedLine);
   }
 
-  /** Runs one instruction. */
+  /** Pauses time and runs one instruction. */
   async step() {
     this.isPaused = true;
     this.pauseReason = "";
-    if (this.printing) this.printing.take([await this.ask(this.printing.queries(STEP_CYCLES))], this.cycles);
+    if (this.printerCodes) this.printerCodes.take([await this.ask(this.printerCodes.queries(STEP_CYCLES))], this.cycles);
     const run = readRun(await this.sendCommand("step"));
     this.cycles += run ? run.cycles : 0;
     if (run && run.end !== "end") this.pauseReason = REASONS[run.end];
@@ -186,8 +193,8 @@ export class Panel {
 
   /** The codes that the printer has received. */
   get printout() {
-    if (!this.printing) return [];
-    return this.printing.codes.slice(0, this.printing.countAt(this.cycles)).map(([, code]) => code);
+    if (!this.printerCodes) return [];
+    return this.printerCodes.codes.slice(0, this.printerCodes.countAt(this.cycles)).map(([, code]) => code);
   }
 
   // --- keys ---
@@ -195,9 +202,9 @@ export class Panel {
   /**
    * Handles a key that the user has typed.
    * @param {TypedKey} key
-   * @param {number} now
+   * @param {number} now the current time in milliseconds
    */
-  async type({ kind, text }, now) {
+  async handleKey({ kind, text }, now) {
     this.message = "";
     const action = kind === "character" ? KEY_ACTIONS[text] : undefined;
     if (action) await action(this, now);
@@ -207,8 +214,8 @@ export class Panel {
   }
 
   /**
-   * Scrolls the view of the RAM chips.
-   * @param {number} count the number of chips; negative values scroll back
+   * Scrolls the RAM chips on the screen.
+   * @param {number} count the number of chips; a negative number scrolls back
    */
   scrollRam(count) {
     const last = this.snapshot.chips.length - 1;
@@ -216,14 +223,14 @@ export class Panel {
   }
 
   /**
-   * Handles a character for a key of the board. While time runs, queues a short press. While time is paused, presses or releases the key at
-   * once.
+   * Handles a character for a key of the board. While time is running, queues a press and a release. While time is paused, presses or
+   * releases the key at once.
    * @param {string} typedCharacter
    */
   async typeKey(typedCharacter) {
     const boardKey = findBoardKey(this.keys, typedCharacter);
     if (!boardKey) this.message = /\p{C}/u.test(typedCharacter) ? say.NOTHING_HERE : say.noKey(typedCharacter);
-    else if (this.isPaused) await this.toggle(boardKey.key);
+    else if (this.isPaused) await this.toggleKey(boardKey.key);
     else if (this.queue.changes.length < MAX_CHANGES) {
       this.queue.press(boardKey.key);
       this.queue.release(boardKey.key);
@@ -234,18 +241,18 @@ export class Panel {
    * Presses a released key, or releases a pressed key.
    * @param {Key} key
    */
-  async toggle(key) {
+  async toggleKey(key) {
     this.queue.forget(key);
-    await this.change({ key, word: this.snapshot.isDown(key) ? "release" : "press" });
+    await this.changeKey({ key, word: this.snapshot.isDown(key) ? "release" : "press" });
   }
 
-  /** Sets or deletes a breakpoint at the program counter. */
+  /** Sets a breakpoint at the program counter, or deletes it. */
   async toggleBreakpoint() {
     const { counter } = this.snapshot;
     await this.sendCommand(`${this.snapshot.isAtBreakpoint ? "unbreak" : "break"} 0x${hex(counter, 3)}`);
   }
 
-  /** Ends the panel. If time runs, first completes the queued key presses. Releases the keys that the panel has pressed. */
+  /** Ends the panel. If time is running, first completes the queued key presses. Releases the keys that the panel has pressed. */
   async end() {
     while (!this.isPaused && this.queue.changes.length > 0) await this.runNextEvent(MAX_RUN_CYCLES);
     for (const key of this.heldKeys) await this.sendCommand(keyLine("release", key));
@@ -253,9 +260,9 @@ export class Panel {
   }
 }
 
-/** @type {(panel: Panel) => Promise<void>} */
+/** @type {(panel: Panel) => Promise<void>} the action of Enter */
 const step = (panel) => panel.step();
-/** @type {(panel: Panel) => Promise<void>} */
+/** @type {(panel: Panel) => Promise<void>} the action of Ctrl-C and Ctrl-D */
 const end = (panel) => panel.end();
 
 /**

@@ -9,7 +9,8 @@ import * as say from "../../words/server.js";
  * @typedef {import("../text/board_reader.js").Value} Value
  * @typedef {import("../text/sendable_text.js").Fault} Fault
  *
- * A path in a project file, with its TOML key, its line, and its first column and end. Lines count from 1, columns from 0.
+ * A path in a project file, with its TOML key, its line, and the columns at which its text starts and ends. Lines count from 1, columns
+ * from 0.
  * @typedef {{ path: string, key: string, line: number, from: number, to: number }} NamedFile
  *
  * The contents of a project file. `speed` is "" if the file does not set it.
@@ -33,7 +34,7 @@ const LIST_KEYS = ["tests", "properties"];
 const REQUIRED_KEYS = ["board", "program"];
 
 /**
- * Returns an error with its range.
+ * Returns an error in a range of the project file.
  * @param {{ line: number, from: number, to: number }} range
  * @param {string} words
  * @returns {Fault}

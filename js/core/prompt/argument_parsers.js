@@ -1,7 +1,7 @@
 // Parsers for the arguments of prompt commands: program locations, counts, times, conditions.
 
 import { LAST_ADDRESS, parseNumber } from "../bench/numbers.js";
-import { parseWholeDuration } from "../conditions/durations.js";
+import { parseExactDuration } from "../conditions/durations.js";
 import { instructionAtAddress, instructionForLine } from "../debug/breakpoints.js";
 import { compileSearchCondition } from "../debug/condition_search.js";
 import { ADDRESS_RANGE } from "../../words/adapter.js";
@@ -58,7 +58,7 @@ export function findInstruction(text, session) {
 }
 
 /**
- * Parses a count; fails if it is not in the range from 1 to `maxCount`.
+ * Parses a count; fails if the count is not in the range from 1 to `maxCount`.
  * @param {string} text the count; "" means 1
  * @param {number} maxCount
  */
@@ -69,23 +69,23 @@ export function parseCountArgument(text, maxCount) {
 }
 
 /**
- * Parses a time such as `20 ms`; returns it in cycles.
+ * Parses a time such as `20 ms`. Returns the number of cycles; fails if the text is not a time.
  * @param {string} text
  */
 export function parseCycles(text) {
-  const cycles = parseWholeDuration(text.trim().split(/\s+/));
+  const cycles = parseExactDuration(text.trim().split(/\s+/));
   return cycles > 0 ? cycles : rejectCommand(say.noTime(text.trim() || say.NOTHING));
 }
 
 /**
- * Returns `text` itself if it is a condition, or "" if it is a program location (a line, an address or a label). Fails if the condition has
- * an error.
+ * Returns the text unchanged if it is a condition, or "" if it is a program location (a line, an address or a label). Fails if the
+ * condition has an error.
  * @param {string} text
  * @param {DebugSession} session
  */
 export function parseConditionText(text, session) {
-  const isPlace = /^\d+$/.test(text) || /^[^\s:]*\.[A-Za-z0-9]+:/.test(text) || parseAddress(text, session) !== undefined;
-  if (isPlace || !/[\s=<>!]/.test(text)) return "";
+  const isLocation = /^\d+$/.test(text) || /^[^\s:]*\.[A-Za-z0-9]+:/.test(text) || parseAddress(text, session) !== undefined;
+  if (isLocation || !/[\s=<>!]/.test(text)) return "";
   const { searchCondition, fault } = compileSearchCondition(text, session.names);
   return searchCondition ? text : rejectCommand(fault);
 }

@@ -1,5 +1,5 @@
-// The prompt of `mcs4 new` and `mcs4 open`. A callback serves the bench lines. The prompt also reads texts from files, prints help,
-// completes lines, and explains why the bench rejects a line.
+// The prompt of `mcs4 new` and `mcs4 open`. A callback sends the bench lines to the bench. The prompt also reads texts from files, prints
+// help, completes lines, and explains why the bench rejects a line.
 //
 //     const prompt = new SessionPrompt(calls);
 //     await prompt.take("press 3 9"); prompt.label; prompt.isEnded; await prompt.complete("pr");
@@ -24,15 +24,16 @@ import * as say from "../../words/session_prompt.js";
  * An error in a text: the line number from 1 (0 for none), and the message.
  * @typedef {{ line: number, words: string }} TextError
  *
- * A text whose last line (a dot) has not been entered yet: its first line, such as `wire`, and its other lines. `at` is the line number of
- * the first line in a `source` file, 0 for a typed line.
+ * A text whose last line (a dot) has not been entered yet: the command that starts the text, such as `wire`, and the lines after this
+ * command. `at` is the line number of the command in a `source` file, 0 for a typed command.
  * @typedef {{ word: TextWord, lines: string[], at: number }} UnfinishedText
  */
 
 /**
  * The callbacks of the prompt. Completion also uses `files` and `ask`.
  * @typedef {object} SessionPromptCalls
- * @property {(input: string) => Promise<string>} serve Serves an input and prints its answers. Resolves to the first answer line, or "".
+ * @property {(input: string) => Promise<string>} serve Sends an input (a line, or the lines of a text) to the bench and prints the answers.
+ *   Resolves to the first answer line, or "".
  * @property {(line: string) => Promise<string[]>} ask Resolves to the answers to a line. Does not print them.
  * @property {(words: string) => void} print Prints a message on standard output.
  * @property {(words: string) => void} complain Prints a message on standard error.
@@ -44,6 +45,7 @@ import * as say from "../../words/session_prompt.js";
  * @property {() => ManualSection[]} manual Returns the sections of the manual, with their tables.
  */
 
+/** The characters that start a comment, by the command for the text. */
 const COMMENT_MARKS = /** @type {const} */ ({ wire: "#", asm: ";", map: ";", wiring: "#", errors: ";" });
 /** The maximum number of characters of a source line in an error message. */
 const MAX_SHOWN_CHARACTERS = 120;
@@ -73,25 +75,25 @@ export class SessionPrompt {
     return `${this.openText ? this.openText.word : "mcs4"}> `;
   }
 
-  /** Returns false because no line runs long enough to be interrupted. */
+  /** Returns false, because this prompt has nothing to interrupt. */
   interrupt() {
     return false;
   }
 
-  /** Discards the unfinished text. Returns a message about it, or "". */
+  /** Discards the unfinished text. Returns a message about the text; "" if there is none. */
   drop() {
     const { openText } = this;
     this.openText = null;
     return openText ? say.textDropped(openText.word) : "";
   }
 
-  /** The unfinished text, which is served at the end of the input; "" if there is none. */
+  /** The lines of the unfinished text, which the caller sends to the bench at the end of the input; "" if there is none. */
   get unfinishedText() {
     return this.openText ? [this.openText.word, ...this.openText.lines].map((line) => `${line}\n`).join("") : "";
   }
 
   /**
-   * Serves a line. If the line is rejected, prints the reason and returns false.
+   * Executes a line. If the line is rejected, prints the reason and resolves to false.
    * @param {string} input the line, with or without a carriage return
    */
   async take(input) {
@@ -106,7 +108,7 @@ export class SessionPrompt {
   }
 
   /**
-   * Adds a line to the unfinished text. If the line is a dot, serves the text.
+   * Adds a line to the unfinished text. If the line is a dot, sends the text to the bench.
    * @param {string} line
    * @param {UnfinishedText} openText
    */
@@ -124,7 +126,7 @@ export class SessionPrompt {
   }
 
   /**
-   * Serves a line that is not part of a text.
+   * Executes a line that is not part of a text.
    * @param {string} line
    * @returns {Promise<boolean>}
    */
@@ -147,7 +149,7 @@ export class SessionPrompt {
   }
 
   /**
-   * Serves a bench line. If the bench rejects the line, prints the reason and returns false.
+   * Sends a line to the bench. If the bench rejects the line, prints the reason and resolves to false.
    * @param {string} line
    */
   async serve(line) {
@@ -160,9 +162,9 @@ export class SessionPrompt {
   // --- texts ---
 
   /**
-   * Serves a text from a file, without its comments.
-   * @param {TextWord} word
-   * @param {string} name
+   * Sends a text from a file to the bench, without the comments. Resolves to false if the text is rejected.
+   * @param {TextWord} word the command for the text
+   * @param {string} name the file name
    */
   async serveFile(word, name) {
     const text = this.read(name);
@@ -173,8 +175,8 @@ export class SessionPrompt {
   }
 
   /**
-   * Serves a text and prints the errors in it. Returns false if the bench rejects the text.
-   * @param {TextWord} word
+   * Sends a text to the bench, and prints the errors in the text. Resolves to false if the bench rejects the text.
+   * @param {TextWord} word the command for the text
    * @param {string} sentLines the text as sent to the bench
    * @param {string} text the text with its comments
    * @param {{ name: string, before: number }} place the file name ("" for none), and the number of lines before the text
@@ -189,10 +191,10 @@ export class SessionPrompt {
   }
 
   /**
-   * Returns the errors in a rejected text.
-   * @param {TextWord} word
+   * Resolves to the errors in a rejected text.
+   * @param {TextWord} word the command for the text
    * @param {string} text
-   * @param {string} board
+   * @param {string} board the board text if `text` is a program for ROM
    * @param {Refusal} refusal
    * @returns {Promise<TextError[]>}
    */
@@ -219,7 +221,7 @@ export class SessionPrompt {
     return false;
   }
 
-  /** Returns the text of the wired board. */
+  /** Resolves to the text of the current board. */
   async readBoardText() {
     const [, ...lines] = await this.calls.ask("board");
     return lines.map((line) => `${line}\n`).join("");
@@ -239,7 +241,10 @@ export class SessionPrompt {
     }
   }
 
-  /** @param {string} name */
+  /**
+   * Executes the lines of a file. Throws RejectedLine if the file cannot be executed.
+   * @param {string} name
+   */
   async source(name) {
     try {
       return await this.sources.serve(name);
@@ -251,7 +256,7 @@ export class SessionPrompt {
   // --- explanations of errors ---
 
   /**
-   * Explains why the bench rejected a line.
+   * Resolves to a message about why the bench rejected a line.
    * @param {string} line
    * @param {Refusal} refusal
    */
@@ -271,8 +276,8 @@ export class SessionPrompt {
   // --- help ---
 
   /**
-   * Prints the list of all lines; or the manual's description of a line, of the names for `poke` and `trace`, or of an error number.
-   * @param {string} topic the topic; "" for all lines
+   * Prints the description of a topic, or the list of all lines. Throws RejectedLine if the topic is unknown.
+   * @param {string} topic the first word of a line, `places` for the names in `poke` lines, or an error number; "" for all lines
    */
   help(topic) {
     const [word = ""] = topic.split(/[ \t]+/);
@@ -283,7 +288,7 @@ export class SessionPrompt {
   }
 
   /**
-   * Returns the description of a topic; "" if there is none.
+   * Returns the description of a topic; "" for an unknown topic.
    * @param {string} word
    */
   describeTopic(word) {
@@ -309,7 +314,7 @@ export class SessionPrompt {
   }
 }
 
-/** Returns the list of all lines. */
+/** Returns the list of all lines that the user can type, with descriptions. */
 function listAllLines() {
   const groups = [...LINES_BY_GROUPS, { title: say.OWN_TITLE, lines: say.OWN_LINES }];
   const shown = groups.map(({ title, lines }) => `${title}\n${lines.map(([form, does]) => `  ${form.padEnd(24)} ${does}`).join("\n")}`);

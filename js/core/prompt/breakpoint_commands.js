@@ -10,21 +10,21 @@ import * as say from "../../words/prompt.js";
  * @typedef {import("./debugger_prompt.js").Prompt} Prompt
  */
 
-/** Matches the arguments of `break`: the location, and optionally the first hit, the condition and the note. */
+/** Matches the arguments of `break`: the location, and optionally the number of the first hit that stops, the condition and the note. */
 const BREAKPOINT_ARGUMENTS = /^(.*?)(?:\s*\bfrom\s+(\d{1,9}))?(?:\s*\bif\s+(.+?))?(?:\s*\blog\s+"([^"]*)")?$/;
-/** The word for the breakpoint that was set last, as in gdb. */
+/** The word that means the number of the breakpoint that was set last, as in gdb. */
 export const LAST_BREAKPOINT = "$bpnum";
-/** Matches the name of a RAM nibble. The bench itself watches RAM nibbles; `continue` watches anything else, such as a register. */
+/** Matches the name of a RAM nibble. The bench watches RAM nibbles. Only the command `continue` watches any other place. */
 const RAM_NIBBLE = /^ram\.[0-7]\.\w+$/i;
 
 export class BreakpointCommands {
   /** @param {Prompt} prompt */
   constructor(prompt) {
     this.prompt = prompt;
-    /** The register, port or lamp whose change stops `continue`, "" for none. It is never a RAM nibble, because the bench watches those. */
+    /** The register, port or lamp whose change stops `continue`, "" for none. It is never a RAM nibble, because the bench watches RAM. */
     this.watchedPlace = "";
     /** The number of the breakpoint that was set last, 0 for none. */
-    this.lastNumber = 0;
+    this.lastBreakpointNumber = 0;
   }
 
   /** The list of breakpoints. */
@@ -32,7 +32,10 @@ export class BreakpointCommands {
     return this.prompt.session.breakpoints;
   }
 
-  /** @returns {Record<string, CommandHandler>} */
+  /**
+   * The handlers by command name.
+   * @returns {Record<string, CommandHandler>}
+   */
   get handlers() {
     /** @type {(isOn: boolean) => CommandHandler} */
     const createSwitch = (isOn) => async (argumentText) => {
@@ -54,16 +57,17 @@ export class BreakpointCommands {
   /** Adds the breakpoints of the bench to the list, and removes the breakpoints that the bench no longer has. */
   syncWithBench() {
     const { map, debugger: { session } } = this.prompt.session;
-    for (const address of session.breaks) {
+    for (const address of session.breakpointAddresses) {
       if (!this.list.findByAddress(address)) this.list.add({ line: map.lineOf(address), address });
     }
     const benchBreakpoints = this.list.placed.filter(({ condition, note, from }) => !condition && !note && from === 1);
-    for (const { id, address } of benchBreakpoints) if (!session.breaks.includes(address)) this.list.remove(id);
+    for (const { id, address } of benchBreakpoints) if (!session.breakpointAddresses.includes(address)) this.list.remove(id);
   }
 
   /**
-   * Sets a breakpoint, replacing any breakpoint at the same address. Returns the number of the new breakpoint.
-   * @param {string} argumentText the arguments: location, first hit, condition and note
+   * Sets a breakpoint, replacing any breakpoint at the same address. Resolves to the number of the new breakpoint. Fails if the location,
+   * the condition or the note has an error.
+   * @param {string} argumentText the arguments: location, number of the first hit that stops, condition and note
    */
   async add(argumentText) {
     const { session, machine, calls } = this.prompt;
@@ -83,7 +87,7 @@ export class BreakpointCommands {
     await machine.saveAndReport();
     const { address: placedAddress } = this.list.get(newBreakpoint.id) || newBreakpoint;
     calls.print(say.breakpointAt(newBreakpoint.id, addressText(session, placedAddress)));
-    this.lastNumber = newBreakpoint.id;
+    this.lastBreakpointNumber = newBreakpoint.id;
     return newBreakpoint.id;
   }
 
@@ -105,6 +109,7 @@ export class BreakpointCommands {
     await machine.saveAndReport();
   }
 
+  /** Sends the list to the bench, and saves the session. */
   async applyBreakpoints() {
     await this.prompt.session.applyBreakpoints();
     await this.prompt.machine.saveAndReport();
@@ -116,12 +121,15 @@ export class BreakpointCommands {
    */
   parseNumbers(argumentText) {
     return argumentText.split(/\s+/).filter(Boolean).map((word) => {
-      const id = word === LAST_BREAKPOINT ? this.lastNumber : /^\d+$/.test(word) ? Number(word) : 0;
+      const id = word === LAST_BREAKPOINT ? this.lastBreakpointNumber : /^\d+$/.test(word) ? Number(word) : 0;
       return this.list.get(id) ? id : rejectCommand(say.noBreakpoint(word));
     });
   }
 
-  /** @param {string} argumentText */
+  /**
+   * Deletes breakpoints or a watch.
+   * @param {string} argumentText the breakpoint numbers, or the watched place; "" for all breakpoints
+   */
   async remove(argumentText) {
     if (/[a-z]/i.test(argumentText.replace(LAST_BREAKPOINT, ""))) return this.unwatch(argumentText);
     const ids = argumentText === "" ? this.list.all.map(({ id }) => id) : this.parseNumbers(argumentText);
@@ -129,7 +137,10 @@ export class BreakpointCommands {
     return this.applyBreakpoints();
   }
 
-  /** @param {string} argumentText */
+  /**
+   * Sets a watch.
+   * @param {string} argumentText the place to watch
+   */
   async watch(argumentText) {
     const { prompt, watchedPlace } = this;
     const place = prompt.parsePlace(argumentText, "watch");
@@ -145,7 +156,10 @@ export class BreakpointCommands {
     prompt.calls.print(say.watchedByContinue(place));
   }
 
-  /** @param {string} argumentText */
+  /**
+   * Deletes a watch; fails if the place is not watched.
+   * @param {string} argumentText the watched place
+   */
   async unwatch(argumentText) {
     const place = this.prompt.parsePlace(argumentText, "delete");
     if (RAM_NIBBLE.test(place)) await this.prompt.serve(`unwatch ${place.slice("ram.".length).replace(".", " ")}`);

@@ -1,4 +1,4 @@
-// The prompt commands that change the session while time is paused: keys, values and the program.
+// The prompt commands that change the session while the machine is paused: keys, values and the program.
 
 import { compileSetLine } from "../adapter/place_assignment.js";
 import { rejectCommand } from "./argument_parsers.js";
@@ -15,7 +15,10 @@ export class ChangeCommands {
     this.prompt = prompt;
   }
 
-  /** @returns {Record<string, CommandHandler>} */
+  /**
+   * The handlers by command name.
+   * @returns {Record<string, CommandHandler>}
+   */
   get handlers() {
     const { prompt } = this;
     return {
@@ -36,7 +39,7 @@ export class ChangeCommands {
   }
 
   /**
-   * Presses or releases keys; time stays paused.
+   * Presses or releases keys; the machine stays paused.
    * @param {"press" | "release"} word the bench word
    * @param {string} argumentText the keys
    * @param {string} command the prompt command, for messages
@@ -45,7 +48,10 @@ export class ChangeCommands {
     for (const key of this.prompt.keys.parseKeys(argumentText, command)) await this.prompt.serve(key[word]);
   }
 
-  /** @param {string} argumentText */
+  /**
+   * Sets a place.
+   * @param {string} argumentText the place and the value: `r4 = r5 + 1`
+   */
   async setPlace(argumentText) {
     const { session, machine } = this.prompt;
     const lines = compileSetLine(argumentText, session);
@@ -54,6 +60,7 @@ export class ChangeCommands {
     if (lines.startsWith("poke pc ")) this.prompt.showStop("");
   }
 
+  /** Assembles the current text of the program file into ROM; fails if the text has an error. */
   async loadProgram() {
     const { calls, session, console: debugConsole, machine } = this.prompt;
     const text = calls.source();
@@ -61,7 +68,7 @@ export class ChangeCommands {
     const refusal = await session.setProgram(text.replace(/^\uFEFF/, "").replace(/\r\n?/g, "\n"));
     if (refusal) {
       const lineText = refusal.line ? `, line ${refusal.line}` : "";
-      rejectCommand(`no ${refusal.number}${lineText}: ${debugConsole.words.refusalMeaning(refusal.number)}`);
+      rejectCommand(`no ${refusal.number}${lineText}: ${debugConsole.errorMessages.refusalMeaning(refusal.number)}`);
     }
     await machine.saveAndReport();
     return this.prompt.showStop(say.SOURCE_IN_ROM);

@@ -50,10 +50,10 @@ import { stoppedAt } from "../../words/stops.js";
  */
 
 /**
- * The maximum length of a move in a script, in cycles; a real board needs 18 minutes for it. A move runs time or goes back in time.
+ * The maximum length of a move in a script, in cycles: 18 minutes on a real board. A move runs the machine or goes back in time.
  */
 const MAX_CYCLES = 100000000;
-/** In a script, the maximum number of stops at which breakpoint commands run for one line. */
+/** The maximum number of stops at which breakpoint commands run after one line of a script. */
 const MAX_STOPS = 100000;
 /** Matches a command word and the text after it. */
 const COMMAND = /^([a-zA-Z-]+|\S)(.*)$/;
@@ -63,7 +63,7 @@ const NO_STOP_ACTIONS = { commands: [], isSilent: false, words: "", hasMoved: fa
 const REPEATABLE_COMMANDS = /^(next|step|reverse-step|reverse-next|reverse-continue|continue|until|list|run|x)$/;
 
 /**
- * The commands with a file name, and the patterns that capture it.
+ * The patterns that capture the file name in a line, by command.
  * @type {Record<string, RegExp>}
  */
 const FILE_ARGUMENTS = { source: /^\s*\S+\s+(.*)$/, save: /^\s*\S+\s+\S+\s+(.*)$/ };
@@ -89,8 +89,8 @@ export class Prompt {
     this.startCycles = 0;
     /** True if the user interrupted the last line. */
     this.isInterrupted = false;
-    /** @type {{ commands: string[], isSilent: boolean, words: string, hasMoved: boolean }} the commands of the breakpoint at the last stop,
-     *    whether they hide the stop message, an additional message, and whether the last line has moved time */
+    /** @type {{ commands: string[], isSilent: boolean, words: string, hasMoved: boolean }} the commands of the breakpoint at the last stop;
+     *    whether these commands hide the stop message; an additional message; and whether the last line made a move */
     this.stopActions = NO_STOP_ACTIONS;
     /** @type {import("../adapter/debugged_machine.js").MoveEnd} the last stop */
     this.lastStop = { reason: "", words: "", id: 0 };
@@ -123,7 +123,7 @@ export class Prompt {
         this.lastStop = lastStop;
       },
       output: (words, category) => this.output(words, category),
-      pause: () => this.yieldTurn(),
+      pause: () => this.yieldToOtherTasks(),
       stateChanged: () => {},
     });
   }
@@ -133,7 +133,7 @@ export class Prompt {
     return this.breakpoints.watchedPlace;
   }
 
-  /** Adds the session's breakpoints to the list, and shows the current stop. */
+  /** Adds the session's breakpoints to the list, and shows the current position. */
   async begin() {
     this.breakpoints.syncWithBench();
     await this.session.applyBreakpoints();
@@ -141,27 +141,28 @@ export class Prompt {
   }
 
   /** Yields to other tasks. In a script, ends a move that exceeds MAX_CYCLES. */
-  async yieldTurn() {
+  async yieldToOtherTasks() {
     await this.calls.pause();
     const { count } = this.session.debugger.session;
     if (!this.calls.isInteractive && count.total - this.startCycles >= MAX_CYCLES) this.machine.pause();
   }
 
   /**
-   * Prints the output of the machine. Errors go to the standard error.
+   * Prints the output of the machine. Prints errors on standard error.
    * @param {string} words
    * @param {"console" | "stdout" | "stderr"} category
    */
   output(words, category) {
     if (category === "stderr") this.sources.complain(words.trimEnd());
-    // The message about a move that did nothing is left out here, because `makeMove` reports it.
+    // This method ignores the message about a move that did nothing, because `makeMove` reports the same message.
     else if (!words.startsWith(say.NOTHING_DONE)) this.calls.print(words.trimEnd());
   }
 
   // --- lines ---
 
   /**
-   * Executes a line, and the commands of each breakpoint that stops it. If a line is rejected, prints the reason and resolves to false.
+   * Executes a line, and the commands of each breakpoint that stops the machine. If a line is rejected, prints the reason and resolves to
+   * false.
    * @param {string} text
    */
   async take(text) {
@@ -176,7 +177,8 @@ export class Prompt {
   }
 
   /**
-   * Executes a line without the breakpoint commands. If the line is rejected, prints the reason and returns false.
+   * Executes a line, but not the commands of a breakpoint that stops the machine. If the line is rejected, prints the reason and resolves
+   * to false.
    * @param {string} line
    */
   async executeLine(line) {
@@ -201,7 +203,7 @@ export class Prompt {
   }
 
   /**
-   * Executes the command in a line; fails if there is none.
+   * Executes the command in a line; fails if the command is unknown.
    * @param {string} line
    */
   async runCommand(line) {
@@ -211,8 +213,8 @@ export class Prompt {
   }
 
   /**
-   * Runs the commands of the breakpoint at which the last line stopped. When a command runs time, the commands after it are skipped, and
-   * the commands of the next breakpoint run. Resolves to false if a command is rejected.
+   * Runs the commands of the breakpoint at which the last line stopped. When a command runs the machine, skips the commands after it, and
+   * runs the commands of the next breakpoint. Resolves to false if a command is rejected.
    */
   async runCommands() {
     let stops = 0;
@@ -223,7 +225,7 @@ export class Prompt {
       }
       stops += 1;
       if (!this.stopActions.hasMoved || (!this.calls.isInteractive && stops === MAX_STOPS)) break;
-      await this.yieldTurn();
+      await this.yieldToOtherTasks();
     }
     this.stopActions = NO_STOP_ACTIONS;
     return true;
@@ -244,7 +246,7 @@ export class Prompt {
   }
 
   /**
-   * Serves a bench line and saves the session.
+   * Executes a bench line and saves the session.
    * @param {string} line
    */
   async serve(line) {
@@ -265,8 +267,9 @@ export class Prompt {
   }
 
   /**
-   * Parses the name of a register, port, lamp or RAM nibble. Returns it in the bench's form; fails if the board lacks it.
-   * @param {string} text the name; a lamp can have its name on the front panel
+   * Parses the name of a register, port, lamp or RAM nibble. Returns the place name (conditions/places.js). Fails if the board does not
+   * have the place.
+   * @param {string} text the name; for a lamp also its name on the front panel
    * @param {string} command the prompt command, for messages
    */
   parsePlace(text, command) {
@@ -282,7 +285,7 @@ export class Prompt {
     return this.stops.unfinishedCommands ? "> " : "(mcs4) ";
   }
 
-  /** Interrupts the current move. Returns false if there is none. */
+  /** Interrupts the current move. Returns false if no move is in progress. */
   interrupt() {
     const { isMoving } = this.machine;
     this.isInterrupted = true;
@@ -290,7 +293,7 @@ export class Prompt {
     return isMoving;
   }
 
-  /** Discards the unfinished breakpoint commands. Returns a message about them, or "". */
+  /** Discards the unfinished breakpoint commands. Returns a message about the commands; "" if there are none. */
   drop() {
     return this.stops.drop();
   }
@@ -298,7 +301,7 @@ export class Prompt {
   // --- completion ---
 
   /**
-   * Resolves to the completions of a line: the words, and the part of the line that they replace.
+   * Resolves to the completions of a line: the candidate words, and the end of the line that the chosen word replaces.
    * @param {string} line the line up to the cursor
    * @returns {Promise<[string[], string]>}
    */

@@ -26,7 +26,8 @@ const FORMATS = {
 };
 
 /**
- * Returns the current value of an expression as a number. A true condition is 1, a false condition 0.
+ * Returns the current value of an expression as a number: 1 for a true condition, 0 for a false condition. Fails if the expression has an
+ * error.
  * @param {string} text
  * @param {DebugSession} session
  */

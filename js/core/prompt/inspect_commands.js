@@ -24,7 +24,7 @@ export const INFO_WORDS = [
   "registers", "ram", "ports", "keys", "breakpoints", "watches", "display", "names", "source", "session", "line", "symbol", "frame",
   "stack", "program", "locals",
 ];
-/** The words after `info` that gdb accepts as other names, each with the word that has the same meaning here. */
+/** The other names that gdb accepts after `info`, each with the word in INFO_WORDS that has the same meaning. */
 const INFO_ABBREVIATIONS = new Map([
   ["r", "registers"], ["s", "stack"], ["f", "frame"], ["args", "locals"], ["all-registers", "registers"],
 ]);
@@ -39,7 +39,10 @@ export class InspectCommands {
     this.lastListedLine = 0;
   }
 
-  /** @returns {Record<string, CommandHandler>} */
+  /**
+   * The handlers by command name.
+   * @returns {Record<string, CommandHandler>}
+   */
   get handlers() {
     const { calls, machine, session } = this.prompt;
     return {
@@ -109,7 +112,7 @@ export class InspectCommands {
   }
 
   /**
-   * Adds an expression that is printed at each stop. Without an expression, prints all of them.
+   * Adds an expression that is printed at each stop. Without an expression, prints the expressions that were added before.
    * @param {string} argumentText the expression, or ""
    */
   addDisplay(argumentText) {
@@ -148,8 +151,8 @@ export class InspectCommands {
   }
 
   /**
-   * Prints source lines: those around a location, or those after the last printed line.
-   * @param {string} argumentText the location; "" to continue
+   * Prints source lines: the lines around a location, or the lines after the last printed line.
+   * @param {string} argumentText the location; "" for the lines after the last printed line
    */
   listSource(argumentText) {
     const { calls, session } = this.prompt;
@@ -171,7 +174,10 @@ export class InspectCommands {
     return `${stateText.frameLines(session).split("\n")[0]}\n${stateText.nextInstruction(session)}`;
   }
 
-  /** @returns {Record<string, (argumentText: string) => string>} the functions that return the text of `info`, by the word after `info` */
+  /**
+   * The functions that return the text of `info`, by the word after `info`.
+   * @returns {Record<string, (argumentText: string) => string>}
+   */
   get infoTexts() {
     const { session, keys, launchResult, breakpoints, lastStop } = this.prompt;
     return {
@@ -197,7 +203,10 @@ export class InspectCommands {
     };
   }
 
-  /** @param {string} argumentText */
+  /**
+   * Returns the text of an `info` command; fails if the word is unknown or not unique.
+   * @param {string} argumentText a word of INFO_WORDS, a unique prefix or a name that gdb accepts; `line` and `symbol` take an argument
+   */
   infoText(argumentText) {
     const [, word = "", argument = ""] = /^(\S*)\s*(.*)$/.exec(argumentText) || [];
     const matchingKinds = INFO_WORDS.filter((kind) => word !== "" && kind.startsWith(word));

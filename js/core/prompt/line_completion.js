@@ -6,7 +6,7 @@ import { POKE_NAMES, TRACE_NAMES } from "../bench/line_forms.js";
 import { indices } from "../bench/numbers.js";
 
 /**
- * The possible words, and the part at the end of the line that one of them replaces.
+ * The candidate words, and the end of the line that the chosen word replaces.
  * @typedef {[string[], string]} Completion
  */
 
@@ -17,7 +17,7 @@ import { indices } from "../bench/numbers.js";
  * @property {(line: string) => Promise<string[]>} ask Resolves to the bench's answers to a line. Does not print them.
  */
 
-/** The first words of the lines that the prompt itself serves, not the bench. */
+/** The first words of the lines that the prompt executes itself, without the bench. */
 export const PROMPT_WORDS = ["help", "source", "quit"];
 /** The first words of the lines that can end with a file name. */
 export const FILE_WORDS = ["wire", "asm", "map", "wiring", "errors", "source"];
@@ -30,13 +30,13 @@ const filterByPrefix = (words, begin) => words.filter((word) => word.startsWith(
 const numberWords = (count) => indices(count).map(String);
 
 /**
- * A function that resolves to the possible words for the argument at an index.
- * @typedef {(at: number, ask: (line: string) => Promise<string[]>) => Promise<string[]>} WordsAt
+ * A function that resolves to the candidate words for the argument at an index.
+ * @typedef {(at: number, ask: (line: string) => Promise<string[]>) => Promise<string[]>} ArgumentWords
  */
 
-/** @type {(words: string[]) => WordsAt} proposes words only for the first argument */
+/** @type {(words: string[]) => ArgumentWords} proposes words only for the first argument */
 const wordsForFirstArgument = (words) => async (at) => (at === 0 ? words : []);
-/** @type {WordsAt} proposes row numbers for the first argument, and column numbers for the second */
+/** @type {ArgumentWords} proposes row numbers for the first argument, and column numbers for the second */
 const completeKeys = async (at, ask) => {
   const { rows, columns } = readBoard(await ask("board"));
   return at > 1 ? [] : numberWords(at === 0 ? rows : columns);
@@ -44,9 +44,9 @@ const completeKeys = async (at, ask) => {
 
 /**
  * The functions that propose arguments, by the first word of the line.
- * @type {Record<string, WordsAt>}
+ * @type {Record<string, ArgumentWords>}
  */
-const WORDS_AFTER = {
+const ARGUMENT_COMPLETIONS = {
   help: wordsForFirstArgument([...ANSWER_FORMATS.keys(), ...PROMPT_WORDS, ...HELP_WORDS]),
   poke: wordsForFirstArgument(POKE_NAMES),
   trace: async (at) => (at > 0 ? TRACE_NAMES : []),
@@ -71,8 +71,8 @@ export async function completeLine(line, calls) {
   if (FILE_WORDS.includes(word)) return [calls.files(rest), rest];
   const words = line.trimStart().split(/[ \t]+/);
   const begin = /** @type {string} */ (words.pop());
-  const findWordsAfter = WORDS_AFTER[word];
+  const findArgumentWords = ARGUMENT_COMPLETIONS[word];
   const isKnown = ANSWER_FORMATS.has(word) || word === "help";
-  const found = isKnown && findWordsAfter ? await findWordsAfter(words.length - 1, calls.ask) : [];
+  const found = isKnown && findArgumentWords ? await findArgumentWords(words.length - 1, calls.ask) : [];
   return [filterByPrefix(found, begin), begin];
 }

@@ -1,4 +1,5 @@
-// The prompt commands that run time or go back in time. Each command waits until time stops, and reports where and why it stopped.
+// The prompt commands that run the machine or go back in time. Each command waits until the machine stops, and reports where and why it
+// stopped.
 
 import { parseGoal } from "../debug/condition_search.js";
 import { openCallCount } from "./state_text.js";
@@ -23,7 +24,10 @@ export class MoveCommands {
     this.prompt = prompt;
   }
 
-  /** @returns {Record<string, CommandHandler>} */
+  /**
+   * The handlers by command name.
+   * @returns {Record<string, CommandHandler>}
+   */
   get handlers() {
     const { machine } = this.prompt;
     /** @type {(goal: BackGoal) => CommandHandler} */
@@ -66,7 +70,7 @@ export class MoveCommands {
   }
 
   /**
-   * Starts a move, waits for its end, and shows where it stopped. A move runs time or goes back in time.
+   * Starts a move, waits for its end, and shows where it stopped. A move runs the machine or goes back in time.
    * @param {() => void} startMove starts the move
    */
   async moveAndShow(startMove) {
@@ -74,8 +78,9 @@ export class MoveCommands {
   }
 
   /**
-   * Repeats a move up to a count, or until it stops for another reason than the end of a step. Shows where the last move stopped.
-   * @param {string} argumentText the count; "" means 1
+   * Repeats a move up to a number of times, or until a move stops for another reason than the end of its step. Shows where the last move
+   * stopped.
+   * @param {string} argumentText the number of moves; "" means 1
    * @param {() => void} startMove starts the move
    */
   async repeatMove(argumentText, startMove) {
@@ -89,7 +94,7 @@ export class MoveCommands {
   }
 
   /**
-   * Runs until the current subroutine returns.
+   * Runs until the current subroutine returns. Fails if the program is in no subroutine.
    * @param {string} argumentText must be ""
    */
   finishSubroutine(argumentText) {
@@ -112,7 +117,7 @@ export class MoveCommands {
   }
 
   /**
-   * Presses and releases keys one after another while time runs.
+   * Presses and releases keys one after another while the machine runs. If a breakpoint stops the machine, does not press the other keys.
    * @param {string} argumentText the names of the keys
    */
   async pressKeys(argumentText) {

@@ -8,7 +8,7 @@ import * as say from "../../words/prompt.js";
  * @typedef {{ name: string, short: string[], use: string, does: string, more: string }} CommandText
  */
 
-/** @type {CommandText[]} */
+/** @type {CommandText[]} the help texts of all commands */
 export const COMMANDS = COMMAND_WORDS.map(({ words, use, does, more }) => {
   const [name, ...short] = words.split(" ");
   return { name, short, use, does, more };

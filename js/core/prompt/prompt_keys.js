@@ -57,7 +57,7 @@ export class PromptKeys {
   }
 
   /**
-   * Parses key names; fails if a key does not exist. A word that is not a key name is split into letters, each of which must be a key name.
+   * Parses key names. A word that is not a key name is split into letters. Fails if a word or letter is not a key name.
    * @param {string} text
    * @param {string} command the prompt command, for messages
    */

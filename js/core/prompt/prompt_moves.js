@@ -1,4 +1,4 @@
-// Moves in time that only the prompt offers: a step back over a subroutine call, and a run during which a key is pressed and released.
+// Moves that only the prompt offers: a step back over a subroutine call, and a run during which a key is pressed and released.
 
 import { isCall, isReturn } from "../engine/rom_codes.js";
 import { KEY_DOWN_CYCLES, TOOL_KEY_UP_CYCLES } from "../time/mcs4_time.js";
@@ -18,16 +18,16 @@ function nextOpcode(session) {
 }
 
 /**
- * Steps back over an instruction. If the instruction returns from a subroutine, goes back to the call of this subroutine. The call is found
- * by the changes of the return addresses.
+ * Steps back over an instruction. If the instruction returns from a subroutine, goes back to the call of this subroutine. To find the call,
+ * goes back from change to change of the return addresses, and counts the calls and returns.
  * @param {DebugSession} session
  * @param {ShouldContinue} shouldContinue
  */
 export async function stepBackOver(session, shouldContinue) {
-  let result = await session.back({ kind: "instruction" }, shouldContinue);
+  let result = await session.goBack({ kind: "instruction" }, shouldContinue);
   let depth = result.isDone && isReturn(nextOpcode(session)) ? 1 : 0;
   while (depth > 0) {
-    result = await session.back({ kind: "change", place: "ret" }, shouldContinue);
+    result = await session.goBack({ kind: "change", place: "ret" }, shouldContinue);
     const message = say.backInSubroutine(session.counterText);
     if (!result.isDone) return { ...result, words: message, isDone: true };
     const code = nextOpcode(session);
@@ -37,7 +37,7 @@ export async function stepBackOver(session, shouldContinue) {
 }
 
 /**
- * Presses and releases a key while time runs. Resolves to where and why the run stopped.
+ * Presses and releases a key while the machine runs. Resolves to the stop at the end of the run.
  * @param {DebugSession} session
  * @param {import("../board/key_place.js").Key} key
  * @param {ShouldContinue} shouldContinue

@@ -1,11 +1,11 @@
-// Executes the command `source FILE` at a prompt: serves the lines of the file. The file can itself contain `source` lines. Error messages
-// name the file and the line.
+// Executes the command `source FILE` at a prompt: the prompt executes the lines of the file. The file can itself contain `source` lines.
+// Error messages name the file and the line.
 
 import * as say from "../../words/session_prompt.js";
 
 /**
- * The prompt that serves the lines. `take` serves a line, and resolves to false if the line is rejected. `drop` discards an unfinished text
- * or command list, and returns a message about it, or "".
+ * The prompt that executes the lines. `isEnded` is true after `quit`. `take` executes a line, and resolves to false if the line is
+ * rejected. `drop` discards an unfinished text or command list, and returns a message about it; "" if there is none.
  * @typedef {{ isEnded: boolean, take: (line: string) => Promise<boolean>, drop: () => string }} LineServer
  */
 
@@ -15,7 +15,8 @@ const MAX_NESTING = 8;
 export class SourceCommand {
   /**
    * @param {LineServer} server
-   * @param {{ read: (name: string) => string, complain: (words: string) => void }} calls `read` throws an error if it cannot read a file
+   * @param {{ read: (name: string) => string, complain: (words: string) => void }} calls `read` returns the text of a file, and throws an
+   *   error if it cannot read the file; `complain` prints an error message
    */
   constructor(server, calls) {
     this.server = server;
@@ -24,7 +25,7 @@ export class SourceCommand {
     this.files = [];
   }
 
-  /** The file whose line is currently served; undefined if the line was typed. */
+  /** The file that contains the current line; undefined if the line was typed. */
   get file() {
     return this.files[this.files.length - 1];
   }
@@ -38,8 +39,8 @@ export class SourceCommand {
   }
 
   /**
-   * Serves the lines of a file until a line is rejected. Resolves to false if a line is rejected. Throws if the file cannot be read, is
-   * nested too deeply, or ends within a text.
+   * Executes the lines of a file until a line is rejected. Resolves to false if a line is rejected. Throws an error if the file cannot be
+   * read, is nested too deeply, or ends within a text or command list.
    * @param {string} name
    */
   async serve(name) {

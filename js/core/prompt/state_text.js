@@ -21,7 +21,7 @@ function readState(session) {
 }
 
 /**
- * Returns a source line with its address. `>` marks the next instruction, and `*` an enabled breakpoint.
+ * Returns the text of a source line with its line number and address. `>` marks the next instruction, and `*` an enabled breakpoint.
  * @param {DebugSession} session
  * @param {number} line
  */
@@ -44,9 +44,9 @@ export function countSourceLines({ program }) {
 }
 
 /**
- * Returns a range of source lines; fails if the first line is after the end of the source.
+ * Returns the text of a range of source lines; fails if the first line is after the end of the source.
  * @param {DebugSession} session
- * @param {number} from
+ * @param {number} from the first line
  * @param {number} to the last line, inclusive
  */
 export function sourceLines(session, from, to) {
@@ -64,10 +64,10 @@ export function nextInstruction(session) {
 }
 
 /**
- * Returns disassembled instructions from an address on.
+ * Returns the text of disassembled instructions, one per line, beginning at an address.
  * @param {DebugSession} session
  * @param {number} address
- * @param {number} count
+ * @param {number} count the number of instructions
  */
 export function codeLines(session, address, count) {
   const rows = listInstructionRows(session, address, 0, count).filter(({ bytes }) => bytes !== "");
@@ -148,7 +148,7 @@ export function addressText(session, address) {
 /**
  * Returns the text of `info line`: the source line of an instruction, and the addresses of its bytes.
  * @param {DebugSession} session
- * @param {{ line: number, address: number }} place
+ * @param {{ line: number, address: number }} place the location of the instruction
  */
 export function lineText(session, { line, address }) {
   const [{ bytes = "" } = {}] = listInstructionRows(session, address, 0, 1);
@@ -190,10 +190,10 @@ export function breakpointLines({ breakpoints }, extraText) {
 }
 
 /**
- * Returns RAM nibbles as text; fails if the board lacks the first one.
+ * Returns the values of consecutive RAM nibbles as one line; fails if the board lacks the first nibble.
  * @param {DebugSession} session
  * @param {string} text the first nibble, such as `ram.0.0x10`
- * @param {number} count
+ * @param {number} count the maximum number of nibbles
  */
 export function nibbleLine(session, text, count) {
   const [, bank, at] = /^ram\.([0-7])\.(\w+)$/i.exec(text) || [];

@@ -1,5 +1,5 @@
-// The prompt commands for breakpoint actions: temporary breakpoints, conditions, ignored hits, and commands that run at a stop. Also saves
-// the breakpoints to a file.
+// The prompt commands that change what happens at a breakpoint: temporary breakpoints, conditions, ignored hits, and commands that run at a
+// stop. Also saves the breakpoints to a file.
 
 import { hex } from "../bench/numbers.js";
 import { LAST_BREAKPOINT } from "./breakpoint_commands.js";
@@ -11,7 +11,7 @@ import * as say from "../../words/prompt.js";
  * @typedef {import("./debugger_prompt.js").Prompt} Prompt
  * @typedef {import("../debug/breakpoints.js").Breakpoint} Breakpoint
  *
- * The actions when a breakpoint stops a run: the breakpoint is deleted if `isTemporary` is true, and the commands run.
+ * The actions when a breakpoint stops a run. If `isTemporary` is true, the breakpoint is deleted. Then the commands run.
  * @typedef {{ isTemporary: boolean, commands: string[] }} StopActions
  */
 
@@ -35,7 +35,7 @@ export class StopCommands {
     this.prompt = prompt;
     /** @type {Map<number, StopActions>} the actions, by breakpoint id */
     this.actions = new Map();
-    /** @type {{ id: number, lines: string[] } | null} the unfinished commands and their breakpoint; null for none */
+    /** @type {{ id: number, lines: string[] } | null} the commands that the user is entering, and their breakpoint id; null for none */
     this.unfinishedCommands = null;
   }
 
@@ -43,7 +43,10 @@ export class StopCommands {
     return this.prompt.session.breakpoints;
   }
 
-  /** @returns {Record<string, CommandHandler>} */
+  /**
+   * The handlers by command name.
+   * @returns {Record<string, CommandHandler>}
+   */
   get handlers() {
     return {
       tbreak: async (argumentText) => {
@@ -86,14 +89,20 @@ export class StopCommands {
     return { breakpoint: /** @type {Breakpoint} */ (this.list.get(id)), more };
   }
 
-  /** @param {string} argumentText */
+  /**
+   * Changes or removes the condition of a breakpoint.
+   * @param {string} argumentText the breakpoint number, and the condition if there is one
+   */
   async setCondition(argumentText) {
     const { breakpoint: { id }, more } = this.parseBreakpoint(argumentText, say.CONDITION_SYNTAX);
     await this.prompt.breakpoints.change(id, { condition: more.replace(/^if\s+/, "") });
     if (more === "") this.prompt.calls.print(say.stopsAlways(id));
   }
 
-  /** @param {string} argumentText */
+  /**
+   * Makes a breakpoint ignore its next hits.
+   * @param {string} argumentText the breakpoint number, and the number of hits to ignore
+   */
   async ignoreHits(argumentText) {
     const { breakpoint: { id, hits }, more } = this.parseBreakpoint(argumentText, say.IGNORE_SYNTAX);
     const count = /^\d{1,9}$/.test(more) ? Number(more) : -1;
@@ -104,7 +113,10 @@ export class StopCommands {
 
   // --- commands at a stop ---
 
-  /** @param {string} argumentText */
+  /**
+   * Begins a list of commands. The next lines are the commands, up to the line `end`.
+   * @param {string} argumentText the breakpoint number; "" for the breakpoint that was set last
+   */
   beginCommands(argumentText) {
     const { breakpoint: { id }, more } = this.parseBreakpoint(argumentText || LAST_BREAKPOINT, say.COMMANDS_SYNTAX);
     if (more !== "") rejectCommand(say.COMMANDS_SYNTAX);
@@ -112,7 +124,7 @@ export class StopCommands {
   }
 
   /**
-   * Adds a line to the unfinished commands, or ends them; fails if there are too many commands.
+   * Adds a line to the unfinished commands. The line `end` completes the commands. Fails if there are too many commands.
    * @param {string} line
    */
   addLine(line) {
@@ -126,7 +138,7 @@ export class StopCommands {
     } else if (line.trim() !== "") lines.push(line.trim());
   }
 
-  /** Discards the unfinished commands. Returns a message about them, or "". */
+  /** Discards the unfinished commands. Returns a message about the commands; "" if there are none. */
   drop() {
     const { unfinishedCommands } = this;
     this.unfinishedCommands = null;
@@ -134,7 +146,8 @@ export class StopCommands {
   }
 
   /**
-   * Returns the commands of the breakpoint that ended the last move. Deletes a temporary breakpoint.
+   * Resolves to the commands of the breakpoint that ended the last move, whether these hide the stop message, and an additional message.
+   * Deletes a temporary breakpoint.
    * @returns {Promise<{ commands: string[], isSilent: boolean, words: string }>}
    */
   async commandsAtStop() {
@@ -158,7 +171,10 @@ export class StopCommands {
     return `${isTemporary ? say.TEMPORARY : ""}${commands.map((line) => `\n       ${line}`).join("")}`;
   }
 
-  /** @param {string} argumentText */
+  /**
+   * Saves the breakpoints and watches to a file, as commands of this prompt.
+   * @param {string} argumentText the word `breakpoints` or a prefix of it, and the file name
+   */
   saveBreakpoints(argumentText) {
     const [, word = "", name = ""] = /^(\S*)\s*(.*)$/.exec(argumentText) || [];
     if (!/^b(r(e(akpoints?)?)?)?$/.test(word) || name === "") rejectCommand(say.SAVE_SYNTAX);
@@ -169,7 +185,7 @@ export class StopCommands {
   }
 
   /**
-   * Returns the lines that recreate a breakpoint.
+   * Returns the prompt commands that recreate a breakpoint.
    * @param {Breakpoint} breakpoint
    */
   formatBreakpoint({ id, line, address, isOn, from, hits, condition, note }) {

@@ -13,11 +13,11 @@ import * as say from "../../words/prompt.js";
 
 /**
  * @typedef {import("./debugger_prompt.js").Prompt} Prompt
- * @typedef {{ rows: number, columns: number }} ViewSize the number of lines and their maximum length in characters
+ * @typedef {{ rows: number, columns: number }} ViewSize the number of lines, and the maximum length of a line in characters
  * @typedef {(text: string) => string} Highlight a function that adds control codes, so that the terminal highlights a text
  *
  * The functions that highlight the header line (`head`), the next instruction (`here`), and values that the last move changed (`other`).
- * @typedef {{ head: Highlight, here: Highlight, other: Highlight }} Highlights
+ * @typedef {{ head: Highlight, nextInstruction: Highlight, changedValue: Highlight }} Highlights
  */
 
 /** The minimum numbers of rows and columns of a terminal that can show the view. */
@@ -29,7 +29,7 @@ const MIN_COMMAND_ROWS = 5;
 const MAX_ROWS = 40;
 /** The minimum number of columns with which the registers are beside the source; with fewer columns, they are below the source. */
 const WIDE_COLUMNS = 72;
-/** The number of columns that registers beside the source take. */
+/** The width of the registers beside the source, in columns. */
 const SIDE_COLUMNS = 24;
 /** The maximum number of `display` expressions in the view. */
 const MAX_DISPLAYS = 4;
@@ -48,7 +48,7 @@ export function viewSize(rows, columns) {
 }
 
 /**
- * Cuts a text to a maximum number of columns. Escapes control characters.
+ * Shortens a text to a maximum number of columns. Escapes control characters.
  * @param {string} text
  * @param {number} length
  */
@@ -65,16 +65,16 @@ export class View {
     this.previousValues = new Map();
     /** @type {Map<string, string>} the current register values */
     this.currentValues = new Map();
-    /** The cycle count when `currentValues` were read; -1 before the first time. */
-    this.valuesTime = -1;
+    /** The cycle count when `currentValues` were read; -1 before they are first read. */
+    this.valuesCycleCount = -1;
   }
 
   /**
    * Returns the lines of the view.
    * @param {ViewSize} size
-   * @param {Highlights} marks
+   * @param {Highlights} highlights
    */
-  lines({ rows, columns }, { head, here, other }) {
+  lines({ rows, columns }, { head, nextInstruction: here, changedValue: other }) {
     this.readRegisters();
     const isWide = columns >= WIDE_COLUMNS;
     const registers = isWide ? this.registerLinesBeside(other) : this.registerLinesBelow(columns, other);
@@ -89,7 +89,7 @@ export class View {
     return [head(this.headLine(columns)), ...bodyLines, ...below, "-".repeat(columns)].slice(0, rows);
   }
 
-  /** Reads the registers. If time has moved since the last call, stores their last values as `previousValues`. */
+  /** Reads the registers. If the cycle count has changed since the last call, first stores their last values as `previousValues`. */
   readRegisters() {
     const { session } = this.prompt;
     const { total } = session.debugger.session.count;
@@ -97,13 +97,13 @@ export class View {
     const { accumulator, carry, bank, test } = registers;
     const now = new Map([["acc", accumulator], ["cy", carry], ["test", test], ["dcl", bank], ["SRC", ports.sources[0]]]);
     for (const at of indices(8)) now.set(`P${at}`, `${registers.registers[2 * at]}${registers.registers[2 * at + 1]}`);
-    if (total !== this.valuesTime) this.previousValues = this.currentValues.size > 0 ? this.currentValues : now;
+    if (total !== this.valuesCycleCount) this.previousValues = this.currentValues.size > 0 ? this.currentValues : now;
     this.currentValues = now;
-    this.valuesTime = total;
+    this.valuesCycleCount = total;
   }
 
   /**
-   * Returns the first line: the program, the program counter and the time.
+   * Returns the first line: the program name, the program counter and the simulated time.
    * @param {number} columns
    */
   headLine(columns) {
@@ -125,7 +125,7 @@ export class View {
   }
 
   /**
-   * Returns the name and the value of a register. Highlights them if the last move changed the value.
+   * Returns the name and the value of a register as one text, which is highlighted if the last move changed the value.
    * @param {string} name
    * @param {Highlight} highlight
    * @returns {string}

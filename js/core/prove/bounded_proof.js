@@ -1,5 +1,5 @@
-// Proofs on the page. Asks the prover in the WebAssembly module repeatedly, each time with twice the maximum number of states, so that the
-// page can show progress. Confirms a counterexample by running its test. The page's worker uses this module.
+// Proves properties on the page. Asks the prover in the WebAssembly module repeatedly, each time with twice the previous limit on the
+// number of states, so that the page can show progress. Confirms a counterexample by running its test. The page's worker uses this module.
 //
 //     const { proving, faults } = beginProving(engine, texts, 1000000, { seen: async (states) => {}, yieldToMessages: async () => {} });
 //     for (let judged = await proving.next(); judged; judged = await proving.next()) ..
@@ -25,7 +25,8 @@ import * as say from "../../words/prove.js";
  * @typedef {{ text: string, line: number, isGoal: boolean, verdict: Verdict }} PropertyVerdict
  *
  * @typedef {object} ProvingCalls
- * @property {(states: number) => Promise<void>} seen reports the number of states that were searched so far without a result
+ * @property {(states: number) => Promise<void>} seen reports the number of states that were searched so far for the current question
+ *   without a result
  * @property {() => Promise<void>} yieldToMessages yields to other tasks
  */
 
@@ -34,7 +35,7 @@ class ProverQueries {
   /**
    * @param {Engine} engine
    * @param {ExploredTexts} texts
-   * @param {number} maxStates the maximum number of states
+   * @param {number} maxStates the maximum number of states per question
    * @param {ProvingCalls} calls
    */
   constructor(engine, texts, maxStates, calls) {
@@ -42,7 +43,7 @@ class ProverQueries {
     this.texts = { board: texts.boardText, program: texts.programText };
     this.maxStates = maxStates;
     this.calls = calls;
-    /** The number of states that were searched so far without a result. */
+    /** The number of states that were searched so far for the current question without a result. */
     this.searchedStates = 0;
   }
 
@@ -98,10 +99,10 @@ class ProverQueries {
 }
 
 /**
- * Parses the texts. Returns the object that decides their properties one after the other; null if a text has an error.
+ * Parses the texts. Returns the object that decides the properties one after the other; null if a text has an error.
  * @param {Engine} engine
  * @param {ExploredTexts} texts
- * @param {number} maxStates the maximum number of states of a search
+ * @param {number} maxStates the maximum number of states per question
  * @param {ProvingCalls} calls
  * @returns {{ proving: PropertyJudge | null, faults: TextFault[] }}
  */

@@ -33,7 +33,7 @@ const rangeComparison = (list, index, low, high, part = "whole") => ["in", list,
 export const IMPOSSIBLE_COMPARISONS = [rangeComparison("register", 0, 1, 0)];
 
 /**
- * Creates the field for a whole cell.
+ * Creates the field for all bits of a cell.
  * @param {string} name
  * @param {string} list
  * @param {number} index
@@ -109,7 +109,7 @@ function registerField(place) {
 }
 
 /**
- * Returns the field for a RAM nibble or a status nibble; null for any other name.
+ * Returns the field for a RAM nibble or a status character; null for any other name.
  * @param {string} place
  * @returns {Field | null}
  */
@@ -140,8 +140,8 @@ export function outputLineField(line, { roms }) {
 }
 
 /**
- * Returns the field for a name that `trace` accepts; null if its value comes from an input. The names `lamps` and `chainN` have no field,
- * but each of their bits has one (`outputLineField`).
+ * Returns the field for a name that `trace` accepts; null if the value of this name comes from an input. The names `lamps` and `chainN`
+ * have no field, but each of their bits has one (`outputLineField`).
  * @param {string} place
  * @param {Board} board
  * @returns {Field | null}

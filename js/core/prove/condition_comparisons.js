@@ -1,5 +1,6 @@
-// Converts a condition such as `acc > 3` to comparisons of the prover's cells. The condition is evaluated for all values of the fields
-// (registers, ports, RAM nibbles ..) that it reads. When it reads a field without a value, it is evaluated again for each possible value.
+// Converts a condition such as `acc > 3` to comparisons of the prover's cells. Evaluates the condition for all values of the fields
+// (registers, ports, RAM nibbles ..) that the condition reads. When the condition reads a field that has no value yet, evaluates the
+// condition again for each possible value of this field.
 
 import { SECOND_CYCLE_FIELD, findField, outputLineField } from "./cells.js";
 import { indices } from "../bench/numbers.js";
@@ -11,8 +12,8 @@ import * as say from "../../words/prove.js";
  * @typedef {import("../bench/answers.js").Board} Board
  * @typedef {import("../conditions/condition_language.js").Condition} Condition
  *
- * The result of a condition: a boolean if it is the same for all values of all fields; otherwise a field, and the result for each range of
- * its values. A range combines consecutive values with the same result.
+ * The result of a condition: a boolean if the result is the same for all values of all fields; otherwise a field, and the result for each
+ * range of its values. A range combines consecutive values with the same result.
  * @typedef {boolean | { field: Field, ranges: { low: number, high: number, result: Result }[] }} Result
  */
 
@@ -33,7 +34,7 @@ class UndecidedField extends Error {
   }
 }
 
-/** Returns whether two results are the same. */
+/** Returns whether two results are equal. */
 function areSameResults(/** @type {Result} */ one, /** @type {Result} */ other) {
   return typeof one === "boolean" ? one === other : JSON.stringify(one) === JSON.stringify(other);
 }
@@ -83,8 +84,8 @@ class Evaluation {
   }
 
   /**
-   * Returns an object that behaves like a string with one character for each output line, such as the value of `lamps`. It reads a line
-   * only when the character of the line is used.
+   * Returns an object that behaves like a string with one character for each output line, such as the value of `lamps`. The object reads a
+   * line only when the character of the line is used.
    * @param {string[]} lines the names of the output lines
    * @param {[string, string]} marks the characters for 0 and 1
    */
@@ -166,7 +167,7 @@ class Evaluation {
 }
 
 /**
- * Converts a result to a list of conjunctions. At least one of them is true if and only if the condition has the wanted result.
+ * Converts a result to a list of conjunctions. At least one conjunction is true if and only if the condition has the wanted result.
  * @param {Result} result
  * @param {boolean} wantedResult
  * @returns {Comparisons[]}

@@ -26,9 +26,11 @@ import { listInputs, replayValues } from "./input_replay.js";
 
 /** The maximum number of cycles that the bench may run to minimise a counterexample. */
 const MINIMISING_CYCLES = 10e6;
-/** The maximum length, in cycles, of a counterexample to a property with labels. A longer one is not minimised, as this would be slow. */
-const MAX_LISTED_CYCLES = 1e6;
-/** The property forms that depend on all events since power-on, so that a violation can be found only from the start of the walk. */
+/**
+ * The maximum length, in cycles, of a counterexample to a property with labels that is minimised. Minimising a longer one would be slow.
+ */
+const MAX_MINIMISED_CYCLES = 1e6;
+/** The property forms that depend on all events since power-on. To find a violation, a walk must be watched from its start. */
 const FORMS_WITH_MEMORY = new Set(["calls", "returns", "never for", "every", "within", "only after"]);
 
 /**
@@ -111,9 +113,9 @@ class Replay {
     this.freeCampaign = createFreeCampaign(campaign, property, listInputs(subject));
     this.initialDown = initialDownInputs(this.freeCampaign);
     const [{ form, guards }] = this.freeCampaign.properties;
-    /** True if the property excludes a common mistake that only `cyclesToMistake` can detect. */
+    /** True if the property excludes a common mistake that watching a walk cannot detect; `cyclesToMistake` detects such a mistake. */
     this.excludesMistake = form === "mistake";
-    this.needsWholeWalk = FORMS_WITH_MEMORY.has(form) || guards.length > 0;
+    this.needsFullWalk = FORMS_WITH_MEMORY.has(form) || guards.length > 0;
   }
 
   /**
@@ -127,23 +129,23 @@ class Replay {
   }
 
   /**
-   * Returns the violation that happens if the program reads these input values; null if the bench does not confirm it.
+   * Returns the violation that happens if the program reads the given input values; null if the bench does not confirm the violation.
    * @param {number[]} values
    * @returns {Violation | null}
    */
   findViolation(values) {
-    const { subject, freeCampaign, needsWholeWalk } = this;
+    const { subject, freeCampaign, needsFullWalk } = this;
     const { steps, time, file, remainingCycles } = replayValues(subject, freeCampaign.inputs, values);
     if (this.excludesMistake) {
       const cycles = cyclesToMistake(subject, file, this.mistake, remainingCycles);
       return cycles < 0 ? null : { property: 0, steps, time: time + cycles };
     }
-    // One more cycle is added, in which the instruction at a label starts.
+    // Add one more cycle, in which the instruction at a label starts.
     const waits = splitCycles(remainingCycles + 1).map((wait) => ({ wait, kind: /** @type {const} */ ("none"), input: -1 }));
-    const broken = needsWholeWalk ? this.findViolationTime(subject.file, [...steps.flatMap(splitLongWait), ...waits])
+    const broken = needsFullWalk ? this.findViolationTime(subject.file, [...steps.flatMap(splitLongWait), ...waits])
       : this.findViolationTime(file, waits);
     if (broken < 0) return null;
-    return needsWholeWalk ? { property: 0, steps: stepsBefore(steps, broken), time: broken } : { property: 0, steps, time: time + broken };
+    return needsFullWalk ? { property: 0, steps: stepsBefore(steps, broken), time: broken } : { property: 0, steps, time: time + broken };
   }
 
   /**
@@ -168,14 +170,14 @@ class Replay {
   }
 
   /**
-   * Minimises a violation if this is possible. Resolves to the violation with the fewest steps that was found.
+   * Minimises a violation if this is possible. Resolves to the minimised or to the original violation.
    * @param {Violation} violation
    * @param {() => Promise<void>} yieldToMessages
    */
   async minimise(violation, yieldToMessages) {
     const { subject, freeCampaign } = this;
     const steps = separateSimultaneousChanges(violation.steps);
-    const isLong = violation.time > MAX_LISTED_CYCLES && freeCampaign.properties.some((property) => listAddresses(property).length > 0);
+    const isLong = violation.time > MAX_MINIMISED_CYCLES && freeCampaign.properties.some((property) => listAddresses(property).length > 0);
     if (!steps || this.excludesMistake || isLong) return violation;
     const start = this.createStart(subject.file);
     const minimiser = new Minimiser(subject, freeCampaign, start, { ...violation, steps }, MINIMISING_CYCLES, yieldToMessages);
@@ -183,7 +185,7 @@ class Replay {
   }
 
   /**
-   * Returns whether the properties text allows these changes of inputs at these times.
+   * Returns whether the properties text allows the input changes of a violation at the times at which they happen.
    * @param {Violation} violation
    */
   isAllowed({ steps, time }) {
@@ -211,8 +213,8 @@ class Replay {
   }
 
   /**
-   * Returns the bench lines up to the instruction that violates the property. If an input changes between its two cycles, the lines end
-   * before the second cycle.
+   * Returns the bench lines up to the instruction that violates the property. If an input changes between the two cycles of this
+   * instruction, the lines end before its second cycle.
    * @param {Violation} violation
    */
   linesBefore(violation) {
@@ -226,7 +228,8 @@ class Replay {
 }
 
 /**
- * Resolves to the minimised counterexample that results if the program reads these input values; null if the bench does not confirm it.
+ * Resolves to the minimised counterexample that results if the program reads the given input values; null if the bench does not confirm the
+ * violation.
  * @param {Subject} subject
  * @param {Campaign} campaign
  * @param {number} property the index of the property in the campaign

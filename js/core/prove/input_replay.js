@@ -1,5 +1,6 @@
-// Converts the input values in a counterexample of the prover to steps that press keys, release keys or set TEST. For this, it runs the
-// program on the bench. Before each instruction that reads an input, it sets the keys or TEST so that the program reads the next value.
+// Converts the input values in a counterexample of the prover to steps that press keys, release keys or set TEST. For this, this module
+// runs the program on the bench. Before each instruction that reads an input, it sets the keys or TEST so that the program reads the next
+// value.
 
 import { readCounter, readRun } from "../bench/answers.js";
 import { indices } from "../bench/numbers.js";
@@ -39,7 +40,7 @@ export function listInputs({ names: { face, board } }) {
   return [...keys, createTestInput(face)];
 }
 
-/** A session in which the program is made to read given input values. */
+/** A session whose inputs are set so that the program reads given values. */
 class ValueReplay {
   /**
    * @param {Subject} subject
@@ -66,7 +67,7 @@ class ValueReplay {
   }
 
   /**
-   * Serves bench lines and returns their answers.
+   * Executes bench lines and returns their answers.
    * @param {string} lines
    */
   serve(lines) {

@@ -1,5 +1,5 @@
-// The common mistakes, for which the prover checks every program, even without a properties text. Also checks whether the program in a
-// bench session makes such a mistake.
+// Defines the common mistakes, for which the prover checks every program, even without a properties text. Also checks whether the program
+// in a bench session makes such a mistake.
 
 import { parseState, parsePorts, parseRegisters } from "../bench/state_line.js";
 import { indices } from "../bench/numbers.js";

@@ -1,5 +1,5 @@
 // Decides properties one after the other: asks the prover, and derives a verdict from its answers. The properties of the text come first.
-// The common mistakes, for which every program is checked, follow. Callbacks ask the prover and confirm counterexamples.
+// After them come the common mistakes, for which every program is checked. Callbacks ask the prover and confirm counterexamples.
 
 import { formatSteps } from "../explore/report.js";
 import { replayCounterexample } from "./counterexample.js";
@@ -30,7 +30,8 @@ import * as say from "../../words/prove.js";
  */
 
 /**
- * The answers to a combined question that also apply to each property: a search for one property visits the same states in the same order.
+ * The answers to a combined question that also apply to each of its properties, because a search for one property visits the same states in
+ * the same order.
  */
 const FINAL_ANSWERS = new Set(["more", "full"]);
 
@@ -63,11 +64,11 @@ export class PropertyJudge {
     this.campaign = campaign;
     this.calls = calls;
     /** @type {{ property: Property, propertyQuestion: PropertyQuestion }[]} the properties of the text, each with its question */
-    this.all = campaign.properties.filter(({ line }) => line > 0)
+    this.textProperties = campaign.properties.filter(({ line }) => line > 0)
       .map((property) => ({ property, propertyQuestion: createQuestion(property, campaign, subject) }));
     this.mistakes = allMistakes();
     /** The number of properties and common mistakes that have a verdict. */
-    this.count = 0;
+    this.judgedCount = 0;
     /** @type {Answer | null} the answer about all combined questions; null before the prover was asked */
     this.jointAnswer = null;
     /** @type {Verdict | null} the verdict, proved by sets of states, that the program makes no common mistake; null if it is not proved */
@@ -78,7 +79,7 @@ export class PropertyJudge {
 
   /** The number of properties and common mistakes. */
   get total() {
-    return this.all.length + this.mistakes.length;
+    return this.textProperties.length + this.mistakes.length;
   }
 
   /**
@@ -86,13 +87,13 @@ export class PropertyJudge {
    * @param {number} index the index in the list of all properties and common mistakes
    */
   textOf(index) {
-    const { all, mistakes } = this;
-    return (index < all.length ? all[index] : mistakes[index - all.length]).property.text;
+    const { textProperties, mistakes } = this;
+    return (index < textProperties.length ? textProperties[index] : mistakes[index - textProperties.length]).property.text;
   }
 
   /** The questions that can be combined into one. */
   get jointQuestions() {
-    return this.all.flatMap(({ property, propertyQuestion: { question } }) => (
+    return this.textProperties.flatMap(({ property, propertyQuestion: { question } }) => (
       !question || needsSeparateQuestion(property, question) ? [] : [question]));
   }
 
@@ -100,11 +101,12 @@ export class PropertyJudge {
    * Decides the next property or common mistake. Resolves to null after the last one.
    * @returns {Promise<JudgedProperty | null>}
    */
-  async next() {
-    const { all, mistakes, count, total } = this;
-    if (count === total) return null;
-    const judged = count < all.length ? await this.judgeProperty(all[count]) : await this.judgeMistake(mistakes[count - all.length]);
-    this.count += 1;
+  async judgeNext() {
+    const { textProperties, mistakes, judgedCount, total } = this;
+    if (judgedCount === total) return null;
+    const judged = judgedCount < textProperties.length ? await this.judgeProperty(textProperties[judgedCount])
+      : await this.judgeMistake(mistakes[judgedCount - textProperties.length]);
+    this.judgedCount += 1;
     return judged;
   }
 
@@ -127,7 +129,7 @@ export class PropertyJudge {
   async judgeMistake({ property, word }) {
     const question = mistakeQuestion([word]);
     const anyMistakeQuestion = mistakeQuestion(this.mistakes.map((each) => each.word));
-    if (this.count === this.all.length) this.noMistakeVerdict = await this.proveBySets(property, anyMistakeQuestion);
+    if (this.judgedCount === this.textProperties.length) this.noMistakeVerdict = await this.proveBySets(property, anyMistakeQuestion);
     if (this.noMistakeVerdict) return { property, verdict: this.noMistakeVerdict };
     if (!this.anyMistakeAnswer) this.anyMistakeAnswer = await this.calls.ask(anyMistakeQuestion);
     const answer = this.anyMistakeAnswer.kind === "fails" ? await this.calls.ask(question) : this.anyMistakeAnswer;
@@ -161,7 +163,7 @@ export class PropertyJudge {
   /** Decides all properties and common mistakes. Resolves to their verdicts. */
   async judgeAll() {
     const judged = [];
-    for (let each = await this.next(); each; each = await this.next()) judged.push(each);
+    for (let each = await this.judgeNext(); each; each = await this.judgeNext()) judged.push(each);
     return judged;
   }
 

@@ -1,4 +1,4 @@
-// Proves properties in a separate worker. While the prover works on a question, which can take long, the worker does not respond.
+// Proves properties in a separate worker. While the prover works on a question, which can take hours, the worker does not respond.
 
 import { TaskWorker } from "../bench/task_worker.js";
 

@@ -41,7 +41,7 @@ import * as say from "../../words/prove.js";
  * - `holds`: no reachable state violates the question; `states` is the number of reachable states;
  * - `fails`: `values` are the input values that the program reads up to a violation;
  * - `more`: there are more states than the limit `most`;
- * - `lost`: the search failed;
+ * - `lost`: the prover gave up the search;
  * - `full`: the memory is full after `states` states (0 if there is not enough memory for the first state).
  * @typedef {{ kind: "more" } | { kind: "lost" } | { kind: "full", states: number }} NoAnswer
  * @typedef {{ kind: "holds", states: number } | { kind: "fails", values: number[] } | NoAnswer} Answer

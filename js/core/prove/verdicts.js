@@ -12,7 +12,7 @@ import * as say from "../../words/prove.js";
  * The verdict on a property:
  * - `proved`: `states` is the number of states in the proof, or of sets of states if `bySets` is true; `leftOut` names the guards that the
  *   proof omits;
- * - `found`: there is a counterexample; for a goal, a sequence of steps that reaches the goal;
+ * - `found`: the prover found a counterexample or, for a goal, a sequence of steps that reaches the goal;
  * - `open`: the property is not decided; `words` is the reason.
  * @typedef {{ kind: "proved", states: number, bySets: boolean, leftOut: string }} ProvedVerdict
  * @typedef {ProvedVerdict | { kind: "found", found: Counterexample } | { kind: "open", words: string }} Verdict

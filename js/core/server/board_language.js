@@ -21,7 +21,7 @@ import * as say from "../../words/server.js";
  * @typedef {import("./token_codes.js").ColouredWord} ColouredWord
  */
 
-/** The protocol's kind for the symbols of a board, and its kind for completions. */
+/** The protocol's kinds for the symbols and the completions of a board. */
 const OBJECT_SYMBOL = 19;
 const PROPERTY_COMPLETION = 10;
 
@@ -38,7 +38,7 @@ export class BoardLanguage {
   }
 
   /**
-   * Finds the errors in a board text.
+   * Finds the errors in a board text. Resolves to undefined if `isWanted` returns false during the check.
    * @param {OpenText} openText
    * @param {() => boolean} isWanted returns false if the result is no longer needed
    */
@@ -80,7 +80,7 @@ export class BoardLanguage {
    * Returns the ranges of all values that refer to the chip or chain at a position.
    * @param {OpenText} openText
    * @param {Position} position
-   * @param {boolean} withDefinition
+   * @param {boolean} withDefinition true to include the definition of the chip or chain
    */
   references({ text }, { line, character }, withDefinition) {
     const references = new BoardReferences(text);
@@ -91,7 +91,10 @@ export class BoardLanguage {
     return [...(withDefinition ? [part] : []), ...found].map((each) => rangeInLine(each.line, each.from, each.to));
   }
 
-  /** @returns {import("./lsp_protocol.js").TextEdit[]} */
+  /**
+   * Throws ProtocolError, because a board text defines no names.
+   * @returns {import("./lsp_protocol.js").TextEdit[]}
+   */
   rename() {
     throw new ProtocolError(REQUEST_FAILED, say.NO_BOARD_NAMES);
   }
@@ -102,7 +105,7 @@ export class BoardLanguage {
    * @param {string} trigger
    */
   completion({ lines }, { line, character }, trigger) {
-    // The editor sends a request automatically when the user types a blank. The answer is empty unless a value starts after the blank.
+    // The editor also sends a request when the user types a blank. Then the answer is empty, unless a value starts after the blank.
     const lineStart = lines[line].slice(Math.max(0, character - 9), character);
     if (trigger === " " && !/=[ \t]*$/.test(lineStart)) return { from: character, to: character, list: [] };
     const found = completeBoard(lines, line, character, this.tables);

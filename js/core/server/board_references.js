@@ -12,7 +12,7 @@ import * as say from "../../words/server.js";
 
 /** Matches the name of a port line or a chain bit, such as `rom0.2`, `ram0.1.3` or `chain0.5`. */
 const LINE_NAME = /^(rom|ram|chain)(\d+)\.(\d+)(?:\.(\d+))?$/;
-/** @type {Record<string, string>} the keys that hold chip numbers, by table name */
+/** @type {Record<string, string>} the keys whose values are chip or bank numbers, by table name */
 const NUMBER_KEYS = { rom: "chip", ram: "bank" };
 
 /**
@@ -57,7 +57,7 @@ export class BoardReferences {
   /**
    * Returns the value at a position; null if there is none.
    * @param {number} line the line number from 1
-   * @param {number} at the column, from 0
+   * @param {number} at the column from 0
    */
   valueAt(line, at) {
     return this.values.find((value) => value.line === line && value.from <= at && at <= value.to) || null;
@@ -87,7 +87,7 @@ export class BoardReferences {
   }
 
   /**
-   * Returns the name of a table with its number, such as `rom 3` or `lamp 0`.
+   * Returns the name of a table with its number, such as `rom 3`, `ram bank 0` or `lamp 0`.
    * @param {Entry} entry
    */
   partName(entry) {
@@ -99,8 +99,8 @@ export class BoardReferences {
   }
 
   /**
-   * Returns the hover text for a value that names a port line or a chain bit: a description of the line, its lamp, and the line number of
-   * the chip in the text. Returns "" for any other value.
+   * Returns the hover text for a value that names a port line or a chain bit: a description, the lamp that uses it, and the text line that
+   * defines the chip or chain. Returns "" for any other value.
    * @param {KeyedValue} value
    * @param {import("../board/face.js").Face} face
    */

@@ -4,10 +4,10 @@ import { getField } from "./framing.js";
 import { TOKEN_MODIFIERS, TOKEN_TYPES } from "./token_codes.js";
 
 /**
- * The capabilities of a client:
+ * The capabilities of a client, and its folders:
  * - `showsMarkdown`: true if the client shows hovers in Markdown;
  * - `pullsDiagnostics`: true if the client requests diagnostics itself;
- * - `refreshesDiagnostics`: true if the client requests diagnostics again when the server asks for that;
+ * - `refreshesDiagnostics`: true if the client requests all diagnostics again after `workspace/diagnostic/refresh`;
  * - `commands`: the client's commands for code lenses;
  * - `folders`: the URIs of the open folders.
  * @typedef {{ showsMarkdown: boolean, pullsDiagnostics: boolean, refreshesDiagnostics: boolean, commands: Set<string>,

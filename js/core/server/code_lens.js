@@ -1,5 +1,5 @@
 // Converts code lenses to the protocol's format. A code lens is a clickable text above a line. A click runs a test on the server, or shows
-// references if the client has a command for this.
+// references if the client has a command that shows references.
 
 import { RUN_TEST, SHOW_REFERENCES } from "./capabilities.js";
 

@@ -1,5 +1,5 @@
-// A connection in the language server protocol (LSP): serves requests and notifications, and sends responses. The client must send
-// `initialize` first, and `shutdown` and `exit` last.
+// A connection of the language server protocol (LSP). It receives requests and notifications, calls their handlers, and sends responses.
+// The client must send `initialize` first, and `shutdown` and `exit` last.
 
 import { getField } from "./framing.js";
 import { MessageStream } from "./message_stream.js";
@@ -12,8 +12,8 @@ import * as say from "../../words/server.js";
 /**
  * @typedef {number | string | null} Id the id of a request
  *
- * A request that has no response yet. If the client cancels the request, the server responds at once. A long-running handler must check
- * `isCancelled` and end early.
+ * A request that has no response yet. If the client cancels the request, the server responds at once and sets `isCancelled`. A long-running
+ * handler checks `isCancelled`, and ends early if it is true.
  * @typedef {{ isCancelled: boolean }} PendingRequest
  *
  * A request handler. It returns the result, or a promise of the result.
@@ -35,7 +35,7 @@ function isId(id) {
   return typeof id === "string" || typeof id === "number" || id === null;
 }
 
-/** @type {PendingRequest} the argument of notification handlers, because notifications cannot be cancelled */
+/** @type {PendingRequest} the second argument of notification handlers, because a client cannot cancel a notification */
 const UNCANCELLABLE_REQUEST = { isCancelled: false };
 
 export class Connection extends MessageStream {
@@ -107,7 +107,7 @@ export class Connection extends MessageStream {
     }
     const pending = { isCancelled: false };
     this.pendingRequests.set(id, pending);
-    // The next message may be served as soon as this function awaits, so the state must change before.
+    // The next message can arrive while this function awaits the handler, so the state must change before.
     if (method === "initialize") this.state = "open";
     if (method === "shutdown") this.state = "shut";
     try {
@@ -119,7 +119,7 @@ export class Connection extends MessageStream {
   }
 
   /**
-   * Removes a request before its response is sent. Returns false if the request was cancelled and therefore already has a response.
+   * Removes a request from the pending requests. Returns false if the request was cancelled and therefore already has a response.
    * @param {Id} id
    * @param {PendingRequest} pending
    */
@@ -128,7 +128,10 @@ export class Connection extends MessageStream {
     return this.pendingRequests.delete(id);
   }
 
-  /** @param {Id} id the id of the request that the client cancels */
+  /**
+   * Rejects a pending request that the client cancels.
+   * @param {Id} id
+   */
   cancel(id) {
     const pending = this.pendingRequests.get(id);
     if (!pending) return;

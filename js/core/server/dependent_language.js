@@ -1,4 +1,4 @@
-// The base class of the handlers for test files and property files. Both kinds of files use the names of a board and a program.
+// The base class of the handlers for test files and property files. Both kinds of file use the names of a board and a program.
 
 import { Face } from "../board/face.js";
 import { prepareTests } from "../testing/test_preparation.js";
@@ -18,7 +18,7 @@ import * as say from "../../words/server.js";
  * @typedef {import("./open_text.js").OpenText} OpenText
  * @typedef {import("./lsp_protocol.js").Position} Position
  *
- * A text with its URI. The text is null if its file cannot be read.
+ * A text with its URI. `text` is null if the file cannot be read.
  * @typedef {{ uri: string, text: string | null }} NamedText
  *
  * The texts that a test or property file depends on: the board, the program, and the test files of the project up to this file.
@@ -67,13 +67,13 @@ export class DependentLanguage {
   constructor(engine, findDependencies) {
     this.engine = engine;
     this.findDependencies = findDependencies;
-    /** @type {{ texts: Texts, prepared: ReturnType<typeof prepareTests> } | null} the texts and the result of the last preparation */
+    /** @type {{ texts: Texts, prepared: ReturnType<typeof prepareTests> } | null} the last call of `prepareTests` and its result */
     this.lastPrepared = null;
   }
 
   /**
-   * Prepares a board and a program for tests. Returns a session with both and their names, or else their errors. If the texts are those of
-   * the last call, returns the same result again.
+   * Prepares a board and a program for tests. Returns a session with both texts and their names, or else their errors. If the texts are the
+   * same as in the last call, returns the same result again.
    * @param {Texts} texts
    */
   prepareTexts(texts) {
@@ -113,7 +113,7 @@ export class DependentLanguage {
   }
 
   /**
-   * Adds the protocol's completion kinds to the completions.
+   * Adds the protocol's completion kinds to completions.
    * @param {import("../text/completion.js").Completion} completion
    */
   addKinds({ from, to, list }) {

@@ -9,7 +9,7 @@ import * as say from "../../words/server.js";
  * @typedef {import("../text/sendable_text.js").Fault} Fault
  * @typedef {import("./lsp_protocol.js").Range} Range
  *
- * An error or a warning in any kind of text. It is a warning if its number is 0 and `isError` is not true.
+ * An error or a warning in any kind of text: a warning if `number` is 0 and `isError` is not true.
  * @typedef {Fault & { isError?: boolean }} ShownFault
  * @typedef {{ range: Range, severity: number, code?: number, source: string, message: string }} Diagnostic
  */
@@ -32,7 +32,7 @@ export function toDiagnostic({ number, line, from, to, words, isError = number >
 }
 
 /**
- * Returns the diagnostics of a text. If the text has, or can have, more errors than the list, the last diagnostic says so.
+ * Returns the diagnostics of a text. If the text has, or can have, more errors, adds a diagnostic with a message about that.
  * @param {ShownFault[]} faults
  * @param {boolean} isWhole false if the text can contain errors that `faults` lacks
  * @returns {Diagnostic[]}
@@ -46,7 +46,8 @@ export function toDiagnostics(faults, isWhole) {
 }
 
 /**
- * Returns the error for a text that is too long to check; null for a shorter text.
+ * Returns the error for a text that is too long to check; null for any other text. The range of the error is the rest of the line that
+ * exceeds the maximum length.
  * @param {import("./open_text.js").OpenText} openText
  * @returns {Fault | null}
  */

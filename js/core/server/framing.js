@@ -1,4 +1,4 @@
-// Reads and writes messages in a stream. A message is a header with the length of the body in bytes, followed by the JSON body.
+// Reads and writes messages in a stream of bytes. A message is a header with the length of the body in bytes, followed by the JSON body.
 
 import * as say from "../../words/server.js";
 
@@ -43,7 +43,7 @@ export class MessageReader {
     this.size = 0;
   }
 
-  /** An error message if the bytes received so far end within a message; "" if they end between messages. */
+  /** An error message if the received bytes end within a message; "" if they end after a message. */
   get incomplete() {
     if (this.missingBytes > 0) return say.messageIncomplete(this.size - this.missingBytes, this.size);
     return this.header === "" ? "" : say.HEAD_INCOMPLETE;

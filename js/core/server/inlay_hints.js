@@ -1,4 +1,4 @@
-// Creates the inlay hints for a program, which an editor shows in its lines: the address and the cycles at the end of a line, and the
+// Creates the inlay hints for a program. An editor shows these texts in the lines: the address and the cycles at the end of a line, and the
 // values after names.
 
 import { hex } from "../bench/numbers.js";
@@ -12,7 +12,7 @@ import * as say from "../../words/server.js";
  */
 
 /**
- * Returns the hint with the value of a program name; "" for any other word.
+ * Returns the text of the hint for a program name, which shows the value of the name; "" for any other word.
  * @param {SourceMap} map
  * @param {string} word
  */

@@ -25,7 +25,8 @@
  * @typedef {{ signatures: Signature[], activeSignature: number, activeParameter: number }} SignatureHelp
  * @typedef {{ range: Range, target: string, tooltip: string }} DocumentLink
  *
- * A code lens: a title above a line. A click shows the references, or runs the test with the name `test`; one of the two is null.
+ * A code lens: a title above a line. A click shows the references, or runs the test with the name `test`. Either `references` or `test` is
+ * null.
  * @typedef {{ range: Range, title: string, references: Range[] | null, test: string | null }} Lens
  *
  * A routine of a program, in the protocol's format.
@@ -34,8 +35,9 @@
  * A calling or called routine, with the ranges of the calls.
  * @typedef {{ routine: Routine, ranges: Range[] }} Call
  *
+ * The handlers for one kind of text.
  * @typedef {object} Language
- * @property {Parts} parts the rules for folding a text
+ * @property {Parts} parts the patterns that delimit the foldable ranges of a text
  * @property {(openText: OpenText, isWanted: () => boolean) => Promise<FoundFaults | undefined>} findErrors resolves to undefined if
  *   `isWanted` returns false during the check
  * @property {(openText: OpenText, position: Position) => Hover | null} [hover]
@@ -51,8 +53,8 @@
  * @property {(openText: OpenText, range: Range, layout: Layout) => TextEdit[]} [format] returns the edits in a range
  * @property {(openText: OpenText, range: Range) => InlayHint[]} [hints]
  * @property {(openText: OpenText, position: Position) => SignatureHelp | null} [signature]
- * @property {(openText: OpenText, position: Position) => [number, number][]} [selectionColumns] returns the column
- *   ranges for a growing selection
+ * @property {(openText: OpenText, position: Position) => [number, number][]} [selectionColumns] returns the column ranges in the line to
+ *   which an editor can expand the selection
  * @property {(openText: OpenText) => DocumentLink[]} [links]
  * @property {(openText: OpenText) => Lens[]} [lenses]
  * @property {(openText: OpenText, position: Position) => Routine | null} [routine]

@@ -1,5 +1,5 @@
-// The language server for programs, boards, tests, properties and project files. It stores the open texts, serves requests about them, and
-// reports their errors after each edit.
+// The language server for programs, boards, tests, properties and project files. It stores the open texts, handles requests about these
+// texts, and reports their errors after each edit.
 
 import { boardTables } from "../text/text_help.js";
 import { ErrorMessages } from "../bench/error_messages.js";
@@ -32,8 +32,8 @@ import * as say from "../../words/server.js";
  * The functions that the process provides: `readFile` returns the text of a file, and `pause` yields to other tasks.
  * @typedef {{ readFile: import("./text_kinds.js").ReadText, pause: () => Promise<void> }} Host
  *
- * An open text with its errors and diagnostics. `checkedEdits` is the number of edits that the last completed check has taken into account,
- * -1 before the first check. `check` resolves when the current check ends.
+ * An open text with its errors and diagnostics. `checkedEdits` is the value of `open.edits` at the last completed check, -1 before the
+ * first check. `check` resolves when the current check ends.
  * @typedef {{ open: OpenText, faults: ShownFault[], diagnostics: Diagnostic[], checkedEdits: number, check: Promise<void> }} CheckedText
  */
 
@@ -48,7 +48,7 @@ export class LanguageServer {
   constructor(connection, engine, { refusals, manual }, host) {
     this.connection = connection;
     this.host = host;
-    /** @type {Map<string, CheckedText>} */
+    /** @type {Map<string, CheckedText>} the open texts, by URI */
     this.texts = new Map();
     const errorMessages = new ErrorMessages(refusals);
     const refusalMessage = (/** @type {number} */ number) => errorMessages.refusalMeaning(number);
@@ -66,7 +66,10 @@ export class LanguageServer {
     connection.handlers = { requests: new Requests(this).allHandlers(), notifications: this.notifications() };
   }
 
-  /** @returns {Record<string, RequestHandler>} */
+  /**
+   * Returns the handlers of notifications, by method name.
+   * @returns {Record<string, RequestHandler>}
+   */
   notifications() {
     return {
       "textDocument/didOpen": (params) => this.didOpen(getField(params, "textDocument")),
@@ -161,7 +164,7 @@ export class LanguageServer {
     const text = this.requestedText(params);
     const changes = getField(params, "contentChanges");
     if (!Array.isArray(changes)) throw new ProtocolError(INVALID_PARAMS, say.CONTENT_CHANGES_SYNTAX);
-    // All changes are checked before the first change is applied.
+    // All changes are validated before the first change is applied.
     const edits = changes.map((change) => {
       const range = getField(change, "range");
       return { range: range ? needRange(range) : null, text: needText(getField(change, "text"), say.TEXT_OF_CHANGE) };
@@ -179,13 +182,16 @@ export class LanguageServer {
     this.checkDependents((uri) => this.affectsErrorsIn(openText.uri, uri));
   }
 
-  /** @param {string} uri the URI of a program */
+  /**
+   * Returns the URI of a program's board.
+   * @param {string} uri the URI of the program
+   */
   findBoard(uri) {
     return findBoard(uri, (each, folder) => this.readText(each, folder));
   }
 
   /**
-   * Returns the board text of a program; null if it cannot be read.
+   * Returns the board text of a program; null if the board cannot be read.
    * @param {string} program the URI of the program
    */
   findBoardText(program) {
@@ -205,7 +211,7 @@ export class LanguageServer {
     if (isProjectFile(uri)) return true;
     const text = this.texts.get(other);
     if (!text || uri === other) return false;
-    // A program does not depend on another program, so the search for its board is often unnecessary.
+    // A program depends only on its board. If the changed text cannot be a board, the search for the program's board is unnecessary.
     const dependsOnProgram = isTestFile(text.open) || isPropertyFile(text.open);
     if (!dependsOnProgram) return !NON_BOARD_FILES.test(uri) && this.findBoard(other).uri === uri;
     const { board, program, tests } = findDependencies(other, (each, folder) => this.readText(each, folder));
@@ -223,7 +229,7 @@ export class LanguageServer {
   }
 
   /**
-   * Checks those open texts again that depend on a changed text.
+   * Checks the open texts that depend on a changed text again.
    * @param {(uri: string) => boolean} isDependent returns whether the text at a URI depends on the changed text
    */
   checkDependents(isDependent) {
@@ -236,7 +242,7 @@ export class LanguageServer {
   }
 
   /**
-   * Waits until a text has been checked with all its edits, including edits that arrive meanwhile.
+   * Waits until all edits of a text have been checked, including edits that arrive during the wait. Also ends if the text is closed.
    * @param {CheckedText} text
    */
   async waitForCheck(text) {
@@ -251,7 +257,7 @@ export class LanguageServer {
     const { open: openText } = text;
     const { edits, uri } = openText;
     const isWanted = () => openText.edits === edits && this.texts.get(uri) === text;
-    // During the pause, more edits can arrive. One check then covers all of them.
+    // During the pause, more edits can arrive. Then only the check after the last edit continues.
     await this.host.pause();
     if (!isWanted()) return;
     try {
@@ -291,7 +297,7 @@ export class LanguageServer {
   // --- tests
 
   /**
-   * Runs a test and shows its result. If the test fails, adds a diagnostic to the text, which stays until the next edit.
+   * Runs a test and shows the result. If the test fails, adds a diagnostic to the text. The diagnostic remains until the next check.
    * @param {string} uri
    * @param {string} name
    * @param {import("./connection.js").PendingRequest} pending

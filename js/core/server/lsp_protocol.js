@@ -1,4 +1,4 @@
-// Defines types and error codes of the language server protocol, and reads parameters of requests.
+// Defines types and error codes of the language server protocol, and functions that check the parameters of requests.
 
 import { getField } from "./framing.js";
 import * as say from "../../words/server.js";
@@ -21,7 +21,7 @@ export const REQUEST_FAILED = -32803;
 export const CONTENT_MODIFIED = -32801;
 export const REQUEST_CANCELLED = -32800;
 
-/** The error that a request handler throws to reject the request. */
+/** The error that a request handler throws to reject a request. `code` is an error code of the protocol. */
 export class ProtocolError extends Error {
   /**
    * @param {number} code

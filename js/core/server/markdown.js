@@ -1,7 +1,7 @@
 // Converts text to Markdown. Escapes special characters, so that the text cannot contain links, images or headings.
 
 /**
- * Returns Markdown that shows a text unchanged.
+ * Returns Markdown that displays a text exactly as written.
  * @param {string} text
  */
 export function escapeMarkdown(text) {
@@ -9,7 +9,7 @@ export function escapeMarkdown(text) {
 }
 
 /**
- * Returns Markdown that shows a text as inline code.
+ * Returns Markdown that displays a text as inline code. Replaces backticks and vertical bars with blanks.
  * @param {string} text
  */
 export function formatCode(text) {
@@ -17,7 +17,7 @@ export function formatCode(text) {
 }
 
 /**
- * Returns Markdown that shows lines in a code block.
+ * Returns Markdown that displays lines in a code block.
  * @param {string[]} lines
  */
 export function formatBlock(lines) {
@@ -26,8 +26,8 @@ export function formatBlock(lines) {
 
 /**
  * Returns a Markdown table.
- * @param {string[]} head
- * @param {string[][]} rows the rows; their cells are Markdown
+ * @param {string[]} head the column headings
+ * @param {string[][]} rows the cells of each row, in Markdown
  */
 export function formatTable(head, rows) {
   return [head, head.map(() => "---"), ...rows].map((cells) => `| ${cells.join(" | ")} |`).join("\n");

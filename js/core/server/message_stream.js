@@ -1,5 +1,5 @@
 // The base class for the connections of the language server and the debug adapter. The class splits the stream into messages, and reports
-// stream errors to the client. Subclasses serve the messages.
+// stream errors to the client. Subclasses handle the messages.
 
 import { MessageReader, StreamError, frameMessage } from "./framing.js";
 import { messageTooLong } from "../../words/server.js";
@@ -12,7 +12,8 @@ export class MessageStream {
   }
 
   /**
-   * Reads bytes of the stream. If the stream is malformed, reports the error to the client and throws StreamError.
+   * Reads bytes of the stream and handles the completed messages. If the stream is malformed, reports the error to the client and throws
+   * StreamError.
    * @param {Uint8Array} bytes
    */
   take(bytes) {
@@ -28,7 +29,8 @@ export class MessageStream {
   }
 
   /**
-   * Reports a message that is cut off by the end of the stream. Returns the error message, "" if no message is cut off.
+   * Called at the end of the stream. If the last message is incomplete, reports this error to the client. Returns the error message, "" for
+   * none.
    * @returns {string}
    */
   reportIncomplete() {
@@ -43,7 +45,7 @@ export class MessageStream {
   }
 
   /**
-   * Serves a message. Subclasses override it.
+   * Handles a message. Subclasses override this method.
    * @param {string} text
    */
   serveMessage(text) {
@@ -51,7 +53,7 @@ export class MessageStream {
   }
 
   /**
-   * Sends an error that does not belong to a request. Subclasses override it.
+   * Sends an error that does not belong to a request. Subclasses override this method.
    * @param {string} words
    */
   reportStreamError(words) {

@@ -20,7 +20,7 @@ export class OpenText {
     this.language = language;
     this.version = version;
     this.lines = text.split(LINE_END);
-    /** The number of edits. */
+    /** The number of edits so far. The server also adds 1 when the text must be checked again. */
     this.edits = 0;
     /** @type {{ text: string, edits: number } | null} the last result of the getter `text`, and the number of edits before it */
     this.cachedText = null;

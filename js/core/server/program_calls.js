@@ -1,4 +1,4 @@
-// Finds the routines of a program and the calls between them. Creates the code lenses above labels, which show the numbers of calls.
+// Finds the routines of a program and the calls between routines. Creates the code lenses above labels, which show the number of calls.
 
 import { Routines } from "../text/routines.js";
 import { rangeInLine } from "./lsp_protocol.js";
@@ -68,22 +68,22 @@ export class ProgramCalls {
 
   /**
    * Returns the routines that call a routine.
-   * @param {string} name
-   * @param {number} line
+   * @param {string} name the name, "" for none
+   * @param {number} line the line number from 0
    */
   callers(name, line) {
     const found = this.findRoutine(name, line);
-    return found ? this.toCalls(this.routines.callers(found)) : [];
+    return found ? this.toCalls(this.routines.findCallers(found)) : [];
   }
 
   /**
    * Returns the routines that a routine calls.
-   * @param {string} name
-   * @param {number} line
+   * @param {string} name the name, "" for none
+   * @param {number} line the line number from 0
    */
   callees(name, line) {
     const found = this.findRoutine(name, line);
-    return found ? this.toCalls(this.routines.called(found)) : [];
+    return found ? this.toCalls(this.routines.findCalledRoutines(found)) : [];
   }
 
   /**
@@ -92,7 +92,7 @@ export class ProgramCalls {
    * @returns {Lens[]}
    */
   lenses(findUses) {
-    return [...this.routines.uses()].map(([name, { calls, others }]) => {
+    return [...this.routines.countUses()].map(([name, { calls, others }]) => {
       const line = /** @type {number} */ (this.routines.names.get(name));
       const { label } = this.routines.parts[line - 1];
       const { from, to } = label || { from: 0, to: 0 };

@@ -23,7 +23,7 @@ const CONSTANT_COMPLETION = 21;
 const VALUE_COMPLETION = 12;
 
 /**
- * Returns completions for the numbers of JCN conditions; an empty list if the operand at the caret is not a condition.
+ * Returns the condition numbers that complete the operand of a JCN; an empty list if the operand at the caret is not a condition.
  * @param {string} before the line up to the caret
  * @param {CompletionContext} context
  * @returns {CompletedWord[]}
@@ -38,8 +38,8 @@ function matchingConditions(before, { instructions, conditions }) {
 }
 
 /**
- * Returns whether the caret is in the operands of a statement. A typed blank triggers completion only there, so that indentation does not
- * trigger it.
+ * Returns whether the caret is in the operands of a statement. A typed blank triggers completion only in operands, so that the indentation
+ * of a line does not trigger completion.
  * @param {string} before the line up to the caret
  */
 function isInOperands(before) {

@@ -1,5 +1,5 @@
-// Creates the hover text for a word in a program. For an instruction, it is the manual's description; for a name, its meaning and its
-// comment. The address of the line follows.
+// Creates the hover text for a word in a program. For an instruction, the text is the manual's description; for a name, the meaning of the
+// name and its comment. The address of the line follows.
 
 import { NUMBER, findDefinedNames, splitStatement, wordAt } from "../text/assembly.js";
 import { parseOperandKinds } from "../text/program_words.js";
@@ -15,7 +15,7 @@ import * as say from "../../words/server.js";
  * @typedef {import("./lsp_protocol.js").Position} Position
  *
  * The data for a hover: the manual's instructions and JCN conditions, functions that return the meaning and the value of a name, and a
- * function that describes the address of a line ("" if it is unknown).
+ * function that describes the address, bytes and cycles of a line ("" if the address is unknown).
  * @typedef {{ instructions: Map<string, Instruction>, conditions: Map<number, string>, meaningOf: (name: string) => string,
  *   valueOf: (name: string) => number | undefined, describeLine: (line: number) => string }} HoverContext
  */

@@ -36,7 +36,7 @@ const CONSTANT = 14;
 const TOKEN_TYPES = { comment: "comment", instruction: "keyword", directive: "macro", register: "variable", number: "number" };
 
 /**
- * Returns the ranges in which each name is an operand, by name.
+ * Returns the ranges of all operands, by the text of the operand.
  * @param {string[]} lines
  * @returns {Map<string, Range[]>}
  */
@@ -45,9 +45,9 @@ function operandRanges(lines) {
   const rangesByName = new Map();
   lines.forEach((text, line) => {
     for (const { text: word, from, to } of splitStatement(text).operands) {
-      const knownRanges = rangesByName.get(word) || [];
-      knownRanges.push(rangeInLine(line + 1, from, to));
-      rangesByName.set(word, knownRanges);
+      const ranges = rangesByName.get(word) || [];
+      ranges.push(rangeInLine(line + 1, from, to));
+      rangesByName.set(word, ranges);
     }
   });
   return rangesByName;
@@ -73,34 +73,34 @@ export class ProgramLanguage {
      *   if the text has errors */
     this.lastAssembled = null;
     this.isInstruction = (/** @type {string} */ word) => this.instructions.has(word);
-    this.isHeadWord = (/** @type {string} */ word) => this.instructions.has(word) || DIRECTIVES.includes(word);
+    this.isMnemonicOrDirective = (/** @type {string} */ word) => this.instructions.has(word) || DIRECTIVES.includes(word);
   }
 
   /**
-   * Finds the errors in a program.
+   * Finds the errors in a program. Resolves to undefined if `isWanted` returns false during the check.
    * @param {OpenText} openText
    * @param {() => boolean} isWanted returns false if the result is no longer needed
    */
   findErrors({ uri, text }, isWanted) {
     const board = this.findBoardText(uri);
     /** @type {<Result>(ask: () => Result) => Promise<Result>} */
-    const askBench = async (ask) => {
+    const queryBench = async (ask) => {
       await this.pause();
       this.bench.setBoard(board);
       return ask();
     };
     const errorFinder = new TextErrorFinder({
-      wiring: async () => null,
-      errors: (sent) => askBench(() => this.bench.errors(sent)),
-      refuse: (sent) => askBench(() => this.bench.programRefusal(sent)),
-      map: (sent) => askBench(() => this.bench.read(sent).map),
-      roms: () => askBench(() => this.bench.boardSession.roms),
+      findBoardError: async () => null,
+      findLineErrors: (sent) => queryBench(() => this.bench.errors(sent)),
+      findRefusal: (sent) => queryBench(() => this.bench.programRefusal(sent)),
+      readMap: (sent) => queryBench(() => this.bench.read(sent).map),
+      readRomNumbers: () => queryBench(() => this.bench.boardSession.roms),
     }, { instructions: this.instructions, tables: new Map() }, this.refusalMessage);
     return errorFinder.findInProgram(text, isWanted);
   }
 
   /**
-   * Runs the assembler on a program. Returns the result; null if the program has errors.
+   * Assembles a program. Returns null if the program has errors.
    * @param {OpenText} openText
    */
   assembleProgram({ text }) {
@@ -157,7 +157,7 @@ export class ProgramLanguage {
   /**
    * @param {OpenText} openText
    * @param {Position} position
-   * @param {boolean} withDefinition
+   * @param {boolean} withDefinition true to include the definition of the name
    */
   references({ lines }, { line, character }, withDefinition) {
     const name = nameAt(lines, line, character);
@@ -212,13 +212,13 @@ export class ProgramLanguage {
     const labels = names.filter(({ defines }) => !defines);
     return names.map(({ name, line, label, defines }) => {
       const next = labels.find((each) => each.line > line);
-      const lastAssembled = defines ? line : (next ? next.line : lines.length + 1) - 1;
+      const lastLine = defines ? line : (next ? next.line : lines.length + 1) - 1;
       const { from, to } = label || { from: 0, to: 0 };
       return {
         name,
         kind: defines ? CONSTANT : FUNCTION,
         detail: program ? program.map.meaningOf(name) : "",
-        range: { start: rangeInLine(line, 0, 0).start, end: rangeInLine(lastAssembled, 0, lines[lastAssembled - 1].length).end },
+        range: { start: rangeInLine(line, 0, 0).start, end: rangeInLine(lastLine, 0, lines[lastLine - 1].length).end },
         selectionRange: rangeInLine(line, from, to),
       };
     });
@@ -244,7 +244,7 @@ export class ProgramLanguage {
    * @param {Layout} layout
    */
   format({ lines }, { start, end }, layout) {
-    const newLines = formatProgramLines(lines, this.isHeadWord, layout);
+    const newLines = formatProgramLines(lines, this.isMnemonicOrDirective, layout);
     const fault = findLengthError(newLines);
     if (fault !== "") throw new ProtocolError(REQUEST_FAILED, fault);
     return findLineChanges(lines, newLines).filter(({ line }) => start.line <= line && line <= end.line)
@@ -318,7 +318,7 @@ export class ProgramLanguage {
   }
 
   /**
-   * Returns a code lens for each label, which shows the number of its uses.
+   * Returns a code lens for each label, which shows the number of uses of the label.
    * @param {OpenText} openText
    */
   lenses(openText) {

@@ -1,4 +1,4 @@
-// Handlers for an editor's requests about a project file: errors, and links to the named files.
+// Handlers for an editor's requests about a project file: errors, symbols, and links to the named files.
 
 import { listNamedFiles } from "../project/project_toml.js";
 import { PARTS } from "../text/folding.js";

@@ -1,4 +1,4 @@
-// Handlers for an editor's requests about a property file. Its parser (explore/campaign.js) uses the names of the board and the program.
+// Handlers for an editor's requests about a property file. The parser of property files is explore/campaign.js.
 
 import { readCampaign } from "../explore/campaign.js";
 import { createSubject } from "../explore/subject.js";
@@ -18,9 +18,9 @@ import { colouredWords } from "./token_codes.js";
 
 /** The protocol's symbol kind for a property. */
 const PROPERTY = 7;
-/** Matches a line with a property. */
+/** Matches a line that is shown as a symbol: a property, a goal (`reach`), or a model. */
 const PROPERTY_LINE = /^(never|always|at|after|every|reach|model|while|once|@\S+|.*\bonly after)\b/;
-/** Matches a line `from STATE of FILE`, which begins the search at a state that a test saves. */
+/** Matches a line `from STATE of FILE`, with which the search starts at a state that a test saves. Captures the file. */
 const STATE_OF_FILE = /^([ \t]*from[ \t]+\S+[ \t]+of[ \t]+)(\S.*)$/;
 
 export class PropertyLanguage extends DependentLanguage {
@@ -28,7 +28,7 @@ export class PropertyLanguage extends DependentLanguage {
    * @param {import("../engine/engine_host.js").EngineHost} engine
    * @param {import("../help/manual.js").ManualSection[]} manual
    * @param {(uri: string) => import("./dependent_language.js").DependencyTexts} findDependencies
-   * @param {(uri: string, folder: string) => string | null} readText
+   * @param {import("./text_kinds.js").ReadText} readText
    */
   constructor(engine, manual, findDependencies, readText) {
     super(engine, findDependencies);
@@ -38,7 +38,7 @@ export class PropertyLanguage extends DependentLanguage {
   }
 
   /**
-   * Finds the errors in a property file. If the board or the program has an error, reports only that.
+   * Finds the errors in a property file. If the board or the program has an error, the result contains only a message about that.
    * @param {OpenText} openText
    */
   async findErrors({ uri, lines, text }) {
@@ -51,8 +51,8 @@ export class PropertyLanguage extends DependentLanguage {
   }
 
   /**
-   * Returns the board and the program in the form that a search for counterexamples uses. If both texts are those of the last call, returns
-   * the same result again.
+   * Returns the board and the program in the form that a search for counterexamples uses. If both texts are the same as in the last call,
+   * returns the same result again.
    * @param {string} boardText
    * @param {string} programText
    */

@@ -1,5 +1,5 @@
-// The handlers of all requests, by method name. A handler checks the parameters, calls the handler object for the kind of text (its
-// `Language`, language.js), and converts the answer to the protocol's format.
+// Defines the handlers of all requests. A handler checks the parameters, calls the object that handles the kind of text (its `Language`,
+// language.js), and converts the result to the protocol's format.
 
 import { capabilitiesFor, readClient, RUN_TEST } from "./capabilities.js";
 import { toCodeLens } from "./code_lens.js";
@@ -23,6 +23,7 @@ import * as say from "../../words/server.js";
 
 /** The protocol's symbol kind for a routine. */
 const FUNCTION = 12;
+/** A range that contains any text. */
 const WHOLE_TEXT_RANGE = { start: { line: 0, character: 0 }, end: { line: Number.MAX_SAFE_INTEGER, character: 0 } };
 const MAX_TAB_SIZE = 16;
 
@@ -54,7 +55,10 @@ export class Requests {
     this.tokens = new TokenMemory();
   }
 
-  /** @returns {Record<string, RequestHandler>} */
+  /**
+   * Returns the handlers by method name.
+   * @returns {Record<string, RequestHandler>}
+   */
   allHandlers() {
     return { ...this.serverRequests(), ...this.positionRequests(), ...this.textRequests(), ...this.callRequests() };
   }
@@ -94,28 +98,29 @@ export class Requests {
    * Calls a function with the text that a request names, and with the language (language.js) of this text.
    * @template Result
    * @param {any} params
-   * @param {(language: Language, openText: OpenText) => Result} ask
+   * @param {(language: Language, openText: OpenText) => Result} act
    * @returns {Result | null} null for a text in an unknown language
    */
-  askLanguage(params, ask) {
+  callWithLanguage(params, act) {
     const { open: openText } = this.server.requestedText(params);
     const language = this.server.findLanguage(openText);
-    return language && ask(language, openText);
+    return language && act(language, openText);
   }
 
   /** @returns {Record<string, RequestHandler>} */
   textRequests() {
     return {
-      "textDocument/documentSymbol": (params) => this.askLanguage(params, (language, openText) => (
+      "textDocument/documentSymbol": (params) => this.callWithLanguage(params, (language, openText) => (
         language.symbols ? language.symbols(openText) : [])),
       "textDocument/codeAction": (params) => this.codeAction(params),
-      "textDocument/codeLens": (params) => this.askLanguage(params, (language, openText) => (
+      "textDocument/codeLens": (params) => this.callWithLanguage(params, (language, openText) => (
         (language.lenses ? language.lenses(openText) : []).map((lens) => toCodeLens(lens, openText.uri, this.server.client.commands)))),
       "textDocument/formatting": (params) => this.format(params, WHOLE_TEXT_RANGE),
       "textDocument/rangeFormatting": (params) => this.format(params, needRange(getField(params, "range"))),
-      "textDocument/documentLink": (params) => this.askLanguage(params, (language, openText) => (
+      "textDocument/documentLink": (params) => this.callWithLanguage(params, (language, openText) => (
         language.links ? language.links(openText) : [])),
-      "textDocument/foldingRange": (params) => this.askLanguage(params, (language, openText) => findFolds(openText.lines, language.parts)),
+      "textDocument/foldingRange": (params) => this.callWithLanguage(params, (language, openText) => (
+        findFolds(openText.lines, language.parts))),
       "textDocument/inlayHint": (params) => this.hints(params),
       "textDocument/semanticTokens/full": (params) => this.colours(params, (openText, words) => this.tokens.allTokens(openText, words)),
       "textDocument/semanticTokens/full/delta": (params) => this.colours(params, (openText, words) => (
@@ -127,13 +132,13 @@ export class Requests {
   }
 
   /**
-   * Serves a request for semantic tokens.
+   * Handles a request for semantic tokens.
    * @param {any} params
-   * @param {(openText: OpenText, words: import("./token_codes.js").ColouredWord[]) => object} ask returns the response for the words to
+   * @param {(openText: OpenText, words: import("./token_codes.js").ColouredWord[]) => object} act returns the response for the words to
    *   colour
    */
-  colours(params, ask) {
-    return this.askLanguage(params, (language, openText) => ask(openText, language.colours ? language.colours(openText) : []));
+  colours(params, act) {
+    return this.callWithLanguage(params, (language, openText) => act(openText, language.colours ? language.colours(openText) : []));
   }
 
   /**
@@ -142,13 +147,13 @@ export class Requests {
    */
   format(params, range) {
     const layout = readFormattingOptions(getField(params, "options"));
-    return this.askLanguage(params, (language, openText) => (language.format ? language.format(openText, range, layout) : null));
+    return this.callWithLanguage(params, (language, openText) => (language.format ? language.format(openText, range, layout) : null));
   }
 
   /** @param {any} params */
   hints(params) {
     const range = needRange(getField(params, "range"));
-    return this.askLanguage(params, (language, openText) => (language.hints ? language.hints(openText, range) : []));
+    return this.callWithLanguage(params, (language, openText) => (language.hints ? language.hints(openText, range) : []));
   }
 
   /** @param {any} params */
@@ -174,29 +179,29 @@ export class Requests {
    * Calls a function with the position that a request names, and with the text and its language.
    * @template Result
    * @param {any} params
-   * @param {(language: Language, openText: OpenText, position: Position) => Result} ask
+   * @param {(language: Language, openText: OpenText, position: Position) => Result} act
    */
-  askAtPosition(params, ask) {
+  callAtPosition(params, act) {
     const position = needPosition(getField(params, "position"));
-    return this.askLanguage(params, (language, openText) => ask(language, openText, openText.clampPosition(position)));
+    return this.callWithLanguage(params, (language, openText) => act(language, openText, openText.clampPosition(position)));
   }
 
   /** @returns {Record<string, RequestHandler>} */
   positionRequests() {
     return {
       "textDocument/hover": (params) => this.hover(params),
-      "textDocument/definition": (params) => this.askAtPosition(params, (language, openText, position) => {
+      "textDocument/definition": (params) => this.callAtPosition(params, (language, openText, position) => {
         const found = language.definition ? language.definition(openText, position) : null;
         return found && ("uri" in found ? found : { uri: openText.uri, range: found });
       }),
       "textDocument/references": (params) => this.references(params),
-      "textDocument/documentHighlight": (params) => this.askAtPosition(params, (language, openText, position) => (
+      "textDocument/documentHighlight": (params) => this.callAtPosition(params, (language, openText, position) => (
         (language.references ? language.references(openText, position, true) : []).map((range) => ({ range })))),
-      "textDocument/prepareRename": (params) => this.askAtPosition(params, (language, openText, position) => (
+      "textDocument/prepareRename": (params) => this.callAtPosition(params, (language, openText, position) => (
         language.renameTarget ? language.renameTarget(openText, position) : null)),
       "textDocument/rename": (params) => this.rename(params),
       "textDocument/completion": (params) => this.completion(params),
-      "textDocument/signatureHelp": (params) => this.askAtPosition(params, (language, openText, position) => (
+      "textDocument/signatureHelp": (params) => this.callAtPosition(params, (language, openText, position) => (
         language.signature ? language.signature(openText, position) : null)),
       "textDocument/selectionRange": (params) => this.selections(params),
     };
@@ -204,7 +209,7 @@ export class Requests {
 
   /** @param {any} params */
   hover(params) {
-    const found = this.askAtPosition(params, (language, openText, position) => (
+    const found = this.callAtPosition(params, (language, openText, position) => (
       language.hover ? language.hover(openText, position) : null));
     if (!found) return null;
     const { words, markdown, ...range } = found;
@@ -215,21 +220,21 @@ export class Requests {
   /** @param {any} params */
   references(params) {
     const withDefinition = getField(getField(params, "context"), "includeDeclaration") !== false;
-    return this.askAtPosition(params, (language, openText, position) => (
+    return this.callAtPosition(params, (language, openText, position) => (
       (language.references ? language.references(openText, position, withDefinition) : []).map((range) => ({ uri: openText.uri, range }))));
   }
 
   /** @param {any} params */
   rename(params) {
     const newName = needText(getField(params, "newName"), "newName");
-    return this.askAtPosition(params, (language, openText, position) => (
+    return this.callAtPosition(params, (language, openText, position) => (
       language.rename ? { changes: { [openText.uri]: language.rename(openText, position, newName) } } : null));
   }
 
   /** @param {any} params */
   completion(params) {
     const trigger = String(getField(getField(params, "context"), "triggerCharacter") || "");
-    return this.askAtPosition(params, (language, openText, position) => {
+    return this.callAtPosition(params, (language, openText, position) => {
       if (!language.completion) return [];
       const { from, to, list } = language.completion(openText, position, trigger);
       const range = { start: { ...position, character: from }, end: { ...position, character: to } };
@@ -242,7 +247,7 @@ export class Requests {
   /** @param {any} params */
   selections(params) {
     const positions = needList(getField(params, "positions"), "positions").map(needPosition);
-    return this.askLanguage(params, (language, openText) => positions.map((position) => {
+    return this.callWithLanguage(params, (language, openText) => positions.map((position) => {
       const clamped = openText.clampPosition(position);
       const columnRanges = language.selectionColumns ? language.selectionColumns(openText, clamped) : [];
       return selectionRangeAt(openText.lines, clamped, columnRanges, language.parts);
@@ -254,14 +259,14 @@ export class Requests {
   /** @returns {Record<string, RequestHandler>} */
   callRequests() {
     return {
-      "textDocument/prepareCallHierarchy": (params) => this.askAtPosition(params, (language, openText, position) => {
+      "textDocument/prepareCallHierarchy": (params) => this.callAtPosition(params, (language, openText, position) => {
         const routine = language.routine ? language.routine(openText, position) : null;
         return routine && [this.toCallItem(routine, openText.uri)];
       }),
-      "callHierarchy/incomingCalls": (params) => this.askAtItem(params, (language, openText, position) => (
+      "callHierarchy/incomingCalls": (params) => this.callAtItem(params, (language, openText, position) => (
         (language.callers ? language.callers(openText, position) : []).map(({ routine, ranges }) => (
           { from: this.toCallItem(routine, openText.uri), fromRanges: ranges })))),
-      "callHierarchy/outgoingCalls": (params) => this.askAtItem(params, (language, openText, position) => (
+      "callHierarchy/outgoingCalls": (params) => this.callAtItem(params, (language, openText, position) => (
         (language.callees ? language.callees(openText, position) : []).map(({ routine, ranges }) => (
           { to: this.toCallItem(routine, openText.uri), fromRanges: ranges })))),
     };
@@ -280,11 +285,11 @@ export class Requests {
    * Calls a function with the position of the call hierarchy item that a request names, and with the text and its language.
    * @template Result
    * @param {any} params
-   * @param {(language: Language, openText: OpenText, position: Position) => Result} ask
+   * @param {(language: Language, openText: OpenText, position: Position) => Result} act
    */
-  askAtItem(params, ask) {
+  callAtItem(params, act) {
     const item = getField(params, "item");
     const { start } = needRange(getField(item, "selectionRange"));
-    return this.askAtPosition({ textDocument: { uri: getField(item, "uri") }, position: start }, ask);
+    return this.callAtPosition({ textDocument: { uri: getField(item, "uri") }, position: start }, act);
   }
 }

@@ -1,5 +1,5 @@
-// Finds the ranges for an editor command that expands the selection step by step: from the word to larger ranges in its line, the line, the
-// folding ranges around the line, and the whole text.
+// Finds the ranges for an editor command that expands the selection step by step: first the word, then larger ranges in its line, the line,
+// the folding ranges around the line, and the whole text.
 
 import { wordAt } from "../text/assembly.js";
 import { findFolds } from "./folding_ranges.js";
@@ -12,7 +12,7 @@ import { findFolds } from "./folding_ranges.js";
  */
 
 /**
- * Returns whether a range contains another range and is larger than it.
+ * Returns whether the outer range contains the inner range and is larger.
  * @param {Range} outer
  * @param {Range} inner
  */
@@ -41,7 +41,7 @@ function enclosingRanges(lines, line, parts) {
  * Returns the smallest selection range around a position. Each selection range links to the next larger one (`parent`).
  * @param {string[]} lines
  * @param {Position} position
- * @param {[number, number][]} columnRanges the column ranges of the language in the line
+ * @param {[number, number][]} columnRanges additional ranges in the line, as columns: for a program, the operands or the statement
  * @param {Parts} parts
  * @returns {SelectionRange}
  */

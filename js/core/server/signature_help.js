@@ -30,7 +30,7 @@ function createSignature(label, documentation, operands) {
 /**
  * Returns the signature of a directive.
  * @param {string} words the description of the directive, which starts with its form and a colon
- * @param {string} kind the letter that the manual uses for the kind of operand
+ * @param {string} kind the kind of operand, as the letter that instruction forms use
  */
 function directiveSignature(words, kind) {
   const form = words.split(":")[0];

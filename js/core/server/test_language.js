@@ -1,4 +1,4 @@
-// Handlers for an editor's requests about a test file. Its parser (testing/test_text.js) uses the names of the board and the program.
+// Handlers for an editor's requests about a test file. The parser of test files is testing/test_text.js.
 
 import { readSources } from "../testing/test_text.js";
 import { COLOURS } from "../text/test_colours.js";
@@ -14,13 +14,15 @@ import * as say from "../../words/server.js";
  * @typedef {import("./open_text.js").OpenText} OpenText
  * @typedef {import("./lsp_protocol.js").Position} Position
  *
- * The first line of a test, or of shared steps. `line` counts from 0; `from` and `to` are the first column and the end of the name.
+ * The first line of a test, or of a list of steps that tests share. `line` counts from 0. `from` and `to` are the first column of the name
+ * and the column after it.
  * @typedef {{ kind: "test" | "steps", name: string, line: number, from: number, to: number }} TestHead
  */
 
 /** The protocol's symbol kinds for tests and for shared steps. */
 const METHOD = 6;
 const FUNCTION = 12;
+/** Matches the first line of a test or of shared steps, and captures its parts. */
 const HEAD_LINE = /^([ \t]*)(test|steps)([ \t]+)(\S.*)$/;
 
 /**
@@ -50,7 +52,7 @@ export class TestLanguage extends DependentLanguage {
   }
 
   /**
-   * Finds the errors in a test file. If the board or the program has an error, reports only that.
+   * Finds the errors in a test file. If the board or the program has an error, the result contains only a message about that.
    * @param {OpenText} openText
    */
   async findErrors({ uri, lines, text }) {
@@ -83,7 +85,7 @@ export class TestLanguage extends DependentLanguage {
   }
 
   /**
-   * Returns the location of the steps that a `do` line names, or of a program label; null if there is none.
+   * Returns the location of the steps that a `do` line names, or else of the program label at a position; null if there is neither.
    * @param {OpenText} openText
    * @param {Position} position
    */

@@ -1,5 +1,5 @@
-// Runs a test when an editor requests it. If the test begins at a state that another test saves, that test runs first. For an open text,
-// uses the text in the editor, not the file.
+// Runs a test at the request of an editor. If the test starts at a state that another test saves, the other test runs first. For an open
+// text, uses the text in the editor instead of the file.
 
 import { CancelledError } from "../bench/bench_errors.js";
 import { runTests } from "../testing/test_suite.js";
@@ -13,8 +13,8 @@ import * as say from "../../words/server.js";
  * @typedef {import("./diagnostics.js").ShownFault} ShownFault
  * @typedef {import("./open_text.js").OpenText} OpenText
  *
- * The result of a test: a message, whether the test passed, and the error in the line that failed, with the URI of its text (null for
- * none).
+ * The result of a test: a message, whether the test passed, and its failure (null for none). The failure is the error in the failed line,
+ * with the URI of the test file.
  * @typedef {{ words: string, hasPassed: boolean, failure: { uri: string, fault: ShownFault } | null }} TestResult
  */
 
@@ -23,7 +23,7 @@ import * as say from "../../words/server.js";
  * @param {string} words the reason
  * @returns {TestResult}
  */
-const notRunResult = (words) => ({ words, hasPassed: false, failure: null });
+const createNotRunResult = (words) => ({ words, hasPassed: false, failure: null });
 
 export class TestRuns {
   /**
@@ -53,17 +53,17 @@ export class TestRuns {
     const { runNumber } = this;
     const { board, program, tests } = this.findDependencies(uri);
     const missingFile = [board, program].find((each) => each.text === null);
-    if (missingFile) return notRunResult(say.missingDependency(decodeFileName(missingFile.uri)));
+    if (missingFile) return createNotRunResult(say.missingDependency(decodeFileName(missingFile.uri)));
     const sources = tests.map((each) => ({ name: each.uri, text: each.uri === uri ? text : each.text || "" }));
-    const mayContinue = async () => {
+    const shouldContinue = async () => {
       await this.pause();
       return runNumber === this.runNumber && !pending.isCancelled;
     };
     const texts = { boardText: board.text || "", programText: program.text || "", sources };
-    const { faults, outcomes } = await this.runOneTest(texts, mayContinue, { name, source: uri });
-    if (faults.length > 0) return notRunResult(this.describeError(faults[0], { board, program, tests }));
+    const { faults, outcomes } = await this.runOneTest(texts, shouldContinue, { name, source: uri });
+    if (faults.length > 0) return createNotRunResult(this.describeError(faults[0], { board, program, tests }));
     const failedTest = outcomes.find(({ failure }) => failure !== null);
-    if (outcomes.length === 0) return notRunResult(say.noTest(name));
+    if (outcomes.length === 0) return createNotRunResult(say.noTest(name));
     if (!failedTest || !failedTest.failure) return { words: say.testPassed(name), hasPassed: true, failure: null };
     const { source, line, words } = failedTest.failure;
     const message = say.testFailed(failedTest.name, line, words);
@@ -73,19 +73,19 @@ export class TestRuns {
   /**
    * Runs one test; throws ProtocolError if the run is cancelled.
    * @param {import("../testing/test_suite.js").TestedTexts} texts
-   * @param {() => Promise<boolean>} mayContinue
+   * @param {() => Promise<boolean>} shouldContinue
    * @param {{ name: string, source: string }} only the name of the test, and the URI of its file
    */
-  async runOneTest(texts, mayContinue, only) {
+  async runOneTest(texts, shouldContinue, only) {
     try {
-      return await runTests(this.engine, texts, mayContinue, { only });
+      return await runTests(this.engine, texts, shouldContinue, { only });
     } catch (thrown) {
       throw thrown instanceof CancelledError ? new ProtocolError(REQUEST_CANCELLED, IT_WAS_CANCELLED) : thrown;
     }
   }
 
   /**
-   * Returns the message for an error because of which the test cannot run.
+   * Returns the message about an error that prevents a test run.
    * @param {import("../testing/test_preparation.js").TextFault} fault
    * @param {DependencyTexts} dependencies
    */

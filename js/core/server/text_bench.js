@@ -1,4 +1,4 @@
-// Queries the bench about the texts of boards and programs, in temporary sessions in memory.
+// Checks and assembles the texts of boards and programs with queries to the bench, in temporary sessions in memory.
 
 import { readBoard, parseRefusal } from "../bench/answers.js";
 import { readErrors, readWiring } from "../bench/text_check_answers.js";
@@ -31,15 +31,15 @@ export class TextBench {
    */
   beginSession(text) {
     const file = this.engine.begin();
-    const isRefused = text === null || this.engine.serve(file, `wire\n${sentText(text, "#")}.\n`, file).answers.some(parseRefusal);
-    if (isRefused) this.engine.serve(file, ALL_ROMS, file);
+    const isRejected = text === null || this.engine.serve(file, `wire\n${sentText(text, "#")}.\n`, file).answers.some(parseRefusal);
+    if (isRejected) this.engine.serve(file, ALL_ROMS, file);
     const roms = new Set(readBoard(this.engine.ask(file, "board\n").answers).roms.map(({ chip }) => chip));
     return { text, file, roms };
   }
 
   /**
    * Sets the board for later calls about programs.
-   * @param {string | null} text
+   * @param {string | null} text the board text; null for a board with all ROMs
    */
   setBoard(text) {
     if (this.boardSession.text !== text) this.boardSession = this.beginSession(text);
@@ -47,7 +47,7 @@ export class TextBench {
 
   /**
    * Returns the error with which the bench rejects lines; null if the bench accepts the lines.
-   * @param {Uint8Array} file the session file
+   * @param {Uint8Array} file the session file; not changed
    * @param {string} lines
    */
   refusal(file, lines) {
@@ -80,20 +80,20 @@ export class TextBench {
 
   /**
    * Returns the queries of this bench as callbacks for TextErrorFinder.
-   * @returns {import("../text/text_error_finder.js").FaultQueries}
+   * @returns {import("../text/text_error_finder.js").ErrorQueries}
    */
   queries() {
     return {
-      wiring: async (sent) => this.wiring(sent),
-      errors: async (sent) => this.errors(sent),
-      refuse: async (sent) => this.programRefusal(sent),
-      map: async (sent) => this.read(sent).map,
-      roms: async () => this.boardSession.roms,
+      findBoardError: async (sent) => this.wiring(sent),
+      findLineErrors: async (sent) => this.errors(sent),
+      findRefusal: async (sent) => this.programRefusal(sent),
+      readMap: async (sent) => this.read(sent).map,
+      readRomNumbers: async () => this.boardSession.roms,
     };
   }
 
   /**
-   * Returns the `map` answers for a program; null if the bench rejects the program.
+   * Returns the answers to `map` for a program; null if the bench rejects the program.
    * @param {string} sent the result of `sentText`
    */
   map(sent) {
@@ -103,7 +103,7 @@ export class TextBench {
   }
 
   /**
-   * Returns the `map` answers and the bytes of a program. If the text is that of the last call, returns the same result again.
+   * Assembles a program. If the text is the same as in the last call, returns the same result again.
    * @param {string} sent the result of `sentText`
    * @returns {Program}
    */

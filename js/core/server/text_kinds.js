@@ -1,4 +1,4 @@
-// Determines the kind of a text (program, board, tests, properties or project file), and finds its project, board and program.
+// Determines the kind of a text (program, board, tests, properties or project file), and finds the project, board and program of a text.
 
 import { MAX_PROJECT_TOML_BYTES, PROJECT_FILE, listNamedFiles, readProjectToml } from "../project/project_toml.js";
 import { readBoardText } from "../text/board_reader.js";
@@ -9,8 +9,8 @@ import * as say from "../../words/server.js";
  * @typedef {import("./open_text.js").OpenText} OpenText
  * @typedef {import("../text/sendable_text.js").Fault} Fault
  *
- * A function that returns the text of a file, or null if the file cannot be read or is outside `folder`. `folder` is the folder of the
- * project that names the file, "" for none.
+ * A function that returns the text of a file. It returns null if the file cannot be read, or is outside the folder of the project that
+ * names the file (`folder`, "" for none).
  * @typedef {(uri: string, folder: string) => string | null} ReadText
  *
  * The URIs of a project folder and its files.
@@ -54,7 +54,7 @@ export function parentFolder(uri) {
 }
 
 /**
- * Returns whether a URI is that of a project file.
+ * Returns whether a URI names a project file.
  * @param {string} uri
  */
 export function isProjectFile(uri) {
@@ -62,7 +62,7 @@ export function isProjectFile(uri) {
 }
 
 /**
- * Parses a project file. If the file is too long, returns only that error.
+ * Parses a project file. If the file is too long, returns only an error about its length.
  * @param {string} text
  * @returns {ReturnType<typeof readProjectToml>}
  */
@@ -73,7 +73,7 @@ export function readProject(text) {
 }
 
 /**
- * Returns the errors in a project file, including an error for each missing file.
+ * Returns the errors in a project file; if there are none, an error for each missing file.
  * @param {string} uri
  * @param {string} text
  * @param {ReadText} readText
@@ -89,8 +89,8 @@ export function findProjectErrors(uri, text, readText) {
 }
 
 /**
- * Returns the project of a text. Searches the folder of the text and the folders above it, and uses the first one with a valid project
- * file. Returns null if there is none.
+ * Returns the project of a text. Searches the folder of the text and the folders above it, and uses the first valid project file. Returns
+ * null if there is none.
  * @param {string} uri
  * @param {ReadText} readText
  * @returns {Project | null}
@@ -133,7 +133,8 @@ export function findBoard(uri, readText) {
 
 /**
  * Returns the files that a test or property file depends on: the files of the project; or else, in the same folder, `board.toml` and the
- * program with the same base name. `tests` are the project's test files up to this one, because its tests can use their saved states.
+ * program with the same base name. `tests` are the project's test files up to this file, because its tests can start at states that earlier
+ * files save.
  * @param {string} uri
  * @param {ReadText} readText
  * @returns {Dependencies}

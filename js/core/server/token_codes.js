@@ -1,4 +1,4 @@
-// Encodes semantic tokens of the language server protocol: the words that an editor shall colour, with their kinds.
+// Encodes semantic tokens of the language server protocol: the words that an editor colours, with their kinds.
 
 /**
  * A word to colour: its line and columns (from 0), its token type, and whether it is a definition or a constant.
@@ -45,7 +45,8 @@ export function encodeTokens(words) {
 }
 
 /**
- * Returns the edits that change one encoding into another: no edit if they are equal, or else one edit that replaces a range of numbers.
+ * Returns the edits that change an encoding to another encoding: no edit if both are equal, or else one edit that replaces a range of
+ * numbers.
  * @param {number[]} before
  * @param {number[]} after
  * @returns {{ start: number, deleteCount: number, data: number[] }[]}

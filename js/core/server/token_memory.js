@@ -1,4 +1,4 @@
-// Stores the last semantic tokens that were sent for each text, so that an editor can request only the changes.
+// Stores the semantic tokens that the server last sent for each text, so that an editor can request only the changes.
 
 import { tokenEdits, encodeTokens } from "./token_codes.js";
 
@@ -19,7 +19,7 @@ export class TokenMemory {
   }
 
   /**
-   * Stores the tokens that a response contains. Returns the id of the response.
+   * Stores the tokens of a response. Returns the id of the response.
    * @param {string} uri
    * @param {number[]} data
    */

@@ -11,8 +11,8 @@ import { decodeFileName } from "./dependent_language.js";
 const MAX_NAMES = 512;
 
 /**
- * Returns whether a name matches a query, ignoring case. A name of one word must contain the letters of the query in their order. A name of
- * several words must contain the query as a whole.
+ * Returns whether a name matches a query, ignoring case. A name without blanks must contain the letters of the query in the same order, but
+ * not necessarily side by side. A name with blanks must contain the query as a substring.
  * @param {string} name
  * @param {string} query
  */
@@ -28,7 +28,7 @@ export function matchesQuery(name, query) {
 }
 
 /**
- * Returns the symbols that match a query.
+ * Returns the symbols that match a query, in the protocol's format.
  * @param {LanguageServer} server
  * @param {string} query
  */

@@ -10,20 +10,20 @@ const PIECE_BYTES = 8192;
 export function toBase64(bytes) {
   let letters = "";
   for (let at = 0; at < bytes.length; at += PIECE_BYTES) {
-    // Spread arguments would be much slower.
+    // `Reflect.apply` is much faster than spread arguments.
     letters += Reflect.apply(String.fromCharCode, null, bytes.subarray(at, at + PIECE_BYTES));
   }
   return btoa(letters);
 }
 
 /**
- * Returns the bytes of a base64 text. Throws if the text is invalid.
+ * Returns the bytes of a base64 text. Throws an error if the text is invalid.
  * @param {string} text
  */
 export function fromBase64(text) {
   const letters = atob(text);
   const bytes = new Uint8Array(letters.length);
-  // Uint8Array.from with a function would be much slower.
+  // The loop is much faster than `Uint8Array.from` with a function.
   for (let at = 0; at < letters.length; at++) bytes[at] = letters.charCodeAt(at);
   return bytes;
 }

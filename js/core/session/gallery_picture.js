@@ -1,9 +1,9 @@
 // Draws the picture of an example for the gallery: the front panel that the board text describes. The program does not run for the picture.
-// Therefore the picture shows the first lamp of each colour as on, and sample digits on a display.
+// Therefore the picture shows the first drawn lamp of each colour as on, and sample digits on a display.
 
 import { partLines } from "../bench/part_lines.js";
 import { Face } from "../board/face.js";
-import { groupEnd, isScanned, groupLamps } from "../board/face_board.js";
+import { groupEnd, isMultiplexed, groupLamps } from "../board/face_board.js";
 import { indices } from "../bench/numbers.js";
 
 /**
@@ -45,9 +45,9 @@ class Drawing {
   /**
    * Draws a lamp.
    * @param {number} lamp
-   * @param {number} x the x position of the centre
-   * @param {number} y
-   * @param {number} size
+   * @param {number} x the x position of the centre, in picture units
+   * @param {number} y the y position of the centre
+   * @param {number} size the radius
    */
   drawLamp(lamp, x, y, size) {
     const faceText = this.face.colours.get(lamp);
@@ -58,6 +58,7 @@ class Drawing {
     this.shapes.push({ kind: "lamp", x, y, size, colour, isLit });
   }
 
+  /** Draws the displays and lamp groups whose lamps are all on the board. */
   drawGroups() {
     for (const group of this.face.groups.filter((each) => groupEnd(each) <= this.lampCount)) {
       for (const lamp of groupLamps(group)) this.drawnLamps.add(lamp);
@@ -67,7 +68,7 @@ class Drawing {
       } else {
         const { first, rows, columns } = group;
         // All rows of a multiplexed group use the colours of its columns.
-        const lampAt = (/** @type {number} */ at) => first + (isScanned(group) ? at % columns : at);
+        const lampAt = (/** @type {number} */ at) => first + (isMultiplexed(group) ? at % columns : at);
         this.drawGrid(indices(rows * columns).map((at) => ({ lamp: lampAt(at), column: at % columns, row: Math.floor(at / columns) })));
       }
     }
@@ -83,7 +84,7 @@ class Drawing {
   }
 
   /**
-   * Draws lamps in a grid as large as possible.
+   * Draws lamps in a centred grid.
    * @param {{ lamp: number, column: number, row: number }[]} cells
    */
   drawGrid(cells) {
@@ -98,6 +99,7 @@ class Drawing {
     this.bottom += rows * pitch + GAP;
   }
 
+  /** Draws the lamps that are not drawn yet, eight per row. */
   drawOtherLamps() {
     const columns = 8;
     const otherLamps = indices(this.lampCount).filter((lamp) => !this.drawnLamps.has(lamp));
@@ -105,6 +107,7 @@ class Drawing {
     this.drawGrid(otherLamps.map((lamp, at) => ({ lamp, column: at % width, row: Math.floor(at / columns) })));
   }
 
+  /** Draws the keys that have a legend. */
   drawKeys() {
     const keys = [...this.face.keys.values()].map(({ text, key: { row, column } }) => ({ row, column, legend: text }))
       .filter(({ legend }) => legend !== "");

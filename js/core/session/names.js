@@ -1,4 +1,4 @@
-// Makes names that other people have chosen safe to show, so that a name in a link cannot imitate texts of the page.
+// Removes unsafe characters from names that other people have chosen, so that a name in a link cannot imitate texts of the page.
 
 /** The maximum length of a name, in characters. */
 const MAX_NAME_LENGTH = 60;
@@ -6,7 +6,7 @@ const MAX_NAME_LENGTH = 60;
 const UNSAFE_CHARACTERS = /[\p{Cc}\p{Bidi_Control}\u200b\u2028\u2029\u2060\ufeff]/gu;
 
 /**
- * Returns a name as one line without unsafe characters, shortened to the maximum length.
+ * Returns a name without line ends and unsafe characters, shortened to the maximum length.
  * @param {string} text
  */
 export function shortName(text) {

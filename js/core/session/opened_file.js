@@ -1,5 +1,5 @@
-// Determines what a file contains that the user chooses or drops: a project, a session, a board, a program, tests, properties, bench lines
-// or a ROM image. Checks the first bytes, then the file name, then the text.
+// Determines the contents of a file that the user chooses or drops: a project, a session, a board, a program, tests, properties, bench
+// lines or a ROM image. Checks the first bytes, then the file name, then the text.
 
 import { readInputs } from "../bench/inputs.js";
 import { PROJECT_FILE } from "../project/project_toml.js";
@@ -11,11 +11,11 @@ import * as say from "../../words/session.js";
 
 /**
  * The texts in a file; null for each kind of text that the file lacks. `lines` contains the bench lines that set neither the board nor the
- * program. `isGuess` is true if the file is read as a program only because neither its name nor its text shows another kind.
+ * program, "" for none. `isGuess` is true if neither the name nor the text shows the kind, so that the text is assumed to be a program.
  * @typedef {{ board: string | null, program: string | null, tests: string | null, properties: string | null, lines: string,
  *   isGuess?: boolean }} FileTexts
  *
- * The contents of a file. `bytes` are the bytes of a ROM image, by address.
+ * The contents of a file. `bytes` are the bytes of a ROM image, by address, NO_BYTE (-1) for none.
  * @typedef {{ kind: "project" } | { kind: "session" } | { kind: "texts", texts: FileTexts } | { kind: "image", bytes: Int16Array }}
  *   FileContents
  */
@@ -31,7 +31,7 @@ const BOARD_FILES = /\.toml$/i;
 const TEST_FILES = /\.test$/i;
 const PROPERTY_FILES = /\.props$/i;
 const PROGRAM_FILES = /\.(asm|s|src|a4|4004)$/i;
-/** Matches the names of text files that can contain any kind of text. */
+/** Matches the names of text files whose kind only the text shows: names without an extension, `.txt` and `.text`. */
 const TEXT_FILES = /(^[^.]*|\.(txt|text))$/i;
 
 /**
@@ -39,12 +39,12 @@ const TEXT_FILES = /(^[^.]*|\.(txt|text))$/i;
  * @param {string} reason
  * @returns {UnusableFile}
  */
-function unusableFile(reason) {
+function unusableFileError(reason) {
   return new UnusableFile(say.opens(reason));
 }
 
 /**
- * Decodes a text as UTF-8, or else as Windows-1252. Returns null if the bytes are not a text.
+ * Decodes bytes as UTF-8, or else as Windows-1252. Returns null if the bytes contain control characters that a text does not contain.
  * @param {Uint8Array} bytes
  */
 function decodeText(bytes) {
@@ -58,7 +58,7 @@ function decodeText(bytes) {
 }
 
 /**
- * Returns the texts in bench lines (the last board and the last program), and the other lines.
+ * Returns the last board and the last program in bench lines, and the other lines.
  * @param {string} script
  * @returns {FileTexts}
  */
@@ -93,7 +93,7 @@ function readTexts(name, text) {
 }
 
 /**
- * Returns the contents of a text file. Throws if the bench cannot use the file.
+ * Returns the contents of a text file. Throws an error if the bench cannot use the file.
  * @param {string} name the name of the file
  * @param {string} text
  * @returns {FileContents}
@@ -102,7 +102,7 @@ function readTextFile(name, text) {
   if (name === PROJECT_FILE) throw new UnusableFile(say.NAMES_FILES);
   const kinds = [HEX_FILES, BOARD_FILES, PROGRAM_FILES, TEST_FILES, PROPERTY_FILES, TEXT_FILES];
   if (!kinds.some((ending) => ending.test(name)) && !/^\s*(:|S)[0-9A-F]{9}/i.test(text)) {
-    throw unusableFile(say.NOT_A_KIND);
+    throw unusableFileError(say.NOT_A_KIND);
   }
   if (HEX_FILES.test(name) || /^\s*:[0-9A-F]{10}/i.test(text)) return { kind: "image", bytes: readHex(text) };
   if (/^\s*S[0-9][0-9A-F]{8}/.test(text)) return { kind: "image", bytes: readSRecords(text) };
@@ -116,7 +116,7 @@ function readTextFile(name, text) {
 }
 
 /**
- * Returns the contents of a file. Throws if the bench cannot use the file.
+ * Returns the contents of a file. Throws an error if the bench cannot use the file.
  * @param {string} name the name of the file
  * @param {Uint8Array} bytes
  * @returns {FileContents}
@@ -128,5 +128,5 @@ export function readOpenedFile(name, bytes) {
   if (IMAGE_FILES.test(name)) return { kind: "image", bytes: readBytes(bytes) };
   const text = decodeText(bytes);
   if (text !== null && text.trim() !== "") return readTextFile(name, text);
-  throw unusableFile(text === null ? say.NOT_A_TEXT : say.EMPTY);
+  throw unusableFileError(text === null ? say.NOT_A_TEXT : say.EMPTY);
 }

@@ -9,34 +9,36 @@ import { MAX_STORED_LENGTH } from "../text/sendable_text.js";
 import * as say from "../../words/session.js";
 
 /**
- * The name and the texts of a project. Empty tests and properties are omitted in the file.
+ * The name and the texts of a project. A project file omits empty tests and properties.
  * @typedef {{ name: string, boardText: string, programText: string, testText?: string, propertiesText?: string }} Texts
  * @typedef {import("../debug/breakpoints.js").SavedBreakpoint} SavedBreakpoint
  *
- * The name and the texts of a project, with the breakpoints and watch expressions in the form in which they are saved.
+ * The name and the texts of a project, with the saved breakpoints and the texts of the watch expressions (`watched`).
  * @typedef {Texts & { breakpoints?: SavedBreakpoint[], watched?: string[] }} TextsWithBreakpoints
  *
  * The contents of a project file; `file` contains the bytes of the session file.
  * @typedef {TextsWithBreakpoints & { file: Uint8Array }} Project
  *
- * The word in the line before a text, which says what text follows.
+ * The word in the line before a text, which determines the kind of the text: board, program, tests or properties.
  * @typedef {"wire" | "asm" | "test" | "properties"} Word
  */
 
+/** The first line of a project file, with the version of the format. */
 const FIRST_LINE = "fethsaim project 1";
 /** The line that ends a text in a project file, as in bench lines. */
 const DOT = ".";
+/** The last line of a project file. */
 const LAST_LINE = "end";
 const CHECKSUM_LINE = /^cksum \d+$/;
 /** The number of bytes of the session file in each line. A line with only zeros is omitted. */
 const BYTES_PER_LINE = 16;
-/** The maximum size of a project file in bytes. Even the longest texts and sessions need much less. */
+/** The maximum size of a project file in bytes, much more than the longest texts and a session need. */
 export const MAX_PROJECT_BYTES = 4 << 20;
 
-/** The error that is thrown for bytes that are not a project. Its message gives the reason. */
+/** The error that is thrown for bytes that are not a valid project. Its message gives the reason. */
 export class InvalidProject extends Error {}
 
-/** The error that is thrown for a text in a project that is longer than the editors accept. */
+/** The error that is thrown if a text in a project is longer than the editors accept. */
 export class TextTooLong extends InvalidProject {}
 
 /**
@@ -54,7 +56,8 @@ export function tooLongMessage({ boardText, programText, testText = "", properti
 // --- writing ---
 
 /**
- * Returns the lines of a project file for a text. Adds a dot to each line that consists of dots, so that this line does not end the text.
+ * Returns the lines of a project file for a text. Adds a dot to each line that consists only of dots, so that the line does not end the
+ * text.
  * @param {Word} word
  * @param {string} text
  */
@@ -65,7 +68,7 @@ function textLines(word, text) {
 }
 
 /**
- * Returns a list with the line `unended WORD` if a text does not end with a line feed; an empty list for any other text.
+ * Returns a list with the line `unended WORD` if a text is not empty and does not end with a line feed; otherwise an empty list.
  * @param {Word} word
  * @param {string} text
  */
@@ -74,7 +77,7 @@ function unendedLine(word, text) {
 }
 
 /**
- * Returns the lines of a project file for a session file.
+ * Returns the lines of a project file that contain a session file.
  * @param {Uint8Array} file
  */
 function sessionLines(file) {
@@ -106,7 +109,7 @@ function toOneLine(text) {
 }
 
 /**
- * Returns the lines for the name, the breakpoints, the watch expressions and the texts.
+ * Returns the lines of a project file that contain the name, the breakpoints, the watch expressions and the texts.
  * @param {TextsWithBreakpoints} texts
  */
 export function projectLines({ name, boardText, programText, testText = "", propertiesText = "", breakpoints = [], watched = [] }) {
@@ -130,7 +133,7 @@ export function projectText(project) {
 // --- reading ---
 
 /**
- * Returns whether bytes start like a project file.
+ * Returns whether bytes begin with the first words of a project file.
  * @param {Uint8Array} bytes
  */
 export function isProject(bytes) {
@@ -156,8 +159,8 @@ export class Lines {
   }
 
   /**
-   * Returns the error for an unexpected line.
-   * @param {string} expected the expected line, as text
+   * Returns the error for an unexpected next line.
+   * @param {string} expected a description of the expected line
    * @returns {InvalidProject}
    */
   fault(expected) {
@@ -179,7 +182,8 @@ export class Lines {
 }
 
 /**
- * Checks the first line, the last line, and the checksum, if the text has one. Throws InvalidProject if a check fails.
+ * Checks the first and the last line of a project file, and the checksum if the file has a checksum. Throws InvalidProject if a check
+ * fails.
  * @param {string} text
  */
 function checkEnvelope(text) {
@@ -222,7 +226,7 @@ function readHead(lines) {
 }
 
 /**
- * Reads a text of a project.
+ * Reads a text of a project. The next line must be its `word`.
  * @param {Lines} lines
  * @param {Word} word
  * @param {Set<string>} unended the words of the texts that do not end with a line feed
@@ -235,7 +239,7 @@ function readText(lines, word, unended) {
 /**
  * Reads the name, the texts, the breakpoints and the watch expressions. Throws TextTooLong if a text is too long for the editors.
  * @param {Lines} lines
- * @param {boolean} [acceptsLongTexts] true to accept longer texts
+ * @param {boolean} [acceptsLongTexts] true to accept texts that are too long for the editors
  * @returns {TextsWithBreakpoints}
  */
 export function readTexts(lines, acceptsLongTexts = false) {
@@ -251,19 +255,19 @@ export function readTexts(lines, acceptsLongTexts = false) {
 }
 
 /**
- * Reads the session file.
+ * Reads the bytes of the session file. Throws InvalidProject if a line is invalid.
  * @param {Lines} lines
- * @param {number} size the size of a session file in bytes
+ * @param {number} size the size of every session file in bytes
  */
 function readFile(lines, size) {
-  const firstNumber = lines.at + 2;
+  const firstLineNumber = lines.at + 2;
   const file = new Uint8Array(size);
   let end = 0;
   lines.readUpToDot(`session ${size}`).forEach((line, at) => {
     const found = /^([0-9a-f]{5}) ([0-9a-f]{32})$/.exec(line);
     const address = found ? parseInt(found[1], 16) : 0;
     if (!found || address % BYTES_PER_LINE !== 0 || address < end || address >= size) {
-      throw new InvalidProject(say.notOfSession(firstNumber + at));
+      throw new InvalidProject(say.notOfSession(firstLineNumber + at));
     }
     file.set((found[2].match(/../g) || []).map((digits) => parseInt(digits, 16)), address);
     end = address + BYTES_PER_LINE;
@@ -272,9 +276,9 @@ function readFile(lines, size) {
 }
 
 /**
- * Returns the contents of a project file. Throws if the bytes are not a project.
+ * Returns the contents of a project file. Throws InvalidProject if the bytes are not a valid project.
  * @param {Uint8Array} bytes
- * @param {number} size the size of a session file in bytes
+ * @param {number} size the size of every session file in bytes
  * @param {boolean} [acceptsLongTexts] true to accept texts that are too long for the editors
  * @returns {Project}
  */
@@ -295,7 +299,7 @@ export function readProject(bytes, size, acceptsLongTexts = false) {
 }
 
 /**
- * Returns the text in UTF-8 bytes, without carriage returns at line ends. Throws InvalidProject if the bytes are not UTF-8.
+ * Decodes a UTF-8 text, and removes carriage returns at line ends. Throws InvalidProject if the bytes are not UTF-8.
  * @param {Uint8Array} bytes
  */
 function decodeUtf8(bytes) {

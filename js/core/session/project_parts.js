@@ -1,4 +1,4 @@
-// Converts a project to files in a folder, which other programs can edit. Parses the files with the breakpoints and the watch expressions.
+// Converts a project to files in a folder, so that other programs can edit them. Parses the files with breakpoints and watch expressions.
 
 import { joinLines } from "../bench/inputs.js";
 import { parseBreakpoint, formatBreakpoints } from "../debug/breakpoint_lines.js";
@@ -14,7 +14,7 @@ import * as say from "../../words/session.js";
  * @typedef {{ name: string, content: string | Uint8Array }} ProjectPart
  */
 
-/** The names of the files in a project folder. If a folder has no `mcs4.toml`, its texts are found by these names. */
+/** The names of the files in a project folder. If a folder has no `mcs4.toml`, these names identify its texts. */
 export const PROJECT_FILE_NAMES = {
   project: "mcs4.toml", board: "board.toml", program: "program.asm", tests: "program.test", properties: "program.props",
   breakpoints: "breakpoints", values: "values", session: "session.mcs", name: "name",
@@ -56,7 +56,7 @@ export function splitProject(project) {
 }
 
 /**
- * Splits a text with one item per line. Returns the items.
+ * Splits a text into its lines, without line ends.
  * @param {string} text
  */
 function splitItems(text) {
@@ -66,7 +66,7 @@ function splitItems(text) {
 }
 
 /**
- * Parses a breakpoint text. Throws if a line is not a breakpoint, or if there are too many breakpoints.
+ * Parses the file with the breakpoints. Throws InvalidProject if a line is not a breakpoint, or if there are too many breakpoints.
  * @param {string} text
  * @returns {SavedBreakpoint[]}
  */
@@ -82,7 +82,7 @@ export function parseBreakpoints(text) {
 }
 
 /**
- * Parses a text of watch expressions. Throws if a line is empty.
+ * Parses the file with the watch expressions, one per line. Throws InvalidProject if a line is blank.
  * @param {string} text
  */
 export function parseWatchLines(text) {

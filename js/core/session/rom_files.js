@@ -11,12 +11,12 @@ import * as say from "../../words/session.js";
  * The callbacks that RomFiles needs.
  * @typedef {object} RomCalls
  * @property {(lines: string) => Promise<string[]>} ask Resolves to the bench's answers to queries.
- * @property {(lines: string) => Promise<string | null>} act Serves lines that change the session. Resolves to the first answer. If the
- *   lines cannot be served, reports the error and resolves to null.
- * @property {() => Promise<void>} stop Pauses time. Resolves when time is paused.
+ * @property {(lines: string) => Promise<string | null>} act Executes bench lines that change the session. Resolves to the first answer. If
+ *   this fails, reports the error and resolves to null.
+ * @property {() => Promise<void>} stop Pauses the machine. Resolves when the machine is paused.
  */
 
-/** The error that is thrown for a ROM image that needs a ROM that the board lacks. Its message names this ROM. */
+/** The error that is thrown if the board lacks a ROM for an image. Its message names this ROM. */
 export class MissingRom extends Error {}
 
 export class RomFiles {
@@ -31,10 +31,10 @@ export class RomFiles {
   }
 
   /**
-   * Loads an image into ROM and changes nothing else. Resolves to a message about it, or to "" if `act` has reported an error. Throws
-   * MissingRom if the board lacks a ROM that the image needs.
-   * @param {string} name the name of the file
-   * @param {Int16Array} bytes
+   * Loads an image into ROM and changes nothing else. Resolves to a message about the loaded bytes, or to "" if `act` has reported an
+   * error. Throws MissingRom if the board lacks a ROM for the image.
+   * @param {string} name the name of the image file
+   * @param {Int16Array} bytes the bytes by address, NO_BYTE where the image has none
    */
   async load(name, bytes) {
     const chips = await this.chips();
@@ -50,19 +50,21 @@ export class RomFiles {
     return answer === null ? "" : say.bytesInRom(formatQuantity(count, "byte"), name, count === 1, hex(firstAddress, 3));
   }
 
-  /** Resolves to the bytes of all ROMs on the board. The answer to `list` can extend beyond a ROM; the bytes beyond it are removed. */
+  /**
+   * Resolves to the bytes of all ROMs on the board, by address. An address without a ROM has NO_BYTE, even if `list` reports a byte there.
+   */
   async bytes() {
     const chips = await this.chips();
     const allBytes = parseRomBytes(await this.calls.ask(listQueries(PAGE_NUMBERS.filter((page) => chips.includes(page)))));
     return allBytes.map((byte, at) => (chips.includes(Math.floor(at / PAGE_BYTES)) ? byte : NO_BYTE));
   }
 
-  /** Resolves to the ROM contents in Intel HEX; to "" if the board has no ROM. */
+  /** Resolves to the ROM contents in Intel HEX format; to "" if the board has no ROM. */
   async hex() {
     return (await this.chips()).length === 0 ? "" : writeHex(await this.bytes());
   }
 
-  /** Resolves to the ROM contents from address 000 to the end of the last ROM, with 0 for missing ROMs. */
+  /** Resolves to the bytes from address 000 to the end of the last ROM on the board, with 0 for missing ROMs. */
   async image() {
     const end = (Math.max(-1, ...(await this.chips())) + 1) * PAGE_BYTES;
     return Uint8Array.from((await this.bytes()).subarray(0, end), (byte) => Math.max(0, byte));

@@ -8,8 +8,8 @@ import * as say from "../../words/session.js";
 /** @typedef {import("../bench/answers.js").Board} Board */
 
 /**
- * Returns the first sentence of the comment at the start of a text; "" for none. The comment ends before the first comment line that
- * describes the front panel.
+ * Returns the first sentence of the comment at the start of a text; "" for none. Comment lines that describe the front panel, and lines
+ * after them, do not count.
  * @param {string} text
  * @param {string} mark the character that starts a comment
  */
@@ -25,7 +25,7 @@ function firstSentence(text, mark) {
 }
 
 /**
- * Returns the title in the board text, or else the first sentence of the board's or the program's comment.
+ * Returns the title in the board text; or else the first sentence of the board's comment; or else that of the program's comment.
  * @param {string} boardText
  * @param {string} programText
  */

@@ -8,18 +8,19 @@ import * as say from "../../words/testing.js";
  * @typedef {import("../machine/source_map.js").SourceMap} SourceMap
  * @typedef {import("./recorders.js").ExecutionRecorder} ExecutionRecorder
  *
- * The coverage of a line with an instruction. `count` is how often the line ran. `isJump` is true for a conditional jump. `taken` is how
- * often it jumped.
+ * The coverage of a line with an instruction. `count` is how often the instruction ran. `isJump` is true for a conditional jump, and
+ * `taken` is how often it jumped (0 for any other instruction).
  * @typedef {{ line: number, count: number, isJump: boolean, taken: number }} LineCoverage
  *
- * A range of lines that never ran: its first and last line (`from`, `to`).
+ * A range of consecutive instruction lines that never ran. `from` and `to` are its first and last line number.
  * @typedef {{ from: number, to: number }} LineRange
  *
- * A label that a JMS calls. `line` is its line, and `count` is how often the instruction at the label ran.
+ * A label that a JMS calls. `line` is the line number of the label, and `count` is how often the instruction at the label ran.
  * @typedef {{ label: string, line: number, count: number }} Subroutine
  *
  * The coverage of a program. `instructions` and `ways` are the total numbers of instructions and branch directions. `run` and
- * `directionsRun` are how many of them were executed. `never` lists the lines that never ran.
+ * `directionsRun` are the numbers of instructions and branch directions that were executed. `never` lists the ranges of lines that never
+ * ran.
  * @typedef {{ lines: LineCoverage[], instructions: number, run: number, ways: number, directionsRun: number, never: LineRange[],
  *   subroutines: Subroutine[] }} Coverage
  */

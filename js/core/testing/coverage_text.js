@@ -7,17 +7,17 @@ import * as say from "../../words/testing.js";
  * @typedef {import("./coverage.js").Coverage} Coverage
  * @typedef {import("./coverage.js").LineCoverage} LineCoverage
  *
- * The source text of a program. `before` is the number of lines before this text in its file.
+ * The source text of a program. `before` is the number of lines before the text in the file that contains it.
  * @typedef {{ text: string, before: number }} ProgramText
  */
 
 /** The tab width, and the widths of the report columns, in characters. */
 const TAB_WIDTH = 8;
 const COUNT_WIDTH = 10;
-const WAYS_WIDTH = 13;
+const DIRECTIONS_WIDTH = 13;
 
 /**
- * Returns a line with blanks instead of tabs.
+ * Returns a line in which blanks up to the next tab stop replace each tab.
  * @param {string} text
  */
 function expandTabs(text) {
@@ -37,7 +37,7 @@ const isOneDirection = ({ isJump, count, taken }) => isJump && count > 0 && (tak
 function formatRow(source, lineCoverage) {
   const count = lineCoverage ? lineCoverage.count || say.NEVER : "";
   const ways = lineCoverage && lineCoverage.isJump ? `${lineCoverage.taken}/${lineCoverage.count - lineCoverage.taken}` : "";
-  return `${String(count).padStart(COUNT_WIDTH)} ${ways.padEnd(WAYS_WIDTH)}  ${expandTabs(source)}`.replace(/ +$/, "");
+  return `${String(count).padStart(COUNT_WIDTH)} ${ways.padEnd(DIRECTIONS_WIDTH)}  ${expandTabs(source)}`.replace(/ +$/, "");
 }
 
 /**
@@ -48,7 +48,7 @@ function formatRow(source, lineCoverage) {
 export function coverageText(coverage, { text, before }) {
   const lineCoverage = new Map(coverage.lines.map((each) => [each.line, each]));
   const rows = text.replace(/\n$/, "").split("\n").map((source, at) => formatRow(source, lineCoverage.get(at + 1)));
-  const never = coverage.never.map(({ from, to }) => (from === to ? `${from + before}` : say.fromTo(from + before, to + before)));
+  const never = coverage.never.map(({ from, to }) => (from === to ? `${from + before}` : say.formatRange(from + before, to + before)));
   const oneDirection = coverage.lines.filter(isOneDirection).map(({ line, taken }) => say.describeDirection(line + before, taken > 0));
   const summaryLines = [
     "", formatCoverageSummary(coverage),
@@ -62,7 +62,7 @@ export function coverageText(coverage, { text, before }) {
 const formatRecord = (name, values) => `${name}:${values.join(",")}`;
 
 /**
- * Returns the coverage in the LCOV format. Its functions are the labels that JMS instructions call.
+ * Returns the coverage in the LCOV format. Reports each label that a JMS calls as a function.
  * @param {Coverage} coverage
  * @param {{ name: string, before: number }} program the file name, and the number of lines before the program in the file
  */

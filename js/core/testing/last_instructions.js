@@ -18,7 +18,7 @@ import * as say from "../../words/testing.js";
 const MAX_INSTRUCTIONS = 12;
 
 /**
- * Returns where the list starts: the index of the first listed action (`at`), and the number of cycles of this action to skip (`from`).
+ * Returns where the list starts: the index of the first listed action (`at`), and how many of its first cycles to skip (`from`).
  * @param {TestAction[]} actions
  */
 function findListedPart(actions) {

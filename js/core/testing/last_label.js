@@ -16,7 +16,7 @@ import * as say from "../../words/testing.js";
  */
 
 /**
- * Yields the actions of a test. Splits each run into pieces that the bench accepts.
+ * Yields the actions of a test. Splits each run into runs of at most MAX_RUN_CYCLES cycles.
  * @param {TestAction[]} actions
  * @returns {Generator<TestAction>}
  */

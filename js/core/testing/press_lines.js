@@ -7,19 +7,20 @@ import { listNamedKeys } from "./test_text.js";
 /**
  * @typedef {import("../board/face.js").Face} Face
  *
- * How long each key is down, and then up, in cycles.
+ * The times in cycles for which each key stays down (`down`) and then up (`up`).
  * @typedef {{ down: number, up: number }} Pace
  *
- * The result: session lines that end with a query for the lamps, and `unknown` null. If a name is not a key, there are no lines, and
- * `unknown` is the first such name.
+ * The result of `pressLines`. The last of the session lines queries the lamps, and `unknown` is null. If a name is not a key, `lines` is
+ * empty, and `unknown` is the first such name.
  * @typedef {{ lines: string[], unknown: string | null }} PressLines
  */
 
-/** @type {Pace} the default pace in tools */
+/** @type {Pace} the pace if the user of a tool chooses none */
 export const DEFAULT_PACE = { down: TOOL_KEY_DOWN_CYCLES, up: TOOL_KEY_UP_CYCLES };
 
 /**
- * Returns the bench lines that press and release keys one after another. A word that is not a key name is split into letters.
+ * Returns the bench lines that press and release keys one after another. Splits a word that is not a key name into letters, each of which
+ * must be a key name.
  * @param {Face} face
  * @param {string} text key names, separated by blanks
  * @param {Pace} pace

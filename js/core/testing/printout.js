@@ -16,7 +16,7 @@ export class Printout {
    */
   constructor(printer, codes) {
     this.printer = printer;
-    this.printing = new PrinterCodes({ ...printer, codes: codes.map((code) => [0, code]) });
+    this.printerCodes = new PrinterCodes({ ...printer, codes: codes.map((code) => [0, code]) });
   }
 
   /**
@@ -24,23 +24,23 @@ export class Printout {
    * @param {number} cycles the length of the run
    */
   queries(cycles) {
-    return this.printing.queries(cycles);
+    return this.printerCodes.queries(cycles);
   }
 
   /**
-   * Reads the answers to the queries before a run.
+   * Reads the answers to `queries`, which the bench gave before the run.
    * @param {ForecastAnswers} answers
    * @param {number} elapsed the cycles from the start of the test to the run
    */
   take(answers, elapsed) {
     const from = answers.at;
     answers.takeTrace();
-    this.printing.take([answers.answers.slice(from, answers.at)], elapsed);
+    this.printerCodes.take([answers.answers.slice(from, answers.at)], elapsed);
   }
 
   /** All codes printed so far. */
   get codes() {
-    return this.printing.codes.map(([, code]) => code);
+    return this.printerCodes.codes.map(([, code]) => code);
   }
 
   /** The words in the completed lines of the printout. */

@@ -6,12 +6,12 @@
  * @typedef {import("./recorders.js").CallCounts} CallCounts
  * @typedef {import("./recorders.js").KeyTimes} KeyTimes
  *
- * The row of a label. `own` is the number of cycles spent between this label and the next one. `calls` are the calls of the routine at the
- * label. The code before the first label has a row with the label "" and the address -1.
+ * The row of a label. `own` is the number of cycles spent between this label and the next label. `calls` counts the calls of the routine at
+ * the label; it is null without calls. The code before the first label has a row with the label "" and the address -1.
  * @typedef {{ label: string, address: number, own: number, calls: CallCounts | null }} ProfileRow
  *
- * A profile. `total` is the number of all cycles. `rows` has a row for each label, and `keys` has one for each pressed key.
- * `earlierInstructionCycles` is the number of cycles of instructions that had started before a test.
+ * A profile. `total` is the total number of cycles. `rows` has a row for each label with cycles, and `keys` has an entry for each pressed
+ * key. `earlierInstructionCycles` counts the cycles that tests spent on instructions started before the test.
  * @typedef {{ total: number, rows: ProfileRow[], earlierInstructionCycles: number, keys: (KeyTimes & { key: string })[] }} Profile
  */
 
@@ -29,7 +29,7 @@ function sortedLabels(map) {
  * @param {SourceMap} map
  * @returns {Profile}
  */
-export function computeProfile({ cycleCounts, calls, keys, total, incompleteCycles }, map) {
+export function computeProfile({ cycleCounts, calls, keys, total, earlierInstructionCycles }, map) {
   const labels = [{ address: -1, label: "" }, ...sortedLabels(map)];
   const rows = labels.map((each) => ({ ...each, own: 0, calls: calls.get(each.address) || null }));
   let at = 0;
@@ -38,5 +38,5 @@ export function computeProfile({ cycleCounts, calls, keys, total, incompleteCycl
     rows[at].own += cycles;
   });
   const shown = rows.filter((row) => row.own > 0).sort((one, other) => other.own - one.own);
-  return { total, rows: shown, earlierInstructionCycles: incompleteCycles, keys: [...keys].map(([key, times]) => ({ key, ...times })) };
+  return { total, rows: shown, earlierInstructionCycles, keys: [...keys].map(([key, times]) => ({ key, ...times })) };
 }

@@ -11,7 +11,7 @@ import * as say from "../../words/testing.js";
 
 const LABEL_WIDTH = 17;
 /** The width of the label column and the address column together, in characters. */
-const PLACE_WIDTH = 22;
+const LOCATION_WIDTH = 22;
 
 /** @type {(value: string | number, width: number) => string} returns a right-aligned table cell */
 const cell = (value, width) => String(value).padStart(width);
@@ -54,7 +54,7 @@ export function profileText({ total, rows, earlierInstructionCycles, keys }) {
   const keysHead = `${key.padEnd(LABEL_WIDTH)} ${cell(presses, 9)} ${cell(answered, 9)} ${cell(first, 24)} ${cell(last, 24)}`;
   return `${[
     say.cyclesInTime(total, formatMilliseconds(total)), "", head, ...rows.map((row) => formatLabelRow(row, total)),
-    ...(earlierInstructionCycles > 0 ? [`${say.BEGUN_BEFORE.padEnd(PLACE_WIDTH)} ${formatShare(earlierInstructionCycles, total)}`] : []),
+    ...(earlierInstructionCycles > 0 ? [`${say.BEGUN_BEFORE.padEnd(LOCATION_WIDTH)} ${formatShare(earlierInstructionCycles, total)}`] : []),
     ...(keys.length > 0 ? ["", keysHead, ...keys.map(formatKeyRow)] : []),
   ].join("\n")}\n`;
 }

@@ -19,8 +19,8 @@ import { instructionCycles, isCall, isReturn, jumpTarget } from "../engine/rom_c
  * change before the next press.
  * @typedef {{ presses: number, answered: number, first: number, last: number }} KeyTimes
  *
- * A call in progress: the address of the routine, and the time of the call in cycles.
- * @typedef {{ at: number, startTime: number }} OpenCall
+ * A call in progress: the address of the routine, and the time at which the routine starts, in cycles.
+ * @typedef {{ address: number, startTime: number }} OpenCall
  */
 
 /** The maximum number of open calls: a 4004 stores three return addresses. */
@@ -34,8 +34,8 @@ export class ExecutionRecorder {
     this.startCounts = new Float64Array(ADDRESS_COUNT);
     this.jumpCounts = new Float64Array(ADDRESS_COUNT);
     this.cycleCounts = new Float64Array(ADDRESS_COUNT);
-    /** The number of cycles of instructions that had started before a test. */
-    this.incompleteCycles = 0;
+    /** The cycles that tests spent on instructions that had started before the test. */
+    this.earlierInstructionCycles = 0;
     this.total = 0;
     /** @type {Map<number, CallCounts>} the calls, by routine address */
     this.calls = new Map();
@@ -52,7 +52,7 @@ export class ExecutionRecorder {
     return true;
   }
 
-  /** Starts the recording of a test. */
+  /** Starts recording a test. */
   begin() {
     this.openCalls = [];
     this.lastPress.key = "";
@@ -120,28 +120,28 @@ export class ExecutionRecorder {
       const code = this.codes[address];
       if (isCall(code)) {
         if (this.openCalls.length === MAX_CALL_DEPTH) this.openCalls.shift();
-        this.openCalls.push({ at: jumpTarget(this.codes, address), startTime: elapsed + cycles + 2 });
+        this.openCalls.push({ address: jumpTarget(this.codes, address), startTime: elapsed + cycles + 2 });
       } else if (isReturn(code) && this.openCalls.length > 0) this.endInnermostCall(elapsed + cycles + 1);
     }
   }
 
   /**
    * Ends the innermost call and adds its cycles to the counts of its routine. Ignores a recursive call, because the outer call of the same
-   * routine includes it. If the test ends during the JMS, the call has 0 cycles.
+   * routine includes its cycles. If the test ends during the JMS, the call has 0 cycles.
    * @param {number} time the time at which the call ends, in cycles
    */
   endInnermostCall(time) {
     const endedCall = this.openCalls.pop();
-    if (!endedCall || this.openCalls.some(({ at }) => at === endedCall.at)) return;
+    if (!endedCall || this.openCalls.some(({ address }) => address === endedCall.address)) return;
     const cycles = Math.max(0, time - endedCall.startTime);
-    const calls = this.getCallCounts(endedCall.at);
+    const calls = this.getCallCounts(endedCall.address);
     calls.withCalls += cycles;
     calls.longest = Math.max(calls.longest, cycles);
   }
 
   /**
-   * Records the first and last lamp change since the last key press. A lamp changes when its instruction ends, one cycle after the trace
-   * line.
+   * Records the first and last lamp change since the last key press. A lamp changes when the instruction that sets the lamp ends, one cycle
+   * after the time in the trace line.
    * @param {string[]} lines
    * @param {number} elapsed
    */
@@ -187,7 +187,7 @@ export class ExecutionRecorder {
 
   /**
    * Ends a test.
-   * @param {number} elapsed the cycles of the whole test
+   * @param {number} elapsed the length of the test in cycles
    */
   end(elapsed) {
     while (this.openCalls.length > 0) this.endInnermostCall(elapsed);
@@ -196,7 +196,7 @@ export class ExecutionRecorder {
   }
 }
 
-/** Records only how often each instruction starts and jumps, for coverage. */
+/** A recorder for coverage, which records only how often each instruction starts and jumps. */
 export class LineRecorder extends ExecutionRecorder {
   get recordsTimes() {
     return false;
@@ -213,7 +213,7 @@ export class LineRecorder extends ExecutionRecorder {
   }
 }
 
-/** Records nothing and sends no queries. */
+/** A recorder that records nothing and sends no queries. */
 export class NullRecorder extends ExecutionRecorder {
   get recordsTimes() {
     return false;

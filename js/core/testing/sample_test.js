@@ -1,4 +1,4 @@
-// Creates a sample test for a board that has no tests. If the board has keys, the test presses the first one. The test then expects the
+// Creates a sample test for a board that has no tests. If the board has keys, the test presses the first key. The test then expects the
 // actual result: the text on the display, or a lamp that is on.
 
 import { convertLampAnswers } from "../board/lamp_answers.js";
@@ -32,12 +32,13 @@ async function findConditions(engine, { file, names: { face, board }, codes }, p
   await session.run(cyclesFromMilliseconds(HOLD_MS));
   const [display] = convertLampAnswers(face, board, "", session.ask(hasScannedDisplay(face) ? LAMPS_FORECAST_QUERY : "lamps\n")).lines;
   const [marks] = session.ask("lamps\n");
-  const lit = [...face.lampNumbers].find(([, at]) => marks.slice("lamps ".length)[at] === "*");
-  return [...(display ? [`display ${display}`] : []), ...(lit ? [`lamp ${lit[0]} on`] : []), ...say.OTHER_CONDITIONS];
+  const litLamp = [...face.lampNumbers].find(([, at]) => marks.slice("lamps ".length)[at] === "*");
+  return [...(display ? [`display ${display}`] : []), ...(litLamp ? [`lamp ${litLamp[0]} on`] : []), ...say.OTHER_CONDITIONS];
 }
 
 /**
- * Resolves to the sample test for a board and its program. If the texts have errors, the test only runs some cycles.
+ * Resolves to the sample test for a board and its program. If the texts have errors, or if the test fails with each condition, the test
+ * only runs some cycles.
  * @param {Engine} engine
  * @param {Texts} texts
  */

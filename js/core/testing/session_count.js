@@ -16,11 +16,12 @@ import { TestSession } from "./test_session.js";
  * @typedef {import("./test_preparation.js").TextFault} TextFault
  * @typedef {import("./profile.js").Profile} Profile
  *
- * The coverage and the profile of a run, its number of cycles (`elapsed`), and the reason for its stop ("end" if nothing stopped it early).
+ * The coverage and the profile of a run. `elapsed` is the number of executed cycles, and `stop` is the reason why the run stopped ("end" if
+ * all cycles ran).
  * @typedef {{ coverage: Coverage, profile: Profile, elapsed: number, stop: string }} SessionCounts
  *
- * The result. If the program has errors (`faults`), or if a byte in ROM differs from the program (`other`), nothing runs and `counted` is
- * null.
+ * The result of `countSession`. If the program has errors (`faults`), or if a byte in ROM differs from the program (`other`), the session
+ * does not run, and `counted` is null.
  * @typedef {{ faults: TextFault[], other: OtherByte | null, counted: SessionCounts | null }} SessionCount
  */
 
@@ -30,7 +31,7 @@ import { TestSession } from "./test_session.js";
  * @param {State} state
  * @param {string} programText
  * @param {number} cycles
- * @param {typeof ExecutionRecorder} [Counting]
+ * @param {typeof ExecutionRecorder} [Counting] the class of the recorder
  * @returns {Promise<SessionCount>}
  */
 export async function countSession(engine, state, programText, cycles, Counting = ExecutionRecorder) {

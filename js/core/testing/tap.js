@@ -1,4 +1,4 @@
-// Formats test results in TAP version 13, which `prove` reads.
+// Formats test results in TAP version 13, the format that Perl's `prove` reads.
 
 import * as say from "../../words/testing.js";
 
@@ -16,7 +16,7 @@ export function yamlString(text) {
 }
 
 /**
- * Returns the description of a test. `#` is escaped because it would start a directive.
+ * Returns the description of a test. Escapes `#`, which would start a TAP directive.
  * @param {string} name
  */
 export function tapDescription(name) {
@@ -27,12 +27,12 @@ export function tapDescription(name) {
 const stepLocation = ({ source, line }) => `${source}:${line}`;
 
 /**
- * Returns the lines below `not ok`: the error, its location, and the session state at the error.
+ * Returns the YAML lines below `not ok`: the error, its location, and the session state at the error.
  * @param {Failure} failure
  */
 function diagnosis(failure) {
   const { text, words, file, cycles, lamps, registers, trace } = failure;
-  const lines = [say.tapMessage(yamlString(words)), say.tapPlace(yamlString(stepLocation(failure))), say.tapLine(yamlString(text))];
+  const lines = [say.tapMessage(yamlString(words)), say.tapLocation(yamlString(stepLocation(failure))), say.tapLine(yamlString(text))];
   if (file) {
     lines.push(say.tapCycles(cycles), say.tapLamps(yamlString(lamps)), say.tapRegisters(yamlString(registers)));
     if (trace.length > 0) lines.push(say.TAP_TRACE, ...trace.map((line) => `  ${line}`));
@@ -61,7 +61,7 @@ export function testsTap(outcomes) {
 }
 
 /**
- * Returns a comment line with the error of a failed test, for users who watch the output; "" if the test passed.
+ * Returns a TAP comment with the location and error of a failed test, for users who watch the output; "" if the test passed.
  * @param {Outcome} outcome
  */
 export function failureLine({ name, failure }) {

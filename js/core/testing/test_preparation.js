@@ -22,7 +22,7 @@ import { romCodes } from "../engine/rom_codes.js";
  */
 
 /**
- * Returns those errors in the front-panel comments of a board text that make tests impossible.
+ * Returns the errors in a board's front-panel comments that make tests impossible.
  * @param {Face} face
  * @param {import("../bench/answers.js").Board} board
  * @returns {TextFault[]}

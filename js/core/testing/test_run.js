@@ -25,11 +25,13 @@ import * as say from "../../words/testing.js";
  * @typedef {import("./test_text.js").Step} Step
  * @typedef {import("./test_text.js").Test} Test
  *
- * The failure of a test. `source` is the name of the test text; `line` and `text` are the line number and the text of the failed step.
+ * The failure of a test. `source` is the name of the test text. `line` and `text` are the line number and the text of the failed step.
  * `words` is the message. The other members describe the session at this step. `lamps` and `registers` are formatted as in `state`, and
  * `trace` lists the last instructions. `file` is null if the test did not start.
  * @typedef {{ source: string, line: number, text: string, words: string, cycles: number, lamps: string, registers: string, trace: string[],
  *   file: Uint8Array | null }} Failure
+ *
+ * The outcome of a test: the line number of its `test` line, its length in cycles, and its failure (null if the test passed).
  * @typedef {{ name: string, line: number, cycles: number, failure: Failure | null }} Outcome
  */
 
@@ -37,7 +39,7 @@ import * as say from "../../words/testing.js";
 const CHECK_INTERVAL = 1000;
 
 /**
- * Returns the location of a step, as the members of a Failure.
+ * Returns the location of a step, as the members `source`, `line` and `text` of a Failure.
  * @param {Step} step
  */
 function stepLocation({ source, line, text }) {
@@ -63,12 +65,13 @@ export class TestRun {
     this.states = new Map();
     /** The number of the test text whose tests saved `states`, from 1. */
     this.textNumber = 1;
+    /** The times in cycles for which a key stays down and then up; a `pace` step changes them. */
     this.down = TOOL_KEY_DOWN_CYCLES;
     this.up = TOOL_KEY_UP_CYCLES;
     /** True if a test can change ROM. A test that starts at a saved state then reads the bytes in ROM again. */
     this.changesRom = true;
     /** @type {(session: TestSession) => void} called with the session of each test at its end */
-    this.ran = () => {};
+    this.onEnd = () => {};
   }
 
   /**
@@ -96,7 +99,7 @@ export class TestRun {
     this.up = TOOL_KEY_UP_CYCLES;
     const failure = await this.runSteps(session, steps, []);
     session.end();
-    this.ran(session);
+    this.onEnd(session);
     return { name, line, cycles: session.elapsed, failure };
   }
 
@@ -217,14 +220,15 @@ export class TestRun {
   }
 
   /**
-   * Returns the key that a value in the session currently selects. If the value selects no key, `words` is the error message.
+   * Returns the key that a value in the session currently selects. If the value selects no key, `key` is undefined, and `words` is the
+   * error message.
    * @param {TestSession} session
    * @param {ChosenKey} chosen
    * @returns {{ key: Key | undefined, words: string }}
    */
   chooseKey(session, { word, place, probe, keys }) {
     const value = parseInt(rowValues(new ForecastAnswers(session.ask(`trace 1 ${probe}\n`)).takeTrace().row)[0], 16);
-    const valueText = say.placeValueAnd(place, value);
+    const valueText = say.placeHasValue(place, value);
     if (keys.length > 0) return { key: keys[value], words: say.valueHasKeys(valueText, word, formatQuantity(keys.length, "key")) };
     const boardKeys = listNamedKeys(this.prepared.names.face);
     const digit = hex(value, 1);
@@ -276,7 +280,7 @@ export class TestRun {
   }
 
   /**
-   * Runs to a label with a temporary breakpoint. Resolves to the reason for the stop.
+   * Runs to a label with a temporary breakpoint. Resolves to the reason for the stop ("end" if the time is over).
    * @param {TestSession} session
    * @param {Condition} condition
    * @param {number} end
@@ -293,7 +297,7 @@ export class TestRun {
   }
 
   /**
-   * Runs until a condition becomes true. Traces the places in the condition to find this moment. The first traces are short, in case the
+   * Runs until a condition becomes true. Traces the places in the condition to find the moment. The first traces are short, in case the
    * condition becomes true soon. Resolves to the reason for the stop.
    * @param {TestSession} session
    * @param {Condition} condition

@@ -1,5 +1,5 @@
-// The session of a test, in memory. Stores an earlier state and all later actions, so that the last instructions can be listed. Passes each
-// run to a recorder.
+// The session of a test, in memory. Stores an earlier state and all later actions, from which last_instructions.js lists the last
+// instructions. Passes each run to a recorder.
 
 import { LAMPS_FORECAST_QUERY } from "../engine/perceived_text.js";
 import { readCounter, readRegisters } from "../bench/answers.js";
@@ -44,7 +44,7 @@ export class TestSession {
     /** The cycles of the test so far (`elapsed`), and the value of `elapsed` at the last `mark`. */
     this.elapsed = 0;
     this.markedCycles = 0;
-    /** The number of cycles of the last run; 0 if there was none. */
+    /** The number of cycles of the last run; 0 before the first run. */
     this.lastRunCycles = 0;
     /** @type {StoredState} */
     this.storedState = { file: file.slice(), elapsed: 0, laterActions: [] };
@@ -80,7 +80,7 @@ export class TestSession {
   }
 
   /**
-   * Serves a command that is not a run. Throws if the bench rejects the command.
+   * Executes a command other than `run`. Throws if the bench rejects the command.
    * @param {string} line
    */
   command(line) {
@@ -113,7 +113,7 @@ export class TestSession {
   }
 
   /**
-   * Runs once and updates the recorder, the printout and the actions.
+   * Executes one `run` and updates the recorder, the printout and the actions.
    * @param {number} cycles the number of cycles, at most MAX_RUN_CYCLES
    */
   runPiece(cycles) {
@@ -127,7 +127,7 @@ export class TestSession {
     const run = answers.takeRun();
     if (this.beginsInSecondCycle && run.cycles > 0) {
       this.beginsInSecondCycle = false;
-      recorder.incompleteCycles += 1;
+      recorder.earlierInstructionCycles += 1;
     }
     [this.file, this.previousFile] = [previousFile, file];
     this.readRegistersFrom(answers.take());
@@ -144,7 +144,7 @@ export class TestSession {
   }
 
   /**
-   * Adds a run to `actions`.
+   * Adds a run to `actions`, or extends the last run.
    * @param {number} cycles
    */
   addRun(cycles) {

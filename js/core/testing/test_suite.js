@@ -28,11 +28,11 @@ import { readSources } from "./test_text.js";
  * - `Counting`: the class of the recorder. A subclass of ExecutionRecorder records less, so the profile or the coverage can be empty;
  * - `ended`: called with each outcome when its test ends;
  * - `ran`: called with the session of each test at its end;
- * - `only`: the test to run; the tests that save its start states run first. Without it, all tests run.
+ * - `only`: the test to run, after the tests that save its start state. Without this option, all tests run.
  * @typedef {{ Counting?: typeof ExecutionRecorder, ended?: (outcome: Outcome, number: number, total: number) => void,
  *   ran?: (session: import("./test_session.js").TestSession) => void, only?: { name: string, source: string } | null }} Options
  *
- * The results of the tests. If the texts have errors (`faults`), no test runs.
+ * The results of the tests. If the texts have errors (`faults`), no test runs, and `coverage` and `profile` are null.
  * @typedef {{ faults: TextFault[], outcomes: Outcome[], coverage: Coverage | null, profile: Profile | null }} Report
  */
 
@@ -55,7 +55,7 @@ export function parseTestedTexts(engine, texts) {
 }
 
 /**
- * Returns whether some step has a wanted action. Also searches the steps in repetitions and in shared steps.
+ * Returns whether a step has a wanted action. Also searches the steps inside repetitions and shared steps.
  * @param {import("./test_text.js").Step[]} steps
  * @param {(action: Action) => boolean} isWanted
  * @returns {boolean}
@@ -65,7 +65,7 @@ function hasStep(steps, isWanted) {
 }
 
 /**
- * Returns the test that saves the start state of another test; undefined if that test starts at power-on.
+ * Returns the test that saves the start state of a given test; undefined if the given test starts at power-on.
  * @param {Test[]} tests
  * @param {Test} test
  */
@@ -75,7 +75,7 @@ function findSavingTest(tests, { textNumber, from }) {
 }
 
 /**
- * Returns a test, preceded by the tests that save its start states.
+ * Returns the wanted test, preceded by the tests that must run first to save its start state.
  * @param {Test[]} tests
  * @param {(test: Test) => boolean} isWanted
  */
@@ -105,9 +105,9 @@ export async function runTests(engine, texts, shouldContinue, options = {}) {
   const { Counting = ExecutionRecorder, ended = () => {}, ran = () => {}, only = null } = options;
   const { prepared, faults, tests: allTests } = parseTestedTexts(engine, texts);
   const { sources = [] } = texts;
-  const isOnly = only
+  const isSelected = only
     && ((/** @type {Test} */ { name, textNumber }) => name === only.name && sources[textNumber - 1].name === only.source);
-  const tests = isOnly ? addPrerequisites(allTests, isOnly) : allTests;
+  const tests = isSelected ? addPrerequisites(allTests, isSelected) : allTests;
   if (!prepared) return { faults, outcomes: [], coverage: null, profile: null };
   const recorder = new Counting(prepared.codes);
   /** @type {Outcome[]} */
@@ -120,7 +120,7 @@ export async function runTests(engine, texts, shouldContinue, options = {}) {
   };
   const printer = tests.some(({ steps }) => hasStep(steps, needsPrintout)) ? prepared.names.face.printer : null;
   const run = new TestRun(engine, prepared, recorder, yieldToMessages, printer);
-  run.ran = ran;
+  run.onEnd = ran;
   run.changesRom = tests.some(({ steps }) => hasStep(steps, changesRom));
   if (tests.length > 1) engine.keep(prepared.file);
   for (const test of tests) {

@@ -1,7 +1,7 @@
 // Parses test texts into tests with steps, and reports errors. A text can use the shared steps of earlier texts, but only its own saved
 // states. The manual ("The lines of a test") describes the language.
 
-import { parseDuration, parseWholeDuration } from "../conditions/durations.js";
+import { parseDuration, parseExactDuration } from "../conditions/durations.js";
 import { compileExpression, compileTestCondition } from "../conditions/condition_language.js";
 import { parsePlace } from "../conditions/places.js";
 import { readSetting } from "../conditions/set_command.js";
@@ -23,9 +23,9 @@ import * as say from "../../words/testing.js";
  * A key with its name and the commands that press and release it.
  * @typedef {{ name: string, key: import("../board/key_place.js").Key, press: string, release: string }} Key
  *
- * A key that a value in the session selects when the step is executed. `word` is the word in the line. `place` is the name of the register
- * or nibble with the value, and `probe` is its name in `trace` queries. `keys` are the keys for the values 0, 1 and so on. If `keys` is
- * empty, the value is the name of the key.
+ * A key that a value in the session selects when the step runs. `word` is the word in the test line. `place` is the name of the register or
+ * nibble with the value, and `probe` is its name in `trace` queries. `keys` are the keys for the values 0, 1 and so on. If `keys` is empty,
+ * the value is the name of the key.
  * @typedef {{ word: string, place: string, probe: string, keys: Key[] }} ChosenKey
  *
  * The action of a step.
@@ -61,7 +61,7 @@ class InvalidLineError extends Error {
 }
 
 /**
- * Throws a InvalidLineError.
+ * Throws an InvalidLineError.
  * @param {string} words
  * @param {number} [column]
  * @returns {never}
@@ -77,7 +77,7 @@ function fail(words, column = -1) {
 const romAddress = (place) => (place.startsWith("rom.") ? parseNumber(place.slice("rom.".length)) : NaN);
 
 /**
- * Creates a key with its name and its commands.
+ * Creates a key from its name and location, with the commands that press and release it.
  * @param {string} name
  * @param {Key["key"]} key
  * @returns {Key}
@@ -87,7 +87,7 @@ export function createKey(name, key) {
 }
 
 /**
- * Returns the keys of a board that have a name, by name, in front-panel order. The button or switch at the TEST pin comes last.
+ * Returns the named keys of a board, by name, in front-panel order. The button or switch at the TEST pin comes last.
  * @param {import("../board/face.js").Face} face
  * @returns {Map<string, Key>}
  */
@@ -124,6 +124,7 @@ class TestReader {
     this.openRepeats = [];
     /** The number of lines that the current test or shared steps execute, up to the current line. */
     this.lines = 0;
+    /** True after the first `test` or `steps` line of the current text. */
     this.hasBegun = false;
   }
 
@@ -176,8 +177,8 @@ class TestReader {
   }
 
   /**
-   * Returns a line without its comment. A comment starts with `#` or `;` between blanks. In the name of a test, these characters are part
-   * of the name. In a line with keys, a character that is also a key name means the key.
+   * Returns a line without its comment. A comment starts with `#` or `;`, at the start of the line or between blanks. In the name of a
+   * test, these characters are part of the name. If one of them is also a key name, it means the key in a line with keys.
    * @param {string} line
    */
   removeComment(line) {
@@ -211,7 +212,7 @@ class TestReader {
     }
   }
 
-  /** Starts a test or shared steps, and ends the previous ones. */
+  /** Ends the previous test or shared steps, and prepares for the next. */
   beginPart() {
     this.closeRepeats();
     this.hasBegun = true;
@@ -297,7 +298,7 @@ class TestReader {
   }
 
   /**
-   * Parses `do`. Only completed shared steps are allowed, so that shared steps never contain themselves.
+   * Parses `do`. Accepts only shared steps that are complete, so that shared steps never contain themselves.
    * @param {string[]} words
    * @returns {Action}
    */
@@ -328,7 +329,7 @@ class TestReader {
     if (kind === "from" || kind === "save") return this.readState(kind, operands);
     if (kind === "press" || kind === "release" || kind === "keys") return this.readKeys(kind, operands);
     if (kind === "pace") return parsePace(operands);
-    if (kind === "run") return { kind, cycles: parseWholeDuration(operands) || fail(say.RUN_SYNTAX) };
+    if (kind === "run") return { kind, cycles: parseExactDuration(operands) || fail(say.RUN_SYNTAX) };
     if (kind === "until") return this.readUntil(text, startColumn);
     if (kind === "expect") return { kind, condition: this.readCondition(text.slice(startColumn), startColumn) };
     if (kind === "set") return { kind, ...this.readSet(text.slice(startColumn), startColumn) };
@@ -361,7 +362,7 @@ class TestReader {
   }
 
   /**
-   * Parses key names. In a `keys` line, a word that is not a key name is split into letters.
+   * Parses key names. In a `keys` line, splits a word that is not a key name into letters.
    * @param {"press" | "release" | "keys"} kind
    * @param {string[]} words
    * @returns {Action}
@@ -397,7 +398,7 @@ class TestReader {
   }
 
   /**
-   * Fails because the key does not exist.
+   * Throws an InvalidLineError for a key that does not exist.
    * @param {string} name
    * @param {string} word the word that contains the name
    * @returns {never}
@@ -427,7 +428,7 @@ class TestReader {
   readUntil(text, startColumn) {
     const [, conditionText, time] = /^(.*\S)[ \t]+within[ \t]+(.*)$/.exec(text) || [];
     if (conditionText === undefined || conditionText.length <= startColumn) return fail(say.UNTIL_SYNTAX);
-    const cycles = parseWholeDuration(time.split(/[ \t]+/));
+    const cycles = parseExactDuration(time.split(/[ \t]+/));
     if (cycles < 1) fail(say.WITHIN_SYNTAX);
     const condition = this.readCondition(conditionText.slice(startColumn), startColumn);
     if (condition.needs.includes("cycles")) fail(say.CYCLES_NOT_ALLOWED);
@@ -463,7 +464,7 @@ function parsePace(words) {
 }
 
 /**
- * Returns the lines of steps. Each `do` line is replaced by the lines of its shared steps.
+ * Returns the lines of steps. Replaces each `do` line by the lines of the shared steps.
  * @param {Step[]} steps
  * @returns {{ text: string, action: Action }[]}
  */

@@ -1,5 +1,5 @@
-// Creates the texts of the `asm` commands that load bytes or a program into ROM. Each text is as long as possible, so that few commands are
-// needed.
+// Creates the texts for the `asm` commands that load bytes or a program into ROM. Each text is as long as possible, so that few commands
+// are needed.
 
 import { formatQuantity, hex, indices } from "../bench/numbers.js";
 import { PAGE_NUMBERS, PAGE_BYTES } from "../bench/rom_bytes.js";
@@ -8,12 +8,12 @@ import * as say from "../../words/text.js";
 
 /**
  * The size of a program in bytes, and the addresses outside the program at which ROM still contains a byte other than 0 (`left`).
- * @typedef {{ size: number, left: number[] }} Leftovers
+ * @typedef {{ size: number, remainingAddresses: number[] }} Leftovers
  */
 
-/** The maximum number of bytes per line; a line has at most 255 characters. */
+/** The maximum number of bytes per DB line; a line has at most 255 characters. */
 const MAX_BYTES_IN_LINE = 60;
-/** The maximum number of zero bytes per line. */
+/** The maximum number of zero bytes per DB line. A zero needs only one digit, so a line has room for more zeros. */
 const MAX_ZEROS_IN_LINE = 126;
 
 /** @type {(address: number) => number} returns the ROM number for an address */
@@ -48,20 +48,20 @@ function formatStatements(from, bytes, maxInLine) {
 }
 
 /**
- * Returns statements that store 0 at addresses, one text per range.
+ * Returns texts that store 0 at addresses, one text per range of consecutive addresses.
  * @param {number[]} addresses the addresses in ascending order
  * @returns {string[]}
  */
-function clearingTexts(addresses) {
+function createClearingTexts(addresses) {
   return groupIntoRanges(addresses).map(({ from, count }) => formatStatements(from, Array(count).fill(0), MAX_ZEROS_IN_LINE));
 }
 
-/** The number of characters that a text must leave free, so that it can store one more byte in each ROM. */
+/** The number of characters that each text keeps free for statements that store one byte in each ROM. */
 const RESERVED_LENGTH = PAGE_NUMBERS.length * formatStatements(0, [255], 1).length;
 
 /**
- * Returns statements that store the last byte of each ROM to which only the other texts store bytes.
- * @param {Int16Array} bytes
+ * Returns statements that store one byte in each ROM to which only the other texts store bytes: the last byte for that ROM.
+ * @param {Int16Array} bytes the bytes by address; negative for no byte
  * @param {Set<number>} pages the ROMs to which this text stores bytes
  */
 function formatRomStatements(bytes, pages) {
@@ -76,7 +76,7 @@ function formatRomStatements(bytes, pages) {
 
 /**
  * Returns the `asm` texts that store bytes in ROM. If several texts are needed, each text stores at least one byte in every ROM that is
- * used. So if the board lacks one of these ROMs, the bench rejects all texts, and not only some of them.
+ * used. Therefore, if the board lacks one of these ROMs, the bench rejects all texts and not only some.
  * @param {Int16Array} bytes the bytes by address; negative for no byte
  * @returns {string[]}
  */
@@ -104,13 +104,13 @@ export function createByteTexts(bytes) {
 /**
  * Returns the `asm` texts that load a program into ROM and store 0 at other addresses. If one text is not enough, the last text contains
  * the program.
- * @param {string} program the text as sent to the bench
- * @param {number[]} addresses the addresses in ascending order
+ * @param {string} program the program text as sent to the bench
+ * @param {number[]} addresses the addresses at which to store 0, in ascending order
  * @returns {string[]}
  */
-export function programTexts(program, addresses) {
+export function createProgramTexts(program, addresses) {
   const texts = [program];
-  for (const piece of clearingTexts(addresses)) {
+  for (const piece of createClearingTexts(addresses)) {
     // The program comes first in its text, so that its line numbers do not change.
     if (texts[0].length + piece.length <= MAX_SENT_LENGTH) texts[0] += piece;
     else texts.unshift(piece);
@@ -119,11 +119,12 @@ export function programTexts(program, addresses) {
 }
 
 /**
- * Returns the message after a program was assembled. The message also mentions the bytes outside the program that remain in ROM.
+ * Returns the message that the page shows after it has assembled a program. The message also mentions the bytes outside the program that
+ * remain in ROM.
  * @param {Leftovers} leftovers
  * @param {string} counter the program counter, as text
  */
-export function describeAssembled({ size, left }, counter) {
+export function describeAssembled({ size, remainingAddresses: left }, counter) {
   const first = left.length > 0 ? `0x${hex(left[0], 3)}` : "";
   const stay = say.bytesRemaining(formatQuantity(left.length, "byte"), left.length === 1, first);
   return say.bytesAssembled(formatQuantity(size, "byte"), left.length > 0 ? ` ${stay}` : "", counter);

@@ -1,21 +1,22 @@
 // Splits a program line into words, for syntax colours, help and error messages. Only the bench decides whether the line is valid.
 
 /**
- * A word and its range in the line.
+ * A word and its column range in the line: `from` is its first column, and `to` is the column after its last character.
  * @typedef {{ text: string, from: number, to: number }} Word
  *
  * The parts of a line:
  * - `label`: the label, or the name that the line defines with `=` (`defines` is then true);
  * - `head`: the first word of the statement; `operands`: its operands, or the value of a definition;
- * - `comment`: the index at which the comment starts; the line length if there is none.
+ * - `comment`: the index at which the comment starts; the line length if there is no comment.
  * @typedef {{ label: Word | null, defines: boolean, head: Word | null, operands: Word[], comment: number }} Parts
  *
+ * The kind of a word, for its syntax colour. A word of the kind `unknown` fits none of the other kinds.
  * @typedef {"comment" | "label" | "instruction" | "directive" | "register" | "number" | "name" | "unknown"} Kind
  * @typedef {Word & { kind: Kind }} Token
  */
 
 export const DIRECTIVES = ["ORG", "DB"];
-/** The patterns of registers, register pairs, numbers and names. */
+/** Patterns that match a register, a register pair, a number, and a name. */
 export const REGISTER = /^[Rr](\d|1[0-5])$/;
 export const PAIR = /^[Pp][0-7]$/;
 export const NUMBER = /^(\d+|0x[0-9A-Fa-f]+)$/;
@@ -23,7 +24,7 @@ export const NAME = /^[A-Za-z_][A-Za-z0-9_]*$/;
 export const MAX_NAME_LENGTH = 16;
 
 /**
- * Returns the word between two indexes of a line, without surrounding blanks; null if there is none.
+ * Returns the text between two indexes of a line as a word, without surrounding blanks; null if the text is blank.
  * @param {string} line
  * @param {number} from
  * @param {number} to
@@ -38,7 +39,8 @@ function trimmedWord(line, from, to) {
 }
 
 /**
- * Returns the words between the commas in a part of a line. A missing operand is an empty word at its position.
+ * Splits a part of a line at its commas. Returns the operands. A missing operand is an empty word at its position. A blank part has no
+ * operands.
  * @param {string} line
  * @param {number} from
  * @param {number} to
@@ -55,13 +57,13 @@ function splitOperands(line, from, to) {
   return words;
 }
 
-/** @type {Map<string, Parts>} the split lines, by line; a cache, because each edit splits the whole text again */
+/** @type {Map<string, Parts>} the parts of the lines that were split before, by line; each edit splits the whole text again */
 const cache = new Map();
 const MAX_CACHED_LINES = 8192;
 const MAX_CACHED_LENGTH = 255;
 
 /**
- * Returns the parts of a line.
+ * Returns the parts of a line, from the cache if possible.
  * @param {string} line
  * @returns {Readonly<Parts>}
  */
@@ -76,7 +78,7 @@ export function splitStatement(line) {
 }
 
 /**
- * Returns the parts of a line; does not use the cache.
+ * Splits a line into its parts, without the cache.
  * @param {string} line
  * @returns {Parts}
  */
@@ -99,7 +101,7 @@ function splitLine(line) {
 }
 
 /**
- * Returns the kind of an operand, which follows from its spelling.
+ * Returns the kind of an operand. The spelling determines the kind.
  * @param {string} text
  * @returns {Kind}
  */
@@ -112,7 +114,7 @@ export function classifyOperand(text) {
 /**
  * Returns the words of a line with their kinds, in order.
  * @param {string} line
- * @param {(word: string) => boolean} isInstruction
+ * @param {(word: string) => boolean} isInstruction returns whether an upper-case word is an instruction
  * @returns {Token[]}
  */
 export function tokenizeLine(line, isInstruction) {
@@ -131,7 +133,7 @@ export function tokenizeLine(line, isInstruction) {
 }
 
 /**
- * Returns the names that a text defines, with the number of the first defining line, from 1.
+ * Returns the names that a text defines. The value for a name is the number of the first line that defines the name (from 1).
  * @param {string[]} lines
  * @returns {Map<string, number>}
  */
@@ -145,7 +147,7 @@ export function findDefinedNames(lines) {
 }
 
 /**
- * Returns the word of letters, digits and underscores at an index in a line; null if there is none.
+ * Returns the word of letters, digits and underscores that contains or touches a column; null if there is none.
  * @param {string} line
  * @param {number} column
  * @returns {Word | null}

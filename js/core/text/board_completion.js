@@ -1,4 +1,4 @@
-// Completes words in a board text: table headers, whole tables from templates, keys, and values such as the names of signal lines.
+// Completes words in a board text: table headers, complete tables from templates, keys, and values such as the names of signal lines.
 
 import { MAX_PARTS, boardLines } from "../bench/board_form.js";
 import { indices } from "../bench/numbers.js";
@@ -14,11 +14,14 @@ import * as say from "../../words/text.js";
  * @typedef {import("../bench/board_form.js").BoardLine} BoardLine
  */
 
-/** Matches an unfinished value before the caret: the key, an open array if any, an open quote if any, and the characters typed so far. */
+/**
+ * Matches an unfinished value at the end of the text before the caret. The groups are its key, its opening quote ("" if there is none),
+ * and the characters typed so far. The value can be in an open array.
+ */
 const VALUE = /(\w+)\s*=\s*(?:\[(?:[^\][\]"]|"[^"\n]*")*)?("?)([\w.]*)$/;
 
 /**
- * Describes a signal line of the board.
+ * Returns the description of a signal line in the list of completions.
  * @param {BoardLine} line
  */
 function describeLine({ name, kind, isInput }) {
@@ -27,16 +30,16 @@ function describeLine({ name, kind, isInput }) {
   return kind === "ram" ? say.lineOfRam(third, second, first) : say.bitOfChain(second, first);
 }
 
-/** The maximum number of characters before the caret that are searched for the key. */
+/** The number of characters before the caret in which the key of the value is searched. */
 const MAX_CHARACTERS_BEFORE_CURSOR = 2000;
 
-/** The chips, chains and signal lines in the valid tables of a board text. */
+/** The chains and signal lines that a board text defines, and the ROM and RAM bank numbers that the text does not use. */
 class BoardParts {
   /** @param {string} text */
   constructor(text) {
     const { roms, banks, chains } = collectParts(readBoardText(text).entries);
-    this.chips = indices(MAX_PARTS.rom).filter((number) => !roms.some(({ chip }) => chip === number));
-    this.banks = indices(MAX_PARTS.ram).filter((number) => !banks.some(({ bank }) => bank === number));
+    this.unusedRoms = indices(MAX_PARTS.rom).filter((number) => !roms.some(({ chip }) => chip === number));
+    this.unusedBanks = indices(MAX_PARTS.ram).filter((number) => !banks.some(({ bank }) => bank === number));
     this.chains = indices(chains.length);
     const lines = boardLines({ roms, banks, chains });
     this.inputs = lines.filter(({ isInput }) => isInput);
@@ -45,37 +48,38 @@ class BoardParts {
   }
 
   /**
-   * Returns the possible values of a key. Names of signal lines and ports need quotes.
+   * Returns the possible values of a key, an empty list if the values are unknown. Names of signal lines and port masks need quotes.
    * @param {string} table
    * @param {string} key
    * @returns {{ list: CompletionItem[], isQuoted: boolean }}
    */
   listValues(table, key) {
-    const lines = (/** @type {BoardLine[]} */ all) => (
+    const listLines = (/** @type {BoardLine[]} */ all) => (
       { list: all.map((line) => ({ text: line.name, what: describeLine(line) })), isQuoted: true });
-    const numbers = (/** @type {number[]} */ list) => ({ list: withoutDescription(list.map(String)), isQuoted: false });
+    const listNumbers = (/** @type {number[]} */ list) => ({ list: withoutDescription(list.map(String)), isQuoted: false });
     switch (`${table}.${key}`) {
-      case "rom.chip": return numbers(this.chips);
-      case "ram.bank": return numbers(this.banks);
+      case "rom.chip": return listNumbers(this.unusedRoms);
+      case "ram.bank": return listNumbers(this.unusedBanks);
       case "rom.port": return { list: [{ text: "iiii", what: say.INPUT_LINES }, { text: "0000", what: say.OUTPUT_LINES }], isQuoted: true };
-      case "chain.clock": case "chain.data": return lines(this.outputs);
-      case "lamp.line": return lines([...this.outputs, ...this.bits]);
-      case "keys.columns": return lines(this.inputs);
-      case "keys.chain": return numbers(this.chains);
-      default: return numbers([]);
+      case "chain.clock": case "chain.data": return listLines(this.outputs);
+      case "lamp.line": return listLines([...this.outputs, ...this.bits]);
+      case "keys.columns": return listLines(this.inputs);
+      case "keys.chain": return listNumbers(this.chains);
+      default: return listNumbers([]);
     }
   }
 
   /**
-   * Returns a template for each kind of table. A template has all keys of the table, and existing signal lines as values.
+   * Returns a template for each kind of table; without ROM or RAM if all their numbers are in use. A template has all keys of the table.
+   * Its signal lines are lines of the board, or "" if the board has no suitable line.
    * @returns {CompletionItem[]}
    */
-  templates() {
+  listTemplates() {
     const [input] = this.inputs;
     const [clock = "", data = ""] = this.outputs.map(({ name }) => name);
     return [
-      { text: `[[rom]]\nchip = ${this.chips[0]}\nport = "0000"`, what: say.ROM_WITH_PORT },
-      { text: `[[ram]]\nbank = ${this.banks[0]}\nchips = 1`, what: say.BANK_OF_RAM },
+      { text: `[[rom]]\nchip = ${this.unusedRoms[0]}\nport = "0000"`, what: say.ROM_WITH_PORT },
+      { text: `[[ram]]\nbank = ${this.unusedBanks[0]}\nchips = 1`, what: say.BANK_OF_RAM },
       { text: `[[chain]]\nclock = "${clock}"\ndata = "${data}"\nchips = 1`, what: say.CHAIN_OF_REGISTERS },
       { text: `[keys]\nchain = 0\nfirst = 0\nrows = 4\ncolumns = ["${input ? input.name : ""}"]`, what: say.KEY_MATRIX },
       { text: `[[lamp]]\nline = "${clock}"`, what: say.A_LAMP },
@@ -85,7 +89,7 @@ class BoardParts {
 
 /**
  * Returns the completions of a value.
- * @param {string} text
+ * @param {string} text the line that contains the caret
  * @param {number} column
  * @param {RegExpExecArray} value the match of VALUE
  * @param {{ list: CompletionItem[], isQuoted: boolean }} values
@@ -105,7 +109,7 @@ function completeValue(text, column, value, { list, isQuoted }) {
  * @param {string[]} lines
  * @param {number} line the line number from 0
  * @param {number} column
- * @param {Map<string, Map<string, string>>} tables the keys and their values, by table
+ * @param {Map<string, Map<string, string>>} tables the keys and the descriptions of their values, by table
  * @returns {Completion}
  */
 export function completeBoard(lines, line, column, tables) {
@@ -115,12 +119,12 @@ export function completeBoard(lines, line, column, tables) {
   if (/^\s*\[+\w*$/.test(textBefore)) return filterCompletions(text, column, withoutDescription([...tables.keys()]));
   const table = tableAt(lines, line);
   const parts = new BoardParts(lines.map((each, number) => (number === line ? "" : each)).join("\n"));
-  // An array can start some lines above.
+  // The array that contains the caret can start up to nine lines above.
   const linesBefore = lines.slice(Math.max(0, line - 9), line).map((each) => each.slice(0, commentAt(each, "#")));
   const value = VALUE.exec([...linesBefore, textBefore].join("\n").slice(-MAX_CHARACTERS_BEFORE_CURSOR));
   const isInValue = value && (textBefore.includes(value[1]) || value[0].includes("["));
   if (value && isInValue) return completeValue(text, column, value, parts.listValues(table, value[1]));
   const keys = tables.get(table) || new Map();
   const words = [...keys].map(([name, values]) => ({ text: name, what: values }));
-  return text.trim() === "" ? { from: 0, to: column, list: [...words, ...parts.templates()] } : filterCompletions(text, column, words);
+  return text.trim() === "" ? { from: 0, to: column, list: [...words, ...parts.listTemplates()] } : filterCompletions(text, column, words);
 }

@@ -1,10 +1,10 @@
-// Describes the error that the bench reports for a board text. The bench names a table and a key. The parser of board texts finds their
-// position, and the manual describes the valid values of each key.
+// Describes the error that the bench reports for a board text. The bench names a table and a key. This module finds the position of the
+// table and the key with the parser of board texts. The valid values of each key come from the manual.
 
 import { PART_KEYS, LINE_NAMES, MAX_PARTS, MAX_COLUMNS, BITS_PER_CHIP, VALUE_RANGES, boardLines } from "../bench/board_form.js";
 import { findSimilarWords, formatSuggestion } from "./similar_words.js";
 import { collectParts, readBoardText } from "./board_reader.js";
-import { faultAt } from "./sendable_text.js";
+import { createFaultAt } from "./sendable_text.js";
 import * as say from "../../words/text.js";
 
 /**
@@ -15,11 +15,11 @@ import * as say from "../../words/text.js";
  * @typedef {import("./board_reader.js").Value} Value
  * @typedef {import("./sendable_text.js").Fault} Fault
  *
- * The table (`entry`) and the key that contain an error. Each is null if the text does not contain it.
+ * The table (`entry`) and the key with an error. `entry` is null if the text has no such table, `key` if it has no such key.
  * @typedef {{ entry: Entry | null, key: Key | null }} WrongPart
  */
 
-/** The numbers of the refusals that concern board texts. */
+/** The numbers of the refusals for errors in board texts. */
 const NOT_TOML = 20;
 const UNKNOWN_KEY = 21;
 const MISSING_KEY = 22;
@@ -28,7 +28,7 @@ const DUPLICATE = 24;
 const MISSING_LINE = 25;
 const WRONG_DIRECTION = 26;
 const TOO_MANY = 27;
-/** The keys whose values are signal lines. */
+/** The keys whose values are names of signal lines. */
 const LINE_KEYS = ["clock", "data", "line", "columns"];
 
 /**
@@ -37,12 +37,12 @@ const LINE_KEYS = ["clock", "data", "line", "columns"];
  */
 const formatHeader = (kind) => (kind === "keys" ? "[keys]" : `[[${kind}]]`);
 
-/** Finds the position of an error in a board text, and composes its message. */
+/** Finds the position of an error in a board text, and composes the message. */
 class BoardErrorText {
   /**
    * @param {BoardText} text
    * @param {BoardError} error
-   * @param {Map<string, Map<string, string>>} tables the manual's keys and their values, by table
+   * @param {Map<string, Map<string, string>>} tables the manual's descriptions of the values, by table and key
    * @param {(number: number) => string} messageFor returns the message of a refusal
    */
   constructor(text, error, tables, messageFor) {
@@ -54,7 +54,7 @@ class BoardErrorText {
     this.lines = new Map(boardLines(this.parts).map((line) => [line.name, line]));
   }
 
-  /** The tables of the section that contains the error. */
+  /** The tables of the kind in which the error is, such as all `[[rom]]` tables. */
   get entries() {
     const { section } = this.error;
     return this.text.entries.filter(({ table }) => table.replace(/[[\]]/g, "") === section);
@@ -63,13 +63,13 @@ class BoardErrorText {
   /** @returns {WrongPart} the table and key that contain the error */
   findWrongPart() {
     const { section, index, key: name } = this.error;
-    const key = (/** @type {Key[]} */ keys) => keys.find((each) => each.name === name) || null;
+    const findKey = (/** @type {Key[]} */ keys) => keys.find((each) => each.name === name) || null;
     if (section === "") {
       const entry = this.text.entries.find(({ table }) => table.replace(/[[\]]/g, "") === name) || null;
-      return { entry, key: key(this.text.keys) };
+      return { entry, key: findKey(this.text.keys) };
     }
     const entry = this.entries[Math.max(0, index - 1)] || null;
-    if (entry) return { entry, key: key(entry.keys) };
+    if (entry) return { entry, key: findKey(entry.keys) };
     return { entry: null, key: this.text.keys.find((each) => each.name === section) || null };
   }
 
@@ -84,11 +84,11 @@ class BoardErrorText {
     if (number === UNKNOWN_KEY) return this.createUnknownKeyFault(entry, key);
     const value = key && number !== MISSING_KEY ? this.findWrongValue(key) : null;
     const message = this.formatMessage(entry, key, value);
-    const place = value || entry;
-    return place ? faultAt(number, place, message) : this.createLineFault(message);
+    const range = value || entry;
+    return range ? createFaultAt(number, range, message) : this.createLineFault(message);
   }
 
-  /** Returns the error in a text that is not valid TOML. */
+  /** Returns the error in a text that is not valid TOML: a syntax error, or a key that occurs twice in a table. */
   createTomlFault() {
     const { number, line } = this.error;
     const found = this.text.faults.find((each) => each.line === line);
@@ -96,13 +96,13 @@ class BoardErrorText {
     for (const keys of [this.text.keys, ...this.text.entries.map((entry) => entry.keys)]) {
       const second = keys.find((key) => key.line === line);
       const first = keys.find(({ name }) => second && name === second.name);
-      if (second && first && first !== second) return faultAt(number, second, say.alreadyThere(second.name, first.line));
+      if (second && first && first !== second) return createFaultAt(number, second, say.alreadyThere(second.name, first.line));
     }
     return this.createLineFault(this.messageFor(number));
   }
 
   /**
-   * Returns the value of a key. If the value is an array of columns, returns the column with the error.
+   * Returns the value of a key. If the value is the array of columns, returns its element with the error.
    * @param {Key} key
    * @returns {Value}
    */
@@ -118,7 +118,7 @@ class BoardErrorText {
 
   /**
    * Returns the error message.
-   * @param {Entry | null} entry
+   * @param {Entry | null} entry the table with the error
    * @param {Key | null} key
    * @param {Value | null} value the wrong value
    */
@@ -135,8 +135,8 @@ class BoardErrorText {
   }
 
   /**
-   * Returns a message that describes the valid values of a key or a table.
-   * @param {Value | null} value
+   * Returns a message that describes the valid values of the key or table with the error.
+   * @param {Value | null} value the wrong value
    */
   explainValues(value) {
     const { section, index, key } = this.error;
@@ -152,7 +152,7 @@ class BoardErrorText {
 
   /**
    * Returns a message that explains why the board does not have a line or chain.
-   * @param {string} name
+   * @param {string} name the name of a line, or the number of a chain
    */
   explainMissingLine(name) {
     const [, kind = "", number = "", chip = ""] = /^(rom|ram|chain)(\d+)\.(\d+)/.exec(name) || [];
@@ -167,8 +167,8 @@ class BoardErrorText {
   }
 
   /**
-   * Returns a message that says how many bits of a chain the rows of the key matrix need.
-   * @param {Entry} entry
+   * Returns a message that names the bits that the rows of the key matrix need, and the last bit of their chain.
+   * @param {Entry} entry the `keys` table
    */
   explainRows({ keys }) {
     const [chain, first, rows] = ["chain", "first", "rows"].map((name) => {
@@ -180,8 +180,8 @@ class BoardErrorText {
   }
 
   /**
-   * Returns the line number of the first table with the same value.
-   * @param {Entry | null} entry
+   * Returns the line number of the first other table with the same value for a key; 1 if there is none.
+   * @param {Entry | null} entry the table with the error
    * @param {Key} key
    */
   findFirstLine(entry, key) {
@@ -191,7 +191,7 @@ class BoardErrorText {
   }
 
   /**
-   * Returns the error for an unknown key or table, with suggestions.
+   * Returns the error for an unknown key or table, with similar names as suggestions.
    * @param {Entry | null} entry
    * @param {Key | null} key
    * @returns {Fault}
@@ -202,15 +202,15 @@ class BoardErrorText {
     const suggestions = findSimilarWords(name, known);
     const instead = formatSuggestion(suggestions) || say.whichHasKeys(known.join(", "));
     const message = section === "" ? say.noPart(name, instead) : say.noKeyOf(name, section, instead);
-    const place = key || entry;
-    const fault = place ? faultAt(UNKNOWN_KEY, place, message) : this.createLineFault(message);
+    const range = key || entry;
+    const fault = range ? createFaultAt(UNKNOWN_KEY, range, message) : this.createLineFault(message);
     const quickFixTexts = key ? suggestions : suggestions.map(formatHeader);
-    return quickFixTexts.length > 0 && place ? { ...fault, quickFixTexts } : fault;
+    return quickFixTexts.length > 0 && range ? { ...fault, quickFixTexts } : fault;
   }
 
   /**
-   * Returns an error whose range is the whole line that the bench names.
-   * @param {string} words
+   * Returns an error whose range is the complete line that the bench reports.
+   * @param {string} words the message
    * @returns {Fault}
    */
   createLineFault(words) {
@@ -222,9 +222,9 @@ class BoardErrorText {
 
 /**
  * Returns the error that the bench reports for a board text, with its position and message.
- * @param {string} text the text, with the same positions as the original
+ * @param {string} text the board text, as `asciiCommentsText` returns it
  * @param {BoardError} error
- * @param {Map<string, Map<string, string>>} tables the manual's keys and their values, by table
+ * @param {Map<string, Map<string, string>>} tables the manual's descriptions of the values, by table and key
  * @param {(number: number) => string} messageFor returns the message of a refusal
  * @returns {Fault}
  */

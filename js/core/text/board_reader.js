@@ -1,5 +1,5 @@
-// Parses the subset of TOML in which board texts are written, with the position of each key and value. After an error, the parser continues
-// with the next line. Only the bench decides whether a text is valid. This parser helps to explain why the bench rejects a text.
+// Parses the subset of TOML that board texts use. The result contains the position of each key and value. After an error, the parser
+// continues on the next line. Only the bench decides whether a text is valid. This parser helps to explain why the bench rejects a text.
 
 import { VALUE_RANGES } from "../bench/board_form.js";
 import { tomlWords } from "./toml_words.js";
@@ -13,16 +13,19 @@ import * as say from "../../words/text.js";
  * The end of a word: its line number, and the index after its last character (`to`).
  * @typedef {{ line: number, to: number }} End
  *
- * A value (`inner`) with its position. `line`, `from` and `to` are the position of the value; for an array or table, of its opening
- * bracket. `end` is the end of the whole value. `whole` is false for a number that is not written as an integer.
+ * A value (`inner`) with its position. `line`, `from` and `to` are the position of the value. For an array or an inline table, they are
+ * the position of its opening bracket. `end` is the end of the complete value. `whole` is false for a number with a fraction or exponent.
  * @typedef {{ inner: PlainValue, whole: boolean, line: number, from: number, to: number, end: End }} Value
+ *
+ * A key: its name, the position of the name, and its value.
  * @typedef {{ name: string, line: number, from: number, to: number, value: Value }} Key
  *
- * A table: its name, the position of its header, and its keys. Only an inline table has an `end`.
+ * A table: its name (in brackets if it is not an array of tables), the position of its header, and its keys. Only an inline table has an
+ * `end`.
  * @typedef {{ table: string, line: number, from: number, to: number, keys: Key[], end?: End }} Entry
  *
- * The contents of a text. `entries` are its tables. `keys` are the keys before the first table header; `others` are those of them whose
- * values are not tables. `faults` are the errors.
+ * The contents of a board text. `entries` are its tables, including inline tables. `keys` are the keys before the first table header;
+ * `others` are the keys in `keys` whose values are neither tables nor arrays of tables. `faults` are the errors.
  * @typedef {{ entries: Entry[], others: Key[], keys: Key[], faults: Fault[] }} BoardText
  */
 
@@ -30,13 +33,14 @@ import * as say from "../../words/text.js";
 const NOT_TOML = 20;
 /** The maximum nesting depth of brackets and braces. A board needs three levels. */
 const MAX_DEPTH = 32;
+/** Matches a TOML integer: decimal, hexadecimal, octal or binary. */
 const INTEGER = /^[+-]?(0|[1-9](_?\d)*)$|^0x[0-9A-Fa-f](_?[0-9A-Fa-f])*$|^0o[0-7]+$|^0b[01]+$/;
 
 /** The error for a word that is not valid TOML. */
 class TomlSyntaxError extends Error {
   /**
    * @param {TomlWord} word
-   * @param {string} words
+   * @param {string} words the message
    */
   constructor(word, words) {
     super(words);
@@ -44,10 +48,12 @@ class TomlSyntaxError extends Error {
   }
 }
 
+/** Parses a board text. */
 export class BoardReader {
   /** @param {string} text */
   constructor(text) {
     this.words = tomlWords(text.split("\n"));
+    /** The index of the next word to read. */
     this.at = 0;
     /** @type {Entry[]} */
     this.entries = [];
@@ -63,6 +69,7 @@ export class BoardReader {
     this.depth = 0;
   }
 
+  /** The next word to read. */
   get word() {
     return this.words[this.at];
   }
@@ -91,7 +98,7 @@ export class BoardReader {
     this.at += 1;
   }
 
-  /** Reads the whole text. After an error, continues on the next line. */
+  /** Reads the complete text. After an error, continues on the next line. */
   read() {
     while (this.at < this.words.length) {
       const startIndex = this.at;
@@ -108,7 +115,7 @@ export class BoardReader {
 
   /**
    * Returns the index of the first word after a line with an error.
-   * @param {number} line
+   * @param {number} line the number of this line
    * @param {number} startIndex the index of the first word in the statement with the error
    */
   findNextLineStart(line, startIndex) {
@@ -117,12 +124,14 @@ export class BoardReader {
     return at + 1;
   }
 
+  /** Reads an empty line, a table header, or a key with its value. */
   readStatement() {
     if (this.word.kind === "end") this.at += 1;
     else if (this.isMark("[")) this.readHeader();
     else this.readPair();
   }
 
+  /** Reads a table header such as `[keys]` or `[[rom]]`. */
   readHeader() {
     const { line, from } = this.word;
     const isArray = this.words[this.at + 1].text === "[" && this.words[this.at + 1].kind === "punctuation";
@@ -134,14 +143,16 @@ export class BoardReader {
     if (isArray) this.expectMark("]", say.bracketMissing(`[[${name.text}]]`));
     this.currentTable = { table: isArray ? name.text : `[${name.text}]`, line, from, to: name.to + (isArray ? 2 : 1), keys: [] };
     this.entries.push(this.currentTable);
-    this.endLine();
+    this.expectLineEnd();
   }
 
-  endLine() {
+  /** Reads the end of a line. Throws if another word is left on the line. */
+  expectLineEnd() {
     if (this.word.kind !== "end") throw new TomlSyntaxError(this.word, this.word.fault || say.LINE_ENDS);
     this.at += 1;
   }
 
+  /** Reads a key and its value, and adds them to the current table. */
   readPair() {
     const key = this.readKey();
     const { inner } = key.value;
@@ -150,12 +161,12 @@ export class BoardReader {
       this.keys.push(key);
       if (!this.addTables(key.name, inner)) this.others.push(key);
     }
-    this.endLine();
+    this.expectLineEnd();
   }
 
   /**
    * Adds the inline tables in a value to the tables of the text. Returns false if the value is neither a table nor an array of tables.
-   * @param {string} name
+   * @param {string} name the key of the value
    * @param {PlainValue} inner
    */
   addTables(name, inner) {
@@ -170,7 +181,7 @@ export class BoardReader {
     return true;
   }
 
-  /** @returns {Key} */
+  /** @returns {Key} the key at the current position, with its value */
   readKey() {
     const name = this.word;
     if (name.kind !== "bare" && name.kind !== "string") throw new TomlSyntaxError(name, name.fault || say.KEY_SYNTAX);
@@ -197,9 +208,9 @@ export class BoardReader {
   }
 
   /**
-   * Reads the contents of brackets or braces. Throws if the nesting is too deep.
+   * Reads an array or an inline table. Throws if the nesting is too deep.
    * @template Read
-   * @param {() => Read} read
+   * @param {() => Read} read reads the array or table
    * @returns {Read}
    */
   readNested(read) {
@@ -214,7 +225,7 @@ export class BoardReader {
 
   /**
    * Returns the value of a string, number or boolean. Throws for any other word.
-   * @param {string} kind
+   * @param {string} kind the kind of the word
    * @param {string} text
    * @returns {PlainValue}
    */
@@ -227,23 +238,24 @@ export class BoardReader {
     throw new TomlSyntaxError(this.word, say.needsQuotes(text));
   }
 
-  /** Skips the ends of lines. */
-  skipEnds() {
+  /** Skips line ends. */
+  skipLineEnds() {
     while (this.at < this.words.length - 1 && this.word.kind === "end") this.at += 1;
   }
 
   /**
-   * @param {string} key
+   * Reads an array.
+   * @param {string} key the name of the key, for messages
    * @returns {Value[]}
    */
   readArray(key) {
     const opened = this.word;
     this.at += 1;
     const values = [];
-    for (this.skipEnds(); !this.isMark("]"); this.skipEnds()) {
+    for (this.skipLineEnds(); !this.isMark("]"); this.skipLineEnds()) {
       if (this.word.kind === "end") throw new TomlSyntaxError(opened, say.NO_BRACKET);
       values.push(this.readValue(key));
-      this.skipEnds();
+      this.skipLineEnds();
       if (this.isMark(",")) this.at += 1;
       else if (!this.isMark("]")) throw new TomlSyntaxError(this.word, this.word.fault || say.COMMA_OF_VALUES);
     }
@@ -251,7 +263,7 @@ export class BoardReader {
     return values;
   }
 
-  /** @returns {Entry} */
+  /** @returns {Entry} the inline table at the current position */
   readTable() {
     const { line, from, to } = this.word;
     this.at += 1;
@@ -280,8 +292,8 @@ export function readBoardText(text) {
 }
 
 /**
- * Returns the ROMs, RAM banks and chains in a text. Chip counts are limited to the maximum of a board.
- * @param {Entry[]} entries
+ * Returns the ROMs, RAM banks and chains in the tables of a board text. A number of chips above the maximum becomes the maximum.
+ * @param {Entry[]} entries the tables
  */
 export function collectParts(entries) {
   /** @type {(table: string) => Map<string, PlainValue>[]} */

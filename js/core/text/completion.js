@@ -1,4 +1,4 @@
-// Completes a word in the text of a program.
+// Completes the word before the caret in a program.
 
 import { DIRECTIVES, findDefinedNames, splitStatement } from "./assembly.js";
 import { parseOperandKinds } from "./program_words.js";
@@ -6,7 +6,7 @@ import { parseOperandKinds } from "./program_words.js";
 /**
  * @typedef {import("../help/manual.js").Instruction} Instruction
  *
- * A completion: the word and its description.
+ * A completion: the word (`text`) and its description (`what`), "" for none.
  * @typedef {{ text: string, what: string }} CompletionItem
  *
  * A list of completions, and the range in the line that a chosen completion replaces.
@@ -21,7 +21,7 @@ const REGISTERS = [...Array(16).keys()].map((number) => `R${number}`);
 const PAIRS = [...Array(8).keys()].map((number) => `P${number}`);
 
 /**
- * Returns words as completions without a description.
+ * Converts words to completions without a description.
  * @param {string[]} words
  * @returns {CompletionItem[]}
  */
@@ -30,11 +30,11 @@ export function withoutDescription(words) {
 }
 
 /**
- * Returns the words that start with the text before the caret, regardless of case.
+ * Returns the completions that start with the typed part of a word. Ignores case, and omits a completion that equals the typed part.
  * @param {string} line
- * @param {number} column
- * @param {CompletionItem[]} words
- * @param {RegExp} typedPattern matches the typed part of a word
+ * @param {number} column the column of the caret
+ * @param {CompletionItem[]} words the possible completions
+ * @param {RegExp} typedPattern matches the typed part of the word at the end of the text before the caret
  * @returns {Completion}
  */
 export function filterCompletions(line, column, words, typedPattern = /\w*$/) {
@@ -58,7 +58,7 @@ export function completeProgram(lines, line, column, instructions) {
   const textBefore = text.slice(0, column);
   const { head, comment } = splitStatement(textBefore);
   if (comment < textBefore.length) return { from: column, to: column, list: [] };
-  // The line is cut at the caret, so that the unfinished word does not complete itself.
+  // The line is cut at the caret. Otherwise, the name that the user is typing would complete itself.
   const names = findDefinedNames(lines.map((each, number) => (number === line ? textBefore : each)));
   if (!head || head.to === column) {
     const mnemonics = [...instructions].map(([name, { form, does }]) => ({ text: name, what: form.slice(name.length) + GAP + does }));

@@ -1,5 +1,5 @@
-// Escapes the characters of a text from another program that a terminal could interpret: they could move the cursor, change the title, or
-// reverse the writing direction.
+// Escapes the control characters in a text from outside the program, such as a file name. A terminal would interpret these characters: they
+// could move the cursor, change the title, or reverse the writing direction.
 
 // eslint-disable-next-line no-control-regex
 const UNSAFE_CHARACTERS = /[\u0000-\u0008\u000b-\u001f\u007f-\u009f\u061c\u200e\u200f\u2028-\u202e\u2066-\u2069]/g;

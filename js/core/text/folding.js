@@ -1,22 +1,25 @@
 // Finds the ranges of lines that an editor can fold: the code below a label, a table of a board text, a test, or consecutive comment lines.
 
 /**
- * A function that returns the line with a number, counted from 0; undefined after the last line.
+ * A function that returns the text of a line by its number, from 0; undefined after the last line.
  * @typedef {(line: number) => string | undefined} LineAt
  *
- * The patterns that delimit the foldable ranges of a text. `mark` starts a comment. `head` matches the first line of a range. `isNested` is
- * true if a head directly after a code line starts a nested range, like the label of a loop in a subroutine.
+ * The patterns that delimit the foldable ranges of a text. `mark` starts a comment. `head` matches the first line of a range, its head. If
+ * `isNested` is true, a head directly after a code line starts a nested range, like the label of a loop in a subroutine.
  * @typedef {{ mark: string, head: RegExp, isNested: boolean }} Parts
  */
 
-/** @type {Record<"program" | "board" | "tests", Parts>} */
+/** @type {Record<"program" | "board" | "tests", Parts>} the patterns, by kind of text */
 export const PARTS = {
   program: { mark: ";", head: /^[ \t]*[A-Za-z_]\w*[ \t]*:/, isNested: true },
   board: { mark: "#", head: /^[ \t]*\[/, isNested: false },
   tests: { mark: "#", head: /^[ \t]*test\b/, isNested: false },
 };
 
-/** @param {string | undefined} text */
+/**
+ * Returns whether a line is blank or does not exist.
+ * @param {string | undefined} text
+ */
 function isBlank(text) {
   return text === undefined || text.trim() === "";
 }
@@ -31,7 +34,8 @@ function isComment(text, { mark }) {
 }
 
 /**
- * Returns whether the head at a line starts an outer range. This is so after a blank line or a comment, and in texts without nested ranges.
+ * Returns whether the head in a line starts an outer range. A head does so after a blank line or a comment. In a text without nested
+ * ranges, each head starts an outer range.
  * @param {LineAt} lineAt
  * @param {number} line
  * @param {Parts} parts
@@ -42,7 +46,7 @@ function isOuter(lineAt, line, parts) {
 }
 
 /**
- * Returns whether the current range ends before a line.
+ * Returns whether the current range ends before a given line.
  * @param {LineAt} lineAt
  * @param {number} line
  * @param {Parts} parts
@@ -56,7 +60,7 @@ function endsBefore(lineAt, line, parts, isOuterPart) {
 }
 
 /**
- * Returns the last line of the range that starts at a line; the line itself if no range starts there.
+ * Returns the last line of the foldable range that starts at a line; the line itself if no range starts there.
  * @param {LineAt} lineAt
  * @param {number} line the line number from 0
  * @param {Parts} parts
@@ -77,7 +81,7 @@ export function findFoldEnd(lineAt, line, parts) {
 }
 
 /**
- * Returns the first line of the innermost foldable range that contains a line; -1 if there is none. The line itself can be the first line.
+ * Returns the first line of the innermost foldable range that contains a line, which can be this line; -1 if no range contains the line.
  * @param {LineAt} lineAt
  * @param {number} line
  * @param {Parts} parts

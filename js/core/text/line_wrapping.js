@@ -1,25 +1,25 @@
 // Wraps paragraphs into lines of a maximum width.
 
 /**
- * Wraps a paragraph. A word that is longer than the width gets its own line.
+ * Wraps a paragraph into lines. A word that is longer than the width gets a separate line.
  * @param {string} text
- * @param {number} width
+ * @param {number} width the maximum line length, including the prefix
  * @param {string} [firstPrefix] the prefix of the first line
  * @param {string} [otherPrefix] the prefix of the other lines
  */
 export function wrapText(text, width, firstPrefix = "", otherPrefix = firstPrefix) {
   const lines = [firstPrefix];
-  let isFresh = true;
+  let isFirstWord = true;
   for (const word of text.trim().split(/\s+/)) {
     const last = lines[lines.length - 1];
-    if (!isFresh && last.length + 1 + word.length > width) lines.push(otherPrefix + word);
-    else lines[lines.length - 1] = isFresh ? last + word : `${last} ${word}`;
-    isFresh = false;
+    if (!isFirstWord && last.length + 1 + word.length > width) lines.push(otherPrefix + word);
+    else lines[lines.length - 1] = isFirstWord ? last + word : `${last} ${word}`;
+    isFirstWord = false;
   }
   return lines.join("\n");
 }
 
-/** The prefix of lines that are never wrapped, such as program and board lines. */
+/** The prefix of message lines that `wrapMessage` does not wrap, such as quoted program and board lines. */
 export const UNWRAPPED_PREFIX = "    ";
 
 /**

@@ -1,11 +1,11 @@
-// Finds all errors in a program. The bench reports the line number and the refusal number of each error. This module adds the wrong word in
-// the line, and a message.
+// Finds all errors in a program. The bench reports the line number and the refusal number of each error. This module adds the range of the
+// wrong word in the line, and a message.
 
 import { findDefinedNames, splitStatement } from "./assembly.js";
 import { hex } from "../bench/numbers.js";
 import { MAX_ERRORS } from "../bench/text_check_answers.js";
 import { explainProgramLine } from "./program_words.js";
-import { TEXT_TOO_LONG, alignedText, findLineFaults, sentLine } from "./sendable_text.js";
+import { TEXT_TOO_LONG, asciiCommentsText, findLineFaults, sentLine } from "./sendable_text.js";
 import * as say from "../../words/text.js";
 
 /**
@@ -15,8 +15,8 @@ import * as say from "../../words/text.js";
  * @typedef {import("./program_words.js").WordError} WordError
  * @typedef {import("./sendable_text.js").Fault} Fault
  *
- * The errors in a program. `faults` are the errors in its lines. `isWhole` is false if the bench has not checked all lines. `rest` is an
- * error that belongs to no particular line, such as error 42 (the board lacks a ROM); otherwise null.
+ * The errors in a program or board text. `faults` are the errors in its lines. `isWhole` is false if the text can have more errors.
+ * `rest` is an error that belongs to no particular line, such as refusal 42 (the board lacks a ROM); null if there is none.
  * @typedef {{ faults: Fault[], isWhole: boolean, rest: Refusal | null }} AllFaults
  */
 
@@ -26,10 +26,10 @@ export const MISSING_ROM = 42;
 /**
  * Creates an error in a line. The range of the error is the wrong word, or all code of the line if no word is known.
  * @param {string} source the text of the line
- * @param {number} lineNumber the line number
- * @param {WordError | null} error
+ * @param {number} lineNumber
+ * @param {WordError | null} error the wrong word and the message; null if only the refusal number is known
  * @param {number} number the refusal number
- * @param {(number: number) => string} messageFor
+ * @param {(number: number) => string} messageFor returns the message of a refusal
  * @returns {Fault}
  */
 function createFault(source, lineNumber, error, number, messageFor) {
@@ -41,45 +41,45 @@ function createFault(source, lineNumber, error, number, messageFor) {
 }
 
 /**
- * Returns an error that the bench reports for a line, with its position and message.
+ * Converts an error that the bench reports for a line to an error with a position and a message.
  * @param {string[]} lines the program lines
  * @param {import("../bench/text_check_answers.js").LineError} error
- * @param {KnownWords} facts
+ * @param {KnownWords} knownWords
  * @param {(number: number) => string} messageFor returns the message of a refusal
  * @returns {Fault}
  */
-export function createLineError(lines, { line, number }, facts, messageFor) {
+export function createLineError(lines, { line, number }, knownWords, messageFor) {
   const text = lines[line - 1];
-  return createFault(text, line, explainProgramLine(text, number, facts), number, messageFor);
+  return createFault(text, line, explainProgramLine(text, number, knownWords), number, messageFor);
 }
 
 /**
- * Resolves to the errors in a program. Lines that cannot be sent to the bench are replaced by empty lines.
+ * Resolves to the errors in a program. Sends an empty line to the bench instead of each line that cannot be sent.
  * @param {string} program
  * @param {Map<string, Instruction>} instructions
  * @param {(number: number) => string} messageFor returns the message of a refusal
- * @param {Pick<import("./text_error_finder.js").FaultQueries, "errors" | "refuse">} queries
+ * @param {Pick<import("./text_error_finder.js").ErrorQueries, "findLineErrors" | "findRefusal">} queries
  * @returns {Promise<AllFaults>}
  */
 export async function findProgramFaults(program, instructions, messageFor, queries) {
   const textFaults = findLineFaults(program, ";");
   if (textFaults.some(({ number }) => number === TEXT_TOO_LONG)) return { faults: textFaults, isWhole: false, rest: null };
-  const lines = alignedText(program, ";").split("\n");
+  const lines = asciiCommentsText(program, ";").split("\n");
   const unsentLines = new Set(textFaults.map(({ line }) => line));
   const sent = lines.map((line, at) => (unsentLines.has(at + 1) ? "" : sentLine(line, ";"))).join("\n");
-  const errors = await queries.errors(sent);
+  const errors = await queries.findLineErrors(sent);
   /** @type {KnownWords} */
-  const facts = { instructions, names: findDefinedNames(lines) };
-  const found = errors.map((error) => createLineError(lines, error, facts, messageFor));
+  const knownWords = { instructions, names: findDefinedNames(lines) };
+  const found = errors.map((error) => createLineError(lines, error, knownWords, messageFor));
   const faults = [...textFaults, ...found].sort((one, other) => one.line - other.line || one.from - other.from);
-  const rest = faults.length === 0 ? await queries.refuse(sent) : null;
+  const rest = faults.length === 0 ? await queries.findRefusal(sent) : null;
   return { faults, isWhole: errors.length < MAX_ERRORS, rest };
 }
 
 /**
- * Returns an error for each missing ROM, at the first program line in that ROM.
+ * Returns an error for each ROM that the program needs and the board lacks, at the first program line in that ROM.
  * @param {string[]} lines the program lines
- * @param {import("../machine/source_map.js").SourceMap} map
+ * @param {import("../machine/source_map.js").SourceMap} map the source map of the program
  * @param {Set<number>} roms the ROM numbers on the board
  * @returns {Fault[]}
  */
@@ -99,9 +99,9 @@ export function findMissingRoms(lines, map, roms) {
 }
 
 /**
- * Returns whether a text is probably not a program. This is assumed if every checked line with code has an error.
+ * Returns whether a text is probably not a program: it has lines with code, and each such line up to the last reported error has an error.
  * @param {string} program
- * @param {AllFaults} found
+ * @param {AllFaults} found the errors in the text
  */
 export function isProbablyNotProgram(program, { faults, isWhole }) {
   const wrongLines = new Set(faults.map(({ line }) => line));

@@ -1,20 +1,20 @@
-// Formats a program: labels start at the margin, and instructions, operands and comments are aligned in columns. Changes only blanks and
-// tabs, and only in lines with a valid form, so the assembled bytes stay the same.
+// Formats a program: labels start at the left margin, and instructions, operands and comments are aligned in columns. The module changes
+// only blanks and tabs, and only in lines with a valid form. The assembled bytes therefore stay the same.
 
 import { MAX_LINE_LENGTH } from "../bench/inputs.js";
 import { MAX_STORED_LENGTH, MAX_SENT_LENGTH, sentText, trimBlanks } from "./sendable_text.js";
 import * as say from "../../words/text.js";
 
 /**
- * The format of gaps. If `insertSpaces` is true, gaps contain only blanks; otherwise as many tabs as possible. Tab stops are at multiples
- * of `tabSize`.
+ * The format of the gaps between words. If `insertSpaces` is true, gaps contain only blanks; otherwise, they contain tabs where possible.
+ * Tab stops are at multiples of `tabSize`.
  * @typedef {{ tabSize: number, insertSpaces: boolean }} Layout
  *
- * The parts of a line: either a name defined with `=` and its value, or a label and a statement. A missing part is "". `indent` is the
- * current column of the comment.
+ * The parts of a line: a name that the line defines with `=` and its value, or a label and a statement (`head` and `operands`). A missing
+ * part is "". `indent` is the current column of the comment.
  * @typedef {{ name: string, value: string, label: string, head: string, operands: string, comment: string, indent: number }} SplitLine
  *
- * A change: the new text, and the range in the line that it replaces (from 0).
+ * A change in a line: `text` replaces the columns `from` to `to` of line `line`. Lines and columns count from 0.
  * @typedef {{ line: number, from: number, to: number, text: string }} Change
  */
 
@@ -25,9 +25,10 @@ const COMMENT_COLUMN = 24;
 /** A comment after long code starts at the next multiple of COMMENT_STEP. */
 const COMMENT_STEP = 8;
 /**
- * An indented comment without code is aligned with statements if its indentation is less than MIN_COMMENT_INDENT; otherwise with comments.
+ * An indented comment without code is aligned with statements if it is indented by less than MIN_COMMENT_INDENT; otherwise with comments.
  */
 const MIN_COMMENT_INDENT = 16;
+/** Matches a definition of a name with `=`, and a label with a statement. */
 const DEFINITION = /^([A-Za-z_]\w*)[ \t]*=[ \t]*(\w+)$/;
 const CODE = /^(?:([A-Za-z_]\w*)[ \t]*:[ \t]*)?(?:([A-Za-z]\w*)(?:[ \t]+(\w+(?:[ \t]*,[ \t]*\w+)*))?)?$/;
 
@@ -44,7 +45,7 @@ function columnAfter(text, column, { tabSize }) {
 }
 
 /**
- * Returns the blanks and tabs between two columns.
+ * Returns the blanks and tabs that fill the gap between two columns.
  * @param {number} from
  * @param {number} to
  * @param {Layout} layout
@@ -78,8 +79,8 @@ function splitLine(line, canStartStatement, layout) {
 }
 
 /**
- * Returns the name width of each line. For a definition, this is the length of the longest name in its block of consecutive definitions.
- * For any other line, it is 0.
+ * Returns the name width of each line. The name width of a definition is the length of the longest name in its block of consecutive
+ * definitions. The name width of any other line is 0.
  * @param {(SplitLine | null)[]} lines
  */
 function nameWidths(lines) {
@@ -92,18 +93,18 @@ function nameWidths(lines) {
 /**
  * Returns the formatted code of a line.
  * @param {SplitLine} line
- * @param {number} width the length of the longest name in the block of definitions
+ * @param {number} width the name width of the line
  * @param {Layout} layout
  */
 function formatCode({ name, value, label, head, operands }, width, layout) {
   if (name) return `${name}${formatGap(name.length, width + 1, layout)}= ${value}`;
   let code = label && `${label}:`;
-  const add = (/** @type {string} */ word, /** @type {number} */ column) => {
+  const addWord = (/** @type {string} */ word, /** @type {number} */ column) => {
     const end = columnAfter(code, 0, layout);
     code += formatGap(end, end < column ? column : end + (code ? 1 : 0), layout) + word;
   };
-  if (head) add(head, STATEMENT_COLUMN);
-  if (operands) add(operands, OPERAND_COLUMN);
+  if (head) addWord(head, STATEMENT_COLUMN);
+  if (operands) addWord(operands, OPERAND_COLUMN);
   return code;
 }
 
@@ -143,7 +144,7 @@ export function formatProgramLines(lines, canStartStatement, layout) {
 
 /**
  * Returns an error message if the formatted text is too long; otherwise "".
- * @param {string[]} lines
+ * @param {string[]} lines the formatted lines
  */
 export function findLengthError(lines) {
   const text = lines.join("\n");
@@ -153,9 +154,10 @@ export function findLengthError(lines) {
 }
 
 /**
- * Returns the changes between two versions of a text, one per changed line. A change omits the common prefix and suffix.
- * @param {string[]} before
- * @param {string[]} after the new lines; there are as many new lines as old lines
+ * Returns the changes between two versions of a text, one per changed line. A change omits the common prefix and suffix of the old and the
+ * new line.
+ * @param {string[]} before the old lines
+ * @param {string[]} after the new lines; their number equals that of the old lines
  * @returns {Change[]}
  */
 export function findLineChanges(before, after) {

@@ -10,25 +10,25 @@ import * as say from "../../words/text.js";
  * @typedef {import("./assembly.js").Word} Word
  * @typedef {import("../help/manual.js").Instruction} Instruction
  *
- * The known words: the instructions by mnemonic, and the names that the program defines, with their line numbers.
+ * The known words: the instructions by mnemonic, and the line numbers of the definitions by name.
  * @typedef {{ instructions: Map<string, Instruction>, names: Map<string, number> }} KnownWords
  *
- * An error: the wrong word, the message, and replacements for the word that fix the error (`quickFixTexts`).
+ * An error in a line: the wrong word (null if there is none), the message (`words`), and replacements for the word that fix the error.
  * @typedef {{ word: Word | null, words: string, quickFixTexts?: string[] }} WordError
  */
 
 /**
- * The operand kinds, by the letters that the manual uses for them. `what` describes an operand of this kind, and `most` is its maximum
- * value.
- * @type {Record<string, { what: string, most: number }>}
+ * The operand kinds, by the letters that the manual uses for them. `what` describes an operand of the kind. `maxValue` is its maximum
+ * value; it is 0 for registers.
+ * @type {Record<string, { what: string, maxValue: number }>}
  */
 const OPERAND_KINDS = {
-  Pk: { what: say.PAIR_OPERAND, most: 0 },
-  Rk: { what: say.REGISTER_OPERAND, most: 0 },
-  c: { what: say.CONDITION_OPERAND, most: 15 },
-  d: { what: say.VALUE_OPERAND, most: 15 },
-  b: { what: say.BYTE_OPERAND, most: 255 },
-  t: { what: say.ADDRESS_OPERAND, most: LAST_ADDRESS },
+  Pk: { what: say.PAIR_OPERAND, maxValue: 0 },
+  Rk: { what: say.REGISTER_OPERAND, maxValue: 0 },
+  c: { what: say.CONDITION_OPERAND, maxValue: 15 },
+  d: { what: say.VALUE_OPERAND, maxValue: 15 },
+  b: { what: say.BYTE_OPERAND, maxValue: 255 },
+  t: { what: say.ADDRESS_OPERAND, maxValue: LAST_ADDRESS },
 };
 
 /**
@@ -40,11 +40,12 @@ export function describeOperand(kind) {
 }
 
 /**
- * Converts a number in the syntax of another assembler. Returns the number in the bench's syntax, with a message; null for any other text.
+ * Converts a number from the syntax of another assembler to the bench's syntax. Returns the number and a message that explains the
+ * difference; null for any other text.
  * @param {string} text
  * @returns {{ number: string, words: string } | null}
  */
-function foreignNumber(text) {
+function convertForeignNumber(text) {
   const hexadecimal = /^(?:\$|0X|&H?|#\$)([0-9A-Fa-f]+)$/.exec(text) || /^([0-9][0-9A-Fa-f]*)[Hh]$/.exec(text);
   const binary = /^(?:0b|%)([01]+)$/i.exec(text) || /^([01]+)[Bb]$/.exec(text);
   const letter = /^(['"])(.)\1?$/.exec(text);
@@ -59,11 +60,12 @@ function foreignNumber(text) {
 }
 
 /**
- * Returns a message about a number in the syntax of another assembler, or about an expression; "" for any other text.
+ * Returns the message for an operand that is not a number in the bench's syntax, such as a number of another assembler or an expression. If
+ * no message fits the operand, returns "".
  * @param {string} text
  */
 function describeNumberError(text) {
-  const converted = foreignNumber(text);
+  const converted = convertForeignNumber(text);
   if (converted) return converted.words;
   if (/^-\d+$/.test(text)) return say.NO_NEGATIVES;
   if (/[-+*/()<>]/.test(text)) return say.NO_EXPRESSIONS;
@@ -76,16 +78,16 @@ function describeNumberError(text) {
  * Returns a list with the replacement for a number in the syntax of another assembler; an empty list for any other text.
  * @param {string} text
  */
-function numberFixes(text) {
-  const converted = foreignNumber(text);
+function findNumberFixes(text) {
+  const converted = convertForeignNumber(text);
   return converted ? [converted.number] : [];
 }
 
 /**
  * Creates an error, with replacements if there are any.
- * @param {Word | null} word
- * @param {string} words
- * @param {string[]} quickFixTexts
+ * @param {Word | null} word the wrong word
+ * @param {string} words the message
+ * @param {string[]} quickFixTexts the replacements
  * @returns {WordError}
  */
 function createError(word, words, quickFixTexts) {
@@ -93,9 +95,9 @@ function createError(word, words, quickFixTexts) {
 }
 
 /**
- * Returns the reason why a word cannot be a name; "" if it can.
+ * Returns the reason why a word cannot be a name; "" if it can be one.
  * @param {string} text
- * @param {KnownWords} facts
+ * @param {KnownWords} knownWords
  */
 function describeNameError(text, { instructions }) {
   const upperCaseWord = text.toUpperCase();
@@ -107,15 +109,15 @@ function describeNameError(text, { instructions }) {
 }
 
 /**
- * Returns the error in an operand; null if there is none.
+ * Returns the error in an operand; null if the operand has no error.
  * @param {string} head the mnemonic or directive
  * @param {string} kind the letters that the manual uses for the operand kind
- * @param {Word} word
- * @param {KnownWords} facts
- * @param {boolean} isFirst
+ * @param {Word} word the operand
+ * @param {KnownWords} knownWords
+ * @param {boolean} isFirst true for the first operand of the statement
  * @returns {WordError | null}
  */
-function findOperandError(head, kind, word, facts, isFirst) {
+function findOperandError(head, kind, word, knownWords, isFirst) {
   const { what } = OPERAND_KINDS[kind];
   const expectation = isFirst ? say.takes(head, what) : say.takesAfterComma(head, what);
   const { text } = word;
@@ -125,9 +127,10 @@ function findOperandError(head, kind, word, facts, isFirst) {
     return { word, words: /\s/.test(text) ? `${expectation}; ${describeNumberError(text)}` : expectation };
   }
   if (NUMBER.test(text)) return null;
-  const reason = text === "" || REGISTER.test(text) || PAIR.test(text) ? "" : describeNumberError(text) || describeNameError(text, facts);
-  if (reason) return createError(word, `${expectation}; ${reason}`, numberFixes(text));
-  return NAME.test(text) && !describeNameError(text, facts) ? null : { word, words: expectation };
+  const reason = text === "" || REGISTER.test(text) || PAIR.test(text) ? ""
+    : describeNumberError(text) || describeNameError(text, knownWords);
+  if (reason) return createError(word, `${expectation}; ${reason}`, findNumberFixes(text));
+  return NAME.test(text) && !describeNameError(text, knownWords) ? null : { word, words: expectation };
 }
 
 /**
@@ -143,8 +146,8 @@ export function parseOperandKinds(form) {
 /**
  * Returns the error in a statement whose first word is not an instruction.
  * @param {Parts} parts
- * @param {Word} head
- * @param {KnownWords} facts
+ * @param {Word} head the first word of the statement
+ * @param {KnownWords} knownWords
  * @returns {WordError}
  */
 function findHeadError({ label, operands }, head, { instructions }) {
@@ -157,17 +160,17 @@ function findHeadError({ label, operands }, head, { instructions }) {
   if (isName && operands.length > 0 && canStartStatement(operands[0].text.split(/\s/)[0], instructions)) {
     return createError(head, say.noInstruction(head.text, say.labelSyntax(head.text)), [`${head.text}:`]);
   }
-  const isAlone = isName && operands.length === 0;
+  const hasNoOperands = isName && operands.length === 0;
   const similar = replacement ? [] : findSimilarWords(upperCaseWord, [...instructions.keys(), ...DIRECTIVES]);
   const question = replacement ? `; ${replacement}?` : formatSuggestion(similar);
-  const message = say.noInstruction(head.text, question || (isAlone ? say.labelSyntax(head.text) : ""));
-  const labelFix = isAlone && !question ? [`${head.text}:`] : similar;
-  if (!replacement) return createError(head, message, labelFix);
-  return createError(head, message, replacement.split(" or ").filter((each) => /^[A-Z]+( \d+,?)?$/.test(each)).map(formatFix));
+  const message = say.noInstruction(head.text, question || (hasNoOperands ? say.labelSyntax(head.text) : ""));
+  const quickFixTexts = hasNoOperands && !question ? [`${head.text}:`] : similar;
+  if (!replacement) return createError(head, message, quickFixTexts);
+  return createError(head, message, replacement.split(" or ").filter((each) => /^[A-Z]+( \d+,?)?$/.test(each)).map(formatReplacement));
 }
 
 /**
- * Returns whether a statement can start with a word.
+ * Returns whether a statement can start with a word: an instruction or a directive, in upper or lower case.
  * @param {string} word
  * @param {KnownWords["instructions"]} instructions
  */
@@ -177,56 +180,56 @@ function canStartStatement(word, instructions) {
 }
 
 /**
- * Returns an instruction of another assembler as a fix in the bench's syntax, in which a JCN condition needs a comma before the address.
- * @param {string} instructionText
+ * Returns the text that replaces an instruction of another assembler. A JCN condition gets a comma, because an address follows it.
+ * @param {string} instructionText the instruction in the bench's syntax, without an address
  */
-function formatFix(instructionText) {
+function formatReplacement(instructionText) {
   return instructionText.startsWith("JCN ") ? `${instructionText},` : instructionText;
 }
 
 /**
  * Returns the error in a directive; null if there is none.
- * @param {Word} head
+ * @param {Word} head the directive
  * @param {Word[]} operands
- * @param {KnownWords} facts
+ * @param {KnownWords} knownWords
  * @returns {WordError | null}
  */
-function findDirectiveError(head, operands, facts) {
+function findDirectiveError(head, operands, knownWords) {
   if (head.text.toUpperCase() === "ORG") {
     const isNumber = operands.length === 1 && NUMBER.test(operands[0].text);
     if (isNumber) return null;
     const reason = operands[0] && !NAME.test(operands[0].text) ? describeNumberError(operands[0].text) : "";
     const message = say.orgSyntax(reason && `; ${reason}`);
-    return createError(operands[0] || head, message, reason ? numberFixes(operands[0].text) : []);
+    return createError(operands[0] || head, message, reason ? findNumberFixes(operands[0].text) : []);
   }
   if (operands.length === 0) return { word: head, words: say.DB_SYNTAX };
-  return operands.map((word) => findOperandError("DB", "b", word, facts, true)).find((found) => found !== null) || null;
+  return operands.map((word) => findOperandError("DB", "b", word, knownWords, true)).find((found) => found !== null) || null;
 }
 
 /**
- * Returns the error in a line whose form the assembler does not accept.
+ * Returns the error in a line that the assembler rejects because of its form (refusal 30).
  * @param {Parts} parts
- * @param {KnownWords} facts
+ * @param {KnownWords} knownWords
  * @returns {WordError | null}
  */
-function findFormError(parts, facts) {
+function findFormError(parts, knownWords) {
   const { label, defines, head, operands } = parts;
-  const badName = label && describeNameError(label.text, facts);
+  const badName = label && describeNameError(label.text, knownWords);
   if (badName) return { word: label, words: badName };
   if (defines) {
     const reason = operands[0] ? describeNumberError(operands[0].text) : "";
     const message = say.equalsSyntax(reason && `; ${reason}`);
-    return createError(operands[0] || label, message, reason ? numberFixes(operands[0].text) : []);
+    return createError(operands[0] || label, message, reason ? findNumberFixes(operands[0].text) : []);
   }
   if (!head) return { word: label, words: say.COLON_SYNTAX };
   const upperCaseWord = head.text.toUpperCase();
-  if (DIRECTIVES.includes(upperCaseWord)) return findDirectiveError(head, operands, facts);
-  const instruction = facts.instructions.get(upperCaseWord);
-  if (!instruction) return findHeadError(parts, head, facts);
+  if (DIRECTIVES.includes(upperCaseWord)) return findDirectiveError(head, operands, knownWords);
+  const instruction = knownWords.instructions.get(upperCaseWord);
+  if (!instruction) return findHeadError(parts, head, knownWords);
   const kinds = parseOperandKinds(instruction.form);
   if (kinds.length === 0) return { word: operands[0] || head, words: say.takesNothing(upperCaseWord) };
   for (let at = 0; at < Math.min(kinds.length, operands.length); at++) {
-    const found = findOperandError(upperCaseWord, kinds[at], operands[at], facts, at === 0);
+    const found = findOperandError(upperCaseWord, kinds[at], operands[at], knownWords, at === 0);
     if (found) return found;
   }
   const extra = operands[kinds.length];
@@ -235,9 +238,9 @@ function findFormError(parts, facts) {
 }
 
 /**
- * Returns the error in a line with an out-of-range value.
+ * Returns the error in a line with an out-of-range value (refusal 33).
  * @param {Parts} parts
- * @param {KnownWords} facts
+ * @param {KnownWords} knownWords
  * @returns {WordError | null}
  */
 function findValueError({ head, operands, defines, label }, { instructions }) {
@@ -246,8 +249,8 @@ function findValueError({ head, operands, defines, label }, { instructions }) {
   const upperCaseWord = head.text.toUpperCase();
   const instruction = instructions.get(upperCaseWord);
   const kinds = instruction ? parseOperandKinds(instruction.form) : operands.map(() => (upperCaseWord === "ORG" ? "t" : "b"));
-  const values = operands.map((word, at) => ({ word, kind: OPERAND_KINDS[kinds[at] || "b"] })).filter(({ kind }) => kind.most > 0);
-  const tooLarge = values.find(({ word, kind }) => NUMBER.test(word.text) && Number(word.text) > kind.most);
+  const values = operands.map((word, at) => ({ word, kind: OPERAND_KINDS[kinds[at] || "b"] })).filter(({ kind }) => kind.maxValue > 0);
+  const tooLarge = values.find(({ word, kind }) => NUMBER.test(word.text) && Number(word.text) > kind.maxValue);
   const namedOperand = values.find(({ word }) => NAME.test(word.text));
   const found = tooLarge || namedOperand;
   if (!found) return null;
@@ -256,17 +259,17 @@ function findValueError({ head, operands, defines, label }, { instructions }) {
 }
 
 /**
- * Returns the last operand that is a name. If there is none, returns the last operand.
+ * Returns the last operand that is a name. If no operand is a name, returns the last operand; null if there are no operands.
  * @param {Parts} parts
  */
-function lastName({ operands }) {
+function findLastName({ operands }) {
   return [...operands].reverse().find(({ text }) => NAME.test(text)) || operands[operands.length - 1] || null;
 }
 
 /**
- * Returns the error in a line with an undefined name.
+ * Returns the error in a line with an undefined name (refusal 32).
  * @param {Parts} parts
- * @param {KnownWords} facts
+ * @param {KnownWords} knownWords
  * @returns {WordError | null}
  */
 function findUnknownName({ operands }, { names }) {
@@ -279,22 +282,22 @@ function findUnknownName({ operands }, { names }) {
 }
 
 /**
- * Returns the error in a program line that the bench rejects; null if the general message of the refusal is sufficient.
+ * Returns the error in a program line that the bench rejects; null if only the general message of the refusal applies.
  * @param {string} line
  * @param {number} number the refusal number
- * @param {KnownWords} facts
+ * @param {KnownWords} knownWords
  * @returns {WordError | null}
  */
-export function explainProgramLine(line, number, facts) {
+export function explainProgramLine(line, number, knownWords) {
   const parts = splitStatement(line);
-  if (number === 30) return findFormError(parts, facts);
+  if (number === 30) return findFormError(parts, knownWords);
   if (number === 31 && parts.label) {
-    return { word: parts.label, words: say.definedBefore(parts.label.text, facts.names.get(parts.label.text)) };
+    return { word: parts.label, words: say.definedBefore(parts.label.text, knownWords.names.get(parts.label.text)) };
   }
-  if (number === 32) return findUnknownName(parts, facts);
-  if (number === 33) return findValueError(parts, facts);
+  if (number === 32) return findUnknownName(parts, knownWords);
+  if (number === 33) return findValueError(parts, knownWords);
   if (number === 34 && parts.head) {
-    const word = lastName(parts);
+    const word = findLastName(parts);
     const head = parts.head.text.toUpperCase();
     return { word, words: say.otherPage(word ? word.text : say.IT, head) };
   }

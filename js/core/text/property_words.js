@@ -1,4 +1,5 @@
-// Finds the help and the completions for properties texts, from the manual's tables and the names of the board and the program.
+// Finds the help and the completions for properties texts. They come from the manual's tables and from the names of the board and the
+// program.
 
 import { withoutDescription } from "./completion.js";
 import { completeWord, conditionForms, findDescription, firstWords, formsByTable, nextConditionWords, wordsUpTo } from "./test_words.js";
@@ -10,18 +11,20 @@ import * as say from "../../words/text.js";
  * @typedef {import("./completion.js").CompletionItem} CompletionItem
  * @typedef {import("./test_words.js").Form} Form
  * @typedef {import("./test_words.js").TestNames} TestNames
+ *
+ * The forms of the lines and conditions that a properties text can contain.
  * @typedef {{ lines: Form[], conditions: Form[] }} PropertyForms
  */
 
 /** The titles of the manual sections that list the forms of property lines. */
 const SECTIONS = [say.MAY_CHANGE, say.MUST_HOLD];
-/** Matches a word at the start of a line after which a condition follows. */
+/** Matches the first word of a line in which a condition follows that word. */
 const CONDITION_START = /^(never|always|reach)$/;
-/** The words of conditions that are allowed in tests but not in properties. */
+/** The first words of the conditions that are allowed in tests but not in properties. */
 const TEST_WORDS = new Set(["cycles", "printed", "test", "key"]);
 /** The words that can follow a condition. */
 const CONDITION_END = ["for", "only after"];
-/** The words that can follow a label at the start of a line (AFTER_LABEL), and the words that can follow a second label (AFTER_TARGET). */
+/** The words that can follow a label at the start of a line (AFTER_LABEL), and the second label after `to` (AFTER_TARGET). */
 const AFTER_LABEL = ["to", say.ONCE_FOR_EACH_PRESS, "only after"];
 const AFTER_TARGET = ["within"];
 
@@ -46,7 +49,7 @@ export function createFirstProperties({ keys, lamps }) {
 }
 
 /**
- * Returns the words of the condition in a line; null if the line has none.
+ * Returns the words of the condition in a line; null if the line has no condition.
  * @param {string[]} words
  */
 function findCondition(words) {
@@ -57,7 +60,7 @@ function findCondition(words) {
 
 /**
  * Returns the words that can come next in a line that starts with a label.
- * @param {string[]} words
+ * @param {string[]} words the words of the line so far
  */
 function nextWordsAfterLabel([, second, ...more]) {
   if (second === undefined) return AFTER_LABEL;
@@ -66,7 +69,7 @@ function nextWordsAfterLabel([, second, ...more]) {
 
 /**
  * Returns the words that can come next in a line.
- * @param {string[]} previousWords
+ * @param {string[]} previousWords the words before the unfinished word
  * @param {string} typed the unfinished word
  * @param {TestNames} names
  * @param {PropertyForms} forms
@@ -98,7 +101,7 @@ export function completeProperty(lines, line, column, names, forms) {
 }
 
 /**
- * Returns the help for the word at a position, or "".
+ * Returns the help for the word at a position; "" if there is none.
  * @param {string[]} lines
  * @param {number} line the line number from 0
  * @param {number} column

@@ -1,21 +1,21 @@
-// Finds the references to a name in a program: its definition and its uses. Also checks whether a name can be renamed.
+// Finds the references to a name in a program: its definition and its uses. Also checks whether a name can get a new name.
 
 import { DIRECTIVES, MAX_NAME_LENGTH, NAME, PAIR, REGISTER, findDefinedNames, splitStatement, wordAt } from "./assembly.js";
 import * as say from "../../words/text.js";
 
 /**
- * A reference: its line number from 1, and its column range.
+ * A reference to a name: its line number (from 1) and its column range. `isDefinition` is true for the definition, false for a use.
  * @typedef {{ line: number, from: number, to: number, isDefinition: boolean }} Reference
  */
 
 /**
- * Returns the references to a name in a line; the comment is ignored.
- * @param {string} text
+ * Returns the references to a name in a line, without its comment.
+ * @param {string} text the text of the line
  * @param {number} line the line number from 1
  * @param {string} name
  * @returns {Reference[]}
  */
-function referencesIn(text, line, name) {
+function findReferencesInLine(text, line, name) {
   const { label, operands } = splitStatement(text);
   const defined = label && label.text === name ? [{ line, from: label.from, to: label.to, isDefinition: true }] : [];
   const used = operands.filter((word) => word.text === name).map(({ from, to }) => ({ line, from, to, isDefinition: false }));
@@ -29,11 +29,11 @@ function referencesIn(text, line, name) {
  * @returns {Reference[]}
  */
 export function findReferences(lines, name) {
-  return lines.flatMap((text, at) => referencesIn(text, at + 1, name));
+  return lines.flatMap((text, at) => findReferencesInLine(text, at + 1, name));
 }
 
 /**
- * Returns the name at a position; "" if the word at the position is not a name that the program defines.
+ * Returns the name at a position; "" if there is no name that the program defines.
  * @param {string[]} lines
  * @param {number} line the line number from 0
  * @param {number} column
@@ -41,12 +41,12 @@ export function findReferences(lines, name) {
 export function nameAt(lines, line, column) {
   const text = lines[line] || "";
   const word = wordAt(text, column);
-  const isName = word !== null && referencesIn(text, line + 1, word.text).some(({ from }) => from === word.from);
+  const isName = word !== null && findReferencesInLine(text, line + 1, word.text).some(({ from }) => from === word.from);
   return isName && findDefinedNames(lines).has(word.text) ? word.text : "";
 }
 
 /**
- * Returns the definition of a name; null if there is none.
+ * Returns the definition of a name; null if the name is not defined.
  * @param {string[]} lines
  * @param {string} name
  */
@@ -55,10 +55,10 @@ export function findDefinition(lines, name) {
 }
 
 /**
- * Returns the reason why a name cannot be renamed; "" if it can.
+ * Returns the reason why a name cannot get a new name; "" if it can.
  * @param {string[]} lines
- * @param {string} name
- * @param {string} newName the new name
+ * @param {string} name the current name
+ * @param {string} newName
  * @param {(word: string) => boolean} isInstruction returns whether an upper-case word is an instruction
  */
 export function findRenamingError(lines, name, newName, isInstruction) {

@@ -1,24 +1,27 @@
-// Finds the routines of a program: the lines that each routine can reach, the routines that it calls with JMS, and its callers. A routine
-// starts at the first statement of the program, or at a label that a JMS names. A path through a routine ends at BBL, at data, at ORG, and
-// at JIN (whose target is not in the text).
+// Finds the routines of a program. For each routine, finds the lines that it can reach, the routines that it calls with JMS, and its
+// callers. A routine starts at the first statement of the program, or at the label that is the target of a JMS. A path through a routine
+// ends at BBL, at data, at ORG, and at JIN (its target is known only at run time).
 
 import { findDefinedNames, splitStatement } from "./assembly.js";
 
 /**
- * A routine. `name` is its label; "" for none. `from` and `to` are the columns of the label. `line` and `last` are the first and last line
- * of the routine, counted from 0. All statements between them belong to this routine.
+ * A routine. `name` is its label; "" for none. `from` and `to` are the columns of the label. `line` and `last` are its first and last line,
+ * counted from 0. The routine reaches all statements between these lines.
  * @typedef {{ name: string, line: number, from: number, to: number, last: number }} Routine
  *
- * A statement: its first word in upper case (`head`), and the line of its jump target (-1 for none).
+ * A statement: its first word in upper case (`head`), and the line of the label in its last operand (`target`, -1 for none).
  * @typedef {{ head: string, target: number }} Statement
  *
  * The position of a call: its line, and the columns of the target in this line.
  * @typedef {{ line: number, from: number, to: number }} CallPosition
  */
 
+/** The statements after which a path does not continue with the next statement. */
 const PATH_ENDS = new Set(["BBL", "JIN", "JUN", "DB", "ORG"]);
+/** The instructions that can continue a path at their target. */
 const JUMPS = new Set(["JUN", "JCN", "ISZ"]);
 
+/** The routines of a program. */
 export class Routines {
   /** @param {string[]} lines */
   constructor(lines) {
@@ -31,7 +34,8 @@ export class Routines {
   }
 
   /**
-   * @param {import("./assembly.js").Parts} parts
+   * Returns the statement in a line; null if the line has none.
+   * @param {import("./assembly.js").Parts} parts the parts of the line
    * @returns {Statement | null}
    */
   parseStatement({ head, operands }) {
@@ -45,8 +49,8 @@ export class Routines {
   findRoutines() {
     const first = this.statements.findIndex((statement) => statement !== null && statement.head !== "ORG");
     const callTargets = this.statements.map((statement) => (statement && statement.head === "JMS" ? statement.target : -1));
-    const begins = new Set([first, ...callTargets].filter((line) => line >= 0));
-    return [...begins].sort((one, other) => one - other).map((line) => {
+    const startLines = new Set([first, ...callTargets].filter((line) => line >= 0));
+    return [...startLines].sort((one, other) => one - other).map((line) => {
       const { label, head } = this.parts[line];
       const { from, to } = label || head || { from: 0, to: 0 };
       return { name: label ? label.text : "", line, from, to, last: this.findLastLine(line) };
@@ -54,7 +58,7 @@ export class Routines {
   }
 
   /**
-   * Returns the line of the first statement at or after a line; -1 if there is none.
+   * Returns the line of the first statement in or after a line; -1 if there is none.
    * @param {number} line
    */
   findStatement(line) {
@@ -63,10 +67,10 @@ export class Routines {
   }
 
   /**
-   * Returns the lines of the statements that can follow a statement.
-   * @param {number} line
+   * Returns the lines of the statements that can be executed after a statement in its routine. -1 means the end of the text.
+   * @param {number} line the line of the statement
    */
-  successors(line) {
+  findSuccessors(line) {
     const { head, target } = /** @type {Statement} */ (this.statements[line]);
     const next = PATH_ENDS.has(head) ? [] : [this.findStatement(line + 1)];
     return JUMPS.has(head) && target >= 0 ? [...next, this.findStatement(target)] : next;
@@ -77,7 +81,7 @@ export class Routines {
    * @param {number} firstLine the first line of the routine
    * @returns {Set<number>}
    */
-  reachedLines(firstLine) {
+  findReachedLines(firstLine) {
     const known = this.linesByRoutine.get(firstLine);
     if (known) return known;
     const lines = new Set();
@@ -86,31 +90,31 @@ export class Routines {
       const line = /** @type {number} */ (queue.pop());
       if (line < 0 || lines.has(line)) continue;
       lines.add(line);
-      queue.push(...this.successors(line));
+      queue.push(...this.findSuccessors(line));
     }
     this.linesByRoutine.set(firstLine, lines);
     return lines;
   }
 
   /**
-   * Returns the last line of a routine. All statements up to this line belong to the routine.
+   * Returns the last line of a routine. The routine reaches all statements up to this line.
    * @param {number} firstLine the first line of the routine
    */
   findLastLine(firstLine) {
-    const reached = this.reachedLines(firstLine);
+    const reached = this.findReachedLines(firstLine);
     let last = firstLine;
     for (let at = this.findStatement(firstLine); at >= 0 && reached.has(at); at = this.findStatement(at + 1)) last = at;
     return last;
   }
 
   /**
-   * Returns the routine that starts at a line. If there is none, returns a routine that reaches the line; null if no routine does.
+   * Returns the routine that starts at a line; otherwise a routine that reaches the line. Returns null if no routine reaches the line.
    * @param {number} line
    */
   routineAt(line) {
     const first = this.routines.find((each) => each.line === line);
-    const inside = this.routines.filter((each) => this.reachedLines(each.line).has(line));
-    // If several routines reach the line, prefer the one that starts nearest above it.
+    const inside = this.routines.filter((each) => this.findReachedLines(each.line).has(line));
+    // If several routines reach the line, the nearest routine that starts above the line has priority.
     return first || inside.filter((each) => each.line <= line).pop() || inside[0] || null;
   }
 
@@ -128,10 +132,10 @@ export class Routines {
   }
 
   /**
-   * Returns the calls in the given lines.
-   * @param {Iterable<number>} lines
+   * Returns the calls in the given lines, in line order.
+   * @param {Iterable<number>} lines the line numbers from 0
    */
-  callsIn(lines) {
+  findCallsInLines(lines) {
     return [...lines].filter((line) => this.isCall(line)).sort((one, other) => one - other).map((line) => {
       const { operands, head } = this.parts[line];
       const { from, to } = operands[operands.length - 1] || head || { from: 0, to: 0 };
@@ -139,7 +143,10 @@ export class Routines {
     });
   }
 
-  /** @param {number} line */
+  /**
+   * Returns whether the statement in a line is a JMS to a label.
+   * @param {number} line
+   */
   isCall(line) {
     const statement = this.statements[line];
     return Boolean(statement && statement.head === "JMS" && statement.target >= 0);
@@ -150,20 +157,20 @@ export class Routines {
    * @param {Routine} routine
    * @returns {{ routine: Routine, places: CallPosition[] }[]}
    */
-  called(routine) {
-    const calls = this.callsIn(this.reachedLines(routine.line));
+  findCalledRoutines(routine) {
+    const calls = this.findCallsInLines(this.findReachedLines(routine.line));
     return this.routines.map((each) => ({ routine: each, places: calls.filter(({ target }) => target === each.line) }))
       .filter(({ places }) => places.length > 0);
   }
 
   /**
-   * Returns the routines that contain a given line with a call. These are the routines that reach the line. If none reaches it, this is the
-   * routine at the nearest label above.
-   * @param {number} line
+   * Returns the routines that contain a call: the routines that reach the line of the call. If no routine reaches the line, returns the
+   * routine at the nearest label in or above the line.
+   * @param {number} line the line of the call
    * @returns {Routine[]}
    */
   routinesContaining(line) {
-    const inside = this.routines.filter((each) => this.reachedLines(each.line).has(line));
+    const inside = this.routines.filter((each) => this.findReachedLines(each.line).has(line));
     if (inside.length > 0) return inside;
     const above = [...this.names].filter(([, at]) => at - 1 <= line && !this.parts[at - 1].defines).pop();
     const routine = above ? this.getByName(above[0]) : null;
@@ -175,10 +182,10 @@ export class Routines {
    * @param {Routine} routine
    * @returns {{ routine: Routine, places: CallPosition[] }[]}
    */
-  callers({ line: callee }) {
+  findCallers({ line: callee }) {
     /** @type {Map<number, { routine: Routine, places: CallPosition[] }>} */
     const callersByLine = new Map();
-    for (const call of this.callsIn(this.statements.keys())) {
+    for (const call of this.findCallsInLines(this.statements.keys())) {
       if (call.target !== callee) continue;
       for (const routine of this.routinesContaining(call.line)) {
         const known = callersByLine.get(routine.line) || { routine, places: [] };
@@ -190,10 +197,10 @@ export class Routines {
   }
 
   /**
-   * Returns for each label how often it is called, and how often it is used otherwise.
+   * Counts the uses of each label: the calls, and the other uses.
    * @returns {Map<string, { calls: number, others: number }>}
    */
-  uses() {
+  countUses() {
     const labels = [...this.names].filter(([, line]) => !this.parts[line - 1].defines);
     const uses = new Map(labels.map(([name]) => [name, { calls: 0, others: 0 }]));
     this.parts.forEach(({ operands }, line) => {

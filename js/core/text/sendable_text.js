@@ -1,12 +1,12 @@
-// Converts a text to the form that is sent to the bench, and finds lines that cannot be sent. Comments and indentation are not sent.
-// Comments can therefore contain any character, and they do not count towards the maximum length. In code, a non-ASCII character is an
-// error.
+// Converts a program or board text to the form that is sent to the bench, and finds lines that cannot be sent. Comments and indentation are
+// not sent. Comments can therefore contain any character, and they do not count towards the maximum length. In code, a non-ASCII character
+// is an error.
 
 import { LINE_TOO_LONG, MAX_LINE_LENGTH, NOT_ASCII } from "../bench/inputs.js";
 import * as say from "../../words/text.js";
 
 /**
- * A range of lines, counted from 1.
+ * A range of lines: the numbers of the first and the last line, from 1.
  * @typedef {{ from: number, to: number }} Lines
  *
  * An error in a text. `number` is the refusal number (0 for none), `line` the line number from 1, and `words` the message. `from` and `to`
@@ -17,21 +17,21 @@ import * as say from "../../words/text.js";
  * @typedef {";" | "#"} CommentMark
  */
 
-/** The maximum length of a sent text in characters, including one line feed per line. */
+/** The maximum length of a text that is sent to the bench, in characters, including one line feed per line. */
 export const MAX_SENT_LENGTH = 16384;
-/** The maximum length of a text with comments and indentation, in characters. */
+/** The maximum length of a text that the page stores, in characters, including comments and indentation. */
 export const MAX_STORED_LENGTH = 65536;
 /** The refusal number for a text that is too long. */
 export const TEXT_TOO_LONG = 13;
 
 /**
- * Returns an error at a position.
+ * Creates an error with a range.
  * @param {number} number the refusal number
- * @param {{ line: number, from: number, to: number }} place
- * @param {string} words
+ * @param {{ line: number, from: number, to: number }} range the line number from 1, and the columns
+ * @param {string} words the message
  * @returns {Fault}
  */
-export function faultAt(number, { line, from, to }, words) {
+export function createFaultAt(number, { line, from, to }, words) {
   return { number, line, from, to, words };
 }
 
@@ -50,14 +50,15 @@ export function commentAt(line, mark) {
 }
 
 /**
- * Returns the lines with a comment mark added to each of them. If all lines are comments, removes the comment marks instead. Blank lines
- * stay unchanged.
+ * Adds a comment mark to each line. If all lines are comments, removes the comment marks instead. Returns the new lines. Blank lines stay
+ * unchanged.
  * @param {string[]} lines
  * @param {CommentMark | string} mark
  */
 export function toggleComments(lines, mark) {
-  const areAll = lines.every((line) => line.trim() === "" || line.trimStart().startsWith(mark)) && lines.some((line) => line.trim() !== "");
-  if (areAll) return lines.map((line) => line.replace(new RegExp(`^(\\s*)${mark} ?`), "$1"));
+  const areAllComments = lines.every((line) => line.trim() === "" || line.trimStart().startsWith(mark))
+    && lines.some((line) => line.trim() !== "");
+  if (areAllComments) return lines.map((line) => line.replace(new RegExp(`^(\\s*)${mark} ?`), "$1"));
   return lines.map((line) => (line.trim() === "" ? line : `${mark} ${line}`));
 }
 
@@ -84,7 +85,8 @@ export function trimBlanks(text) {
 }
 
 /**
- * Returns a line in the form that is sent. The result is never only a dot, because a dot ends the text.
+ * Returns a line in the form that is sent. Code that is only a dot gets a leading blank, because a line with only a dot ends the text. A
+ * line that is itself only a dot stays as it is; `findLineFaults` reports it.
  * @param {string} line
  * @param {CommentMark} mark
  */
@@ -94,35 +96,35 @@ export function sentLine(line, mark) {
 }
 
 /**
- * Applies a function to each line of a text, and returns the new text. Each of its lines ends with a line feed.
+ * Applies a function to each line of a text, and returns the new text. Each line of the new text ends with a line feed.
  * @param {string} text
- * @param {(line: string) => string} change
+ * @param {(line: string) => string} change returns the new line
  */
 function mapLines(text, change) {
   if (text === "") return "";
   const lines = text.replace(/\r\n?/g, "\n").split("\n");
-  // The last line of a text can consist of blanks.
+  // The part after the last line feed is a line, unless it is empty.
   if (lines[lines.length - 1] === "") lines.pop();
   return lines.map((line) => `${change(line)}\n`).join("");
 }
 
 /**
- * Replaces each non-ASCII character in comments by a blank. All positions stay the same, so that errors can refer to them.
+ * Replaces each non-ASCII character in comments by a blank. Positions in the result are therefore valid in the original text.
  * @param {string} text
  * @param {CommentMark} mark
  */
-export function alignedText(text, mark) {
+export function asciiCommentsText(text, mark) {
   return mapLines(text, (line) => alignedLine(line, mark));
 }
 
 /**
- * Returns a text in the form that is sent. A board text with a multi-line string is sent with its blanks and comments, because they can be
- * part of the string.
+ * Returns a text in the form that is sent. A board text with a multi-line string keeps its blanks and comments, because they can be part of
+ * the string.
  * @param {string} text
  * @param {CommentMark} mark
  */
 export function sentText(text, mark) {
-  if (mark === "#" && /"""|'''/.test(text)) return alignedText(text, mark);
+  if (mark === "#" && /"""|'''/.test(text)) return asciiCommentsText(text, mark);
   return mapLines(text, (line) => sentLine(line, mark));
 }
 
@@ -142,10 +144,10 @@ function describeCharacter(character) {
 }
 
 /**
- * Returns the error in a line that cannot be sent; null if it can be sent.
+ * Returns the error in a line that cannot be sent; null if the line can be sent.
  * @param {string} line the line, with the same columns as in the original text
- * @param {string} sent the line as sent
- * @param {number} lineNumber the line number
+ * @param {string} sent the line in the form that is sent
+ * @param {number} lineNumber
  * @returns {Fault | null}
  */
 function findLineFault(line, sent, lineNumber) {
@@ -155,18 +157,18 @@ function findLineFault(line, sent, lineNumber) {
     const message = say.lineTooLong(MAX_LINE_LENGTH, sent.length);
     return { number: LINE_TOO_LONG, ...range, from: line.indexOf(sent) + MAX_LINE_LENGTH, words: message };
   }
-  const foreign = /[^\t -~]+/u.exec(line);
-  if (!foreign) return null;
-  const from = foreign.index;
-  return { number: NOT_ASCII, line: lineNumber, from, to: from + foreign[0].length, words: describeCharacter([...foreign[0]][0]) };
+  const invalid = /[^\t -~]+/u.exec(line);
+  if (!invalid) return null;
+  const from = invalid.index;
+  return { number: NOT_ASCII, line: lineNumber, from, to: from + invalid[0].length, words: describeCharacter([...invalid[0]][0]) };
 }
 
 /**
- * Returns whether all lines of a text can be sent. Most texts pass this fast check.
+ * Returns whether a fast check shows that all lines of a text can be sent. If not, each line needs the slower check of `findLineFault`.
  * @param {string} text
- * @param {string[]} sentLines
+ * @param {string[]} sentLines the lines in the form that is sent
  */
-function canSendLines(text, sentLines) {
+function passesFastCheck(text, sentLines) {
   return !/[^\t\n\r -~]/.test(text) && sentLines.every((line) => line.length <= MAX_LINE_LENGTH && line !== ".");
 }
 
@@ -179,8 +181,8 @@ function canSendLines(text, sentLines) {
 export function findLineFaults(text, mark) {
   const sent = sentText(text, mark);
   const sentLines = sent.split("\n");
-  if (sent.length <= MAX_SENT_LENGTH && canSendLines(text, sentLines)) return [];
-  const lines = alignedText(text, mark).split("\n");
+  if (sent.length <= MAX_SENT_LENGTH && passesFastCheck(text, sentLines)) return [];
+  const lines = asciiCommentsText(text, mark).split("\n");
   const faults = lines.map((line, at) => findLineFault(line, sentLines[at], at + 1)).filter((fault) => fault !== null);
   if (sent.length > MAX_SENT_LENGTH) {
     const last = sent.slice(0, MAX_SENT_LENGTH).split("\n").length;

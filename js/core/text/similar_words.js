@@ -3,7 +3,8 @@
 import * as say from "../../words/text.js";
 
 /**
- * Returns the edit distance of two words: the number of letters that must be inserted, deleted, replaced, or swapped with the next letter.
+ * Returns the edit distance of two words: the minimum number of edits that change one word into the other. An edit inserts, deletes or
+ * replaces a letter, or swaps two adjacent letters.
  * @param {string} first
  * @param {string} second
  */
@@ -39,7 +40,7 @@ export function findSimilarWords(misspelled, words) {
 }
 
 /**
- * Returns a question at the end of a message, which suggests similar words; "" for an empty list.
+ * Returns the end of a message: a question that suggests similar words. Returns "" for an empty list.
  * @param {string[]} words
  */
 export function formatSuggestion(words) {

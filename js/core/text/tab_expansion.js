@@ -3,7 +3,7 @@
 const TAB_WIDTH = 8;
 
 /**
- * Returns a line with blanks instead of tabs. Tab stops are at multiples of eight.
+ * Returns a line with blanks instead of tabs. Tab stops are at multiples of eight characters.
  * @param {string} text
  */
 export function expandTabs(text) {

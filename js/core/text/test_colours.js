@@ -3,15 +3,15 @@
 import { KEYWORDS } from "../conditions/parser.js";
 
 /**
- * A range of columns in a line, and its style.
+ * A range of columns in a line, and its style, which is the name of a syntax colour such as `keyword`.
  * @typedef {{ from: number, to: number, style: string }} ColouredRange
  */
 
 /**
  * The description of a language:
- * - `first` matches the keywords that can start a line; `otherKeywords` matches all other keywords;
- * - `nameKeyword` is the word before a name that extends to the end of the line;
- * - `uncommentedStart` matches the first words of lines without comments;
+ * - `first` matches the keywords that can start a line; `otherKeywords` contains the keywords that can follow;
+ * - `nameKeyword` is the first word of a line whose rest is a name; "" for none;
+ * - `uncommentedStart` matches the first words of lines in which no comment can follow;
  * - `startsWithCondition` is true if a line can start with a condition.
  */
 const TEST_LANGUAGE = {
@@ -33,7 +33,7 @@ const PROPERTY_LANGUAGE = {
 /**
  * Returns the style of a word; "" for none.
  * @param {string} word
- * @param {boolean} isFirst
+ * @param {boolean} isFirst true for the first word of the line
  * @param {typeof TEST_LANGUAGE} language
  */
 function chooseStyle(word, isFirst, { first, otherKeywords, startsWithCondition }) {
@@ -48,11 +48,11 @@ function chooseStyle(word, isFirst, { first, otherKeywords, startsWithCondition 
 /**
  * Returns whether a comment starts at a word.
  * @param {string} rest the rest of the line, starting at the word
- * @param {string} first the first word of the line; "" if the word itself is the first one
+ * @param {string} first the first word of the line; "" if `rest` starts with this word
  * @param {typeof TEST_LANGUAGE} language
  */
 function isComment(rest, first, language) {
-  // In a line with key names, the comment mark can itself be the name of a key.
+  // In a line with key names, a word such as `#` can be the name of a key.
   return /^[#;]/.test(rest) && (first === "" || (!language.uncommentedStart.test(first) && /^[#;](\s|$)/.test(rest)));
 }
 
@@ -63,17 +63,17 @@ function isComment(rest, first, language) {
  */
 function colourLine(line, language) {
   /** @type {ColouredRange[]} */
-  const coloured = [];
+  const ranges = [];
   let first = "";
   for (const { 0: word, index = 0 } of line.matchAll(/\S+/g)) {
     const rest = line.slice(index);
-    const isWhole = isComment(rest, first, language) ? "comment" : first !== "" && first === language.nameKeyword ? "string" : "";
-    if (isWhole) return [...coloured, { from: index, to: line.length, style: isWhole }];
+    const restStyle = isComment(rest, first, language) ? "comment" : first !== "" && first === language.nameKeyword ? "string" : "";
+    if (restStyle) return [...ranges, { from: index, to: line.length, style: restStyle }];
     const style = chooseStyle(word, first === "", language);
-    if (style !== "") coloured.push({ from: index, to: index + word.length, style });
+    if (style !== "") ranges.push({ from: index, to: index + word.length, style });
     if (first === "") first = word;
   }
-  return coloured;
+  return ranges;
 }
 
 /** The functions that return the styled ranges of a line, by kind of text. */

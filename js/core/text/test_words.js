@@ -1,4 +1,4 @@
-// Finds the help and the completions for test texts, from the manual's tables and the names of the board and the program.
+// Finds the help and the completions for test texts. They come from the manual's tables and from the names of the board and the program.
 
 import { splitCell, cellText } from "../help/manual.js";
 import { withoutDescription } from "./completion.js";
@@ -8,19 +8,20 @@ import * as say from "../../words/text.js";
  * @typedef {import("../help/manual.js").ManualSection} ManualSection
  * @typedef {import("./completion.js").Completion} Completion
  * @typedef {import("./completion.js").CompletionItem} CompletionItem
+ *
+ * The names that a test can use: key and lamp names of the board, and labels of the program.
  * @typedef {{ keys: string[], lamps: string[], labels: string[] }} TestNames
- */
-
-/**
- * A form of a line or condition as written in the manual, with its first word and its description.
+ *
+ * A form of a line or condition, as the manual writes it (`form`), with its first word and its description (`does`).
  * @typedef {{ word: string, form: string, does: string }} Form
+ *
+ * The forms of the lines (`steps`) and conditions of a test.
  * @typedef {{ steps: Form[], conditions: Form[] }} TestForms
  */
 
-
 /**
- * Returns the forms in table rows. A row can contain several forms.
- * @param {string[][]} rows
+ * Returns the forms in the rows of a manual table. A row can contain several forms.
+ * @param {string[][]} rows the cells of each row: the forms, and their description
  * @returns {Form[]}
  */
 function parseForms(rows) {
@@ -29,7 +30,7 @@ function parseForms(rows) {
 }
 
 /**
- * Returns the forms in a section of the manual, as one list for each table.
+ * Returns the forms in a section of the manual: a list for each table, or no lists if there is no such section.
  * @param {ManualSection[]} manual
  * @param {string} title
  */
@@ -39,7 +40,7 @@ export function formsByTable(manual, title) {
 }
 
 /**
- * Returns the forms of conditions in the manual, including those that are allowed only in some kinds of text.
+ * Returns the forms of conditions in the manual, including conditions that only some kinds of text allow.
  * @param {ManualSection[]} manual
  */
 export function conditionForms(manual) {
@@ -69,7 +70,7 @@ export function firstWords(forms) {
 
 /**
  * Returns the words that can come next in a line.
- * @param {string[]} before
+ * @param {string[]} before the words before the unfinished word
  * @param {string} typed the unfinished word
  * @param {TestNames} names
  * @param {TestForms} forms
@@ -91,13 +92,13 @@ const CONJUNCTIONS = new Set(["and", "or", "&&", "||"]);
  * Returns the words that can come next in a condition.
  * @param {string[]} before the words of the condition so far
  * @param {TestNames} names
- * @param {Form[]} conditions
+ * @param {Form[]} conditions the forms of conditions
  * @param {string[]} nextKeywords the words that can follow a complete condition
  * @returns {CompletionItem[]}
  */
 export function nextConditionWords(before, { keys, lamps, labels }, conditions, nextKeywords) {
-  const begin = before.reduce((last, word, at) => (CONJUNCTIONS.has(word) ? at + 1 : last), 0);
-  const words = before.slice(begin).map((word) => word.replace(/^[(!]+/, "")).filter((word) => word !== "not" && word !== "");
+  const start = before.reduce((last, word, at) => (CONJUNCTIONS.has(word) ? at + 1 : last), 0);
+  const words = before.slice(start).map((word) => word.replace(/^[(!]+/, "")).filter((word) => word !== "not" && word !== "");
   const conjunctions = ["and", "or", ...nextKeywords];
   if (words.length === 0) return [...firstWords(conditions), ...withoutDescription(labels.map((label) => `@${label}`))];
   const [word] = words;
@@ -108,10 +109,11 @@ export function nextConditionWords(before, { keys, lamps, labels }, conditions, 
 }
 
 /**
- * Returns the completions of the unfinished word.
+ * Returns the completions of the unfinished word before the caret.
  * @param {string} line
- * @param {number} column
- * @param {(before: string[], typed: string) => CompletionItem[]} findWords returns the words that can come next
+ * @param {number} column the column of the caret
+ * @param {(before: string[], typed: string) => CompletionItem[]} findWords returns the words that can come next, from the words before
+ *   the unfinished word and from the unfinished word
  * @returns {Completion}
  */
 export function completeWord(line, column, findWords) {
@@ -133,14 +135,14 @@ export function completeWord(line, column, findWords) {
  * @returns {Completion}
  */
 export function completeTest(lines, line, column, names, forms) {
-  const shared = lines.slice(0, line).flatMap((each) => (/^\s*steps\s+(\S+)\s*$/.exec(each) || []).slice(1));
+  const sharedSteps = lines.slice(0, line).flatMap((each) => (/^\s*steps\s+(\S+)\s*$/.exec(each) || []).slice(1));
   return completeWord(lines[line], column, (before, typed) => (
-    before.length === 1 && before[0] === "do" ? withoutDescription(shared) : nextWords(before, typed, names, forms)));
+    before.length === 1 && before[0] === "do" ? withoutDescription(sharedSteps) : nextWords(before, typed, names, forms)));
 }
 
 /**
- * Returns the words of a line up to the word at a position. Returns an empty list if there is no word at the position, or if the line is a
- * comment.
+ * Returns the words of a line up to and including the word at a column. Returns an empty list if there is no word at the column, or if the
+ * line is a comment.
  * @param {string} line
  * @param {number} column
  */
@@ -152,17 +154,17 @@ export function wordsUpTo(line, column) {
 }
 
 /**
- * Returns the description of the form that starts with a word; "" if there is none.
+ * Returns the form that starts with a word, and its description, as one text; "" if there is none.
  * @param {Form[]} forms
  * @param {string} word
  */
 export function findDescription(forms, word) {
-  const known = forms.find((form) => form.word === word) || forms.find((form) => normalizedWord(form.word) === normalizedWord(word));
+  const known = forms.find((form) => form.word === word) || forms.find((form) => normalizeWord(form.word) === normalizeWord(word));
   return known ? `${known.form}: ${known.does}` : "";
 }
 
 /**
- * Returns the help for the word at a position, or "".
+ * Returns the help for the word at a position; "" if there is none.
  * @param {string[]} lines
  * @param {number} line the line number from 0
  * @param {number} column
@@ -177,10 +179,10 @@ export function helpForTest(lines, line, column, { steps, conditions }) {
 }
 
 /**
- * Replaces each number in a word by 0, as well as each capital letter that stands for a number in the manual. The results for `ram.1.0x20`
- * and `ram.B.S` are therefore equal.
+ * Replaces each number in a word by 0, and also each single capital letter, which is a placeholder for a number in the manual. The results
+ * for `ram.1.0x20` and `ram.B.S` are therefore equal.
  * @param {string} word
  */
-function normalizedWord(word) {
+function normalizeWord(word) {
   return word.replace(/^@.*/, "@").replace(/0x[0-9A-Fa-f]+|\d+|\b[A-Z]\b/g, "0");
 }

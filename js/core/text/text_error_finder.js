@@ -5,7 +5,7 @@ import { findFaceErrors } from "../board/face.js";
 import { SourceMap } from "../machine/source_map.js";
 import { createBoardError } from "./board_error.js";
 import { MISSING_ROM, findProgramFaults, findMissingRoms } from "./program_errors.js";
-import { alignedText, findLineFaults, sentText } from "./sendable_text.js";
+import { asciiCommentsText, findLineFaults, sentText } from "./sendable_text.js";
 
 /**
  * @typedef {import("../bench/answers.js").Refusal} Refusal
@@ -13,32 +13,33 @@ import { alignedText, findLineFaults, sentText } from "./sendable_text.js";
  * @typedef {import("./program_errors.js").AllFaults} AllFaults
  * @typedef {import("./sendable_text.js").Fault} Fault
  *
- * The callbacks that ask the bench about errors.
- * @typedef {object} FaultQueries
- * @property {(sent: string) => Promise<import("../bench/text_check_answers.js").BoardError | null>} wiring resolves to the error in a board
- *   text, or to null
- * @property {(sent: string) => Promise<import("../bench/text_check_answers.js").LineError[]>} errors
- *   resolves to the errors in program lines
- * @property {(sent: string) => Promise<Refusal | null>} refuse resolves to the refusal if the bench rejects a program on the board,
- *   otherwise to null
- * @property {(sent: string) => Promise<string[]>} map resolves to the `map` answers for a program
- * @property {() => Promise<Set<number>>} roms resolves to the ROM numbers on the board
+ * The callbacks that query the bench. `sent` is a text in the form that is sent to the bench.
+ * @typedef {object} ErrorQueries
+ * @property {(sent: string) => Promise<import("../bench/text_check_answers.js").BoardError | null>} findBoardError resolves to the error
+ *   in a board text; null if it has none
+ * @property {(sent: string) => Promise<import("../bench/text_check_answers.js").LineError[]>} findLineErrors
+ *   resolves to the errors in the lines of a program
+ * @property {(sent: string) => Promise<Refusal | null>} findRefusal resolves to the refusal if the bench rejects a program for the current
+ *   board; otherwise to null
+ * @property {(sent: string) => Promise<string[]>} readMap resolves to the `map` answers for a program
+ * @property {() => Promise<Set<number>>} readRomNumbers resolves to the ROM numbers on the board
  */
 
-/** The highest number of a refusal that concerns a text. */
+/** The highest number of a refusal for an error in a text. Refusals with higher numbers have other causes. */
 const LAST_TEXT_REFUSAL = 42;
 
 /**
- * Returns the given refusal if it concerns a text; otherwise null.
+ * Returns the given refusal if it is for an error in a text; otherwise null.
  * @param {Refusal | null} refusal
  */
 export function textRefusalOrNull(refusal) {
   return refusal && refusal.number <= LAST_TEXT_REFUSAL ? refusal : null;
 }
 
+/** Finds the errors in programs and board texts. */
 export class TextErrorFinder {
   /**
-   * @param {FaultQueries} queries
+   * @param {ErrorQueries} queries
    * @param {{ instructions: Map<string, Instruction>, tables: Map<string, Map<string, string>> }} manual the instructions, and the
    *   descriptions of board text values, by table and key
    * @param {(number: number) => string} messageFor returns the message of a refusal
@@ -51,9 +52,9 @@ export class TextErrorFinder {
   }
 
   /**
-   * Resolves to the errors in a program. Resolves to undefined as soon as `isWanted` returns false.
+   * Resolves to the errors in a program; undefined if the result is no longer wanted when the bench has answered.
    * @param {string} text
-   * @param {() => boolean} isWanted
+   * @param {() => boolean} isWanted returns whether the result is still wanted
    * @returns {Promise<AllFaults | undefined>}
    */
   async findInProgram(text, isWanted) {
@@ -61,28 +62,28 @@ export class TextErrorFinder {
     if (!isWanted()) return undefined;
     if (!found || !found.rest || found.rest.number !== MISSING_ROM || found.faults.length > 0) return found;
     const sent = sentText(text, ";");
-    const map = new SourceMap(await this.queries.map(sent), sent);
-    return { ...found, faults: findMissingRoms(alignedText(text, ";").split("\n"), map, await this.queries.roms()) };
+    const map = new SourceMap(await this.queries.readMap(sent), sent);
+    return { ...found, faults: findMissingRoms(asciiCommentsText(text, ";").split("\n"), map, await this.queries.readRomNumbers()) };
   }
 
   /**
-   * Resolves to the errors in a board text. Resolves to undefined as soon as `isWanted` returns false.
+   * Resolves to the errors in a board text; undefined if the result is no longer wanted when the bench has answered.
    * @param {string} text
-   * @param {() => boolean} isWanted
+   * @param {() => boolean} isWanted returns whether the result is still wanted
    * @returns {Promise<AllFaults | undefined>}
    */
   async findInBoard(text, isWanted) {
     const textFaults = findLineFaults(text, "#");
     if (textFaults.length > 0) return { faults: textFaults, isWhole: true, rest: null };
-    const error = await this.queries.wiring(sentText(text, "#"));
+    const error = await this.queries.findBoardError(sentText(text, "#"));
     if (!isWanted()) return undefined;
     if (!error) return { faults: [], isWhole: true, rest: null };
-    return { faults: [createBoardError(alignedText(text, "#"), error, this.tables, this.messageFor)], isWhole: false, rest: null };
+    return { faults: [createBoardError(asciiCommentsText(text, "#"), error, this.tables, this.messageFor)], isWhole: false, rest: null };
   }
 }
 
 /**
- * Returns the errors in the front-panel comments of a board text. The board can be applied in spite of these errors.
+ * Returns the errors in the front-panel comments of a board text. The bench accepts a board text with such errors.
  * @param {string} text
  * @returns {Fault[]}
  */

@@ -1,4 +1,4 @@
-// Finds the help for words in programs and board texts, in the manual's tables.
+// Returns the help for words in programs and board texts. It comes mainly from the manual's tables.
 
 import { formatQuantity } from "../bench/numbers.js";
 import { PAIR, REGISTER, findDefinedNames, splitStatement, wordAt } from "./assembly.js";
@@ -22,7 +22,7 @@ export function describeInstruction(instruction) {
 }
 
 /**
- * Describes the effect of an instruction. If the manual does not mention the carry, adds that the carry does not change.
+ * Describes the effect of an instruction. If the manual's description does not mention the carry, adds that the carry does not change.
  * @param {Instruction} instruction
  */
 export function describeEffect({ does }) {
@@ -40,7 +40,7 @@ export function describeRegister(word) {
 }
 
 /**
- * Returns the help for a directive, or "" for any other word.
+ * Returns the help for a directive; "" for any other word.
  * @param {string} word the word in upper case
  */
 export function describeDirective(word) {
@@ -49,12 +49,12 @@ export function describeDirective(word) {
 }
 
 /**
- * Returns the help for the word at a position in a program, or "".
+ * Returns the help for the word at a position in a program; "" if there is none.
  * @param {string[]} lines
  * @param {number} line the line number from 0
  * @param {number} column
  * @param {Map<string, Instruction>} instructions
- * @param {(name: string) => string} meaningOf returns the meaning of a name, or ""
+ * @param {(name: string) => string} meaningOf returns the description of a name; "" for none
  */
 export function helpForProgram(lines, line, column, instructions, meaningOf) {
   const text = lines[line] || "";
@@ -106,11 +106,11 @@ export function tableAt(lines, line) {
 }
 
 /**
- * Returns the help for the word at a position in a board text, or "".
+ * Returns the help for the word at a position in a board text; "" if there is none.
  * @param {string[]} lines
  * @param {number} line the line number from 0
  * @param {number} column
- * @param {Map<string, Map<string, string>>} tables
+ * @param {Map<string, Map<string, string>>} tables the descriptions of the values, by table and key
  */
 export function helpForBoard(lines, line, column, tables) {
   const word = wordAt(lines[line] || "", column);

@@ -1,10 +1,10 @@
-// Splits a TOML text into words with their positions. Reports invalid words.
+// Splits a TOML text into words with their positions, and marks invalid words.
 
 import * as say from "../../words/text.js";
 
 /**
- * A word of a TOML text: a punctuation mark, a string (without its quotes), a bare word, the end of a line, or an invalid word. `fault` is
- * the error message for an invalid word; otherwise "".
+ * A word of a TOML text: a punctuation mark, a string, a bare word, the end of a line, or an invalid word (`bad`). The text of a string has
+ * no quotes; its range includes them. Line numbers start at 1. `fault` is the error message for an invalid word; otherwise "".
  * @typedef {{ kind: "punctuation" | "string" | "bare" | "end" | "bad", text: string, line: number, from: number, to: number,
  *   fault: string }} TomlWord
  */
@@ -15,10 +15,10 @@ const BARE_WORD = /^[A-Za-z0-9_+:-]+(\.[A-Za-z0-9_+:-]+)*/;
 const STRING = /^"((?:\\.|[^"\\])*)"|^'([^']*)'/;
 
 /**
- * Returns the word at an index in a line.
- * @param {string} text
- * @param {number} line
- * @param {number} from
+ * Parses the word at an index in a line.
+ * @param {string} text the text of the line
+ * @param {number} line the line number from 1
+ * @param {number} from the index
  * @returns {TomlWord}
  */
 function parseWord(text, line, from) {
@@ -48,8 +48,8 @@ function parseWord(text, line, from) {
 export function tomlWords(lines) {
   /** @type {TomlWord[]} */
   const words = [];
-  lines.forEach((whole, at) => {
-    const text = whole.replace(/\r$/, "");
+  lines.forEach((rawLine, at) => {
+    const text = rawLine.replace(/\r$/, "");
     for (let from = 0; from < text.length;) {
       const gap = BLANK.exec(text.slice(from)) || COMMENT.exec(text.slice(from));
       if (gap) {

@@ -1,13 +1,13 @@
-// Counts the cycles of a session: since the last reset, since the last stop, and between two marks. Also formats cycles with the time that
-// a real 4004 takes for them.
+// Counts the cycles of a session: since the last reset, since the last stop, and between two marks. Also formats a number of cycles with
+// the time that a real 4004 takes for it.
 
 import { formatQuantity } from "../bench/numbers.js";
 import { CYCLE_US } from "./mcs4_time.js";
 import * as say from "../../words/time.js";
 
 /**
- * The stored counts of a session. `total` is the number of cycles so far. The other members are earlier values of `total`: `reset` at the
- * last reset, `from` at the start of the last run, and `marks` at the marks (at most two).
+ * The stored counts of a session. `total` is the number of cycles so far. The other members are the values that `total` had earlier:
+ * `reset` at the last reset, `from` at the start of the last run, and `marks` at the user's marks (at most two).
  * @typedef {{ total: number, reset: number, from: number, marks: number[] }} StoredCycles
  */
 
@@ -15,7 +15,7 @@ import * as say from "../../words/time.js";
 export const ZERO_COUNTS = { total: 0, reset: 0, from: 0, marks: [] };
 
 /**
- * Returns the time that a number of cycles takes, such as `5.810 ms`.
+ * Returns the time that a real 4004 takes for a number of cycles, such as `5.810 ms`.
  * @param {number} cycles
  */
 export function formatCycleTime(cycles) {
@@ -47,7 +47,7 @@ export class Cycles {
    * Stores the cycle counts that the bench reports.
    * @param {{ total: number, reset: number }} counts
    */
-  take({ total, reset }) {
+  update({ total, reset }) {
     if (total !== this.total && this.isPaused) {
       this.from = Math.min(this.total, total);
       this.isPaused = false;

@@ -1,5 +1,5 @@
-// Computes how many cycles each frame must simulate to keep up with real time. Time during which the page is hidden, blocked or asleep does
-// not count. A key press is simulated at once, up to one frame early; the next frames then simulate fewer cycles.
+// Computes how many cycles each frame must simulate to keep up with real time. Time during which the page is hidden or blocked, or the
+// computer sleeps, does not count. A key press is simulated at once, up to one frame early; the next frames then simulate fewer cycles.
 
 import { CYCLES_PER_SECOND, FRAME_MS } from "./mcs4_time.js";
 
@@ -49,8 +49,8 @@ export class RealTime {
   }
 
   /**
-   * Skips the time since the last frame if the page was hidden, blocked or asleep. Returns the length of this gap in milliseconds; null if
-   * there was no gap.
+   * Skips the time since the last frame if the page was hidden or blocked, or the computer slept. Returns the length of this gap in
+   * milliseconds; null if there was no gap.
    * @param {number} now
    * @param {number} wall
    * @returns {{ gap: number, wasHidden: boolean } | null}

@@ -8,8 +8,8 @@ import * as say from "../../words/time.js";
  * A function that describes the location at a program counter, given as hexadecimal digits.
  * @typedef {(counter: string) => string} PlaceDescriber
  *
- * The result. `runs` has a text for each run: its time, and where or why it stopped. `sum` is the total time. In case of an error, `words`
- * is the error message, and there are no times.
+ * The durations of runs. `runs` has a text for each run: its duration, and where or why it stopped. `sum` is the total duration. In case of
+ * an error, `words` is the error message, and there are no durations.
  * @typedef {{ runs: string[], sum: string, words: string }} RunTimes
  */
 
@@ -27,7 +27,8 @@ function formatRunTime(cycles) {
 }
 
 /**
- * Returns the times of the runs in a range of answers, and where they stopped. A refusal in the range is an error.
+ * Returns the durations of the runs in a range of answers, and where the runs stopped. An answer in the range that rejects a line is an
+ * error.
  * @param {string[]} answers
  * @param {number} firstAnswer the number of the first answer to use, from 1
  * @param {number} lastAnswer the number of the last answer to use; 0 for the end of the list

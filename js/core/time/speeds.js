@@ -40,17 +40,17 @@ export function findSpeed(id) {
 }
 
 /**
- * Returns whether a speed is low enough for the user to follow the mark at the current source line.
- * @param {Speed} each
+ * Returns whether a speed is low enough for the user to follow the marker at the current source line.
+ * @param {Speed} speed
  */
 export function canFollowLine({ slowdown, isByInstruction }) {
   return isByInstruction || slowdown >= 100;
 }
 
 /**
- * Returns whether a click on a key toggles the key, as it does while the session is paused. This is so at a speed at which the program
- * could not detect a short press.
- * @param {Speed} each
+ * Returns whether a click on a key toggles the key, as it does while the session is paused. This is necessary at a speed at which the
+ * program could not detect a short press.
+ * @param {Speed} speed
  */
 export function togglesKeys({ slowdown, isByInstruction }) {
   return isByInstruction || slowdown >= 1000;

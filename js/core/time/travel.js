@@ -1,4 +1,4 @@
-// Moves a session backwards or forwards in time to a goal, and shows a message about each move.
+// Runs a session to a goal or moves it backwards or forwards in time, and shows a message about each move.
 
 import { describeTimeTravel } from "../../words/stops.js";
 import * as say from "../../words/time.js";
@@ -20,14 +20,15 @@ import * as say from "../../words/time.js";
  * @property {() => Promise<void>} pause Pauses the session; resolves when the session is paused.
  * @property {() => { board: string, program: string, watched: string[] }} texts Returns the board text and the program text, whose names
  *   conditions can use, and the watch expressions.
- * @property {(goal: Goal | null) => void} aim Stores the goal in the session for the duration of the search; null removes it.
+ * @property {(goal: Goal | null) => void} storeGoal Stores the goal in the session for the duration of the search; null removes the stored
+ *   goal.
  * @property {<Result extends LinesReply>(words: string, work: (ways: CallOptions) => Promise<Result>) => Promise<Result | null>} change
  * Does work that changes the session, then saves and shows the result. `words` describes the work to the user, who can cancel it. If the
  * work is cancelled or fails, reports this and resolves to null.
  * @property {(goal: Goal) => void} runTo Starts the session, which then runs to the goal.
- * @property {(tally: Tally) => void} counted Reports breakpoint hits and log messages.
+ * @property {(tally: Tally) => void} reportTally Reports breakpoint hits and log messages.
  * @property {(stop: Stop, goal: Goal) => string} reasonOf Returns a message that says why the session stopped.
- * @property {() => string} where Returns the current location as text: the program counter with its label and source line.
+ * @property {() => string} describeCounter Returns the current location as text: the program counter with its label and source line.
  * @property {(id: number) => import("../debug/breakpoints.js").Breakpoint | undefined} breakpoint Returns the breakpoint with an id, or
  *   undefined.
  * @property {(words: string) => void} showMessage Shows a message in the status line.
@@ -44,19 +45,19 @@ export class Travel {
   }
 
   /**
-   * Runs until the session reaches a goal, or until something else stops it. First searches the next cycles for the goal. If the goal is
-   * not there, starts the session.
+   * Runs until the session reaches a goal, or until something else stops the session. First searches the next cycles for the goal. If they
+   * do not contain the goal, starts the session.
    * @param {Goal} goal
    */
   async goOn(goal) {
     await this.calls.pause();
     if (goal.kind === "when") await this.bench.call("takeNames", [this.calls.texts()]);
-    this.calls.aim(goal);
+    this.calls.storeGoal(goal);
     const result = await this.calls.change(say.SEARCHING_GOAL, (ways) => this.bench.call("goOn", [goal], ways));
-    this.calls.aim(null);
+    this.calls.storeGoal(null);
     if (!result) return;
     const { cycles, isReached, end, id, returns } = result.found;
-    this.calls.counted(result.tally);
+    this.calls.reportTally(result.tally);
     if (end === "bound") this.calls.runTo(goal);
     else this.calls.showMessage(this.calls.reasonOf({ why: isReached ? "goal" : end, cycles, id, returns }, goal));
   }
@@ -69,13 +70,13 @@ export class Travel {
     await this.calls.pause();
     if (goal.kind === "when") await this.bench.call("takeNames", [this.calls.texts()]);
     const result = await this.calls.change(say.REPEATING_PAST, (ways) => this.bench.call("goBack", [goal], ways));
-    if (result) this.calls.showMessage(describeTimeTravel(goal, result, this.calls.where(), this.calls.breakpoint(result.id)));
+    if (result) this.calls.showMessage(describeTimeTravel(goal, result, this.calls.describeCounter(), this.calls.breakpoint(result.id)));
   }
 
-  /** Moves forward again after a move back in time. */
+  /** Undoes the last move back in time. */
   async goForward() {
     await this.calls.pause();
     const result = await this.calls.change(say.GOING_FORWARD, () => this.bench.call("goForward", []));
-    if (result) this.calls.showMessage(describeTimeTravel({ kind: "forward" }, result, this.calls.where()));
+    if (result) this.calls.showMessage(describeTimeTravel({ kind: "forward" }, result, this.calls.describeCounter()));
   }
 }

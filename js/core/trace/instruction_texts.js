@@ -45,7 +45,7 @@ function extractCode(line) {
 }
 
 /**
- * The mnemonics of two-byte instructions by their first digit, with functions that format the operands.
+ * The mnemonics of two-byte instructions by the first hexadecimal digit of the opcode, each with a function that formats the operands.
  * @type {Record<number, [string, (operand: number, digits: string) => string]>}
  */
 const TWO_BYTE_INSTRUCTIONS = {
@@ -58,8 +58,8 @@ const TWO_BYTE_INSTRUCTIONS = {
 
 /**
  * Returns the listing line of a two-byte instruction at the last address. The second byte of this instruction is at address 0.
- * @param {number} firstByte the first byte
- * @param {number} secondByte the second byte
+ * @param {number} firstByte
+ * @param {number} secondByte
  */
 function formatWrapped(firstByte, secondByte) {
   const digits = hex(secondByte, 2);
@@ -104,9 +104,9 @@ export class InstructionTexts {
   formatInstruction(address, listingLine) {
     const { codes, names } = this;
     const isWrapped = address === LAST_ADDRESS && instructionWords(codes[address]) === 2;
-    const whole = isWrapped ? formatWrapped(codes[address], codes[0]) : listingLine;
-    if (!names) return { label: "", text: `${whole.padEnd(this.width)}  ` };
-    const text = this.replaceBySource(this.replaceTarget(whole), address);
+    const completeLine = isWrapped ? formatWrapped(codes[address], codes[0]) : listingLine;
+    if (!names) return { label: "", text: `${completeLine.padEnd(this.width)}  ` };
+    const text = this.replaceBySource(this.replaceTarget(completeLine), address);
     const [label = ""] = names.map.labelsAt(address);
     const isInSource = names.source && names.map.beginsInstruction(address) && names.map.lineOfLabel(label) === names.map.lineOf(address);
     return { label: label === "" || isInSource ? "" : `          ${label}:\n`, text: `${text.padEnd(this.width)}  ` };

@@ -1,4 +1,4 @@
-// Traces a session from its current state. Works in pieces, on a copy of the state.
+// Traces a session from its current state. Runs a copy of the state in pieces.
 
 import { readBoard, readRun } from "../bench/answers.js";
 import { MAX_RUN_CYCLES } from "../engine/key_queue.js";
@@ -16,7 +16,7 @@ import * as say from "../../words/trace.js";
  * @typedef {() => Promise<any>} YieldToMessages
  */
 
-/** The length of the first piece, and of all other pieces, in cycles. A short first piece shows the first lines soon. */
+/** The length of the first piece, and of all other pieces, in cycles. The first piece is short, so that the first lines appear soon. */
 const FIRST_PIECE_CYCLES = 500;
 const PIECE_CYCLES = 10000;
 /** The word in a `run` answer that means that all cycles ran. */

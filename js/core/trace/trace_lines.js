@@ -18,7 +18,7 @@ import * as say from "../../words/trace.js";
  * @typedef {import("./trace_places.js").TracePlace} TracePlace
  *
  * The places of one `trace` query, such as registers and ports. `values` are their current values. `rows` are the answer's rows with new
- * values, by the cycle in which a value changes.
+ * values, by the number of cycles before the instruction that changes a value.
  * @typedef {{ places: TracePlace[], values: string[], rows: Map<number, string> }} Group
  */
 
@@ -31,7 +31,7 @@ const ROW_INDICES = { pc: 1, acc: 5, cy: 7, registers: 9 };
 /**
  * Returns the register changes between two rows as text.
  * @param {string} row
- * @param {string} previousRow the previous row
+ * @param {string} previousRow the row before the changes
  */
 function formatRegisterChanges(row, previousRow) {
   let changes = "";
@@ -125,7 +125,7 @@ export class TraceLines {
       lines.push(`${start}acc ${row[ROW_INDICES.acc]} cy ${row[ROW_INDICES.cy]}${changes && ` ${changes}`}`);
       nextCycle = at + instructionCycles(this.texts.codes[address]);
     };
-    // A jump to itself changes nothing and so has no row. Its line is repeated up to the next row.
+    // An instruction that jumps to itself changes nothing, so the answer has no row for it. Its line is repeated up to the next row.
     const repeatJump = (/** @type {number} */ to) => {
       while (nextCycle < to) addLine(nextCycle, parseInt(row.slice(ROW_INDICES.pc, ROW_INDICES.acc - 1), 16), row);
     };

@@ -44,7 +44,8 @@ function listChipPlaces(bank, chip, executes) {
 }
 
 /**
- * Returns the output ports of the ROMs. Leaves out the inputs, because the program does not change them.
+ * Returns the ports of the ROMs that have output lines. The text of a value leaves out the input lines, because the program does not change
+ * them.
  * @param {Board} board
  */
 function listRomPlaces({ roms }) {

@@ -1,6 +1,6 @@
-// The decoders of a recording. A decoder is a line that is computed from several signal lines. The decoder of a shift register (4003) shows
-// the bit that each clock edge shifts in. When the clock has been at rest for some cycles, it shows all bits of the register. The decoder
-// of the key matrix shows the driven rows and the pressed keys.
+// The decoders of a recording. A decoder is a line whose values are computed from those of several signal lines. The decoder of a shift
+// register (4003) shows the bit that each clock edge shifts in. When the clock has been at rest for REST_CYCLES cycles, the decoder shows
+// all bits of the register. The decoder of the key matrix shows the driven rows and the pressed keys.
 
 import { countUpTo } from "./number_queue.js";
 import * as say from "../../words/waves.js";
@@ -15,7 +15,7 @@ import * as say from "../../words/waves.js";
 export const REST_CYCLES = 16;
 
 /**
- * The values in the track of a shift register. A value is AT_REST, or the bit that was shifted in plus BIT or OTHER_BIT. BIT and OTHER_BIT
+ * The values in the track of a shift register. A value is AT_REST, or the sum of the bit shifted in and BIT or OTHER_BIT. BIT and OTHER_BIT
  * alternate, so that two equal bits in a row are still two changes.
  */
 const AT_REST = 0;

@@ -1,4 +1,4 @@
-// Finds the lines of a recording that the arguments of a command request.
+// Chooses the lines of a recording from the arguments of a command.
 
 import { createBoardLines, createValueLine } from "./wave_lines.js";
 import * as say from "../../words/waves.js";
@@ -7,7 +7,7 @@ import * as say from "../../words/waves.js";
  * @typedef {import("../bench/answers.js").Board} Board
  * @typedef {import("./wave_lines.js").WaveLine} WaveLine
  *
- * A choice of lines. `lines` are all lines of a board, and the requested values. `chosen` are the indexes of the requested lines in
+ * A choice of lines. `lines` are all lines of a board, followed by the requested values. `chosen` are the indexes of the requested lines in
  * `lines`, in the order of the request.
  * @typedef {{ lines: WaveLine[], chosen: number[] }} LineChoice
  */
@@ -41,14 +41,14 @@ function numberedName({ group, places }, number) {
 }
 
 /**
- * Returns the indexes of the lines that a word requests: a single line, or all lines of a group.
+ * Returns the indexes of the lines that a word requests: a single line, or all lines of a group; an empty list if there are none.
  * @param {WaveLine[]} lines
  * @param {string} word
  */
 function lineIndices(lines, word) {
   const lamps = lines.findIndex(({ group }) => group === "lamps");
-  const addLineNames = lines.findIndex((line, at) => line.name === word || numberedName(line, at - lamps) === word);
-  if (addLineNames >= 0) return [addLineNames];
+  const namedLine = lines.findIndex((line, at) => line.name === word || numberedName(line, at - lamps) === word);
+  if (namedLine >= 0) return [namedLine];
   return lines.flatMap((line, at) => (canBeRequested(line) && line.group === word ? [at] : []));
 }
 

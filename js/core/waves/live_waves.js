@@ -17,51 +17,52 @@ import * as say from "../../words/waves.js";
 export class LiveWaves {
   /**
    * @param {Recording} recorded the first part of the recording
-   * @param {RecordingSettings} choice
+   * @param {RecordingSettings} settings
    */
-  constructor(recorded, choice) {
+  constructor(recorded, settings) {
     this.waves = new Waves(recorded);
-    this.choice = choice;
-    /** The moment of the trigger; -1 before the trigger. */
+    this.settings = settings;
+    /** The moment of the trigger; -1 if the trigger has not occurred. */
     this.triggerMoment = -1;
     /** The reason for the end of the recording; "" while the recording continues. */
-    this.over = "";
+    this.endReason = "";
   }
 
+  /** True while the recording continues. */
   get isOn() {
-    return this.over === "";
+    return this.endReason === "";
   }
 
   /**
-   * Adds a part. Drops cycles at the start if the recording exceeds its maximum length.
+   * Adds a part to the recording. Drops cycles at the start if the recording exceeds its maximum length.
    * @param {LivePart} part
    */
   take(part) {
     const { waves } = this;
-    const { most, behind, trigger } = this.choice;
+    const { most, behind, trigger } = this.settings;
     waves.append(part);
     this.triggerMoment = part.triggerMoment;
-    this.over = part.over;
-    if (this.over === "trigger") waves.endAt(this.triggerMoment + behind);
+    this.endReason = part.over;
+    if (this.endReason === "trigger") waves.endAt(this.triggerMoment + behind);
     if (trigger === "") waves.beginAt(waves.cycles - most);
     else waves.beginAt((this.triggerMoment < 0 ? waves.cycles : this.triggerMoment) - (most - behind));
   }
 
-  /** Ends the recording because its last part was lost. */
-  lose() {
-    this.over = "lost";
+  /** Ends the recording because the worker that recorded its last part has stopped. */
+  markLost() {
+    this.endReason = "lost";
   }
 
-  /** The length of the recording as text, which changes with each part. */
+  /** The length of the recording, as text. Changes with each part. */
   get lengthText() {
     const { waves } = this;
-    return waves.cycles === 0 ? "" : formatCycles(waves.span);
+    return waves.cycles === 0 ? "" : formatCycles(waves.length);
   }
 
-  /** The status of the recording as text, which changes rarely. */
+  /** The status of the recording, as text. Changes rarely. */
   get words() {
-    const { waves, triggerMoment, over } = this;
-    const { trigger } = this.choice;
+    const { waves, triggerMoment, endReason: over } = this;
+    const { trigger } = this.settings;
     const triggerText = triggerMoment < 0 ? "" : say.triggerWasAt(formatNumber(triggerMoment));
     if (over === "trigger") return say.recorded(this.lengthText, triggerText);
     if (over !== "") return say.recordedUntil(this.lengthText || say.NOTHING, say.END_REASONS[over] || over, triggerText);

@@ -10,7 +10,7 @@ import * as say from "../../words/waves.js";
  *
  * A measurement: the line keeps its value from the moment `from` to the moment `to`. `isWhole` is true if the line changes at both moments,
  * and false if one of them is the start or end of the recording. `period` is the number of cycles from the edge at `from` to the next edge
- * in the same direction; 0 if there is none.
+ * in the same direction; 0 if the recording does not contain both edges.
  * @typedef {{ from: number, to: number, isWhole: boolean, period: number }} Measurement
  */
 
@@ -45,7 +45,7 @@ export function frequencyText(period) {
 /**
  * Returns the text of a measurement.
  * @param {string} value the value of the line as text
- * @param {Measurement} measure
+ * @param {Measurement} measurement
  */
 export function describeMeasurement(value, { from, to, isWhole, period }) {
   const valueWords = say.hasValueFor(value, isWhole, formatCycles(to - from));

@@ -1,11 +1,11 @@
-// A queue of numbers in a typed array. Numbers can be added at the end, and removed at both ends.
+// A queue of numbers in a typed array. Callers can add numbers at the end, and remove numbers at both ends.
 
 /** @typedef {Uint16Array | Uint32Array | Float64Array} Numbers */
 
 /** The initial capacity. */
 const FIRST_CAPACITY = 64;
-/** The number of unused elements at the start of the array above which the numbers may be moved to the start. */
-const MAX_UNUSED = 4096;
+/** The minimum number of unused elements at the start of the array for which the queue moves the numbers to the start. */
+const MIN_UNUSED = 4096;
 
 /**
  * Returns how many of the numbers are less than or equal to `limit`.
@@ -55,7 +55,7 @@ export class NumberQueue {
     this.to += 1;
   }
 
-  /** Replaces the array with a larger one. */
+  /** Replaces the array with an array of twice the size. */
   enlarge() {
     const larger = /** @type {Kind} */ (new (/** @type {any} */ (this.numbers.constructor))(Math.max(FIRST_CAPACITY, this.to * 2)));
     larger.set(this.numbers);
@@ -73,7 +73,7 @@ export class NumberQueue {
    */
   dropFirst(count) {
     this.from += count;
-    if (this.from < MAX_UNUSED || this.from < this.count) return;
+    if (this.from < MIN_UNUSED || this.from < this.count) return;
     this.numbers.copyWithin(0, this.from, this.to);
     this.to -= this.from;
     this.from = 0;

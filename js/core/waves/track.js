@@ -41,13 +41,16 @@ export class Track {
     return count === 0 ? this.first : this.values.numbers[this.values.from + count - 1];
   }
 
-  /** @param {number} moment */
+  /**
+   * Returns the value at a moment.
+   * @param {number} moment
+   */
   valueAt(moment) {
     return this.valueAfter(countUpTo(this.moments.all, moment));
   }
 
   /**
-   * Sets the value from a moment on. If several changes at the same moment cancel out, none of them is stored.
+   * Sets the value from a moment on. If several changes at the same moment cancel out, stores none of them.
    * @param {number} value
    * @param {number} moment the moment, not before the last change
    */

@@ -11,19 +11,19 @@ import * as say from "../../words/waves.js";
  * @typedef {import("./wave_lines.js").WaveLine} WaveLine
  * @typedef {"rises" | "falls" | "changes"} Edge
  *
- * A trigger. For an edge, `edge` is its kind, and `members` are the indexes of the lines that can have it. For a condition, `holds` tests
- * it, and `places` are the `trace` places whose values it needs. If the condition depends only on the program counter, `address` is the
- * address that makes it true; otherwise -1.
+ * A trigger. For an edge, `edge` is its kind, and `members` are the indexes of the lines on which the edge can occur. For a condition,
+ * `places` are the `trace` places that the condition reads, and `holds` tests the condition on their values. If the condition depends only
+ * on the program counter, `address` is the address that makes it true; otherwise -1.
  * @typedef {{ edge: Edge | "", members: number[], places: string[], address: number, holds: (values: string[]) => boolean }} Trigger
  */
 
 /** Matches an edge: the name of a line, and the kind of edge. */
 const EDGE_SYNTAX = /^(.*\S)\s+(rises|falls|changes)$/;
-/** The condition of an edge trigger, which is never true. */
+/** The function `holds` of an edge trigger, which has no condition. */
 const neverTrue = () => false;
 
 /**
- * Returns a name in lower case, with each dot or gap replaced by a single blank.
+ * Returns a name in lower case, with one blank instead of each sequence of dots and blanks.
  * @param {string} text
  */
 export function normalizeName(text) {
@@ -62,8 +62,8 @@ export function lineNameInEdge(text) {
 }
 
 /**
- * Parses a trigger. If the text has an error, `fault` is the error message. For an empty text, the result has neither a trigger nor a
- * message.
+ * Parses a trigger. If the text has an error, `trigger` is null, and `fault` is the error message. For an empty text, `trigger` is null,
+ * and `fault` is "".
  * @param {string} text
  * @param {WaveLine[]} lines
  * @param {Names} names

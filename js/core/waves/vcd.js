@@ -8,7 +8,9 @@ import { isDecoder } from "./decoders.js";
 
 /** The number of time units per cycle. A unit is 100 ns. */
 const UNITS_PER_CYCLE = CYCLE_TENTHS_US;
-/** A number greater than the number of lines in any recording. A change is encoded as one number: moment * MAX_LINES + line. */
+/**
+ * A number greater than the number of lines in any recording. `sortedChanges` encodes a change as one number: moment * MAX_LINES + line.
+ */
 const MAX_LINES = 8192;
 /** The maximum number of text lines per part of the file. The file has parts because a long recording does not fit into one string. */
 const PART_LINES = 100000;
@@ -38,7 +40,7 @@ function variableType({ lines }, line) {
   return lines[line].kind === "label" || isDecoder(lines[line]) ? "string 1" : `wire ${lines[line].width}`;
 }
 
-/** Creates a VCD file in parts, even while the recording grows. */
+/** The text of a VCD file, created in parts, even while the recording grows. */
 export class VcdText {
   /**
    * @param {Waves} waves

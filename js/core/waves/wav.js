@@ -28,8 +28,8 @@ function writeTag(bytes, at, letters) {
 /**
  * Returns the WAV file for a signal line.
  * @param {number} level the level of the line at the start
- * @param {number[]} edges the number of cycles before each edge
- * @param {number} cycles
+ * @param {number[]} edges the moment of each edge, in cycles from the start
+ * @param {number} cycles the length of the sound
  */
 export function createWav(level, edges, cycles) {
   const size = cycles * SAMPLE_BYTES;

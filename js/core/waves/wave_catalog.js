@@ -27,7 +27,7 @@ export function listRecordableLines(board, text) {
 
 /**
  * Returns the lines that are initially visible: the one-bit lines and decoders that change, the program counter and the label. If no
- * one-bit line changes, the first of them are visible.
+ * one-bit line changes, the first one-bit lines are visible.
  * @param {Waves} waves
  */
 export function chooseFirstLines(waves) {
@@ -40,7 +40,7 @@ export function chooseFirstLines(waves) {
 }
 
 /**
- * Returns the names of the chosen values, because values such as registers are recorded only on request.
+ * Returns the names of the chosen values. The bench records values, such as registers, only on request.
  * @param {WaveLine[]} lines
  * @param {Set<string>} chosenNames
  */
@@ -62,12 +62,12 @@ function matchingLines(lines, text) {
 }
 
 /**
- * Returns the lines that match a search text. Because RAM has many nibbles, the list contains the chosen nibbles, but only a limited number
- * of the other matching nibbles.
+ * Returns the lines that match a search text. The list contains all chosen RAM nibbles, but at most MAX_NIBBLES others, because RAM has
+ * many nibbles.
  * @param {WaveLine[]} allLines
  * @param {string} text
  * @param {Set<string>} chosenNames
- * @returns {{ lines: WaveLine[], more: string }} `more` is a note about unlisted lines
+ * @returns {{ lines: WaveLine[], more: string }} `more` is a note about unlisted lines, or that no line matches; "" for none
  */
 export function searchLines(allLines, text, chosenNames) {
   const isAll = text.trim() === "";

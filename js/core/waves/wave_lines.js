@@ -13,14 +13,14 @@ import * as say from "../../words/waves.js";
  * @typedef {import("../board/face.js").FaceText} FaceText
  * @typedef {"level" | "key" | "test" | "value" | "port" | "shift" | "scan" | "pc" | "label"} WaveKind
  *
- * A line of a recording. `title` is its name in the board text; "" for none. `group` names the part of the board to which it belongs.
- * `width` is its number of bits.
+ * A line of a recording. `title` is its name in the board text; "" for none. `group` names the part of the board that has the line. `width`
+ * is its number of bits.
  *
  * The meaning of `places` depends on the kind. Level: the signal line of the board. Key: the row and column of the key. Value: the `trace`
  * places of its digits, highest digit first. Scan: the names of the keys, row by row.
  *
- * `members` are the indexes of the lines from which a line is computed. Port: its lines, lowest first. Shift register: its clock, its data
- * and its bits. Scan: the columns, then the rows, of the key matrix; `columns` is the number of columns.
+ * `members` are the indexes of the lines from which the value of a port or decoder is computed. Port: its lines, lowest first. Shift
+ * register: its clock, its data and its bits. Scan: the columns, then the rows, of the key matrix; `columns` is the number of columns.
  * @typedef {{ name: string, title: string, group: string, kind: WaveKind, places: string[], members: number[], width: number,
  *   columns: number }} WaveLine
  */
@@ -43,9 +43,9 @@ function createLine(name, group, kind, details = {}) {
 }
 
 /**
- * Returns the name and title of a lamp or key. If its name in the board text is invalid in a VCD file, that name becomes only the title.
+ * Returns the name and title of a lamp or key. A name in the board text that is invalid in a VCD file becomes only the title.
  * @param {string} group
- * @param {string} ending
+ * @param {string} ending the number of the lamp or key, for a line without a valid name
  * @param {FaceText | undefined} faceText
  */
 function lineNames(group, ending, faceText) {
@@ -67,7 +67,7 @@ function levelLines(group, count, face) {
 }
 
 /**
- * Returns the lines of the chips on a board.
+ * Returns the signal lines of the ROM ports, RAM ports and chains of a board.
  * @param {Board} board
  * @param {Face} face
  */
@@ -82,7 +82,7 @@ function chipLines({ roms, banks, chains }, face) {
 }
 
 /**
- * Returns the lamps and the keys of a board.
+ * Returns the lines for the lamps and keys of a board.
  * @param {Board} board
  * @param {Face} face
  */
@@ -132,7 +132,7 @@ function decoderLines({ chains, matrix }, lines, face) {
   const decoders = chains.map(({ clock, data, chips }, at) => {
     const bits = bitsOf(at, 0, BITS_PER_CHIP * chips);
     const members = indexesOf([clock, data, ...bits]);
-    return createLine(`shift.chain${at}`, "decoders", "shift", { title: say.shiftOf(at), members, width: bits.length });
+    return createLine(`shift.chain${at}`, "decoders", "shift", { title: say.shiftRegisterTitle(at), members, width: bits.length });
   });
   if (!matrix) return decoders;
   const { chain, first, rows, columns } = matrix;
@@ -149,7 +149,7 @@ function decoderLines({ chains, matrix }, lines, face) {
 const VALUE_PLACE = /^(acc|cy|dcl|src|r\d+|p\d|(ram|st)\..*)$/;
 const DIGIT_WIDTH = 4;
 const PAIR_WIDTH = 8;
-/** @type {Record<string, number>} */
+/** @type {Record<string, number>} the widths in bits of single values that are not four bits wide */
 const WIDTHS = { cy: 1, dcl: 3, src: 8 };
 
 /**
@@ -203,7 +203,7 @@ export function createBoardLines(board, text, hasLabels, values = []) {
 }
 
 /**
- * Returns whether a line is drawn as boxes with values in them. Only single bits are drawn as levels instead.
+ * Returns whether the page draws a line as boxes that contain its values. The page draws single bits as levels instead.
  * @param {WaveLine} line
  */
 export function isDrawnAsBoxes({ kind, width }) {

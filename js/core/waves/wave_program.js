@@ -1,5 +1,4 @@
-// Creates the program of a recording: the source lines and labels that the recording shows. Requires that the source text is the program in
-// ROM.
+// Creates the program of a recording: the source lines and labels that the recording shows. The source text must be the program in ROM.
 
 import { SourceMap } from "../machine/source_map.js";
 

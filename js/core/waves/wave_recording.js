@@ -1,5 +1,5 @@
-// A recording on the page. Returns the value of each line at any moment, the changes of each line, and the instruction at any moment. The
-// recording of a running session grows at its end and drops cycles at its start. A moment is a time, counted in cycles.
+// A recording of signal lines. Provides the value of each line at any moment, the changes of each line, and the instruction at any moment.
+// The recording of a running session grows at its end and drops cycles at its start. A moment is a time, counted in cycles.
 
 import { ADDRESS_COUNT } from "../bench/rom_bytes.js";
 import { extendShiftTrack, findLastRise, scanText, shiftText } from "./decoders.js";
@@ -14,13 +14,13 @@ import { valueText } from "./wave_words.js";
  * @typedef {import("./wave_words.js").NumberBase} NumberBase
  *
  * The instruction at a moment: its address, its listing line (`listed`), and its source line with the line number (0 for none). `isSecond`
- * is true if the moment is the second cycle of the instruction. `isEnd` is true at the end of the recording, where this is the next
- * instruction.
+ * is true if the recording starts at the second cycle of the instruction, and the moment is this cycle. `isEnd` is true at the end of the
+ * recording; the instruction is then the next to run.
  * @typedef {{ address: number, listed: string, line: number, source: string, isSecond: boolean, isEnd: boolean }} Instruction
  */
 
 /** The kinds of lines whose values are computed from other lines or from the program counter. */
-const DERIVED = new Set(["pc", "label", "port", "shift", "scan"]);
+const DERIVED_KINDS = new Set(["pc", "label", "port", "shift", "scan"]);
 
 /**
  * Returns for each address the index of the nearest label at the same or a lower address; -1 for none.
@@ -42,7 +42,9 @@ export class Waves {
     /** The moments at which the recording starts and ends. */
     this.from = from;
     this.cycles = cycles;
+    /** True if the recording ends before a byte that is not an instruction. */
     this.isStuck = isStuck;
+    /** True if the recording starts at the second cycle of an instruction. */
     this.isOwed = isOwed;
     this.lines = lines;
     this.tracks = tracks.map((data) => new Track(data));
@@ -52,23 +54,23 @@ export class Waves {
     this.program = program;
     this.sources = program ? program.text.split("\n") : [];
     this.labelIndexes = labelsBelow(program ? program.labels : []);
-    /** @type {Map<number, Track>} the computed tracks so far, by line */
+    /** @type {Map<number, Track>} the tracks computed so far, by line index */
     this.derivedTracks = new Map();
-    /** @type {Map<number, number>} the moment of the last rising clock edge before the start of the recording, by shift register line */
+    /** @type {Map<number, number>} the moment of the last rising clock edge before the recording, by shift register line */
     this.earlierRises = new Map();
     /** @type {NumberBase} the number base in which values are displayed */
     this.base = "hex";
   }
 
   /** The length of the recording in cycles. */
-  get span() {
+  get length() {
     return this.cycles - this.from;
   }
 
   // --- growing and shrinking ---
 
   /**
-   * Adds a part at the end.
+   * Adds a part at the end of the recording.
    * @param {RecordedPart} part
    */
   append({ cycles, isStuck, tracks, moments, counters, listing }) {
@@ -79,7 +81,7 @@ export class Waves {
     this.cycles = cycles;
     this.isStuck = isStuck;
     for (const [line, track] of this.derivedTracks) {
-      // The first moment of the new part can also be the moment of a change.
+      // The first moment of the new part is the last moment of the previous part, and can have a change in the new part.
       track.endAt(previousEnd - 1);
       this.extendTrack(line, track, previousEnd - 1);
     }
@@ -138,7 +140,7 @@ export class Waves {
    */
   getTrack(line) {
     const { kind } = this.lines[line];
-    if (!DERIVED.has(kind)) return this.tracks[line];
+    if (!DERIVED_KINDS.has(kind)) return this.tracks[line];
     let track = this.derivedTracks.get(line);
     if (!track) {
       track = new Track({ ...emptyTrack(this.lines[line].width), first: this.computeValue(line, this.from) });
@@ -168,7 +170,7 @@ export class Waves {
    * Extends the track of a derived line up to the end of the recording.
    * @param {number} line
    * @param {Track} track
-   * @param {number} after
+   * @param {number} after the moment up to which the track is already computed
    */
   extendTrack(line, track, after) {
     const { kind, members } = this.lines[line];
@@ -196,10 +198,10 @@ export class Waves {
   }
 
   /**
-   * Extends the track of a port or key scan up to the end of the recording. The bits of its value are the values of its member lines.
+   * Extends the track of a port or key scan up to the end of the recording. Bit k of the value is the value of member line k.
    * @param {Track[]} members
    * @param {Track} track
-   * @param {number} after
+   * @param {number} after the moment up to which the track is already computed
    */
   extendPortTrack(members, track, after) {
     const moments = members.map((member) => member.moments.all);
@@ -237,7 +239,7 @@ export class Waves {
   }
 
   /**
-   * Returns the index of the last instruction that started at or before a moment.
+   * Returns the index of the last instruction that started at or before a moment; 0 if there is none.
    * @param {number} moment
    */
   sampleAt(moment) {
@@ -277,7 +279,7 @@ export class Waves {
   }
 
   /**
-   * Returns the next change of a line after a moment; undefined if there is none.
+   * Returns the moment of the next change of a line after a given moment; undefined if there is none.
    * @param {number} line
    * @param {number} moment
    * @returns {number | undefined}
@@ -288,7 +290,7 @@ export class Waves {
   }
 
   /**
-   * Returns the last change of a line before a moment; undefined if there is none.
+   * Returns the moment of the last change of a line before a given moment; undefined if there is none.
    * @param {number} line
    * @param {number} moment
    * @returns {number | undefined}

@@ -1,5 +1,5 @@
-// The arrangement of the rows that show waves: their order, titles, colours and groups. It is stored by line name, so that later recordings
-// use it, too.
+// The arrangement of the rows that show waves: their order, titles, colours and groups. The page stores the arrangement by line name, so
+// that later recordings use it, too.
 
 /**
  * @typedef {import("./wave_lines.js").WaveLine} WaveLine
@@ -44,14 +44,14 @@ export class WaveRows {
   /**
    * Changes the title, colour or group of a row.
    * @param {string} name the name of the line
-   * @param {RowAppearance} look the changed properties
+   * @param {RowAppearance} changes the changed properties
    */
-  change(name, look) {
-    this.looks.set(name, { ...this.getAppearance(name), ...look });
+  change(name, changes) {
+    this.looks.set(name, { ...this.getAppearance(name), ...changes });
   }
 
   /**
-   * Sorts line names into row order. A name that is not in the stored order follows the name that precedes it on the board.
+   * Sorts line names into row order. A name that is not in the stored order follows the name that precedes it in board order.
    * @param {string[]} names the line names in board order
    */
   sortNames(names) {

@@ -10,19 +10,19 @@ import * as say from "../../words/waves.js";
 /**
  * @typedef {import("./wave_recording.js").Waves} Waves
  *
- * A search: the index of a line, and a function that returns whether a value matches. If `each` is true, every change to a matching value
- * is found. Otherwise a change is found only if the previous value did not match.
+ * A search: the index of a line, and a function that returns whether a value matches. If `each` is true, the search finds every change to a
+ * matching value. Otherwise it finds a change only if the previous value does not match.
  * @typedef {{ line: number, matches: (value: number) => boolean, each: boolean }} Search
  */
 
-/** @type {Record<string, (is: number, than: number) => boolean>} the comparisons, by operator */
+/** @type {Record<string, (left: number, right: number) => boolean>} the comparisons, by operator */
 const COMPARISONS = {
-  "=": (is, than) => is === than, "!=": (is, than) => is !== than, "<": (is, than) => is < than, ">": (is, than) => is > than,
-  "<=": (is, than) => is <= than, ">=": (is, than) => is >= than,
+  "=": (left, right) => left === right, "!=": (left, right) => left !== right, "<": (left, right) => left < right,
+  ">": (left, right) => left > right, "<=": (left, right) => left <= right, ">=": (left, right) => left >= right,
 };
 
-/** @type {Record<string, (value: number) => boolean>} functions that return whether an edge leads to a value, by kind of edge */
-const EDGES = { rises: (value) => value === 1, falls: (value) => value === 0, changes: () => true };
+/** @type {Record<string, (value: number) => boolean>} tests of the value after an edge, by kind of edge */
+const EDGE_TESTS = { rises: (value) => value === 1, falls: (value) => value === 0, changes: () => true };
 
 /**
  * Creates an error result.
@@ -67,7 +67,8 @@ export function readSearch(text, waves, markedLine) {
 }
 
 /**
- * Returns the index of the line with a name; without a name, of the marked line. If there is no such line, `fault` is the error message.
+ * Returns the index of the line with a name, or of the marked line if the name is "". If there is no such line, `fault` is the error
+ * message.
  * @param {string} name
  * @param {Waves} waves
  * @param {number} markedLine
@@ -91,7 +92,7 @@ function parseEdge(name, edge, waves, markedLine) {
   const { width } = waves.lines[line];
   if (edge !== "changes" && isDecoder(waves.lines[line])) return searchError(say.isDecoded(waves.lines[line].name));
   if (edge !== "changes" && width > 1) return searchError(say.isNumber(waves.lines[line].name));
-  return { search: { line, matches: EDGES[edge], each: true }, fault: "" };
+  return { search: { line, matches: EDGE_TESTS[edge], each: true }, fault: "" };
 }
 
 /**
@@ -112,9 +113,9 @@ function parseValue(name, sign, value, waves, markedLine) {
   const number = label ? (kind === "pc" ? label.address : label.number) : binary ? parseInt(binary[1], 2) : parseNumber(value);
   if (kind === "label" && !label) return searchError(say.noLabel(value));
   if (Number.isNaN(number)) return searchError(say.noNumber(value, say.SEARCH_FORMS));
-  const most = 2 ** width - 1;
-  if (kind !== "label" && number > most) return searchError(say.hasBits(lineName, width, most));
-  return { search: { line, matches: (/** @type {number} */ is) => COMPARISONS[sign](is, number), each: false }, fault: "" };
+  const max = 2 ** width - 1;
+  if (kind !== "label" && number > max) return searchError(say.valueTooLarge(lineName, width, max));
+  return { search: { line, matches: (/** @type {number} */ current) => COMPARISONS[sign](current, number), each: false }, fault: "" };
 }
 
 /**
@@ -135,7 +136,7 @@ function parseKeySearch(decoder, line, sign, key) {
  * @param {Waves} waves
  * @param {Search} search
  * @param {number} moment
- * @param {boolean} isForward
+ * @param {boolean} isForward true to search after the moment, false to search before it
  */
 export function find(waves, { line, matches, each }, moment, isForward) {
   const track = waves.getTrack(line);

@@ -4,7 +4,7 @@
 const MIN_CYCLES = 10;
 /** The default number of visible cycles. */
 const DEFAULT_CYCLES = 20000;
-/** The maximum distance from an edge at which a click selects the edge, in pixels. */
+/** The maximum distance in pixels between a click and the edge that the click selects. */
 const NEAR_PIXELS = 7;
 
 /** @typedef {import("./wave_recording.js").Waves} Waves */
@@ -89,12 +89,12 @@ export class WaveWindow {
   }
 
   /**
-   * Adapts to a recording that has grown at its end or lost cycles at its start. If the visible range or a cursor is at the end, it moves
-   * with the end. A short recording stays completely visible.
+   * Adapts to a recording that has grown at its end or lost cycles at its start. Whatever was at the end, the visible range or a cursor,
+   * moves with the end. A short recording stays completely visible.
    * @param {number} begin
    * @param {number} end
    */
-  stretch(begin, end) {
+  extendRange(begin, end) {
     const wasAtEnd = this.to >= this.end;
     const isShort = this.span >= this.length && this.length < DEFAULT_CYCLES;
     this.cursors = this.cursors.map((cursor) => (cursor === this.end ? end : clamp(cursor, begin, end)));
@@ -104,13 +104,13 @@ export class WaveWindow {
     this.goTo(wasAtEnd ? end - this.span : this.from);
   }
 
-  /** Shows a complete recording, unless the user has selected a part of it. */
-  fit() {
+  /** Shows all cycles of a finished recording, unless the user has zoomed in or scrolled away from the end. */
+  showAllIfUnzoomed() {
     if (this.to >= this.end && this.span >= Math.min(DEFAULT_CYCLES, this.length)) this.showAll();
   }
 
   /**
-   * Moves cursor A to a moment, and shows the part around the moment.
+   * Moves cursor A to a moment, and shows the cycles around the moment.
    * @param {number} moment
    */
   showAround(moment) {
@@ -129,7 +129,7 @@ export class WaveWindow {
     this.cursors = [first, second].map((moment) => clamp(moment, this.begin, this.end));
   }
 
-  /** Shows the whole recording. */
+  /** Shows all cycles of the recording. */
   showAll() {
     this.span = this.length;
     this.from = this.begin;
@@ -146,7 +146,7 @@ export class WaveWindow {
   }
 
   /**
-   * Returns the moment at a horizontal position: the nearest edge of a line if one is close, otherwise the cycle at the position.
+   * Returns the moment at a horizontal position: the nearest edge of a line if an edge is close, otherwise the cycle at the position.
    * @param {number} x
    * @param {Waves} waves
    * @param {number} line the index of the line; -1 for none
@@ -162,9 +162,9 @@ export class WaveWindow {
 }
 
 /**
- * Returns the moments of the time scale's ticks. The ticks are far enough apart for their numbers.
+ * Returns the moments of the time scale's ticks. The ticks are far enough apart for their labels.
  * @param {WaveWindow} view
- * @param {number} labelWidth the required width per number in pixels
+ * @param {number} labelWidth the required width per label in pixels
  */
 export function tickMoments(view, labelWidth) {
   const minDistance = (labelWidth / view.width) * view.span;

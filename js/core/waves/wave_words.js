@@ -46,7 +46,7 @@ export function cyclesText(cycles) {
  * @param {number} cycles
  */
 export function describeDistance(cycles) {
-  return say.aToB(formatCycles(cycles));
+  return say.distanceBetweenCursors(formatCycles(cycles));
 }
 
 /**
@@ -56,8 +56,8 @@ export function describeDistance(cycles) {
 export function instructionText({ listed, line, source, isSecond, isEnd }) {
   if (isSecond) return say.SECOND_CYCLE;
   const text = listed.replace(/ +/g, " ");
-  const sourceText = line > 0 ? say.ofSource(line, source) : "";
-  return `${isEnd ? say.NEXT : ""}${text}${sourceText}`;
+  const sourceText = line > 0 ? say.sourceLineSuffix(line, source) : "";
+  return `${isEnd ? say.NEXT_PREFIX : ""}${text}${sourceText}`;
 }
 
 /**
@@ -83,19 +83,19 @@ export function screenReaderText(moment, waves, line) {
 
 /**
  * Describes the length of a recording.
- * @param {Pick<Waves, "span" | "isStuck">} waves
+ * @param {Pick<Waves, "length" | "isStuck">} waves
  * @param {number} wantedCycles the requested number of cycles
  * @param {boolean} isBefore true for a recording of the past
  */
-export function describeRecording({ span, isStuck }, wantedCycles, isBefore) {
-  if (span === 0 && isBefore) return say.NOTHING_BEFORE;
-  const recorded = say.recordedSpan(cyclesText(span), formatCycleTime(span));
+export function describeRecording({ length, isStuck }, wantedCycles, isBefore) {
+  if (length === 0 && isBefore) return say.NOTHING_BEFORE;
+  const recorded = say.recordedSpan(cyclesText(length), formatCycleTime(length));
   if (isStuck) return say.codeFollows(recorded);
-  return span < wantedCycles ? say.noFurtherBack(recorded) : recorded;
+  return length < wantedCycles ? say.noFurtherBack(recorded) : recorded;
 }
 
 /**
- * Parses a number of cycles; returns 0 if it is not from 1 to MAX_CYCLES.
+ * Parses a number of cycles. Returns 0 if the text is not a number from 1 to MAX_CYCLES.
  * @param {string} text
  */
 export function readCycles(text) {

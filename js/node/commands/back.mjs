@@ -17,8 +17,8 @@ const COMMITTED_BYTE = 1;
 const LOCKED_STATUS = 75;
 
 /**
- * Acquires the lock of a session file, as the native program does while it serves the file. Resolves to a function that releases the lock. The end of
- * this process also releases it.
+ * Acquires the lock of a session file, as the native program does while it serves the file. Resolves to a function that releases the lock.
+ * The end of this process also releases the lock.
  * @param {string} session the session's file name
  */
 async function acquireLock(session) {
@@ -71,7 +71,7 @@ function truncateLog(session, offset) {
 /**
  * Removes the last commands of a session. Resolves to the line to print.
  * @param {string} session the session's file name
- * @param {number} count the number of commands to remove; 0 only reports how many can be removed
+ * @param {number} count the number of commands to remove; 0 to report only how many can be removed
  */
 async function removeCommands(session, count) {
   const engine = await startEngine();

@@ -10,7 +10,7 @@ import { CommandError, UsageError, print } from "../output.mjs";
 const LINE_NUMBER = /^\d{1,9}$/;
 
 /**
- * Parses the range of answer lines whose runs are added up. `last` is 0 for all lines from `first` on.
+ * Parses the range of answer lines with the runs to add up. `last` is 0 for all lines from `first` to the end.
  * @param {string[]} words
  */
 function parseRange(words) {

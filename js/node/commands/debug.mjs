@@ -31,7 +31,7 @@ async function runScript(prompt, position) {
   return hasRejected ? 1 : 0;
 }
 
-/** The calls of the prompt to the view. They are forwarded, because the view is created later. */
+/** The functions by which the prompt controls the view. They forward each call, because the view is created later. */
 const viewCalls = { toggle: () => viewCalls.view.toggle(), turn: (isOn) => viewCalls.view.turn(isOn), view: null };
 
 /** Runs an interactive prompt. Ctrl-L and a resize redraw the view. Resolves to the exit status. */

@@ -8,7 +8,7 @@ import { InputTexts } from "../input_texts.mjs";
 import { UsageError, print } from "../output.mjs";
 import { temporaryFolder } from "../temporary_folders.mjs";
 import { checkOutputFile, writeUserFile } from "../user_files.mjs";
-import { NOT_COUNTEREXAMPLES, NO_REPORT, excludeEachOther } from "../../words/commands.js";
+import { NOT_COUNTEREXAMPLES, NOT_A_REPORT, excludeEachOther } from "../../words/commands.js";
 
 /** The texts at the beginning of the files that the command writes. */
 const COUNTEREXAMPLES_HEADER = "# Found by ";
@@ -39,7 +39,7 @@ export async function run(values, positionals) {
   if (merge) checkArguments(names, ["REPORT"], Infinity);
   else checkArguments(names, ["BOARD", "PROGRAM", "PROPERTIES"], 3, true);
   if (out !== undefined) checkOutputFile(out, COUNTEREXAMPLES_HEADER, NOT_COUNTEREXAMPLES, names);
-  if (reportName !== undefined) checkOutputFile(reportName, REPORT_HEADER, NO_REPORT, names);
+  if (reportName !== undefined) checkOutputFile(reportName, REPORT_HEADER, NOT_A_REPORT, names);
   const report = merge ? mergeReports(names) : await searchTexts(names, { ...limits, allowsModel: Boolean(values["allow-model"]) });
   if (reportName !== undefined) writeUserFile(reportName, `${JSON.stringify(report)}\n`);
   if (out !== undefined) writeUserFile(out, formatReportTests(report));

@@ -12,7 +12,7 @@ import { CommandError, print, printFile } from "../output.mjs";
 const MAX_CYCLES = 100000;
 
 /**
- * Serves lines in a session up to the first run that stops, and prints the answers. Returns the exit status.
+ * Executes lines in a session up to the first run that stops early, and prints the answers. Resolves to the exit status.
  * @param {string} session the session's file name
  * @param {string[]} lines
  */

@@ -43,7 +43,7 @@ async function resolveNames({ folder, source }, words) {
 }
 
 /**
- * Serves lines. Resolves to the lines of their answers.
+ * Executes lines in a session. Resolves to the answer lines.
  * @param {SessionProcess} session
  * @param {string} lines
  */
@@ -90,7 +90,7 @@ function missingPartNote({ board, face }, linesBefore) {
  */
 async function drawFrame(terminal, panel, screen) {
   const { size } = terminal;
-  await panel.snapshot.take(fitsPanel(size) ? middleRows(size) : 0);
+  await panel.snapshot.refresh(fitsPanel(size) ? middleRows(size) : 0);
   if (fitsPanel(terminal.size) && terminal.size.rows === size.rows) terminal.draw(screen.rows(terminal.size));
   else if (!fitsPanel(terminal.size)) terminal.drawTooSmall();
 }
@@ -104,14 +104,14 @@ async function drawFrame(terminal, panel, screen) {
 async function handleKeys(terminal, panel, nextFrameTime) {
   for (let isFrameDue = false; !isFrameDue && !panel.isEnded && !terminal.isGone;) {
     const key = terminal.keys.shift();
-    if (key) await panel.type(key, performance.now());
+    if (key) await panel.handleKey(key, performance.now());
     else if (performance.now() < nextFrameTime && terminal.drawnRows.length > 0) await terminal.wait(nextFrameTime - performance.now());
     isFrameDue = key ? panel.isPaused : performance.now() >= nextFrameTime || terminal.drawnRows.length === 0;
   }
 }
 
 /**
- * Shows the panel until it ends. Returns the exit status.
+ * Shows the panel until it ends. Resolves to the exit status.
  * @param {PanelTerminal} terminal
  * @param {Panel} panel
  */

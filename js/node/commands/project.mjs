@@ -14,7 +14,7 @@ import { isInside, checkOutputFile, readUserFile, statInput, writeNewFiles, writ
 
 const PROJECT_HEADER = "fethsaim project ";
 const SESSION_HEADER = "MCS4BEN1";
-/** The kinds of texts that a folder can have several of. A project file can have only one of each. */
+/** The kinds of texts of which a folder can have several. A project file can have only one text of each kind. */
 const LIST_KINDS = /** @type {const} */ (["tests", "properties"]);
 
 /**
@@ -55,7 +55,7 @@ function readFileIn(folder, name) {
 }
 
 /**
- * Reads a UTF-8 text in a folder. Throws an error if the file is not valid UTF-8.
+ * Reads a UTF-8 text in a folder. Throws an error if the file is not valid UTF-8 or contains NUL bytes.
  * @param {string} folder
  * @param {string} name the path of the file, including the folder
  */
@@ -72,7 +72,7 @@ function readText(folder, name) {
 /**
  * Returns the paths of the texts: those in `mcs4.toml`, or the standard names of the files that exist.
  * @param {string} folder
- * @returns {Promise<{ board: string, program: string, tests: string, properties: string }>} "" for a text that does not exist
+ * @returns {Promise<{ board: string, program: string, tests: string, properties: string }>} "" if there are no tests or no properties
  */
 async function textPaths(folder) {
   const inFolder = (/** @type {string} */ name) => join(folder, name);

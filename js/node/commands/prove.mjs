@@ -1,4 +1,5 @@
-// `mcs4 prove`: proves that properties are true for all inputs. The program mcs4-prove searches for counterexamples, and the bench confirms each one.
+// `mcs4 prove`: proves that properties are true for all inputs. The program mcs4-prove searches for counterexamples, and `mcs4 test`
+// confirms each of them.
 import { exitStatus, tapHead, formatJudgedTap } from "../../core/prove/verdicts.js";
 import { resolveFileNames, parseCount, checkArguments } from "../arguments.mjs";
 import { InputTexts } from "../input_texts.mjs";
@@ -26,21 +27,21 @@ export async function run({ folder, most: statesWord, memory: memoryWord }, posi
 }
 
 /**
- * Proves or disproves all properties. Prints the result of each one as soon as it is known. Resolves to the exit status.
- * @param {import("../../core/prove/property_judge.js").PropertyJudge} judging
+ * Proves or disproves all properties. Prints each result as soon as it is known. Resolves to the exit status.
+ * @param {import("../../core/prove/property_judge.js").PropertyJudge} judge
  * @param {string} file the name of the properties file
  */
-async function proveAll(judging, file) {
-  const { total } = judging;
+async function proveAll(judge, file) {
+  const { total } = judge;
   const progress = new ProgressLine();
-  const judgedLines = [];
+  const judgedProperties = [];
   for (const index of Array(total).keys()) {
-    progress.begin((seconds) => provingSoFar(index + 1, total, judging.textOf(index), seconds));
-    const judgedLine = /** @type {import("../../core/prove/verdicts.js").JudgedProperty} */ (await judging.next());
+    progress.begin((seconds) => provingSoFar(index + 1, total, judge.textOf(index), seconds));
+    const judgedProperty = /** @type {import("../../core/prove/verdicts.js").JudgedProperty} */ (await judge.judgeNext());
     progress.clear();
-    print((index === 0 ? tapHead(total) : "") + formatJudgedTap(judgedLine, index, file));
-    judgedLines.push(judgedLine);
+    print((index === 0 ? tapHead(total) : "") + formatJudgedTap(judgedProperty, index, file));
+    judgedProperties.push(judgedProperty);
   }
   progress.end();
-  return exitStatus(judgedLines);
+  return exitStatus(judgedProperties);
 }

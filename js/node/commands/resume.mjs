@@ -13,8 +13,7 @@ import { describeRefusal } from "../rejected_texts.mjs";
 const OPENING_LINES = /^session \d+\n/;
 
 /**
- * Prints answers as they arrive, and resolves to null. If the first line does not say that the session is open, prints nothing and resolves to that
- * line.
+ * Prints answers as they arrive, and resolves to null. If the first line is not `session N`, prints nothing and resolves to this line.
  * @param {import("node:stream").Readable} stream
  */
 async function printAnswers(stream) {
@@ -31,7 +30,7 @@ async function printAnswers(stream) {
 }
 
 /**
- * Serves the bytes of a script in a session, and prints the answers. Resolves to the exit status.
+ * Executes the bytes of a script in a session, and prints the answers. Resolves to the exit status.
  * @param {string} session the session's file name
  * @param {Buffer} bytes
  */

@@ -26,19 +26,19 @@ const PARSERS = { hex: readHex, srec: readSRecords, bnpf: readBnpf };
 function chooseFormat(action, values) {
   const givenFormats = ACTION_FORMATS.load.filter((name) => values[name]);
   if (givenFormats.length > 1) throw new UsageError(say.excludeEachOther(`--${givenFormats[0]}`, `--${givenFormats[1]}`));
-  const [form = null] = givenFormats;
-  if (form && !ACTION_FORMATS[action].includes(form)) throw new UsageError(say.unsupportedFormat(action, form));
-  return form;
+  const [format = null] = givenFormats;
+  if (format && !ACTION_FORMATS[action].includes(format)) throw new UsageError(say.unsupportedFormat(action, format));
+  return format;
 }
 
 /**
  * Parses a ROM image. Returns its bytes, which start at an address.
- * @param {ImageFormat} form
+ * @param {ImageFormat} format
  * @param {Buffer} file
  * @param {number} address
  */
-function parseImage(form, file, address) {
-  return form === "binary" ? readBytes(file, address) : PARSERS[form](file.toString("latin1"), address);
+function parseImage(format, file, address) {
+  return format === "binary" ? readBytes(file, address) : PARSERS[format](file.toString("latin1"), address);
 }
 
 /**
@@ -52,13 +52,13 @@ function printLoadLines(givenFormat, words) {
   const address = parseNumber(word);
   if (!(address < ADDRESS_COUNT)) throw new UsageError(say.ADDRESS_RANGE);
   const file = new InputTexts().read(name, MAX_TEXT_BYTES);
-  const form = givenFormat || detectFormat(name, file);
-  if (!form) throw new CommandError(say.textNoImage(name));
+  const format = givenFormat || detectFormat(name, file);
+  if (!format) throw new CommandError(say.textNoImage(name));
   try {
-    print(createByteTexts(parseImage(form, file, address)).map((text) => `asm\n${text}.\n`).join(""));
+    print(createByteTexts(parseImage(format, file, address)).map((text) => `asm\n${text}.\n`).join(""));
   } catch (error) {
     if (!(error instanceof ImageError)) throw error;
-    const hint = givenFormat === null && error instanceof RecordError && error.message.startsWith("line 1:") ? say.IS_IT_BINARY : "";
+    const hint = givenFormat === null && error instanceof RecordError && error.message.startsWith("line 1:") ? say.BINARY_HINT : "";
     throw new CommandError(`${name}: ${error.message}${hint}`);
   }
 }
@@ -89,7 +89,7 @@ function printQueries(words) {
 }
 
 /**
- * Returns the bytes of a range, which the answers contain. A later answer overrides an earlier one.
+ * Returns the bytes of a range, read from the bench's answers. A later answer overrides an earlier answer.
  * @param {string} answers
  * @param {{ first: number, count: number }} range
  */
@@ -97,7 +97,7 @@ function readAnswerBytes(answers, { first, count }) {
   // A last line without a line feed is truncated, so ignore it.
   const lines = answers.split("\n").slice(0, -1).map((line) => line.replace(/\r$/, ""));
   const refusalIndex = lines.findIndex((line) => parseRefusal(line));
-  if (refusalIndex >= 0) throw new CommandError(say.answersRefusal(refusalIndex + 1, lines[refusalIndex]));
+  if (refusalIndex >= 0) throw new CommandError(say.answerIsRefusal(refusalIndex + 1, lines[refusalIndex]));
   const bytes = parseRomBytes(lines);
   const missingOffset = bytes.subarray(first, first + count).indexOf(NO_BYTE);
   if (missingOffset >= 0) throw new CommandError(say.noAnswerShows(hex(first + missingOffset, 3)));
@@ -107,18 +107,18 @@ function readAnswerBytes(answers, { first, count }) {
 
 /**
  * Reads answers from standard input, and prints the bytes of a range as an image.
- * @param {ImageFormat} form
+ * @param {ImageFormat} format
  * @param {string[]} words
  */
-function printImage(form, words) {
+function printImage(format, words) {
   const range = parseRange(words);
   const { first, count } = range;
-  if (form === "binary" && process.stdout.isTTY) throw new CommandError(say.NO_TERMINAL);
+  if (format === "binary" && process.stdout.isTTY) throw new CommandError(say.NO_TERMINAL);
   const answers = readStream(STANDARD_INPUT, "-", MAX_ANSWERS_BYTES);
   if (answers.length === 0) throw new CommandError(say.NO_ANSWERS);
   const bytes = readAnswerBytes(answers.toString("latin1"), range);
-  if (form === "hex") print(writeHex(bytes));
-  else if (form === "bnpf") print(writeBnpf(bytes, first, count));
+  if (format === "hex") print(writeHex(bytes));
+  else if (format === "bnpf") print(writeBnpf(bytes, first, count));
   else printBytes(Uint8Array.from(bytes.subarray(first, first + count)));
 }
 
@@ -126,9 +126,9 @@ function printImage(form, words) {
 export function run(values, [action, ...words]) {
   if (action === undefined) throw new UsageError(say.LOAD_ASK_OR_SAVE);
   if (!Object.hasOwn(ACTION_FORMATS, action)) throw new UsageError(say.noRomAction(action));
-  const form = chooseFormat(action, values);
-  if (action === "load") printLoadLines(form, words);
+  const format = chooseFormat(action, values);
+  if (action === "load") printLoadLines(format, words);
   else if (action === "ask") printQueries(words);
-  else printImage(form || "binary", words);
+  else printImage(format || "binary", words);
   return 0;
 }

@@ -2,7 +2,7 @@
 import { MAX_LINE_LENGTH, joinLines } from "../../core/bench/inputs.js";
 import { DEFAULT_PACE } from "../../core/testing/press_lines.js";
 import { prepareTests } from "../../core/testing/test_preparation.js";
-import { MAX_SENT_LENGTH, alignedText, sentText } from "../../core/text/sendable_text.js";
+import { MAX_SENT_LENGTH, asciiCommentsText, sentText } from "../../core/text/sendable_text.js";
 import { CYCLES_BEFORE_KEYS } from "../../core/time/mcs4_time.js";
 import { checkArguments, findProject } from "../arguments.mjs";
 import { makeKeyLines } from "../board_file.mjs";
@@ -11,12 +11,12 @@ import { rejectedTextsError, startEngine } from "../native_program.mjs";
 import { printFile } from "../output.mjs";
 
 /**
- * Returns a text with its comments; without them if the text would otherwise be too long for the bench.
+ * Returns a text with its comments, or without them if the text with comments is too long for the bench.
  * @param {string} text
  * @param {import("../../core/text/sendable_text.js").CommentMark} mark
  */
 function textForBench(text, mark) {
-  const fullText = alignedText(text, mark);
+  const fullText = asciiCommentsText(text, mark);
   const isTooLong = fullText.length > MAX_SENT_LENGTH || fullText.split("\n").some((line) => line.length > MAX_LINE_LENGTH);
   return isTooLong ? sentText(text, mark) : fullText;
 }

@@ -1,10 +1,11 @@
-// The command table. Argument parsing, help, manual pages and completions are generated from it. The descriptions are in js/words/commands.js, under
-// the same names. The module of a command exports `run(values, positionals)`, which returns the exit status or a promise of it.
+// The command table, used by argument parsing, the help, the manual pages and the completions. The descriptions are in
+// js/words/commands.js, under the same names. The module of a command exports `run(values, positionals)`, which returns the exit status or
+// a promise of it.
 
 /**
  * @typedef {import("../../words/commands.js").CommandName} CommandName
  *
- * An option in the form that `parseArgs` of node:util accepts, with one more member: `value` is the name of its value in the help.
+ * An option as `parseArgs` of node:util accepts it, with one more member: `value` is the name of the option's value in the help.
  * @typedef {{ type: "string" | "boolean", short?: string, multiple?: boolean, value?: string }} Option
  *
  * `Values` are the options' values by their long names. `CommandModule` is the module of a command.

@@ -21,8 +21,8 @@ import { checkOutputFile, writeUserFile } from "../user_files.mjs";
  * @typedef {import("../input_texts.mjs").GivenText} GivenText
  * @typedef {import("./table.mjs").Values} Values
  *
- * An opened session. `state` is its state without breakpoints and watches. `boardText` is the text of its board; null if none is given. `program` is
- * the program with its labels; null without labels.
+ * An opened session. `state` is its state without breakpoints and watches. `boardText` is the text of its board; null if the user names
+ * none. `program` is the program with its labels; null if the user names none.
  * @typedef {{ engine: import("../../core/engine/engine_host.js").EngineHost, state: Uint8Array, board: import("../../core/bench/answers.js").Board,
  *   boardText: GivenText | null, face: Face, program: import("../../core/engine/wave_recorder.js").RecordedProgram | null }} OpenedSession
  */
@@ -78,7 +78,7 @@ async function openWiredSession(session, { board: boardName, program: programNam
 const readBoardText = ({ boardText }) => (boardText ? boardText.text : "");
 
 /**
- * Calls `choose`, which chooses lines, and returns its result. Throws a CommandError if a line does not exist on the board.
+ * Returns the result of `choose`, a function that chooses lines. Throws a CommandError if a line does not exist on the board.
  * @template Result
  * @param {() => Result} choose
  */

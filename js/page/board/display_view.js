@@ -1,11 +1,11 @@
-// The board's displays: drawings of seven-segment digits, and the same content as a text.
+// The board's displays: a drawing of each seven-segment digit, and a text for screen readers.
 
 import { Announcer } from "../../core/board/announcer.js";
 import { Cell, Switch, block, element } from "../ui/dom.js";
 import { perceivedBrightness } from "../../core/board/brightness.js";
 import { MINUS_PATTERN, UNLIT_PATTERN, POINT_BIT, hasPoints, isLit, digitPatterns } from "../../core/board/digit_patterns.js";
 import { DisplayText } from "../../core/board/display_text.js";
-import { fittingGroups, isScanned, minusLamp } from "../../core/board/face_board.js";
+import { fittingGroups, isMultiplexed, minusLamp } from "../../core/board/face_board.js";
 import { indices } from "../../core/bench/numbers.js";
 
 /**
@@ -13,7 +13,7 @@ import { indices } from "../../core/bench/numbers.js";
  * @typedef {import("../../core/board/face.js").Group} Group
  */
 
-const SVG = "http://www.w3.org/2000/svg";
+const SVG_NAMESPACE = "http://www.w3.org/2000/svg";
 /** The SVG paths of segments a to g and of the decimal point. */
 const SEGMENT_PATHS = [
   "M5 3 8 1h20l3 2-4 4H9z", "M32 4l2 3v20l-2 2-3-3V8z", "M32 31l2 2v20l-2 3-3-4V34z", "M5 57l4-4h18l4 4-3 2H8z",
@@ -32,11 +32,11 @@ class Digit {
     this.litPattern = 0;
     /** The bit pattern of a digit whose segments are fully on or off, or UNLIT_PATTERN if the segments are drawn with their duty cycles. */
     this.steadyPattern = 0;
-    this.node = document.createElementNS(SVG, "svg");
+    this.node = document.createElementNS(SVG_NAMESPACE, "svg");
     this.node.setAttribute("viewBox", isSign ? "2 0 32 60" : "0 0 44 60");
     this.isSmeared = new Switch((isOn) => this.node.classList.toggle("smeared", isOn));
     this.segments = SEGMENT_PATHS.map((shape, bit) => {
-      const segment = document.createElementNS(SVG, "path");
+      const segment = document.createElementNS(SVG_NAMESPACE, "path");
       segment.setAttribute("d", shape);
       const isPresent = isSign ? 1 << bit === MINUS_PATTERN : hasPoint || 1 << bit !== POINT_BIT;
       if (isPresent) this.node.append(segment);
@@ -54,16 +54,17 @@ class Digit {
   }
 
   /**
-   * @param {import("../../core/board/brightness.js").PerceivedDigit} seenDigit
-   * @param {number} turnCount the number of digits that the program scans in turn; each digit is on for at most 1 / `turnCount` of the time
+   * @param {import("../../core/board/brightness.js").PerceivedDigit} perceivedDigit
+   * @param {number} digitCount the number of digits that the program scans in turn, each for at most 1 / `digitCount` of the time; 1 if the
+   *   display is not scanned
    */
-  showBrightness(seenDigit, turnCount) {
-    if (seenDigit.steady !== UNLIT_PATTERN) {
-      this.set(seenDigit.steady);
+  showBrightness(perceivedDigit, digitCount) {
+    if (perceivedDigit.steady !== UNLIT_PATTERN) {
+      this.set(perceivedDigit.steady);
       return;
     }
-    this.isSmeared.set(seenDigit.isSmeared);
-    this.showDutyCycles(seenDigit.pattern, seenDigit.segments.map((dutyCycle) => dutyCycle * turnCount));
+    this.isSmeared.set(perceivedDigit.isSmeared);
+    this.showDutyCycles(perceivedDigit.pattern, perceivedDigit.segments.map((dutyCycle) => dutyCycle * digitCount));
   }
 
   /**
@@ -98,16 +99,16 @@ class Display {
     this.digits = indices(group.rows).map(() => new Digit(false, hasPoints(group.columns)));
   }
 
-  /** @param {string} marks */
+  /** @param {string} marks one character per lamp: `*` if the lamp is on at this instant */
   show(marks) {
     digitPatterns(this.group, marks).forEach((pattern, index) => this.digits[index].set(pattern));
   }
 
-  /** @param {import("../../core/board/brightness.js").PerceivedDigit[]} seenDigits */
-  showBrightness(seenDigits) {
+  /** @param {import("../../core/board/brightness.js").PerceivedDigit[]} perceivedDigits */
+  showBrightness(perceivedDigits) {
     // A scanned display switches on one digit at a time, so each digit is on for a fraction of the scan.
-    const turnCount = isScanned(this.group) ? this.group.rows : 1;
-    seenDigits.forEach((digit, index) => this.digits[index].showBrightness(digit, turnCount));
+    const digitCount = isMultiplexed(this.group) ? this.group.rows : 1;
+    perceivedDigits.forEach((digit, index) => this.digits[index].showBrightness(digit, digitCount));
   }
 }
 
@@ -116,6 +117,7 @@ export class DisplayView {
     /** @type {Display[]} */
     this.displays = [];
     this.signDigit = new Digit(true, false);
+    /** The index of the minus sign's lamp; -1 if there is none. */
     this.minusIndex = -1;
     this.textCell = new Cell(block("digits"));
     this.text = new DisplayText([], []);
@@ -124,7 +126,7 @@ export class DisplayView {
   }
 
   /**
-   * @param {string[]} lines
+   * @param {string[]} lines the line of each lamp
    * @param {Face} face
    */
   draw(lines, face) {
@@ -157,7 +159,7 @@ export class DisplayView {
     if (this.displays.length === 0) return;
     this.displays.forEach((display, index) => display.showBrightness(brightness.digits[index]));
     if (this.minusIndex >= 0) this.showSignBrightness(brightness, this.minusIndex);
-    this.showText(this.text.words(brightness.patterns, (lamp) => brightness.isOn[lamp]));
+    this.showText(this.text.readPerceived(brightness.patterns, (lamp) => brightness.isOn[lamp]));
   }
 
   /**
@@ -167,7 +169,7 @@ export class DisplayView {
    */
   showSignBrightness({ lamps, isOn, stillness }, lamp) {
     const litPattern = isOn[lamp] ? MINUS_PATTERN : 0;
-    if (stillness[lamp].isStill) this.signDigit.set(litPattern);
+    if (stillness[lamp].isSteady) this.signDigit.set(litPattern);
     else this.signDigit.showDutyCycles(litPattern, SEGMENT_PATHS.map((_, index) => (1 << index === MINUS_PATTERN ? lamps[lamp] : 0)));
   }
 

@@ -37,8 +37,8 @@ const MAX_LARGE_LEGEND_LENGTH = 4;
 export class FrontView {
   /**
    * @param {(button: HTMLButtonElement, key: BoardKey) => void} connectKey connects a button to its key
-   * @param {(face: string, number: number) => void} watchLamps asks the bench to measure the duty cycle of each lamp; `face` is the panel's
-   *   comments and `number` the panel's number
+   * @param {(face: string, number: number) => void} watchLamps asks the bench to measure the duty cycle of each lamp; `face` is the text of
+   *   the front panel's comments and `number` the panel's serial number
    */
   constructor(connectKey, watchLamps) {
     this.connectKey = connectKey;
@@ -55,7 +55,7 @@ export class FrontView {
     this.columns = 1;
     this.lamps = new LampsView();
     this.display = new DisplayView();
-    /** The number of the current front panel. The first panel that is drawn has number 1, the next one 2. */
+    /** The serial number of the current front panel: 1 for the first panel that the page draws, 2 for the second; 0 before the first. */
     this.faceNumber = 0;
     this.brightness = new Brightness(new Face(""), 0);
     /** True if the lamps show their perceived brightness, false if they show their state at one instant. */

@@ -20,21 +20,21 @@ import { formatKey } from "../../core/board/key_place.js";
  */
 
 /**
- * A key that a finger presses. If `staysDown` is true, the key stays down when the finger lifts. `undoPress` restores the state of the key
- * before the press.
+ * A board key that the user holds with a pointer or a keyboard key. If `staysDown` is true, the board key stays down when the user lets go.
+ * `undoPress` restores the state of the key before the press.
  * @typedef {{ key: Key, staysDown: boolean, undoPress: () => void }} HeldKey
  */
 
 /** The delay in milliseconds before a touch presses a key. Within this time the browser recognises a scroll gesture. */
 const SWIPE_DELAY_MS = 60;
-/** The time in milliseconds after a finger lifts in which every click counts as a click by that finger, whatever its pointer type. */
+/** A click within this time in milliseconds after the end of a pointer press belongs to that press and is ignored. */
 const TAP_CLICK_MS = 500;
 
 export class KeyPresser {
   /** @param {KeyPresserCalls} calls */
   constructor(calls) {
     this.calls = calls;
-    /** @type {Map<string, HeldKey>} the keys that fingers press, by key name */
+    /** @type {Map<string, HeldKey>} the board keys that the user holds, by key name */
     this.heldKeys = new Map();
     /** @type {Map<number, number>} the timers of touches that may still become swipes, by pointer id */
     this.touchTimers = new Map();
@@ -65,21 +65,21 @@ export class KeyPresser {
       liftTime = event.timeStamp;
       // A tap shorter than SWIPE_DELAY_MS has not pressed the key yet.
       if (this.cancelTouch(event.pointerId)) this.pressOrRelease(boardKey, false);
-      this.liftFinger(key);
+      this.endPress(key);
     });
     button.addEventListener("pointercancel", (event) => {
       if (!this.cancelTouch(event.pointerId)) this.undoPress(key);
     });
-    button.addEventListener("lostpointercapture", () => this.liftFinger(key));
+    button.addEventListener("lostpointercapture", () => this.endPress(key));
     button.addEventListener("contextmenu", (event) => event.preventDefault());
     button.addEventListener("keydown", (event) => this.activate(event, () => this.pressOrRelease(boardKey, event.shiftKey)));
-    button.addEventListener("keyup", (event) => this.activate(event, () => this.liftFinger(key)));
+    button.addEventListener("keyup", (event) => this.activate(event, () => this.endPress(key)));
     // A click without a pointer or a keyboard, for example from a screen reader, presses and releases the key.
     button.addEventListener("click", (event) => {
       if (event.detail !== 0 || event.timeStamp - liftTime < TAP_CLICK_MS) return;
       if (event instanceof PointerEvent && event.pointerId > 0) return;
       this.pressOrRelease(boardKey, false);
-      this.liftFinger(key);
+      this.endPress(key);
     });
   }
 
@@ -151,11 +151,11 @@ export class KeyPresser {
   }
 
   /**
-   * Releases a key when its finger lifts, unless the key stays down. If time was paused in between, the release takes effect when time
+   * Ends a press of a key: releases the key unless it stays down. If time was paused during the press, the release takes effect when time
    * resumes.
    * @param {Key} key
    */
-  liftFinger(key) {
+  endPress(key) {
     const name = formatKey(key);
     const heldKey = this.heldKeys.get(name);
     if (heldKey === undefined) return;
@@ -164,7 +164,7 @@ export class KeyPresser {
   }
 
   releaseAll() {
-    for (const { key } of [...this.heldKeys.values()]) this.liftFinger(key);
+    for (const { key } of [...this.heldKeys.values()]) this.endPress(key);
   }
 
   /** Lets the computer's keyboard press the board's keys, unless another element handles the key. */
@@ -182,7 +182,7 @@ export class KeyPresser {
     addEventListener("keyup", (event) => {
       const key = keysByCode.get(event.code);
       keysByCode.delete(event.code);
-      if (key !== undefined) this.liftFinger(key);
+      if (key !== undefined) this.endPress(key);
     });
     // The page does not receive key releases after it has lost the focus.
     addEventListener("blur", () => {

@@ -3,7 +3,7 @@
 
 import { block, element } from "../ui/dom.js";
 import { perceivedBrightness } from "../../core/board/brightness.js";
-import { fittingGroups, isScanned, lampsOutsideGroups } from "../../core/board/face_board.js";
+import { fittingGroups, isMultiplexed, lampsOutsideGroups } from "../../core/board/face_board.js";
 import { lampAt, scannedLampAt } from "../../core/board/lamp_state.js";
 import { indices } from "../../core/bench/numbers.js";
 import * as say from "../../words/board.js";
@@ -18,13 +18,13 @@ import * as say from "../../words/board.js";
 /** A drawn lamp. `show` updates the page only if the lamp's brightness has changed. */
 class Lamp {
   /**
-   * @param {LampReader} seenLamp
+   * @param {LampReader} reader
    * @param {string} name
-   * @param {string} line
+   * @param {string} line the names of the lines that light the lamp
    * @param {string} colour
    */
-  constructor(seenLamp, name, line, colour) {
-    this.seenLamp = seenLamp;
+  constructor(reader, name, line, colour) {
+    this.reader = reader;
     this.isLit = false;
     this.dutyCycle = 0;
     this.brightness = 0;
@@ -81,7 +81,7 @@ export class LampsView {
   constructor() {
     /** @type {Lamp[]} */
     this.lamps = [];
-    /** @type {string[]} */
+    /** @type {string[]} the line of each lamp */
     this.lines = [];
     /** @type {Face | null} */
     this.face = null;
@@ -99,7 +99,7 @@ export class LampsView {
     const grid = face.grid.filter(({ lamp }) => lamp < lines.length);
     let scannedCount = 0;
     const groupNodes = groups.filter(({ kind }) => kind !== "display").map((group) => (
-      isScanned(group) ? this.drawScanned(group, scannedCount++) : this.drawGroup(group)));
+      isMultiplexed(group) ? this.drawScanned(group, scannedCount++) : this.drawGroup(group)));
     if (grid.length > 0) groupNodes.push(this.drawGrid(grid));
     block("groups").replaceChildren(...groupNodes);
     block("lamps").replaceChildren(...this.drawRows(lampsOutsideGroups(face, lines.length)));
@@ -121,13 +121,13 @@ export class LampsView {
 
   /**
    * @param {number} index the index of the lamp whose colour is used
-   * @param {LampReader} seenLamp
+   * @param {LampReader} reader
    * @param {string} name
    * @param {string} line
    */
-  addLamp(index, seenLamp, name, line) {
+  addLamp(index, reader, name, line) {
     const colour = this.face && this.face.colours.get(index);
-    const lamp = new Lamp(seenLamp, name, line, colour ? colour.text : "red");
+    const lamp = new Lamp(reader, name, line, colour ? colour.text : "red");
     this.lamps.push(lamp);
     return lamp.node;
   }
@@ -147,8 +147,8 @@ export class LampsView {
    */
   drawScanned(group, number) {
     return lampList(group, (index, words) => {
-      const seenLamp = scannedLampAt(group, number, index);
-      return this.addLamp(seenLamp.column, seenLamp, words, say.both(this.lines[seenLamp.column], this.lines[seenLamp.row]));
+      const reader = scannedLampAt(group, number, index);
+      return this.addLamp(reader.column, reader, words, say.both(this.lines[reader.column], this.lines[reader.row]));
     });
   }
 
@@ -193,13 +193,13 @@ export class LampsView {
   /** @param {string} marks one character per lamp: `*` if the lamp is on at this instant */
   show(marks) {
     for (const lamp of this.lamps) {
-      const isOn = lamp.seenLamp.isLit(marks);
+      const isOn = lamp.reader.isLit(marks);
       lamp.show(Number(isOn), isOn);
     }
   }
 
   /** @param {Brightness} brightness */
   showBrightness(brightness) {
-    for (const lamp of this.lamps) lamp.show(lamp.seenLamp.part(brightness), lamp.seenLamp.isOn(brightness));
+    for (const lamp of this.lamps) lamp.show(lamp.reader.duty(brightness), lamp.reader.isOn(brightness));
   }
 }

@@ -19,7 +19,7 @@ import { printoutLines } from "../../core/board/printout_lines.js";
  * @property {() => void} clear Clears the bench's copy of the printout.
  */
 
-/** The maximum number of lines on the page. The page shows the last lines of a longer printout. */
+/** The maximum number of lines that are shown. Of a longer printout, only the last lines are shown. */
 const MAX_SHOWN_LINES = 400;
 /** The distance in pixels from the end of the printout within which the view follows new lines. */
 const MAX_END_DISTANCE = 24;
@@ -32,7 +32,7 @@ export class PrinterView {
     this.printer = null;
     /** @type {number[]} the codes that were sent to the printer */
     this.codes = [];
-    /** @type {string[]} the lines on the page */
+    /** @type {string[]} the lines that are shown */
     this.lines = [];
     this.root = block("strip");
     this.printoutBlock = block("paper");
@@ -45,7 +45,7 @@ export class PrinterView {
   }
 
   /**
-   * Draws the printer of another board or front panel.
+   * Selects the printer of a new board or front panel, and shows its printout.
    * @param {Board} board
    * @param {Face} face
    */

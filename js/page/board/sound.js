@@ -3,7 +3,7 @@
 
 import { CYCLES_PER_SECOND } from "../../core/time/mcs4_time.js";
 import { Cell, block, button, onClick, pressedSwitch } from "../ui/dom.js";
-import { SoundPieces } from "../../core/board/sound_samples.js";
+import { SampleBuffer } from "../../core/board/sound_samples.js";
 import * as say from "../../words/board.js";
 
 /**
@@ -32,7 +32,7 @@ const CUTOFF_HERTZ = 30;
 class Player {
   constructor() {
     this.context = new AudioContext();
-    this.pieces = new SoundPieces(BLOCK_CYCLES);
+    this.pieces = new SampleBuffer(BLOCK_CYCLES);
     /** The end time of the last block, in seconds of the audio context. */
     this.endTime = 0;
     const volume = new GainNode(this.context, { gain: GAIN });
@@ -41,9 +41,9 @@ class Player {
     volume.connect(filter).connect(this.context.destination);
   }
 
-  /** @param {BuzzerLevels} heard */
-  play(heard) {
-    const samples = this.pieces.add(heard);
+  /** @param {BuzzerLevels} levels */
+  play(levels) {
+    const samples = this.pieces.add(levels);
     const currentTime = this.context.currentTime;
     if (!samples || this.endTime > currentTime + MAX_DELAY_SECONDS) return;
     // An audio context's time is 0 until it runs.
@@ -109,8 +109,8 @@ export class Sound {
     this.calls.listenToLine(isOn && this.calls.isRealTime() ? this.line : "");
   }
 
-  /** @param {BuzzerLevels | null} heard */
-  playHeard(heard) {
-    if (this.player && heard && this.calls.isRealTime()) this.player.play(heard);
+  /** @param {BuzzerLevels | null} levels */
+  playLevels(levels) {
+    if (this.player && levels && this.calls.isRealTime()) this.player.play(levels);
   }
 }

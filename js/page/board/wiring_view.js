@@ -16,7 +16,7 @@ import * as say from "../../words/board.js";
  * @typedef {import("../../core/board/wiring.js").Part} Part
  * @typedef {import("../../core/board/wiring.js").Pin} Pin
  * @typedef {import("../../core/board/wiring.js").Wire} Wire
- * @typedef {(Switch | undefined)[]} Levels the levels of a port or a chain; undefined for lines that are not drawn
+ * @typedef {(Switch | undefined)[]} Levels the drawn level of each line of a port or a chain; undefined for lines that are not drawn
  */
 
 /** The radius of a pin's clickable area, in SVG units. */
@@ -30,14 +30,14 @@ const MIN_WIDTH = 560;
 const MIN_HEIGHT = 240;
 
 export class WiringView {
-  /** @param {() => boolean} isShown returns true if the picture is in front */
+  /** @param {() => boolean} isShown returns true if the wiring tab is in front */
   constructor(isShown) {
     this.isShown = isShown;
     this.root = block("wiring-picture");
     this.words = block("wiring-words");
     /** @type {Map<string, Switch>} the level of each line, by line name; the name of the TEST pin is "" */
     this.levels = new Map();
-    /** @type {Map<string, SVGElement>} the parts and pins by name, in drawing order */
+    /** @type {Map<string, SVGElement>} the elements of parts and pins by name, in drawing order */
     this.items = new Map();
     /** @type {Map<string, Part>} */
     this.parts = new Map();
@@ -53,6 +53,7 @@ export class WiringView {
     this.chains = [];
     /** @type {Map<string, Levels>} the line levels of each RAM chip, by `bank.chip` */
     this.rams = new Map();
+    /** The name that `mark` received last; "" for none. */
     this.markedName = "";
     /** The name of the part or pin that the Tab key moves the focus to. */
     this.tabStop = "";
@@ -75,7 +76,7 @@ export class WiringView {
     this.ramPorts.clear();
   }
 
-  /** Shows the last reported levels. Called only while the picture is in front. */
+  /** Shows the last levels that the bench reported. Called only while the wiring tab is in front. */
   showLevels() {
     const { ports } = this;
     // While a session opens, its first levels can arrive before its board is drawn.
@@ -142,7 +143,7 @@ export class WiringView {
    * Returns a wire's elements: its path, and a wider invisible path as the clickable area.
    * @param {Wire} wire
    * @param {string} d the wire's SVG path
-   * @param {Map<string, SVGElement[]>} nodes
+   * @param {Map<string, SVGElement[]>} nodes the elements of each line, by line name; receives the path
    */
   drawWire(wire, d, nodes) {
     const path = svgElement("path", { class: "wire", d });
@@ -154,7 +155,7 @@ export class WiringView {
 
   /**
    * @param {Part} part
-   * @param {Map<string, SVGElement[]>} nodes
+   * @param {Map<string, SVGElement[]>} nodes the elements of each line, by line name; receives the pins
    */
   drawPart(part, nodes) {
     const { id, kind, title, x, y, width, height, descriptions } = part;
@@ -182,7 +183,7 @@ export class WiringView {
    * Returns a pin's element, with its label inside the part. A lamp's pin is drawn as the lamp.
    * @param {Part} part
    * @param {Pin} pin
-   * @param {Map<string, SVGElement[]>} nodes
+   * @param {Map<string, SVGElement[]>} nodes the elements of each line, by line name; receives the pin
    */
   drawPin(part, pin, nodes) {
     const isLeft = pin.x === part.x;
@@ -208,7 +209,7 @@ export class WiringView {
   }
 
   /**
-   * Returns a text that lists the pins to which a pin is wired.
+   * Returns a description of a pin's connection: its line, the other pins on its wires, or "not wired".
    * @param {Pin} pin
    */
   describePin({ id, line }) {

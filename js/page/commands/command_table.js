@@ -8,70 +8,68 @@ import * as say from "../../words/page_commands.js";
 
 /**
  * @typedef {import("../ui/icons.js").IconName} IconName
- * @typedef {"everywhere" | "texts" | "source" | "board" | "tests" | "properties"} KeyPlace the texts of the page in which a command's keys
- *   work
+ * @typedef {"everywhere" | "texts" | "source" | "board" | "tests" | "properties"} KeyPlace where a command's keys work: everywhere, in all
+ *   text editors, or in one of them
  * @typedef {"system" | "light" | "dark"} Theme
  *
- * A command. `id` names it within the page's modules. `words` is its label. `group` is its group in lists. `icon` is its optional icon.
- * `keys` are its keys; lists show the first one. `place` says in which texts the keys work. `act` executes the command.
- * `wordsNow` returns a label that depends on whether time is running. `whyNot` returns the reason why the command cannot run now, or "" if
- * it can.
+ * A command of the page. `words` is its label, `group` its group in lists, and `icon` its icon in the toolbar and in lists. `keys` are its
+ * key bindings; lists show the first. `place` says where these keys work. `act` executes the command. `wordsNow` returns a label that
+ * depends on whether time is running. `whyNot` returns the reason why the command is unavailable, or "" if it is available.
  * @typedef {{ id: string, words: string, group: keyof typeof say.GROUPS, icon?: IconName, keys: string[], place: KeyPlace,
  *   wordsNow?: (calls: CommandCalls) => string,
  *   act: (calls: CommandCalls) => void, whyNot: (calls: CommandCalls) => string }} Command
  *
  * @typedef {"find" | "replace" | "line" | "comment" | "complete" | "define" | "uses" | "rename" | "fold" | "unfold" | "foldAll" |
- * "unfoldAll" | "undo" | "redo"} TextAct an editing action
+ * "unfoldAll" | "undo" | "redo"} TextAction an editing action
  */
 
 /**
- * The callbacks through which commands reach the page. If a call fails to open or send something, the call itself reports the failure to
- * the user.
+ * The callbacks through which commands act on the page. A callback that fails to open or send something reports the error to the user.
  * @typedef {object} CommandCalls
  * @property {() => boolean} isRunning Returns true if time is running.
- * @property {() => void} runOrStop Resumes or pauses time.
+ * @property {() => void} continueOrPause Resumes or pauses time.
  * @property {() => void} step Executes one instruction.
  * @property {(goal: import("../../core/debug/goals.js").Goal) => void} goOn Runs until a goal is reached.
  * @property {(goal: import("../../core/engine/past_search.js").BackGoal) => void} goBack Goes back to a goal.
  * @property {() => void} goForward Returns to the state before the last move back.
  * @property {() => boolean} canGoForward Returns true if a move back can be undone.
  * @property {() => void} runToCursor Runs to the line of the caret in the source.
- * @property {(line: string) => void} serve Sends one line to the bench and logs its answer.
- * @property {() => void} test Changes the level of the TEST pin.
+ * @property {(line: string) => void} sendLine Sends one line to the bench and logs its answer.
+ * @property {() => void} toggleTestPin Changes the level of the TEST pin.
  * @property {(id: string) => void} setSpeed Sets the speed. `id` is the speed's id in speeds.js.
  * @property {(theme: Theme) => void} setTheme Sets the colours of the page.
  * @property {() => void} print Prints the page.
  * @property {(name: string) => void} show Brings a text or a panel to the front, by its name.
  * @property {(button: string, shown: string) => void} press Brings the text or panel `shown` to the front, then clicks the button with the
  *   id `button`.
- * @property {(button: string) => boolean} isOffered Returns true if the button with the id `button` can be used.
+ * @property {(button: string) => boolean} isOffered Returns true if the button with the id `button` is available.
  * @property {(field: string, shown: string) => void} enter Brings the text or panel `shown` to the front, then focuses the field with the
  *   id `field`.
- * @property {(text: TextName) => void} send Sends a text to the bench, like the first button of its editor.
+ * @property {(text: TextName) => void} sendText Sends a text to the bench, like the first button of the text's editor.
  * @property {(box: string) => void} toggle Toggles the check box with the id `box`.
- * @property {(isSource: boolean) => boolean} hasText Returns true if a text is in front. If `isSource` is true, returns true only if that
- *   text is the source.
- * @property {(what: TextAct) => void} inText Performs an editing action in the text that is in front.
- * @property {(what?: import("../machine/breakpoint_form.js").BreakpointField) => void} breakpoint Toggles the breakpoint at the caret's
- *   line. With a field, opens that field of the breakpoint.
+ * @property {(isSource: boolean) => boolean} hasText Returns true if a text editor is in front. If `isSource` is true, only the source's
+ *   editor counts.
+ * @property {(what: TextAction) => void} performTextAction Performs an editing action in the editor that is in front.
+ * @property {(what?: import("../machine/breakpoint_form.js").BreakpointField) => void} toggleOrEditBreakpoint Toggles the
+ *   breakpoint at the caret's line. With a field, opens that field of the breakpoint instead.
  * @property {() => void} open Asks for a file to open.
  * @property {() => void} save Saves the project to a file.
  * @property {() => void} saveSession Saves only the session file.
  * @property {() => void} exportFiles Opens the dialog to export texts and ROM images.
- * @property {() => void} projects Opens the list of projects.
+ * @property {() => void} openProjects Opens the list of projects.
  * @property {() => void} share Creates a link to the session.
- * @property {() => void} notices Opens the list of notices.
+ * @property {() => void} openNotices Opens the list of notices.
  * @property {() => boolean} hasNotices Returns true if the list of notices has entries.
- * @property {() => void} scanKeys Inserts a key scan routine into the source.
+ * @property {() => void} insertKeyScan Inserts a key scan routine into the source.
  * @property {() => boolean} hasKeys Returns true if the board has a key matrix.
  * @property {(id: string) => void} togglePanel Shows or hides a panel by its id.
- * @property {(id: string) => void} fullPanel Maximises a panel, or restores its size.
+ * @property {(id: string) => void} toggleMaximizedPanel Maximises a panel, or restores its size.
  * @property {() => void} resetLayout Restores the initial layout of the page.
  * @property {() => void} toggleHelp Closes the help, or opens it at the word at the caret.
- * @property {() => void} examples Opens the list of examples.
- * @property {() => void} welcome Opens the welcome cards.
- * @property {(wanted?: string) => void} help Opens the help. With `wanted`, shows the entry of that name.
- * @property {(begin: string) => void} palette Opens the command palette with `begin` as the text of its field.
+ * @property {() => void} openExamples Opens the list of examples.
+ * @property {() => void} openWelcome Opens the welcome cards.
+ * @property {(wanted?: string) => void} openHelp Opens the help. With `wanted`, shows the entry with this name.
+ * @property {(begin: string) => void} openPalette Opens the command palette with `begin` as the text of its field.
  */
 
 /**
@@ -96,8 +94,8 @@ function command(id, group, action, options = {}) {
  * Returns a command that clicks a button of a panel.
  * @param {CommandId} id
  * @param {Command["group"]} group
- * @param {string} button
- * @param {string} containerName the text or panel that has the button
+ * @param {string} button the id of the button
+ * @param {string} containerName the name of the text or panel that contains the button
  * @param {string} [reason] the message that explains why the button is not available
  * @param {Partial<Command>} [options]
  */
@@ -108,20 +106,20 @@ function buttonCommand(id, group, button, containerName, reason = say.NOT_NOW, o
 }
 
 /**
- * Returns a command that acts on the text in front.
+ * Returns a command that performs an editing action in the editor that is in front.
  * @param {CommandId} id
- * @param {TextAct} textAction
+ * @param {TextAction} textAction
  * @param {string[]} keys
- * @param {boolean} [isSource] true if the command applies only to the source
+ * @param {boolean} [isSource] true if the command is available only in the source's editor
  */
 function textCommand(id, textAction, keys, isSource = false) {
-  return command(id, "text", (calls) => calls.inText(textAction), { keys, place: isSource ? "source" : "texts",
+  return command(id, "text", (calls) => calls.performTextAction(textAction), { keys, place: isSource ? "source" : "texts",
     whyNot: (calls) => (calls.hasText(isSource) ? "" : isSource ? say.NO_NAMES : say.NO_EDITOR) });
 }
 
 /** @type {Command[]} */
 const TIME_COMMANDS = [
-  command("time.continue", "time", (calls) => calls.runOrStop(), {
+  command("time.continue", "time", (calls) => calls.continueOrPause(), {
     icon: "continue", keys: ["F5", "F8"], wordsNow: (calls) => say.COMMANDS[calls.isRunning() ? "time.pause" : "time.continue"] }),
   command("time.over", "time", (calls) => calls.goOn({ kind: "over" }), { icon: "over", keys: ["F10"] }),
   command("time.into", "time", (calls) => calls.step(), { icon: "into", keys: ["F11"] }),
@@ -135,8 +133,8 @@ const TIME_COMMANDS = [
   command("time.count", "time", (calls) => calls.enter("step-count", "history")),
   command("time.untilChange", "time", (calls) => calls.enter("change-place", "history")),
   buttonCommand("time.backToChange", "time", "back-change", "history"),
-  command("time.reset", "time", (calls) => calls.serve("reset\n"), { icon: "reset" }),
-  command("time.test", "time", (calls) => calls.test(), { whyNot: (calls) => (calls.isOffered("test") ? "" : say.NO_TEST_PIN) }),
+  command("time.reset", "time", (calls) => calls.sendLine("reset\n"), { icon: "reset" }),
+  command("time.test", "time", (calls) => calls.toggleTestPin(), { whyNot: (calls) => (calls.isOffered("test") ? "" : say.NO_TEST_PIN) }),
 ];
 
 /** @type {Command[]} */
@@ -146,23 +144,23 @@ const PROJECT_COMMANDS = [
   command("project.saveSession", "project", (calls) => calls.saveSession(), { icon: "file" }),
   command("project.export", "project", (calls) => calls.exportFiles(), { icon: "export" }),
   command("project.print", "project", (calls) => calls.print(), { icon: "print" }),
-  command("project.all", "project", (calls) => calls.projects(), { icon: "projects" }),
-  command("project.examples", "project", (calls) => calls.examples(), { icon: "examples" }),
+  command("project.all", "project", (calls) => calls.openProjects(), { icon: "projects" }),
+  command("project.examples", "project", (calls) => calls.openExamples(), { icon: "examples" }),
   command("project.rename", "project", (calls) => calls.enter("name", "")),
   command("project.share", "project", (calls) => calls.share(), { icon: "share" }),
 ];
 
 /** @type {Command[]} */
 const SHOW_COMMANDS = [
-  command("settings.palette", "show", (calls) => calls.palette(">"), { icon: "search", keys: ["Ctrl+Shift+P", "Ctrl+K"] }),
-  command("go.to", "show", (calls) => calls.palette(""), { icon: "goTo", keys: ["Ctrl+P"] }),
-  command("go.notices", "show", (calls) => calls.notices(), { icon: "notices",
+  command("settings.palette", "show", (calls) => calls.openPalette(">"), { icon: "search", keys: ["Ctrl+Shift+P", "Ctrl+K"] }),
+  command("go.to", "show", (calls) => calls.openPalette(""), { icon: "goTo", keys: ["Ctrl+P"] }),
+  command("go.notices", "show", (calls) => calls.openNotices(), { icon: "notices",
     whyNot: (calls) => (calls.hasNotices() ? "" : say.NO_NOTICES) }),
 ];
 
 /** @type {Command[]} */
 const BOARD_COMMANDS = [
-  command("board.apply", "board", (calls) => calls.send("board"), { keys: ["Ctrl+Enter"], place: "board" }),
+  command("board.apply", "board", (calls) => calls.sendText("board"), { keys: ["Ctrl+Enter"], place: "board" }),
   command("board.type", "board", (calls) => calls.toggle("typing")),
   buttonCommand("board.sound", "board", "sound-button", "front", say.NO_BUZZER),
   buttonCommand("board.tear", "board", "clear-printout", "front", say.NO_PRINTER),
@@ -172,7 +170,7 @@ const BOARD_COMMANDS = [
 
 /** @type {Command[]} */
 const TEXT_COMMANDS = [
-  command("text.assembleAndRun", "text", (calls) => calls.send("program"), { icon: "assemble", keys: ["Ctrl+Enter"], place: "source" }),
+  command("text.assembleAndRun", "text", (calls) => calls.sendText("program"), { icon: "assemble", keys: ["Ctrl+Enter"], place: "source" }),
   buttonCommand("text.assemble", "text", "assemble-only", "program"),
   buttonCommand("text.disassemble", "text", "from-rom", "program"),
   textCommand("text.find", "find", ["Ctrl+F"]),
@@ -196,10 +194,10 @@ const TEXT_COMMANDS = [
 
 /** @type {Command[]} */
 const DEBUG_COMMANDS = [
-  command("debug.breakpoint", "debug", (calls) => calls.breakpoint(), { icon: "breakpoint", keys: ["F9"] }),
-  command("debug.condition", "debug", (calls) => calls.breakpoint("condition"), { keys: ["Shift+F9"] }),
-  command("debug.hitCount", "debug", (calls) => calls.breakpoint("from")),
-  command("debug.log", "debug", (calls) => calls.breakpoint("note")),
+  command("debug.breakpoint", "debug", (calls) => calls.toggleOrEditBreakpoint(), { icon: "breakpoint", keys: ["F9"] }),
+  command("debug.condition", "debug", (calls) => calls.toggleOrEditBreakpoint("condition"), { keys: ["Shift+F9"] }),
+  command("debug.hitCount", "debug", (calls) => calls.toggleOrEditBreakpoint("from")),
+  command("debug.log", "debug", (calls) => calls.toggleOrEditBreakpoint("note")),
   buttonCommand("debug.allOn", "debug", "breakpoints-on", "breakpoints", say.NO_BREAKPOINTS),
   buttonCommand("debug.allOff", "debug", "breakpoints-off", "breakpoints", say.NO_BREAKPOINTS),
   buttonCommand("debug.hits", "debug", "breakpoints-hits", "breakpoints", say.NO_BREAKPOINTS),
@@ -214,10 +212,10 @@ const DEBUG_COMMANDS = [
 
 /** @type {Command[]} */
 const TEST_COMMANDS = [
-  command("tests.run", "tests", (calls) => calls.send("tests"), { icon: "tests", keys: ["Ctrl+Enter"], place: "tests" }),
+  command("tests.run", "tests", (calls) => calls.sendText("tests"), { icon: "tests", keys: ["Ctrl+Enter"], place: "tests" }),
   buttonCommand("tests.first", "tests", "first-test", "tests", say.HAS_TEXT),
   buttonCommand("tests.clear", "tests", "clear-tests", "tests", say.NO_RESULTS),
-  command("properties.search", "tests", (calls) => calls.send("properties"), { keys: ["Ctrl+Enter"], place: "properties" }),
+  command("properties.search", "tests", (calls) => calls.sendText("properties"), { keys: ["Ctrl+Enter"], place: "properties" }),
   buttonCommand("properties.prove", "tests", "prove", "properties", "", { keys: ["Ctrl+Shift+Enter"], place: "properties" }),
   buttonCommand("properties.first", "tests", "first-properties", "properties", say.HAS_TEXT),
   buttonCommand("properties.clear", "tests", "clear-finds", "properties", say.NO_RESULTS),
@@ -229,7 +227,7 @@ const WIRING_COMMANDS = [
   buttonCommand("wiring.undo", "wiring", "drawing-undo", "wiring"),
   buttonCommand("wiring.redo", "wiring", "drawing-redo", "wiring"),
   buttonCommand("wiring.arrange", "wiring", "drawing-tidy", "wiring"),
-  command("wiring.scan", "wiring", (calls) => calls.scanKeys(), { whyNot: (calls) => (calls.hasKeys() ? "" : say.NO_KEYS) }),
+  command("wiring.scan", "wiring", (calls) => calls.insertKeyScan(), { whyNot: (calls) => (calls.hasKeys() ? "" : say.NO_KEYS) }),
   buttonCommand("wiring.larger", "wiring", "picture-larger", "wiring"),
   buttonCommand("wiring.smaller", "wiring", "picture-smaller", "wiring"),
   buttonCommand("wiring.fit", "wiring", "picture-fit", "wiring"),
@@ -238,7 +236,7 @@ const WIRING_COMMANDS = [
 /**
  * Returns a command for a button that needs recorded waves.
  * @param {CommandId} id
- * @param {string} button
+ * @param {string} button the id of the button
  */
 const waveCommand = (id, button) => buttonCommand(id, "waves", button, "waves", say.NO_WAVES);
 
@@ -269,15 +267,15 @@ const WAVE_COMMANDS = [
 /** @type {Command[]} */
 const HELP_COMMANDS = [
   command("help.open", "help", (calls) => calls.toggleHelp(), { icon: "help", keys: ["F1"] }),
-  command("help.keys", "help", (calls) => calls.help(KEYBOARD)),
-  command("help.welcome", "help", (calls) => calls.welcome(), { icon: "lamp" }),
+  command("help.keys", "help", (calls) => calls.openHelp(KEYBOARD)),
+  command("help.welcome", "help", (calls) => calls.openWelcome(), { icon: "lamp" }),
   buttonCommand("help.tour", "help", "tour-begin", "", "", { icon: "lamp" }),
 ];
 
 /**
- * Returns one of several similar commands, such as the command that shows one panel.
+ * Returns a command whose label is not in the table of labels, such as the command that shows a given panel.
  * @param {string} id
- * @param {string} words
+ * @param {string} words the label
  * @param {Command["group"]} group
  * @param {Command["act"]} action
  * @param {IconName} [icon]
@@ -297,7 +295,7 @@ const PANEL_COMMANDS = [...Object.entries(say.TEXTS), ...Object.entries(say.PANE
 const LAYOUT_COMMANDS = [
   ...Object.entries(PANELS).flatMap(([id, name]) => [
     labelledCommand(`panel.${id}`, say.toggledPanel(name), "show", (calls) => calls.togglePanel(id)),
-    labelledCommand(`full.${id}`, say.fullPanel(name), "show", (calls) => calls.fullPanel(id)),
+    labelledCommand(`full.${id}`, say.fullPanel(name), "show", (calls) => calls.toggleMaximizedPanel(id)),
   ]),
   labelledCommand("layout.reset", RESET_LAYOUT, "show", (calls) => calls.resetLayout()),
 ];

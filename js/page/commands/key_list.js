@@ -1,4 +1,4 @@
-// The table of keys in the help: first the keys of commands, then the other keys of the section.
+// The table of command keys in the help's section about the keyboard.
 
 import { COMMANDS } from "./command_table.js";
 import { KEYBOARD } from "../../words/help.js";

@@ -9,7 +9,7 @@ import { COMMANDS, commandById } from "./command_table.js";
  */
 
 /**
- * Returns the name of a key with its modifiers, as the command table writes it. Command counts as Control.
+ * Returns the name of a key with its modifiers, as the command table writes it. The Command key counts as Control.
  * @param {KeyPress} event
  */
 export function formatKey({ key, ctrlKey, metaKey, altKey, shiftKey }) {
@@ -31,7 +31,7 @@ export function commandForKey(event) {
 }
 
 /**
- * Listens to the keys that work everywhere. While a dialog is open, these keys execute neither the command nor the browser's default
+ * Listens to the keys that work everywhere. While a dialog is open, these keys trigger neither the command nor the browser's default
  * action.
  * @param {(command: Command) => void} action
  * @param {() => boolean} isBlocked
@@ -47,7 +47,7 @@ export function listenToKeys(action, isBlocked, target = window) {
 }
 
 /**
- * Returns the key bindings of a command for an editor: the editor's key names with the action.
+ * Returns the key bindings of a command for an editor, as a map from the editor's key names to the action.
  * @template Editor
  * @param {CommandId} id
  * @param {(editor: Editor) => void} action

@@ -5,8 +5,8 @@ import { icon } from "../ui/icons.js";
 import { putBelow } from "../ui/popup_message.js";
 
 /**
- * A menu item: its id, label, icon, key and action. For an item that is one of several alternatives, `isChosen` returns true if it is
- * selected. An item with `isNarrow` appears only in a narrow window; a wide window has a toolbar button instead.
+ * A menu item: its id, label, icon, key binding and action. For an item in a set of alternatives, `isChosen` returns true if the item is
+ * the current alternative. An item with `isNarrow` appears only in a narrow window; a wide window has a toolbar button instead.
  * @typedef {{ id?: string, words: string, icon?: import("../ui/icons.js").IconName, key?: string, act: () => void,
  *   isChosen?: () => boolean, isNarrow?: boolean }} MenuItem
  */
@@ -67,7 +67,7 @@ class MenuList {
     return this.buttons.filter((button) => button.offsetParent !== null);
   }
 
-  /** @param {number} index */
+  /** @param {number} index the index among the visible buttons; -1 for the last button */
   focus(index) {
     const { visibleButtons } = this;
     visibleButtons[(index + visibleButtons.length) % visibleButtons.length].focus();
@@ -183,7 +183,7 @@ export class ContextMenu {
     this.menu.focus(0);
   }
 
-  /** Closes the menu and returns the focus to the element that had it before. */
+  /** Closes the menu and returns the focus to the element that had the focus before the menu opened. */
   close() {
     if (this.priorFocus instanceof HTMLElement) this.priorFocus.focus();
     this.menu.show(false);

@@ -16,10 +16,10 @@ import * as say from "../../words/page_commands.js";
  * @property {() => string[]} examples Returns the names of the examples.
  * @property {() => { id: string, name: string }[]} projects Returns the ids and names of the saved projects.
  * @property {(name: string) => void} show Brings a text to the front, by the name of its tab.
- * @property {(line: number) => void} line Shows a line of the source. Lines count from 1.
- * @property {(address: number) => void} address Shows an address in the source and in the disassembly.
- * @property {(name: string) => void} example Begins a new session from the example with a name.
- * @property {(id: string) => void} project Shows the project with an id.
+ * @property {(line: number) => void} showLine Shows a line of the source. Lines count from 1.
+ * @property {(address: number) => void} showAddress Shows an address in the source and in the disassembly.
+ * @property {(name: string) => void} beginExample Begins a new session from the example with this name.
+ * @property {(id: string) => void} openProject Opens the project with this id.
  */
 
 const LINE_NUMBER_QUERY = /^:\s*(\d+)$/;
@@ -34,11 +34,11 @@ const makeEntry = (words, hint, action, isFound = false) => ({ words, hint, why:
  */
 function typedDestination(query, calls) {
   const [, line = ""] = LINE_NUMBER_QUERY.exec(query) || [];
-  if (line) return [makeEntry(say.lineNamed(Number(line)), "", () => calls.line(Number(line)), true)];
+  if (line) return [makeEntry(say.lineNamed(Number(line)), "", () => calls.showLine(Number(line)), true)];
   const map = calls.map();
   if (query === "" || (map && map.names.has(query))) return [];
   const { address, words } = parseGoal(query, map);
-  return words ? [] : [makeEntry(say.addressNamed(hex(address, 3)), "", () => calls.address(address), true)];
+  return words ? [] : [makeEntry(say.addressNamed(hex(address, 3)), "", () => calls.showAddress(address), true)];
 }
 
 /**
@@ -54,8 +54,8 @@ export function listDestinations(query, calls) {
     ...typedDestination(query, calls),
     ...Object.entries(say.TEXTS).map(([name, words]) => makeEntry(words, say.A_TEXT, () => calls.show(name))),
     ...labels.map(({ name, value }) => (
-      makeEntry(name, say.labelAt(map ? map.lineOf(value) : 0, hex(value, 3)), () => calls.address(value)))),
-    ...calls.projects().map(({ id, name }) => makeEntry(name, say.A_PROJECT, () => calls.project(id))),
-    ...calls.examples().map((name) => makeEntry(name, say.GROUPS.example, () => calls.example(name))),
+      makeEntry(name, say.labelAt(map ? map.lineOf(value) : 0, hex(value, 3)), () => calls.showAddress(value)))),
+    ...calls.projects().map(({ id, name }) => makeEntry(name, say.A_PROJECT, () => calls.openProject(id))),
+    ...calls.examples().map((name) => makeEntry(name, say.GROUPS.example, () => calls.beginExample(name))),
   ];
 }

@@ -1,9 +1,9 @@
 // The palette's search: finds the entries that contain all words of the query, best matches first.
 
 /**
- * A palette entry. `words` is its label and `hint` the text next to it. `why` is the reason why it cannot run, or "" if it can. `isFound`
- * is true if the entry comes from another search, for example for an address. Such an entry is always listed, even if its label does not
- * match the query.
+ * A palette entry. `words` is its label and `hint` the text next to the label. `why` is the reason why the entry cannot be executed, or ""
+ * if it can. `isFound` is true if the entry was made for the query, for example for a typed address. Such an entry is always listed, even
+ * if its label does not match the query.
  * @typedef {{ words: string, hint: string, why: string, keys: string[], icon?: import("../ui/icons.js").IconName, isFound?: boolean,
  *   act: () => void }} Entry
  */

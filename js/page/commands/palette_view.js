@@ -8,12 +8,12 @@ import * as say from "../../words/page_commands.js";
 
 /**
  * @typedef {import("./palette_search.js").Entry} Entry
- * @typedef {{ commands: () => Entry[], places: (query: string) => Entry[] }} Sources `commands` returns the entries of all commands,
- *   `places` those of the destinations that match a query
+ * @typedef {{ commands: () => Entry[], places: (query: string) => Entry[] }} Sources `commands` returns an entry for each command, `places`
+ *   an entry for each destination, including a destination made for the query
  */
 
 /** The first character of a query that searches commands. A query without it searches destinations. */
-export const COMMAND_SIGN = ">";
+export const COMMAND_PREFIX = ">";
 /** The maximum number of entries that are drawn. */
 const MAX_DRAWN_ENTRIES = 500;
 /** The number of entries by which Page Up and Page Down move. */
@@ -52,14 +52,14 @@ export class PaletteView {
     this.field.setSelectionRange(begin.length, begin.length);
   }
 
-  /** True if the query begins with COMMAND_SIGN and therefore searches commands; false if it searches destinations. */
+  /** True if the query begins with COMMAND_PREFIX and therefore searches commands; false if it searches destinations. */
   get searchesCommands() {
-    return this.field.value.startsWith(COMMAND_SIGN);
+    return this.field.value.startsWith(COMMAND_PREFIX);
   }
 
   draw() {
     const { searchesCommands, field } = this;
-    const query = searchesCommands ? field.value.slice(COMMAND_SIGN.length) : field.value;
+    const query = searchesCommands ? field.value.slice(COMMAND_PREFIX.length) : field.value;
     const title = searchesCommands ? say.PALETTE : say.GO_TO;
     this.dialog.setAttribute("aria-label", title);
     this.list.setAttribute("aria-label", title);

@@ -17,11 +17,12 @@ import * as say from "../../words/page_commands.js";
  * @typedef {{ id: string, tip?: string, isWide?: boolean }} ButtonOptions the id and tooltip of a button; if `isWide`, its label is visible
  */
 
-/** The id of each command's button. */
+/** The id of each button that runs, steps or resets, by command. */
 const RUN_BUTTON_IDS = {
   "time.stepBack": "back-instruction", "time.continue": "run", "time.over": "over", "time.into": "step", "time.out": "out",
   "time.reset": "reset",
 };
+/** The id of each item of the file menu, by command. */
 const FILE_MENU_IDS = {
   "project.open": "open-button", "project.save": "save-button", "project.saveSession": "save-session-button",
   "project.export": "export-button", "project.print": "print-button", "project.all": "projects-button",
@@ -39,24 +40,24 @@ export class ToolbarView {
    */
   constructor(tips, theme) {
     this.tips = tips;
-    /** @type {(command: Command) => void} executes a command; the page sets it after it has been created */
+    /** @type {(command: Command) => void} executes a command; set when the page's commands are created */
     this.executeCommand = () => {};
     this.runWord = element("span", { className: "word" });
     this.runButtons = Object.entries(RUN_BUTTON_IDS).map(([command, id]) => (
       this.button(commandById(command), { id, tip: say.TOOLTIPS[command] })));
-    this.run = this.runButtons[1];
-    this.run.classList.add("primary");
+    this.runButton = this.runButtons[1];
+    this.runButton.classList.add("primary");
     this.showRunning(false);
-    this.notices = this.button(commandById("go.notices"), { id: "notices-button" });
-    this.notices.hidden = true;
-    this.help = this.button(commandById("help.open"), { id: "help-button" });
-    this.help.setAttribute("aria-controls", "help");
-    this.help.setAttribute("aria-expanded", "false");
+    this.noticesButton = this.button(commandById("go.notices"), { id: "notices-button" });
+    this.noticesButton.hidden = true;
+    this.helpButton = this.button(commandById("help.open"), { id: "help-button" });
+    this.helpButton.setAttribute("aria-controls", "help");
+    this.helpButton.setAttribute("aria-expanded", "false");
     this.file = this.fileMenu();
     block("session-bar").append(this.file.node, this.button(commandById("project.examples"), { id: "sessions-button", isWide: true }));
     block("steps").append(...this.runButtons);
     const share = this.button(commandById("project.share"), { id: "share-button", isWide: true });
-    block("tools").append(this.paletteButton(), share, this.notices, this.themeMenu(theme).node, this.help);
+    block("tools").append(this.paletteButton(), share, this.noticesButton, this.themeMenu(theme).node, this.helpButton);
   }
 
   /**
@@ -76,15 +77,15 @@ export class ToolbarView {
   }
 
   /**
-   * Shows on the run button what a click does: continue or pause.
+   * Shows on the run button the action of the next click: continue or pause.
    * @param {boolean} isRunning
    */
   showRunning(isRunning) {
     const words = say.COMMANDS[isRunning ? "time.pause" : "time.continue"];
     this.runWord.textContent = words;
-    this.run.replaceChildren(icon(isRunning ? "pause" : "continue"), this.runWord);
-    this.run.setAttribute("aria-label", words);
-    this.tips.add(this.run, () => ({ words, key: commandById("time.continue").keys[0] }));
+    this.runButton.replaceChildren(icon(isRunning ? "pause" : "continue"), this.runWord);
+    this.runButton.setAttribute("aria-label", words);
+    this.tips.add(this.runButton, () => ({ words, key: commandById("time.continue").keys[0] }));
   }
 
   paletteButton() {

@@ -17,21 +17,22 @@ import { PictureZoom } from "./picture_zoom.js";
  */
 
 /**
- * The callbacks through which the picture reaches the page.
- * @typedef {object} PictureOwnCalls
- * @property {() => boolean} isInFront Returns true if the picture is in front. Otherwise the picture is drawn when the user brings it to
- *   the front.
- * @property {() => void} putInFront Brings the picture to the front.
- * @property {() => Promise<string>} applyBoard Applies the text as the board. Resolves to the message about the result.
- * @property {(board: Board) => void} scanKeys Inserts a key scan routine for a board into the source.
+ * The callbacks through which the controller acts on the page.
+ * @typedef {object} PageCalls
+ * @property {() => boolean} isInFront Returns true if the Wiring tab is in front. Otherwise the picture is drawn when the user brings the
+ *   tab to the front.
+ * @property {() => void} putInFront Brings the Wiring tab to the front.
+ * @property {() => Promise<string>} applyBoard Applies the board's text. Resolves to the message about the result.
+ * @property {(board: Board) => void} insertKeyScan Inserts a key scan routine for a board into the source.
  * @property {(part: string) => void} showPartLines Shows the lines of a part in the text. The part is named as in the picture, for example
  *   `rom 1`.
- * @property {() => OpenSession | null} session Returns the current session, whose record stores the moved parts, or null if there is none.
+ * @property {() => OpenSession | null} session Returns the current session, whose record stores the positions of moved parts, or null if
+ *   there is none.
  * @property {() => void} saveSession Saves the session after the user has moved parts.
  * @property {(fault: unknown) => void} reportFailure Reports an error that a call threw.
  */
 
-/** @typedef {DrawingCalls & PictureOwnCalls} PictureCalls */
+/** @typedef {DrawingCalls & PageCalls} PictureCalls */
 
 /** The delay in milliseconds between the last edit and the update of the picture. */
 const DRAW_DELAY = 300;
@@ -47,7 +48,7 @@ export class DrawingController {
     this.drawTimer = 0;
     this.drawing = new Drawing(calls, (state) => this.show(state));
     this.view = this.makeView();
-    this.view.movedParts = this.drawing.movedParts.moved;
+    this.view.movedParts = this.drawing.movedParts.positions;
     this.input = this.makeInput();
     this.zoom = new PictureZoom(picture.root);
     onClick(button("first-drawing"), calls.putInFront);
@@ -56,14 +57,14 @@ export class DrawingController {
 
   makeView() {
     return new DrawingView(this.picture, {
-      performAction: (action) => this.reportFailure(this.drawing.act(action)),
+      performAction: (action) => this.reportFailure(this.drawing.performInOrder(action)),
       undoOrRedo: (direction) => this.reportFailure(this.drawing.undoOrRedo(direction)),
       applyBoard: () => this.reportFailure(this.applyBoard()),
       showPartLines: this.calls.showPartLines,
       arrangeParts: () => this.arrangeParts(),
       dropPart: (action, point) => this.reportFailure(this.dropPart(action, point)),
-      scanKeys: () => {
-        if (this.view.lastState) this.calls.scanKeys(this.view.lastState.board);
+      insertKeyScan: () => {
+        if (this.view.lastState) this.calls.insertKeyScan(this.view.lastState.board);
       },
     });
   }
@@ -80,10 +81,10 @@ export class DrawingController {
       handleDrop: () => {
         this.view.lastDrawn = "";
         this.view.showPicture();
-        this.storePlaces();
+        this.storePositions();
       },
-      deleteItem: (name) => this.reportFailure(drawing.act({ kind: "delete", part: name })),
-      cancelAct: () => drawing.cancelWire(),
+      deleteItem: (name) => this.reportFailure(drawing.performInOrder({ kind: "delete", part: name })),
+      cancelAction: () => drawing.cancelWire(),
       undoOrRedo: (direction) => this.reportFailure(drawing.undoOrRedo(direction)),
     });
   }
@@ -106,39 +107,39 @@ export class DrawingController {
   /** @param {DrawingState} state */
   show(state) {
     this.view.show(state);
-    if (this.drawing.movedParts.takeChanges()) this.storePlaces();
+    if (this.drawing.movedParts.takeChanges()) this.storePositions();
     this.input.setWire(state.wireStart, state.ends);
   }
 
-  /** Draws the board's text, if the picture is in front. */
-  followText() {
+  /** Draws the board that the text describes, if the Wiring tab is in front. */
+  updateFromText() {
     if (this.calls.isInFront()) this.reportFailure(this.drawing.refresh());
   }
 
   /** Draws the picture again DRAW_DELAY after the last edit of the text. */
   handleEdit() {
     clearTimeout(this.drawTimer);
-    this.drawTimer = window.setTimeout(() => this.drawing.text !== this.calls.text() && this.followText(), DRAW_DELAY);
+    this.drawTimer = window.setTimeout(() => this.drawing.text !== this.calls.text() && this.updateFromText(), DRAW_DELAY);
   }
 
   /** Forgets the drawing, because another session has been opened. */
   begin() {
-    this.drawing.forget();
-    this.drawing.movedParts.begin(this.storedPlaces);
+    this.drawing.reset();
+    this.drawing.movedParts.load(this.storedPositions);
   }
 
   /**
    * Updates the drawing after a board was applied.
-   * @param {string[]} answers the bench's answers to the query `board`
+   * @param {string[]} answers the lines of the bench's answer to the query `board`
    */
   handleBoard(answers) {
     this.drawing.setSessionBoard(answers);
-    this.followText();
+    this.updateFromText();
   }
 
   /**
-   * Adds a part from the shelf, with its title at `point` on the sheet. If the new part becomes an element of an existing part, such as a
-   * lamp in a row of lamps, `point` is ignored.
+   * Adds a part from the shelf, with its title at `point` in the picture; null for the default position. If the new part becomes an element
+   * of an existing part, such as a lamp in a row of lamps, `point` is ignored.
    * @param {import("../../core/drawing/drawing_actions.js").DrawingAction} action
    * @param {import("../../core/board/wiring.js").Point | null} point
    */
@@ -146,23 +147,23 @@ export class DrawingController {
     const { drawing, picture } = this;
     const oldPartIds = new Set(picture.parts.keys());
     const text = this.calls.text();
-    await drawing.act(action);
+    await drawing.performInOrder(action);
     const { selected } = drawing;
     if (this.calls.text() === text || selected === "") return;
     const part = [...picture.parts.values()].find(({ id, pins }) => id === selected || pins.some((pin) => pin.id === selected));
     if (part && point && !oldPartIds.has(part.id)) {
       this.movePart(part.id, { x: point.x - part.width / 2, y: point.y - TITLE_HEIGHT / 2 });
-      this.storePlaces();
+      this.storePositions();
     }
     picture.focus(selected);
   }
 
   async applyBoard() {
-    this.drawing.say(await this.calls.applyBoard());
+    this.drawing.showMessage(await this.calls.applyBoard());
   }
 
   /** The positions of dragged parts that are stored with the session. */
-  get storedPlaces() {
+  get storedPositions() {
     const session = this.calls.session();
     return (session && session.record.places) || [];
   }
@@ -180,10 +181,10 @@ export class DrawingController {
   arrangeParts() {
     this.view.movedParts.clear();
     this.view.showPicture();
-    this.storePlaces();
+    this.storePositions();
   }
 
-  storePlaces() {
+  storePositions() {
     const session = this.calls.session();
     if (!session) return;
     session.record.places = [...this.view.movedParts];

@@ -21,19 +21,19 @@ import * as say from "../../words/drawing.js";
  * @typedef {object} ViewCalls
  * @property {(action: DrawingAction) => void} performAction Changes the board's text by an action. If the bench rejects the new text, the
  *   old text stays.
- * @property {(which: "undo" | "redo") => void} undoOrRedo Undoes or redoes the last step.
- * @property {() => void} applyBoard Applies the text as the board.
+ * @property {(which: "undo" | "redo") => void} undoOrRedo Undoes or redoes the last edit.
+ * @property {() => void} applyBoard Applies the board's text.
  * @property {(part: string) => void} showPartLines Shows the lines of a part in the text. The part is named as in the picture, for example
  *   `rom 1`.
  * @property {() => void} arrangeParts Moves all parts to their default positions.
- * @property {() => void} scanKeys Inserts a key scan routine into the source.
- * @property {(action: DrawingAction, point: Point | null) => void} dropPart Adds a part and focuses it. The part appears at `point` on the
- *   sheet, or at its default position if `point` is null.
+ * @property {() => void} insertKeyScan Inserts a key scan routine into the source.
+ * @property {(action: DrawingAction, point: Point | null) => void} dropPart Adds a part and focuses it. The part appears at `point` in
+ *   the picture, or at its default position if `point` is null.
  */
 
-/** The parts whose number of digits the user chooses before adding them. */
+/** The parts that consist of digits. The user chooses the number of digits before adding such a part. */
 const PARTS_WITH_DIGIT_COUNT = new Set(["digit", "segments", "scanned"]);
-/** The parts that the user can drop on a line, to which they are then wired. */
+/** The parts that the user can drop onto a line's pin or wire. The part is then wired to this line. */
 const LINE_PARTS = new Set(["lamp", "buzzer"]);
 
 export class DrawingView {
@@ -48,9 +48,9 @@ export class DrawingView {
     this.state = new Cell(block("drawing-state"));
     /** @type {Map<ShelfPart, HTMLButtonElement>} */
     this.shelf = new Map();
-    /** The input of the last drawing as JSON, to detect changes. */
+    /** The data from which the picture was last drawn, as JSON, to detect changes. */
     this.lastDrawn = "";
-    /** @type {import("../../core/board/wiring.js").Positions} */
+    /** @type {import("../../core/board/wiring.js").Positions} the positions of the parts that the user has moved */
     this.movedParts = new Map();
     /** @type {DrawingState | null} */
     this.lastState = null;
@@ -70,11 +70,11 @@ export class DrawingView {
   makeShelf() {
     const { root } = this.picture;
     const drag = new ShelfDrag({
-      isOnSheet: (place) => root.contains(elementAt(place)),
-      addDropped: (part, place) => {
-        const name = this.picture.nameAt(elementAt(place));
+      isOnSheet: (point) => root.contains(elementAt(point)),
+      addDropped: (part, point) => {
+        const name = this.picture.nameAt(elementAt(point));
         const line = LINE_PARTS.has(part) && !name.includes(" ") ? name : "";
-        this.calls.dropPart(this.makeAddAction(part, line), this.picture.toPicturePoint(place));
+        this.calls.dropPart(this.makeAddAction(part, line), this.picture.toPicturePoint(point));
       },
       addAndFocus: (part) => this.calls.dropPart(this.makeAddAction(part), null),
       showDropTarget: (isOver) => root.classList.toggle("drop-here", isOver),
@@ -161,7 +161,7 @@ export class DrawingView {
   }
 
   /**
-   * Sets the value of a field. The text of a field in which the user is typing stays, even if the bench has rejected that text.
+   * Sets the value of a field. If the user is typing in the field, the typed text stays unless `value` has changed.
    * @param {HTMLInputElement | HTMLSelectElement} node
    * @param {string} value
    */
@@ -187,7 +187,7 @@ export class DrawingView {
     this.fields = fields.map((description, index) => this.fieldNode(description, index, isDisabled));
     const rows = this.fields.map((node, index) => element("label", {}, `${fields[index].label} `, node));
     const endButtons = buttons.map(({ word, act: action }) => this.buttonNode(word, () => this.calls.performAction(action), isDisabled));
-    if (part === "keys") endButtons.push(this.buttonNode(say.INSERT_SCAN, () => this.calls.scanKeys(), isDisabled));
+    if (part === "keys") endButtons.push(this.buttonNode(say.INSERT_SCAN, () => this.calls.insertKeyScan(), isDisabled));
     if (part) endButtons.push(this.buttonNode(say.SHOW_IN_BOARD, () => this.calls.showPartLines(part), false));
     root.replaceChildren(head, ...endButtons, ...(endButtons.length > 0 ? [element("hr")] : []), ...rows);
     const nodes = [...root.querySelectorAll("input, select, button")];
@@ -224,7 +224,7 @@ export class DrawingView {
   }
 }
 
-/** @param {{ clientX: number, clientY: number }} place */
+/** @param {{ clientX: number, clientY: number }} point */
 function elementAt({ clientX, clientY }) {
   return document.elementFromPoint(clientX, clientY);
 }

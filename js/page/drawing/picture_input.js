@@ -6,7 +6,7 @@
  * @typedef {import("../../core/board/wiring.js").Point} Point
  *
  * The part or pin under the pressed pointer. `downPoint` is the point where the pointer went down. `startPosition` is the part's position
- * before the drag.
+ * before the drag, and (0, 0) for a pin.
  * @typedef {{ name: string, isPart: boolean, downPoint: Point, startPosition: Point, isDragged: boolean }} HeldItem
  */
 
@@ -18,8 +18,8 @@
  * @property {(part: string, point: Point) => void} movePart Moves a part to a point in the picture's units.
  * @property {() => void} handleDrop Handles the end of a part's drag.
  * @property {(name: string) => void} deleteItem Deletes a part or a wire.
- * @property {() => void} cancelAct Cancels the wire in progress or the selection.
- * @property {(which: "undo" | "redo") => void} undoOrRedo Undoes or redoes the last step.
+ * @property {() => void} cancelAction Cancels the wire in progress or the selection.
+ * @property {(which: "undo" | "redo") => void} undoOrRedo Undoes or redoes the last edit.
  */
 
 /** The distance that the pointer must move to start a drag, in the picture's units. */
@@ -64,7 +64,7 @@ export class PictureInput {
   /** @param {string} name */
   press(name) {
     if (name) this.calls.pressItem(name);
-    else this.calls.cancelAct();
+    else this.calls.cancelAction();
   }
 
   /** @param {PointerEvent} event */
@@ -114,10 +114,10 @@ export class PictureInput {
     }
     const end = this.view.nameAt(document.elementFromPoint(event.clientX, event.clientY));
     if (this.endPins.has(end)) this.calls.drawWire(heldItem.name, end);
-    else this.calls.cancelAct();
+    else this.calls.cancelAction();
   }
 
-  /** Ends a drag when the browser takes over the pointer, for example to scroll. The part stays where it is. */
+  /** Ends a drag when the browser takes over the pointer, for example to scroll. A dragged part stays at its last position. */
   handlePointerCancel() {
     const { heldItem } = this;
     this.release();
@@ -147,7 +147,7 @@ export class PictureInput {
     if (event.ctrlKey || event.metaKey) return this.handleControlKey(event);
     if (key in ARROW_DIRECTIONS) return this.handleArrow(event, name);
     if (key === "Enter" || key === " ") this.press(name);
-    else if (key === "Escape") this.calls.cancelAct();
+    else if (key === "Escape") this.calls.cancelAction();
     else if (key === "Delete" || key === "Backspace") this.calls.deleteItem(name);
     else return false;
     return true;
@@ -163,10 +163,9 @@ export class PictureInput {
 
   /**
    * Handles an arrow key: moves the focus to the next part or pin. While the user draws a wire, the focus moves only between the pins where
-   * the wire can end, and continues at the first pin after the last. With Shift, moves the part instead. Returns true if the key has an
-   * action.
+   * the wire can end, and wraps around. With Shift, moves the focused part instead. Returns true if the key has an action.
    * @param {KeyboardEvent} event
-   * @param {string} name
+   * @param {string} name the name of the focused part or pin
    */
   handleArrow({ key, shiftKey }, name) {
     const { view } = this;

@@ -30,7 +30,7 @@ export class PictureZoom {
     return picture ? picture.getBoundingClientRect() : new DOMRect();
   }
 
-  /** The current scale: displayed width by natural width, or 0 if there is no picture. */
+  /** The current scale: displayed width divided by natural width, or 0 if there is no picture. */
   get scale() {
     const width = parseFloat(this.root.style.getPropertyValue("--picture-width"));
     return width > 0 ? this.box.width / width : 0;
@@ -45,9 +45,9 @@ export class PictureZoom {
   }
 
   /**
-   * Zooms the picture. The point `fixedPoint` of the picture stays under the same point of the panel.
+   * Zooms the picture around a point of the panel.
    * @param {number} factor
-   * @param {{ x: number, y: number }} [fixedPoint] a point in the panel, by default its centre
+   * @param {{ x: number, y: number }} [fixedPoint] the point of the panel at which the picture does not move, by default the centre
    */
   zoom(factor, fixedPoint = { x: this.root.clientWidth / 2, y: this.root.clientHeight / 2 }) {
     const { root, scale } = this;

@@ -1,20 +1,21 @@
-// Drags parts from the shelf onto the sheet, by mouse, pen or touch. A lamp or a buzzer that is dropped on a line is wired to that line. A
-// click adds a part at its default position. Shift and Enter add a part and focus it on the sheet, where arrow keys can move it.
+// Drags parts from the shelf onto the sheet, which is the area with the board's picture, by mouse, pen or touch. A lamp or a buzzer is
+// wired to the line on which it is dropped. A click adds a part at its default position. Shift+Enter adds a part and focuses it on the
+// sheet, where arrow keys can move it.
 
 import { element } from "../ui/dom.js";
 
 /**
  * @typedef {import("../../core/drawing/drawing_actions.js").ShelfPart} ShelfPart
- * @typedef {{ clientX: number, clientY: number }} Place
+ * @typedef {{ clientX: number, clientY: number }} WindowPoint
  *
- * The part under the pressed pointer, with its button `node`, the point where the pointer went down, and `isDragged`, which is true once
- * the pointer has moved far enough for a drag.
- * @typedef {{ part: ShelfPart, node: HTMLElement, start: Place, isDragged: boolean }} HeldPart
+ * The part under the pressed pointer. `node` is its button, and `start` the point where the pointer went down. `isDragged` is true once the
+ * pointer has moved far enough for a drag.
+ * @typedef {{ part: ShelfPart, node: HTMLElement, start: WindowPoint, isDragged: boolean }} HeldPart
  *
  * The callbacks of the shelf.
  * @typedef {object} ShelfCalls
- * @property {(place: Place) => boolean} isOnSheet Returns true if a point of the window is on the sheet.
- * @property {(part: ShelfPart, place: Place) => void} addDropped Adds a part that was dropped on the sheet.
+ * @property {(point: WindowPoint) => boolean} isOnSheet Returns true if a point of the window is on the sheet.
+ * @property {(part: ShelfPart, point: WindowPoint) => void} addDropped Adds a part that was dropped on the sheet.
  * @property {(part: ShelfPart) => void} addAndFocus Adds a part and focuses it on the sheet.
  * @property {(isOver: boolean) => void} showDropTarget Shows whether a dragged part is over the sheet.
  */
@@ -28,6 +29,7 @@ export class ShelfDrag {
     this.calls = calls;
     /** @type {HeldPart | null} */
     this.heldPart = null;
+    /** True after a drag, so that the click that follows the drag is ignored. */
     this.wasDragged = false;
     /** The image of the dragged part, next to the pointer. */
     this.dragImage = element("div", { id: "shelf-ghost", hidden: true });
@@ -44,7 +46,7 @@ export class ShelfDrag {
    * @param {ShelfPart} part
    */
   listen(node, part) {
-    // Browsers send a click after a drag, even if Escape has cancelled the drag. Ignore that click.
+    // Browsers send a click after a drag, even if Escape has cancelled the drag.
     node.addEventListener("click", (event) => {
       if (this.wasDragged && event.detail > 0) event.stopImmediatePropagation();
       this.wasDragged = false;

@@ -19,8 +19,8 @@ import * as say from "../../words/explore.js";
  * @typedef {import("../../core/bench/task_worker.js").TaskResult} TaskResult
  * @typedef {import("../prove/proofs.js").ProofsCalls} ProofsCalls
  *
- * The results of a search: the texts that were searched, the report, and the session file of each counterexample, by the number of its
- * property.
+ * The results of a search. `texts` are the texts that were searched. `report` is null before the first progress report. `files` contains
+ * the session file of each counterexample, by the number of its property. `isStopped` is true if the user stopped the search.
  * @typedef {{ texts: ExploredTexts, report: Report | null, files: Map<number, Uint8Array>, isStopped: boolean }} SearchResults
  */
 
@@ -78,7 +78,7 @@ export class ExploreTab {
       openCounterexample: (property) => this.openCounterexample(property),
       addTest: (property) => this.addTest(property),
     });
-    /** The results of each session since the page was opened, by session id. */
+    /** The last search results of each session since the page was opened, by session id. */
     this.resultsBySession = /** @type {Map<string, SearchResults>} */ (new Map());
     /** The id of the current session. */
     this.session = "";
@@ -105,7 +105,7 @@ export class ExploreTab {
       showFaults: (faults) => this.showFaults(faults),
       open: calls.openWithLines,
       addTest: calls.addTest,
-      handleVerdictChange: () => this.showProofs(),
+      handleVerdictChange: () => this.handleVerdictChange(),
       reportFailure: calls.reportFailure,
     });
   }
@@ -115,12 +115,12 @@ export class ExploreTab {
     return { ...this.calls.texts(), propertiesText: this.editor.text };
   }
 
-  /** The results of the current session. */
+  /** The search results of the current session, or null if there are none. */
   get currentResults() {
     return this.resultsBySession.get(this.session) || null;
   }
 
-  /** Checks the text when a session has been opened or the tab comes to the front. */
+  /** Checks the text. Called when a session has been opened, and when the tab comes to the front. */
   refresh() {
     this.textTab.refresh();
   }
@@ -135,8 +135,8 @@ export class ExploreTab {
   }
 
   /**
-   * Stops the search and shows the earlier results of another session.
-   * @param {string} session the id of the session
+   * Handles the opening of another session: stops the search and shows the earlier results of that session.
+   * @param {string} session the id of the opened session
    */
   begin(session) {
     this.stop();
@@ -157,7 +157,7 @@ export class ExploreTab {
   }
 
   /** Updates the tab's mark and the button that clears results. */
-  showProofs() {
+  handleVerdictChange() {
     this.showMark(this.faultCount);
     this.updateClearButton();
   }
@@ -181,7 +181,8 @@ export class ExploreTab {
   }
 
   /**
-   * Shows a message if it differs from the last one. If the message is the same, a message about another action that has replaced it stays.
+   * Shows a message about the search if the message has changed. An unchanged message is not shown again, so that it does not replace a
+   * later message about another action.
    * @param {string} words
    */
   showMessage(words) {
@@ -271,7 +272,7 @@ export class ExploreTab {
     else this.editor.showMessage(say.OTHER_SOURCE);
   }
 
-  /** @param {number} property */
+  /** @param {number} property the number of the property, from 0 */
   openCounterexample(property) {
     const { currentResults } = this;
     const file = currentResults && currentResults.files.get(property);
@@ -279,7 +280,7 @@ export class ExploreTab {
     if (report && file) this.calls.open(report.properties[property].text, file, currentResults.texts);
   }
 
-  /** @param {number} property */
+  /** @param {number} property the number of the property, from 0 */
   addTest(property) {
     const { currentResults } = this;
     const counterexample = currentResults && currentResults.report && currentResults.report.properties[property].found;

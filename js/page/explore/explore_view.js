@@ -72,7 +72,7 @@ export class ExploreView {
     this.calls = calls;
     this.block = block("explore-results");
     this.list = block("property-list");
-    this.figures = new Cell(block("explore-figures"));
+    this.statistics = new Cell(block("explore-figures"));
     this.bars = (/** @type {const} */ (["instructions", "ways"])).map((name) => {
       const root = block(`explored-${name}`);
       return { name, root, bar: descendant(root, "progress", HTMLProgressElement), words: new Cell(descendant(root, "span", HTMLElement)) };
@@ -88,7 +88,7 @@ export class ExploreView {
     this.block.hidden = true;
     this.rows = [];
     this.list.replaceChildren();
-    this.figures.set("");
+    this.statistics.set("");
     this.listNeverRunLines([]);
   }
 
@@ -104,7 +104,7 @@ export class ExploreView {
     this.rows.forEach((row, index) => row.show(report.properties[index], report, isRunning));
     // If proofs have already decided all properties, the search executes no steps.
     const isSearched = isRunning || report.steps > 0;
-    this.figures.set(isSearched ? searchStatistics(report) : say.NO_STEPS);
+    this.statistics.set(isSearched ? searchStatistics(report) : say.NO_STEPS);
     this.showCoverage(report, isRunning, isSearched);
     this.block.hidden = false;
   }

@@ -18,9 +18,10 @@ import * as say from "../../words/help.js";
  */
 
 /**
- * The callbacks through which the guide reaches the page.
- * @typedef {object} GuideOwnCalls
- * @property {(example: Example) => Promise<boolean>} begin Begins a new session from an example. Resolves to true if it was created.
+ * The callbacks through which the guide acts on the page.
+ * @typedef {object} PageCalls
+ * @property {(example: Example) => Promise<boolean>} begin Begins a new session from an example. Resolves to true if the session was
+ *   created.
  * @property {() => void} showSource Brings the source to the front.
  * @property {() => string} program Returns the text of the source.
  * @property {(program: string) => void} replaceSource Replaces the source with a program, as one edit.
@@ -31,7 +32,7 @@ import * as say from "../../words/help.js";
  * @property {(words: string) => void} showRefusal Shows the reason why a story cannot be opened.
  */
 
-/** @typedef {Omit<LinesCalls, "openHelp"> & GuideOwnCalls} GuideCalls */
+/** @typedef {Omit<LinesCalls, "openHelp"> & PageCalls} GuideCalls */
 
 export class Guide {
   /**

@@ -15,18 +15,18 @@ import * as say from "../../words/help.js";
 /**
  * The callbacks of the tour panel.
  * @typedef {object} TourCalls
- * @property {(example: Example) => Promise<boolean>} begin Begins a new session from an example. Resolves to true if it was created.
+ * @property {(example: Example) => Promise<boolean>} begin Begins a new session from an example. Resolves to true if the session was
+ *   created.
  * @property {(program: string) => void} putProgram Puts a program into the source.
- * @property {(action: import("../../core/help/story.js").StoryAction) => Promise<string>} executeAction
- *   Executes the action of a story's link.
- *   Resolves to the reason why the action failed, or to "".
+ * @property {(action: import("../../core/help/story.js").StoryAction) => Promise<string>} executeAction Executes the action of a story's
+ *   link. Resolves to the reason why the action failed, or to "".
  * @property {(program: string) => boolean} isProgramInSource Returns true if the source is `program`.
  * @property {(target: Target) => void} reveal Scrolls the target of a step into view.
  * @property {() => void} handleTourEnd Handles the end of the tour.
  */
 
 /**
- * The element that each target names.
+ * The functions that find the element of each target on the page.
  * @type {Record<Target, () => Element | null>}
  */
 const TARGET_ELEMENTS = {
@@ -40,7 +40,7 @@ export class TourView {
   /** @param {TourCalls} calls */
   constructor(calls) {
     this.calls = calls;
-    this.tourWatch = new TourProgress();
+    this.progress = new TourProgress();
     this.isOn = false;
     this.root = block("tour");
     this.title = new Cell(block("tour-title"));
@@ -52,9 +52,9 @@ export class TourView {
     this.ring = new PointerRing();
     for (const name of ["tour-begin", "first-program", "hello-program"]) onClick(button(name), () => this.begin());
     onClick(button("tour-close"), () => this.close());
-    onClick(this.putButton, () => calls.putProgram(this.tourWatch.step.program));
-    onClick(this.nextButton, () => (this.isLastStep ? this.close() : this.show(this.tourWatch.at + 1)));
-    onClick(button("tour-back"), () => this.show(Math.max(0, this.tourWatch.at - 1)));
+    onClick(this.putButton, () => calls.putProgram(this.progress.step.program));
+    onClick(this.nextButton, () => (this.isLastStep ? this.close() : this.show(this.progress.at + 1)));
+    onClick(button("tour-back"), () => this.show(Math.max(0, this.progress.at - 1)));
   }
 
   async begin() {
@@ -63,7 +63,7 @@ export class TourView {
 
   /** @param {TourStep[]} steps */
   open(steps) {
-    this.tourWatch = new TourProgress(steps);
+    this.progress = new TourProgress(steps);
     this.isOn = true;
     this.root.hidden = false;
     this.show(0);
@@ -79,18 +79,18 @@ export class TourView {
 
   /** True if the panel shows an example's story, false if it shows the tour with the first program. */
   get isStory() {
-    return this.tourWatch.steps !== TOUR;
+    return this.progress.steps !== TOUR;
   }
 
   get isLastStep() {
-    return this.tourWatch.at === this.tourWatch.steps.length - 1;
+    return this.progress.at === this.progress.steps.length - 1;
   }
 
   /** @param {number} index the index of the step */
   show(index) {
-    this.tourWatch.begin(index);
-    const { title, words, program } = this.tourWatch.step;
-    this.title.set(say.stepOf(index + 1, this.tourWatch.steps.length, title));
+    this.progress.begin(index);
+    const { title, words, program } = this.progress.step;
+    this.title.set(say.stepOf(index + 1, this.progress.steps.length, title));
     this.words.replaceChildren(...words.map((paragraph) => element("p", {}, ...[paragraph].flat().map((part) => this.makeNode(part)))));
     this.program.set(program);
     this.program.node.hidden = program === "";
@@ -101,18 +101,18 @@ export class TourView {
   }
 
   /**
-   * Scrolls the step's target into view. A ring marks the element that the user needs next. It is the button that inserts the program, then
-   * the target, then the button that continues.
+   * Scrolls the step's target into view and puts a ring around the element that the user needs next: first the button that inserts the
+   * program, then the target, then the button for the next step.
    */
   pointAtTarget() {
-    const { program, target } = this.tourWatch.step;
+    const { program, target } = this.progress.step;
     if (!target) {
       this.ring.stop();
       return;
     }
     this.calls.reveal(target);
     this.ring.pointAt(() => {
-      if (this.tourWatch.isDone) return this.nextButton;
+      if (this.progress.isDone) return this.nextButton;
       return program !== "" && !this.calls.isProgramInSource(program) ? this.putButton : TARGET_ELEMENTS[target]();
     });
   }
@@ -126,30 +126,30 @@ export class TourView {
   }
 
   showDone() {
-    const { isDone } = this.tourWatch;
+    const { isDone } = this.progress;
     this.status.set(isDone ? (this.isLastStep ? say.LAST_DONE : say.DONE) : "");
     this.root.classList.toggle("done", isDone);
     this.nextButton.classList.toggle("primary", isDone);
   }
 
-  /** @param {string} lamps */
+  /** @param {string} lamps one character per lamp: `*` if the lamp is on */
   handleLamps(lamps) {
-    if (!this.isOn || this.tourWatch.isDone) return;
-    this.tourWatch.recordLamps(lamps);
+    if (!this.isOn || this.progress.isDone) return;
+    this.progress.recordLamps(lamps);
     this.showDone();
   }
 
-  /** @param {number} keysDown */
+  /** @param {number} keysDown the number of keys that are down */
   handleKeyCount(keysDown) {
-    if (!this.isOn || this.tourWatch.isDone) return;
-    this.tourWatch.recordKeys(keysDown);
+    if (!this.isOn || this.progress.isDone) return;
+    this.progress.recordKeys(keysDown);
     this.showDone();
   }
 
   /** @param {string} end the reason why the last run ended */
   recordEnd(end) {
-    if (!this.isOn || this.tourWatch.isDone) return;
-    this.tourWatch.recordEnd(end);
+    if (!this.isOn || this.progress.isDone) return;
+    this.progress.recordEnd(end);
     this.showDone();
   }
 }

@@ -1,5 +1,5 @@
-// Executes lines of the console that change the session. The bench executes the lines, then the page saves the session, and then shows the
-// answers.
+// Executes lines in the session, from the console or from buttons. The bench executes the lines, then the page saves the session, and then
+// shows the answers.
 
 import { parseRefusal } from "../../core/bench/answers.js";
 import { CancelledError } from "../../core/bench/bench_errors.js";
@@ -26,10 +26,10 @@ import { stoppedAt } from "../../words/stops.js";
  * @typedef {object} LineServerCalls
  * @property {() => SourceMap | null} map Returns the source map of the program in ROM, which gives the value of each `@NAME`; null if ROM
  *   does not match the source.
- * @property {<Result>(words: string, work: (ways: CallOptions) => Promise<Result>) => Promise<Result>} work Performs long work and shows
+ * @property {<Result>(words: string, work: (options: CallOptions) => Promise<Result>) => Promise<Result>} work Performs long work and shows
  *   its progress with the description `words`. Rejects with `CancelledError` if the user cancels the work.
- * @property {() => string} counter Returns the program counter on the page, as three hexadecimal digits.
- * @property {(result: LinesReply) => void} show Shows the session after the lines.
+ * @property {() => string} counter Returns the program counter that the page shows, as three hexadecimal digits.
+ * @property {(result: LinesReply) => void} show Shows the session's state after the lines.
  * @property {() => void} checkSource Compares the source with ROM again.
  * @property {() => Promise<string>} save Saves the session. Resolves to the reason why it could not be saved, or to "".
  * @property {(entries: ServedInput[], fault: string) => void} log Logs lines with their answers, and the reason if the session could not be
@@ -63,13 +63,13 @@ export class LineServer {
    * @returns {Promise<string | null>}
    */
   async serveLines(lines) {
-    const result = await this.performWork(say.SENDING_LINES, (ways) => this.bench.call("serve", [lines], ways));
+    const result = await this.performWork(say.SENDING_LINES, (options) => this.bench.call("serve", [lines], options));
     return result && result.first;
   }
 
   /**
-   * Replaces each `@NAME` in typed lines with the name's value, and sends the lines to the bench. If a line runs time, each breakpoint
-   * stops the run.
+   * Replaces each `@NAME` in typed lines with the name's value, and sends the lines to the bench. Breakpoints stop a run that a line
+   * starts.
    * @param {string} typedLines
    */
   async serveTyped(typedLines) {
@@ -79,9 +79,9 @@ export class LineServer {
       this.notice.show(words);
       return null;
     }
-    const result = await this.performWork(say.SENDING_LINES, (ways) => this.bench.call("serveTyped", [lines], ways));
+    const result = await this.performWork(say.SENDING_LINES, (options) => this.bench.call("serveTyped", [lines], options));
     if (!result) return null;
-    const { id, cut, cycles, tally } = result.typed;
+    const { id, cut: cut, cycles, tally } = result.typed;
     calls.countHits(tally);
     if (id !== 0 && !calls.isRunning()) {
       calls.showMessage(lineEnded(calls.describeStop({ why: "break", id, cycles, returns: false }), cut));
@@ -90,11 +90,10 @@ export class LineServer {
   }
 
   /**
-   * Performs other work that changes the session, saves the session and shows the result. Resolves to the result, or to null after a
-   * failure.
+   * Performs work that changes the session, saves the session and shows the result. Resolves to the result, or to null after a failure.
    * @template {LinesReply} Result
    * @param {string} words the description of the work
-   * @param {(ways: CallOptions) => Promise<Result>} work
+   * @param {(options: CallOptions) => Promise<Result>} work
    * @returns {Promise<Result | null>}
    */
   async performWork(words, work) {
@@ -102,7 +101,7 @@ export class LineServer {
     try {
       result = await this.calls.work(words, work);
     } catch (fault) {
-      // After a cancellation, time resumes if it was running.
+      // After a cancellation, time resumes if time was running before.
       if (fault instanceof CancelledError) this.notice.show(this.words.failureMessage(fault));
       else this.calls.reportFailure(fault);
       return null;
@@ -124,7 +123,7 @@ export class LineServer {
   }
 
   /**
-   * Updates the status line after lines were served. Removes the message about the last stop if the program counter has moved.
+   * Updates the status line after lines were executed: reports a reset, or the new program counter if it has changed while time is paused.
    * @param {string} previousCounter the program counter before the lines, as three hexadecimal digits
    * @param {ServedInput[]} entries
    */

@@ -22,8 +22,8 @@ export class LogView {
     /** The runs since the last save. They appear in the log after the next save. */
     this.unloggedRuns = new RunLog();
     /**
-     * @type {{ entry: RunEntry, node: HTMLElement } | null} the last entry of the log if it is about runs of time; later runs are added to
-     *   this entry
+     * @type {{ entry: RunEntry, node: HTMLElement } | null} the last entry of the log if it reports runs; later runs are added to this
+     *   entry
      */
     this.lastRuns = null;
   }
@@ -56,7 +56,7 @@ export class LogView {
     }
     runLog.add(entries);
     const runEntries = runLog.take();
-    this.add(runEntries.map((entry) => this.entry(formatRuns(entry), [entry.answer], fault)));
+    this.add(runEntries.map((entry) => this.makeEntry(formatRuns(entry), [entry.answer], fault)));
     const lastEntry = runEntries[runEntries.length - 1];
     const node = this.block.lastElementChild;
     this.lastRuns = lastEntry.runs > 0 && fault === "" && node instanceof HTMLElement ? { entry: lastEntry, node } : null;
@@ -69,7 +69,7 @@ export class LogView {
    */
   show(entries, fault) {
     this.add(entries.map(({ line, textLines, answers }) => (
-      this.entry(textLines > 0 ? say.textLines(line, textLines) : line, answers, fault))));
+      this.makeEntry(textLines > 0 ? say.textLines(line, textLines) : line, answers, fault))));
   }
 
   /** @param {HTMLElement[]} entries */
@@ -86,14 +86,14 @@ export class LogView {
    * @param {string[]} answers
    * @param {string} fault
    */
-  entry(line, answers, fault) {
-    const entry = element("div", {}, element("p", { className: "sent" }, line), ...answers.map((answer) => this.answer(answer)));
+  makeEntry(line, answers, fault) {
+    const entry = element("div", {}, element("p", { className: "sent" }, line), ...answers.map((answer) => this.makeAnswer(answer)));
     if (fault) entry.append(element("p", { className: "refused" }, say.notKept(fault)));
     return entry;
   }
 
   /** @param {string} answer */
-  answer(answer) {
+  makeAnswer(answer) {
     return element("p", { className: parseRefusal(answer) ? "refused" : "" }, this.formatAnswer(answer));
   }
 

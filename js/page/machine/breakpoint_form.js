@@ -15,9 +15,9 @@ import * as say from "../../words/machine.js";
 /**
  * The callbacks of the breakpoint form.
  * @typedef {object} BreakpointFormCalls
- * @property {(id: number, changes: BreakpointTexts) => void} change Changes the breakpoint with an id, and sends the change to the bench.
- * @property {(id: number, changes: BreakpointTexts) => void} type Shows the typed texts in the breakpoint's mark and list entry. Does not
- *   send them to the bench.
+ * @property {(id: number, changes: BreakpointTexts) => void} change Changes the breakpoint with this id, and sends the change to the bench.
+ * @property {(id: number, changes: BreakpointTexts) => void} type Shows the typed texts in the breakpoint's mark and list entry, but does
+ *   not send them to the bench.
  * @property {() => Promise<void>} waitForChanges Resolves when the bench has received all changes.
  * @property {(breakpoint: Breakpoint, node: HTMLElement) => void} placeForm Puts the form below the breakpoint's source line, or into the
  *   list of breakpoints if the breakpoint has no line.
@@ -85,8 +85,8 @@ export class BreakpointForm {
   /**
    * Opens the form for a breakpoint, with the caret in one of its fields.
    * @param {Breakpoint} breakpoint
-   * @param {string} fault
-   * @param {BreakpointField} fieldName
+   * @param {string} fault the error in the breakpoint's texts; "" if there is none
+   * @param {BreakpointField} fieldName the field that receives the caret
    */
   open(breakpoint, fault, fieldName) {
     this.applyFields();
@@ -109,8 +109,8 @@ export class BreakpointForm {
 
   /**
    * Updates the form after the list of breakpoints has changed.
-   * @param {(id: number) => Breakpoint | undefined} find
-   * @param {Map<number, string>} faults
+   * @param {(id: number) => Breakpoint | undefined} find returns the breakpoint with an id, or undefined if it was removed
+   * @param {Map<number, string>} faults the error of each breakpoint that has an error, by breakpoint id
    */
   show(find, faults) {
     if (!this.originalBreakpoint) return;
@@ -123,7 +123,7 @@ export class BreakpointForm {
     this.showFault(faults.get(breakpoint.id) || "");
   }
 
-  /** @param {string} fault the error in the applied condition */
+  /** @param {string} fault the error in the texts that were applied; "" if there is none */
   showFault(fault) {
     this.status.set(fault && say.stopsEachTime(fault));
     this.fields.condition.setAttribute("aria-invalid", String(fault !== ""));
@@ -166,7 +166,7 @@ export class BreakpointForm {
   /** @param {Breakpoint} originalBreakpoint */
   finish(originalBreakpoint) {
     const hadFocus = this.node.contains(document.activeElement);
-    // This prevents the form from applying its fields when it loses the focus.
+    // While `originalBreakpoint` is null, the loss of the focus does not apply the fields.
     this.originalBreakpoint = null;
     // Move the focus before the form is removed. Otherwise, WebKit moves the caret to the start of the source.
     if (hadFocus) this.calls.returnFocus(originalBreakpoint);

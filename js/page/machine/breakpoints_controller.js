@@ -42,8 +42,8 @@ import * as say from "../../words/machine.js";
  * @property {() => void} showSource Brings the source to the front.
  * @property {() => void} focusSource Moves the focus to the source.
  * @property {(line: number) => void} runTo Runs to a line of the source.
- * @property {() => Promise<void>} freshSource Compares the source with ROM if the source was edited since the last comparison. Resolves
- *   when the comparison is complete.
+ * @property {() => Promise<void>} ensureSourceChecked Compares the source with ROM if the source was edited since the last comparison.
+ *   Resolves when the comparison is complete.
  * @property {() => Promise<void>} checkSource Compares the source with ROM, even if the source was not edited. Resolves when the comparison
  *   is complete.
  * @property {(words: string) => void} showMessage Shows a message near the user's last action.
@@ -97,7 +97,7 @@ export class BreakpointsController {
     const { calls } = this;
     return new BreakpointForm({
       change: (id, changes) => this.manager.change(id, changes),
-      type: (id, changes) => this.manager.type(id, changes),
+      type: (id, changes) => this.manager.saveTypedEdit(id, changes),
       waitForChanges: () => this.manager.allSent,
       placeForm: ({ id, line }, node) => {
         calls.showBelow(line, line > 0 ? node : null);
@@ -114,7 +114,7 @@ export class BreakpointsController {
   }
 
   /**
-   * Opens the form for a breakpoint, below its source line if it has one.
+   * Opens the form for a breakpoint: below the breakpoint's source line, or in the list if the breakpoint has no line.
    * @param {Breakpoint} breakpoint
    * @param {BreakpointField} fieldName the field that receives the caret
    */
@@ -187,7 +187,7 @@ export class BreakpointsController {
 
   /** @param {number} line */
   async toggleLine(line) {
-    await this.calls.freshSource();
+    await this.calls.ensureSourceChecked();
     this.manager.toggleLine(line);
   }
 
@@ -197,7 +197,7 @@ export class BreakpointsController {
    * @param {BreakpointField} fieldName
    */
   async editLine(line, fieldName) {
-    await this.calls.freshSource();
+    await this.calls.ensureSourceChecked();
     const breakpoint = this.manager.breakpointOnLine(line);
     if (breakpoint) this.edit(breakpoint, fieldName);
   }

@@ -22,14 +22,14 @@ import * as say from "../../words/machine.js";
 /**
  * The callbacks of the breakpoint list.
  * @typedef {object} BreakpointCalls
- * @property {(id: number, changes: Partial<SavedBreakpoint>) => void} change Changes the properties of the breakpoint with an id; for
+ * @property {(id: number, changes: Partial<SavedBreakpoint>) => void} change Changes the properties of the breakpoint with this id; for
  *   example, enables or disables the breakpoint.
  * @property {(breakpoint: Breakpoint) => void} edit Opens the form that edits a breakpoint.
- * @property {(id: number) => void} remove Removes the breakpoint with an id.
+ * @property {(id: number) => void} remove Removes the breakpoint with this id.
  * @property {(isOn: boolean) => void} switchAll Enables or disables all breakpoints.
  * @property {() => void} removeAll Removes all breakpoints.
  * @property {() => void} resetHits Sets all hit counts to 0.
- * @property {(breakpoint: Breakpoint) => void} goTo Shows a breakpoint's source line, or its address if it has no line.
+ * @property {(breakpoint: Breakpoint) => void} goTo Shows a breakpoint's address and source line, as far as it has them.
  */
 
 /**
@@ -148,7 +148,7 @@ export class BreakpointsView {
   }
 
   /**
-   * Returns the list element of a breakpoint, or undefined if there is none.
+   * Returns the list entry of the breakpoint with an id, or undefined if the list has no such breakpoint.
    * @param {number} id
    */
   rowElement(id) {

@@ -34,7 +34,7 @@ export class CellEditor {
     this.calls = calls;
     /** @type {WeakMap<HTMLElement, EditableCell>} */
     this.editableCells = new WeakMap();
-    /** @type {WeakMap<HTMLElement, string>} the reason why a cell cannot be edited */
+    /** @type {WeakMap<HTMLElement, string>} the reason why each read-only cell cannot be edited */
     this.fixedReasons = new WeakMap();
     /** @type {HTMLElement | null} the cell that is being edited */
     this.cell = null;
@@ -60,7 +60,7 @@ export class CellEditor {
   }
 
   /**
-   * Makes a cell read-only. If the user tries to edit the cell, it shows the reason.
+   * Makes a cell read-only. If the user tries to edit the cell, a message shows the reason.
    * @param {HTMLElement} cell
    * @param {string} reason
    */

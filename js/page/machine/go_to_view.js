@@ -39,7 +39,7 @@ export class GoToView {
     this.names.replaceChildren(...names.map((name) => element("option", { value: name })));
   }
 
-  /** Shows the address in the field. Returns the address, or null if the field does not contain one. */
+  /** Shows the typed address in the disassembly. Returns the address, or null if the typed text is not an address. */
   goToTypedAddress() {
     const { address, words } = parseGoal(this.field.value, this.map);
     this.status.set(words);

@@ -14,7 +14,8 @@ import * as say from "../../words/machine.js";
  * @typedef {import("../../core/engine/heat_meter.js").ChipHeat} ChipHeat
  * @typedef {import("../../core/machine/heat_levels.js").HeatKind} HeatKind
  * @typedef {import("../../core/machine/source_map.js").SourceMap} SourceMap
- * @typedef {{ warmth: number, words: string }} CellHeat
+ * @typedef {{ warmth: number, words: string }} CellHeat `warmth`: the level of the cell's colour, 0 for no colour; `words`: the text about
+ *   the cell's changes
  */
 
 /**
@@ -26,7 +27,8 @@ import * as say from "../../words/machine.js";
  * @property {(isOn: boolean) => void} setWatch Starts or stops the bench's reports of RAM changes.
  * @property {(heatByPlace: Map<string, CellHeat>) => void} showCells Shows the heat of cells. `heatByPlace` has the heat of each cell by
  *   the cell's location. Cells that are not in the map have no colour.
- * @property {(place: string) => string} placeName Returns the name of a cell in the program. `place` is the cell's location.
+ * @property {(place: string) => string} placeName Returns the name of the cell at location `place`, or a description if the cell has
+ *   no name.
  * @property {() => SourceMap | null} map Returns the source map of the program in ROM, or null if ROM does not match the source.
  */
 
@@ -61,15 +63,15 @@ export class HeatView {
     this.cycles.value = preferences.get("heat-cycles") || this.cycles.value;
     this.kind.addEventListener("change", () => this.applyChoice());
     this.cycles.addEventListener("change", () => this.applyChoice());
-    // Input cancels a count, so that the user's next action does not wait for it.
+    // Input cancels a count, so that the user's next action does not wait for the count.
     for (const kind of ["keydown", "pointerdown"]) addEventListener(kind, () => this.restartTimer(), true);
-    this.showReach();
+    this.showCyclesField();
   }
 
   applyChoice() {
     this.preferences.set("heat", this.kind.value);
     this.preferences.set("heat-cycles", this.cycles.value);
-    this.showReach();
+    this.showCyclesField();
     this.clear();
     this.updateWatch();
     if (this.kind.value !== "") this.readCycles();
@@ -96,12 +98,12 @@ export class HeatView {
     this.calls.setWatch(this.kind.value !== "");
   }
 
-  showReach() {
+  showCyclesField() {
     block("heat-reach").hidden = this.kind.value === "";
   }
 
   /**
-   * Updates the heat map with a frame of running time.
+   * Updates the heat map with a frame that the worker has reported while time is running.
    * @param {{ warmed: ChipHeat | null, cycles: number }} frame
    */
   handleFrame({ warmed, cycles }) {

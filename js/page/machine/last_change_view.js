@@ -39,7 +39,7 @@ export class LastChangeView {
       for (const kind of ["pointerover", "focusin"]) panel.addEventListener(kind, ({ target }) => this.startTimer(target));
       for (const kind of ["pointerout", "focusout"]) panel.addEventListener(kind, () => this.hideTip());
     }
-    // Input cancels the search, so that the user's next action does not wait for it.
+    // Input cancels the search, so that the user's next action does not wait for the search.
     for (const kind of ["keydown", "pointerdown"]) addEventListener(kind, () => this.hideTip(), true);
   }
 

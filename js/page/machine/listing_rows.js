@@ -115,7 +115,7 @@ export class ListingRows {
     return row ? row.address : null;
   }
 
-  /** The index of the row with the focus, or -1 if no row has it. */
+  /** The index of the row with the focus, or -1 if no row has the focus. */
   get focusedIndex() {
     return this.rows.findIndex(({ button }) => button === document.activeElement);
   }
@@ -126,7 +126,8 @@ export class ListingRows {
   }
 
   /**
-   * Moves the first row to the end. If that row had the focus, the next row receives it, so that a screen reader announces the next row.
+   * Moves the element of the first row to the end, so that each index has a different element. If the focus then moves to the same index, a
+   * screen reader announces the new row.
    */
   rotateRows() {
     const [first] = this.rows.splice(0, 1);

@@ -1,5 +1,5 @@
-// Scrolling of the disassembly. The box is as high as the rows of all 4,096 addresses together, but only the visible rows exist as
-// elements. The browser handles the scroll bar, the wheel and touch. Keys move by rows and by pages.
+// Scrolling of the disassembly. The content of the box is as high as the rows of all 4,096 addresses together, but only the visible rows
+// exist as elements. The browser handles the scroll bar, the wheel and touch. Keys move by rows and by pages.
 
 import { ADDRESS_COUNT } from "../../core/bench/rom_bytes.js";
 import { element } from "../ui/dom.js";
@@ -25,19 +25,19 @@ export class ListingScroll {
     this.root = root;
     this.calls = calls;
     this.rows = element("div", { className: "rows" });
-    this.length = element("div", { className: "length" }, this.rows);
+    this.spacer = element("div", { className: "length" }, this.rows);
     this.rowHeight = DEFAULT_ROW_HEIGHT;
     /** The scroll position in pixels at the last call of `handleScroll`. */
     this.handledScrollTop = 0;
-    root.append(this.length);
+    root.append(this.spacer);
     root.addEventListener("scroll", () => this.handleScroll(), { passive: true });
     root.addEventListener("keydown", (event) => this.handleKey(event));
     new ResizeObserver(() => this.measure()).observe(root);
   }
 
   /**
-   * Measures the box and a row. A ResizeObserver must not change sizes in its own callback, so they change at the next frame. Sizes that
-   * were read then would lay out the page once more.
+   * Measures the box and a row, and sets the new sizes at the next frame, because the callback of a ResizeObserver must not change sizes.
+   * Measuring at the next frame would cause another layout of the page.
    */
   measure() {
     const { clientHeight } = this.root;
@@ -53,7 +53,7 @@ export class ListingScroll {
    */
   setSizes(clientHeight, rowHeight) {
     this.rowHeight = rowHeight;
-    this.length.style.setProperty("height", `${ADDRESS_COUNT * this.rowHeight}px`);
+    this.spacer.style.setProperty("height", `${ADDRESS_COUNT * this.rowHeight}px`);
     this.calls.handleResize(Math.max(1, Math.floor(clientHeight / this.rowHeight)));
   }
 

@@ -29,7 +29,7 @@ export class ListingView {
   /**
    * @param {(lines: string) => Promise<string[]>} ask resolves to the bench's answers to queries
    * @param {(address: number) => void} toggleBreakpoint
-   * @param {() => void} requestUpdate called when the disassembly must show other lines
+   * @param {() => void} requestUpdate called when the disassembly must read its lines again
    */
   constructor(ask, toggleBreakpoint, requestUpdate) {
     this.reader = new ListingReader(ask);
@@ -50,9 +50,9 @@ export class ListingView {
     this.lines = [];
     /** @type {NamedLine[]} the lines with their names */
     this.namedLines = [];
-    /** @type {SourceMap | null} the program in ROM */
+    /** @type {SourceMap | null} the source map of the program in ROM; null if ROM does not match the source */
     this.map = null;
-    // The number of requests so far. Lines of an earlier request that arrive after a later one are discarded.
+    /** The number of requests so far. Lines are discarded if they arrive after a later request. */
     this.requestCount = 0;
     /** True if time was running when the disassembly was last shown. */
     this.isRunning = false;
@@ -159,8 +159,8 @@ export class ListingView {
   }
 
   /**
-   * Returns true if other lines must be read. If the disassembly does not follow the counter, it must be read again only if the counter
-   * points to the second byte of a line.
+   * Returns true if other lines must be read. A disassembly that does not follow the counter is read again only while time is paused, if
+   * the counter points to the second byte of a line.
    * @param {boolean} isRunning
    */
   mustReadLines(isRunning) {

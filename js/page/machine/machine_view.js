@@ -121,15 +121,15 @@ export class PortsView {
       const oneSwitches = bits.map(({ node }) => new Switch((isOne) => node.classList.toggle("one", isOne)));
       return { bits, oneSwitches, shownBits: "" };
     });
-    const lines = this.chains.map(({ bits }, index) => this.chainLine(`chain ${index}`, placeName(`chain${index}`), cellNodes(bits)));
-    this.block.replaceChildren(this.sources, ...(board.roms.length > 0 ? [this.romTable(board.roms, placeName)] : []), ...lines);
+    const lines = this.chains.map(({ bits }, index) => this.makeChainLine(`chain ${index}`, placeName(`chain${index}`), cellNodes(bits)));
+    this.block.replaceChildren(this.sources, ...(board.roms.length > 0 ? [this.makeRomTable(board.roms, placeName)] : []), ...lines);
   }
 
   /**
    * @param {Board["roms"]} roms
    * @param {(place: string) => string} placeName
    */
-  romTable(roms, placeName) {
+  makeRomTable(roms, placeName) {
     const rows = roms.map((rom, index) => element("tr", {},
       element("th", { scope: "row" }, String(rom.chip), element("small", {}, placeName(`rom${rom.chip}`))),
       element("td", {}, rom.port),
@@ -143,15 +143,15 @@ export class PortsView {
    * @param {string} name
    * @param {HTMLElement[]} bits
    */
-  chainLine(chain, name, bits) {
+  makeChainLine(chain, name, bits) {
     const groups = [];
     for (let start = 0; start < bits.length; start += 10) groups.push(element("span", {}, ...bits.slice(start, start + 10)));
     return element("p", { className: "chain" }, element("b", {}, chain, element("small", {}, name)), ...groups);
   }
 
   /**
-   * Shows the address that the last SRC instruction has sent to the ROM chips, for example `10`, and to each RAM bank, for example `0.10`
-   * for bank 0.
+   * Shows the addresses that SRC instructions have sent last: the address for the ROM chips, for example `10`, and an address for each RAM
+   * bank, for example `0.10` for bank 0.
    * @param {string[]} sources
    */
   showSources(sources) {

@@ -28,11 +28,14 @@ export class MistakesView {
     this.block = block("usual");
     this.list = block("usual-list");
     const storedKinds = calls.storedKinds().split(" ");
-    /** @type {Set<Kind>} */
+    /** @type {Set<Kind>} the kinds of mistakes at which time stops */
     this.stopKinds = new Set(/** @type {Kind[]} */ (Object.keys(KINDS)).filter((kind) => storedKinds.includes(kind)));
   }
 
-  /** Clears the list when time starts or another session is opened. Sends the chosen kinds again, because the worker may be a new one. */
+  /**
+   * Clears the list when time starts or another session is opened. Sends the chosen kinds to the bench again, because its worker may have
+   * been replaced.
+   */
   clear() {
     this.calls.stopAtMistakes([...this.stopKinds]);
     this.block.hidden = true;

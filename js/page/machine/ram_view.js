@@ -1,8 +1,8 @@
-// The board's RAM as a table for each bank. A click on a nibble sets or clears a watch on it. Nibbles can be edited in place.
+// The board's RAM as a table for each bank. A click on a nibble sets or clears a watch on this nibble. Nibbles can be edited in place.
 
 import { Cell, block, byId, element, makeFirstTabStop, makeOneTabStop, pressedSwitch } from "../ui/dom.js";
 import { hex, indices } from "../../core/bench/numbers.js";
-import { CHARACTERS, STATUS_CHARACTERS_PER_REGISTER } from "../../core/conditions/places.js";
+import { NIBBLES_PER_REGISTER, STATUS_CHARACTERS_PER_REGISTER } from "../../core/conditions/places.js";
 import * as say from "../../words/machine.js";
 
 /**
@@ -32,13 +32,14 @@ function nibbleLabels(register, names) {
   /** @type {(place: string, label: string) => string[]} */
   const labelNames = (place, label) => (names.get(place) || []).map((name) => `${label} ${name}`);
   return [
-    ...indices(CHARACTERS).flatMap((nibble) => labelNames(`ram.${bank}.0x${hex(registerIndex * CHARACTERS + nibble, 2)}`, hex(nibble, 1))),
+    ...indices(NIBBLES_PER_REGISTER).flatMap((nibble) => (
+      labelNames(`ram.${bank}.0x${hex(registerIndex * NIBBLES_PER_REGISTER + nibble, 2)}`, hex(nibble, 1)))),
     ...indices(STATUS_CHARACTERS_PER_REGISTER).flatMap((index) => labelNames(`st.${bank}.${registerIndex}.${index}`, `status ${index}`)),
   ];
 }
 
 /** The number of nibbles in a group, which stays on one line when the table wraps. */
-const NIBBLES_PER_GROUP = CHARACTERS / 2;
+const NIBBLES_PER_GROUP = NIBBLES_PER_REGISTER / 2;
 
 /** @param {Cell[]} cells */
 function nibbleGroup(cells) {
@@ -49,15 +50,16 @@ export class RamView {
   /**
    * @param {Changes} changes
    * @param {CellEditor} editor
-   * @param {(bank: number, source: number, isWatched: boolean, cell: HTMLElement) => void} toggleWatch
+   * @param {(bank: number, source: number, isWatched: boolean, cell: HTMLElement) => void} toggleWatch sets a watch on a nibble, or
+   *   clears the watch if `isWatched`; `source` is the nibble's SRC byte
    */
   constructor(changes, editor, toggleWatch) {
     this.changes = changes;
     this.editor = editor;
     this.toggleWatch = toggleWatch;
-    /** @type {Map<string, Switch>} the watch mark of each nibble, by the nibble's name in the bench's answers */
+    /** @type {Map<string, Switch>} the watch mark of each nibble, by the nibble's name in the bench's answers, for example `0.1F` */
     this.watchSwitches = new Map();
-    /** @type {Map<string, ShownRegister>} */
+    /** @type {Map<string, ShownRegister>} the registers, by `bank.chip.register` */
     this.registers = new Map();
     /** @type {Map<string, { node: HTMLElement, title: string }>} the nibbles, by their locations as the `poke` command names them */
     this.characters = new Map();
@@ -65,14 +67,14 @@ export class RamView {
     this.names = new Map();
     /** @type {ReadonlyMap<string, CellHeat>} the heat of the nibbles that changed recently, by the nibble's location */
     this.heatByPlace = new Map();
-    /** @type {Map<string, Cell>} */
+    /** @type {Map<string, Cell>} the value of each chip's output port, by `bank.chip` */
     this.ports = new Map();
     this.block = block("banks");
     /** @type {HTMLElement[]} the table of each bank */
     this.tables = [];
     this.bankSelect = byId("bank", HTMLSelectElement);
     this.bankSelect.addEventListener("change", () => this.showBank());
-    makeOneTabStop(this.block, () => CHARACTERS + STATUS_CHARACTERS_PER_REGISTER);
+    makeOneTabStop(this.block, () => NIBBLES_PER_REGISTER + STATUS_CHARACTERS_PER_REGISTER);
   }
 
   /**
@@ -118,7 +120,7 @@ export class RamView {
   /** @param {Register} location */
   drawRegister(location) {
     const { bank, chip, register } = location;
-    const characters = indices(CHARACTERS).map((character) => this.drawCharacter(location, character));
+    const characters = indices(NIBBLES_PER_REGISTER).map((character) => this.drawCharacter(location, character));
     const status = indices(STATUS_CHARACTERS_PER_REGISTER).map((character) => this.drawStatus(location, character));
     const names = element("small", { className: "cell-names", hidden: true });
     this.registers.set(`${bank}.${chip}.${register}`, { characters, status, names, shownText: "" });
@@ -234,7 +236,7 @@ export class RamView {
 
   /**
    * Sets a RAM nibble's tooltip: its name, its description and its last change.
-   * @param {string} place
+   * @param {string} place the nibble's location as the `poke` command names it
    */
   updateTitle(place) {
     const nibble = this.characters.get(place);

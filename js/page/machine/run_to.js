@@ -1,4 +1,4 @@
-// Runs to a line. In the disassembly, the user runs to a line by a click with Control, a right click, or Control and Enter. In the source,
+// Listens to the keys and clicks that run to a line. In the disassembly, these are Ctrl+click, a right click and Ctrl+Enter. In the source,
 // a key runs to the caret's line.
 
 import { commandById } from "../commands/command_table.js";

@@ -11,7 +11,7 @@ import * as say from "../../words/machine.js";
  * @typedef {import("./changes.js").Changes} Changes
  * @typedef {import("../../core/machine/return_addresses.js").AddressNote} AddressNote
  * @typedef {import("../../core/machine/source_map.js").SourceMap} SourceMap
- * @typedef {{ button: HTMLButtonElement, value: Cell, note: Cell, isLive: Switch }} Row
+ * @typedef {{ button: HTMLButtonElement, value: Cell, note: Cell, isLive: Switch }} Row `isLive`: off if the address is stale
  */
 
 /** The column range of the first ROM byte in a line of the bench's answer to `list`. */
@@ -30,11 +30,11 @@ export class StackView {
     this.ask = ask;
     /** @type {number[]} the program counter, then the return addresses, newest first */
     this.addresses = [];
-    /** The addresses that the current notes describe, as one text. */
+    /** The addresses that the notes next to them describe, separated by spaces. */
     this.describedAddresses = "";
     /** @type {SourceMap | null} */
     this.map = null;
-    // The number of requests so far. The answer to a request is discarded if a later request has been sent.
+    /** The number of requests so far. An answer is discarded if it arrives after a later request. */
     this.requestCount = 0;
     this.rows = ["pc", "ret 1", "ret 2", "ret 3"].map((name, index) => (
       this.makeRow(name, explain(name), () => goTo(this.rowAddress(index)))));
@@ -84,7 +84,7 @@ export class StackView {
 
   /**
    * Describes the addresses while time is paused. Removes the notes while time is running.
-   * @param {SourceMap | null} map the program in ROM
+   * @param {SourceMap | null} map the source map of the program in ROM; null if ROM does not match the source
    * @param {boolean} isRunning
    */
   async explain(map, isRunning) {

@@ -1,5 +1,5 @@
 // Proofs of properties: a button that proves them for all inputs in a separate worker, and the verdicts. A verdict is visible only while
-// the texts are the same as when it was reached.
+// it applies to the current texts.
 
 import { Cell, button, field, onClick } from "../ui/dom.js";
 import { findPropertyLine, isStillValid } from "../../core/prove/verdict_validity.js";
@@ -52,7 +52,7 @@ export class Proofs {
       },
       addTest: (counterexample) => calls.showMessage(calls.addTest(counterexample.text)),
     });
-    /** The results of each session since the page was opened, by session id. */
+    /** The last proof results of each session since the page was opened, by session id. */
     this.resultsBySession = /** @type {Map<string, ProofResults>} */ (new Map());
     /** The id of the current session. */
     this.session = "";
@@ -63,14 +63,14 @@ export class Proofs {
     onClick(button("prove"), () => this.proveOrCancel());
   }
 
-  /** The results of the current session. */
+  /** The proof results of the current session, or null if there are none. */
   get currentResults() {
     return this.resultsBySession.get(this.session) || null;
   }
 
   /**
-   * Cancels the proof and shows the results of another session.
-   * @param {string} session the id of the session
+   * Handles the opening of another session: cancels the proof and shows the earlier results of that session.
+   * @param {string} session the id of the opened session
    */
   begin(session) {
     this.cancel();
@@ -95,7 +95,7 @@ export class Proofs {
   /** The verdicts about the current texts. */
   get currentVerdicts() {
     const { currentResults } = this;
-    return currentResults ? currentResults.progress.judged.filter(this.isCurrent(currentResults)) : [];
+    return currentResults ? currentResults.progress.judged.filter(this.currentVerdictFilter(currentResults)) : [];
   }
 
   /** The short text that the tab shows about the current verdicts. */
@@ -103,7 +103,7 @@ export class Proofs {
     return this.currentResults ? proofsTabMark(this.currentVerdicts) : "";
   }
 
-  /** True if no current verdict is a counterexample. */
+  /** True if no property has a counterexample, and no goal is proved unreachable. Only current verdicts count. */
   get isGood() {
     return this.currentVerdicts.every((judged) => judged.verdict.kind === "open" || isDesiredVerdict(judged));
   }
@@ -113,7 +113,7 @@ export class Proofs {
    * @param {ProofResults} currentResults
    * @returns {(judged: PropertyVerdict) => boolean}
    */
-  isCurrent(currentResults) {
+  currentVerdictFilter(currentResults) {
     const currentTexts = this.calls.texts();
     return (judged) => isStillValid(judged, currentResults.texts, currentTexts);
   }
@@ -122,7 +122,9 @@ export class Proofs {
     const { currentResults } = this;
     const isRunning = this.controller !== null;
     this.button.set(isRunning ? say.CANCEL : say.PROVE);
-    if (currentResults) this.view.show(currentResults.progress, currentResults.maxStates, isRunning, this.isCurrent(currentResults));
+    if (currentResults) {
+      this.view.show(currentResults.progress, currentResults.maxStates, isRunning, this.currentVerdictFilter(currentResults));
+    }
     this.calls.handleVerdictChange();
   }
 

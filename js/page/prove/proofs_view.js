@@ -12,25 +12,26 @@ import { lineReference } from "../../words/stops.js";
  *
  * The callbacks of the proof results.
  * @typedef {object} ProofCalls
- * @property {(judgedLine: PropertyVerdict) => void} goTo Shows the line of a property in the properties text.
- * @property {(verdict: PropertyVerdict, counterexample: Counterexample) => void} openCounterexample Opens a counterexample in the debugger.
+ * @property {(propertyVerdict: PropertyVerdict) => void} goTo Shows the line of a property in the properties text.
+ * @property {(verdict: PropertyVerdict, counterexample: Counterexample) => void} openCounterexample Opens a new session
+ *   in the state before the counterexample's last step.
  * @property {(counterexample: Counterexample) => void} addTest Adds a counterexample's test to the program's tests.
  */
 
 /** A property's row. The verdict is inserted only once, so that buttons that the user is about to click are not replaced. */
 class VerdictRow {
   /**
-   * @param {PropertyVerdict} judgedLine
+   * @param {PropertyVerdict} propertyVerdict
    * @param {ProofCalls} calls
    */
-  constructor(judgedLine, calls) {
-    this.judgedLine = judgedLine;
-    const { text, line, isGoal, verdict } = judgedLine;
+  constructor(propertyVerdict, calls) {
+    this.propertyVerdict = propertyVerdict;
+    const { text, line, isGoal, verdict } = propertyVerdict;
     const mark = element("b", {});
     const statusText = element("span", { className: "time" });
     // A common mistake has no line in the text, because all programs are checked for it.
     const name = line === 0 ? element("span", { className: "name" }, text)
-      : makeButton(text, () => calls.goTo(judgedLine), { className: "name", title: lineReference(line) });
+      : makeButton(text, () => calls.goTo(propertyVerdict), { className: "name", title: lineReference(line) });
     this.node = element("li", {}, element("p", {}, mark, " ", name, " ", statusText));
     this.mark = new Cell(mark);
     this.words = new Cell(statusText);
@@ -52,17 +53,17 @@ class VerdictRow {
     return [
       element("details", {}, element("summary", {}, name), element("pre", { tabIndex: 0 }, text.trimEnd())),
       element("p", { className: "bar" },
-        makeButton(openWords, () => calls.openCounterexample(this.judgedLine, counterexample), { title }), ...add),
+        makeButton(openWords, () => calls.openCounterexample(this.propertyVerdict, counterexample), { title }), ...add),
     ];
   }
 
   /** @param {boolean} isCurrent true if the verdict is about the current texts */
   show(isCurrent) {
-    const { judgedLine } = this;
-    this.mark.set(isCurrent ? markOf(judgedLine) : "");
-    this.words.set(isCurrent ? describeVerdict(judgedLine) : say.CHANGED);
-    this.litSwitch.set(isCurrent && judgedLine.verdict.kind === "proved" && isDesiredVerdict(judgedLine));
-    this.notOkSwitch.set(isCurrent && judgedLine.verdict.kind !== "open" && !isDesiredVerdict(judgedLine));
+    const { propertyVerdict } = this;
+    this.mark.set(isCurrent ? markOf(propertyVerdict) : "");
+    this.words.set(isCurrent ? describeVerdict(propertyVerdict) : say.CHANGED);
+    this.litSwitch.set(isCurrent && propertyVerdict.verdict.kind === "proved" && isDesiredVerdict(propertyVerdict));
+    this.notOkSwitch.set(isCurrent && propertyVerdict.verdict.kind !== "open" && !isDesiredVerdict(propertyVerdict));
   }
 }
 
@@ -89,13 +90,13 @@ export class ProofsView {
    * @param {Progress} progress
    * @param {number} maxStates the maximum number of states that the prover may visit for each property
    * @param {boolean} isRunning true if a proof is running
-   * @param {(judgedLine: PropertyVerdict) => boolean} isCurrent returns true if a verdict is about the current texts
+   * @param {(propertyVerdict: PropertyVerdict) => boolean} isCurrent returns true if a verdict is about the current texts
    */
   show(progress, maxStates, isRunning, isCurrent) {
-    const newRows = progress.judged.slice(this.rows.length).map((judgedLine) => new VerdictRow(judgedLine, this.calls));
+    const newRows = progress.judged.slice(this.rows.length).map((propertyVerdict) => new VerdictRow(propertyVerdict, this.calls));
     this.list.append(...newRows.map(({ node }) => node));
     this.rows.push(...newRows);
-    for (const row of this.rows) row.show(isCurrent(row.judgedLine));
+    for (const row of this.rows) row.show(isCurrent(row.propertyVerdict));
     this.progress.hidden = !isRunning;
     this.bar.max = maxStates;
     this.bar.value = progress.states;

@@ -1,9 +1,9 @@
 // Compresses and decompresses bytes with the browser's own streams, which older browsers do not have.
 
-/** @typedef {{ readable: ReadableStream<Uint8Array>, writable: WritableStream<BufferSource> }} ByteTransform a transforming stream */
+/** @typedef {{ readable: ReadableStream<Uint8Array>, writable: WritableStream<BufferSource> }} ByteTransform a transform stream */
 
 /**
- * Returns a compression or decompression stream, or null if this browser does not have it.
+ * Returns a deflate-raw compression or decompression stream, or null if this browser does not support it.
  * @param {"CompressionStream" | "DecompressionStream"} name
  * @returns {ByteTransform | null}
  */

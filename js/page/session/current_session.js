@@ -1,4 +1,4 @@
-// The current session: replaces it, saves it, and displays its name.
+// Manages the current session: replaces and saves the session, and displays its name.
 
 import { field, block } from "../ui/dom.js";
 import { describeInterruption } from "../../words/stops.js";
@@ -23,14 +23,14 @@ import * as say from "../../words/session.js";
 /**
  * The callbacks of CurrentSession.
  * @typedef {object} CurrentCalls
- * @property {(record: SessionRecord) => void} begin Shows the texts and the settings of another session. The session's record contains
- *   them.
+ * @property {(record: SessionRecord) => void} begin Shows the texts and the settings of another session, which are in the session's
+ *   record.
  * @property {(state: PageState) => void} show Shows the current state of the session.
  * @property {() => Promise<void>} checkSource Compares the source with ROM. Resolves when the page shows the program's names.
- * @property {() => void} checkTrialTexts Checks the tests and the properties of the session.
+ * @property {() => void} checkTestsAndProperties Checks the tests and the properties of the session.
  * @property {() => void} run Resumes time in a session that the user left while time was running.
  * @property {(words: string) => void} showPaused Shows that time is paused, and the reason.
- * @property {() => Promise<void>} stopTime Stops time. Resolves when the worker has stopped.
+ * @property {() => Promise<void>} stopTime Pauses time. Resolves when the worker has stopped the run.
  * @property {() => string} describeCounter Returns a text with the program counter, its name and its source line.
  * @property {() => void} handleSessionChange Called when the user changes the session.
  * @property {() => RunEntry[]} takeRuns Removes and returns the log entries of the runs since the last call.
@@ -59,7 +59,7 @@ export class CurrentSession {
     this.session = null;
     /** The time of the last save, in milliseconds. */
     this.lastSaveTime = 0;
-    /** True while a session is being opened in which time will resume. No source line is marked as the next one during that time. */
+    /** True while the page opens a session in which time will resume. Until then, no source line is marked as the next to execute. */
     this.willRun = false;
   }
 
@@ -88,12 +88,12 @@ export class CurrentSession {
     else calls.showPaused(goal ? describeInterruption(goal, runs, calls.describeCounter()) : say.PAUSED);
     this.willRun = false;
     await this.restoreHistory();
-    calls.checkTrialTexts();
+    calls.checkTestsAndProperties();
   }
 
   /**
-   * Shows the elements of the page. They stay invisible until the names in the source have arrived, because showing the names changes the
-   * layout.
+   * Shows the elements of the page. At the first session, they stay invisible until the page shows the program's names, because the names
+   * change the layout.
    */
   async showElements() {
     const isFirst = block("bench").hidden;
@@ -103,7 +103,7 @@ export class CurrentSession {
     document.body.classList.remove("settling");
   }
 
-  /** Restores the history from before a page reload, so that the user can go back to it. */
+  /** Restores the history from before a page reload, so that the user can go back beyond the reload. */
   async restoreHistory() {
     const { bench, storedHistory } = this;
     const segments = storedHistory.storedSegments();
@@ -148,7 +148,7 @@ export class CurrentSession {
   }
 
   /**
-   * Shows the session's name in its field and in the window title. Puts the session's address into the address bar, or the example's
+   * Shows the session's name in the name field and in the window title. Puts the session's address into the address bar, or the example's
    * address if the session is an unchanged example.
    */
   showName() {

@@ -28,7 +28,7 @@ export class ExportView {
     const close = element("button", { type: "button" }, say.CLOSE);
     this.dialog = element("dialog", { "id": "export", "aria-labelledby": "export-title" },
       element("div", { className: "bar" }, element("h2", { id: "export-title" }, say.EXPORT), close),
-      element("ul", { "aria-label": say.FILES }, ...this.files().map((file) => this.row(file))), this.status);
+      element("ul", { "aria-label": say.FILES }, ...this.files().map((file) => this.makeRow(file))), this.status);
     document.body.append(this.dialog);
     onClick(close, () => this.dialog.close());
   }
@@ -45,7 +45,7 @@ export class ExportView {
   }
 
   /** @param {ExportedFile} file */
-  row(file) {
+  makeRow(file) {
     const save = element("button", { type: "button" }, say.saveAs(file.extension));
     onClick(save, () => this.save(file).catch(this.calls.reportFailure));
     return element("li", {}, save, element("span", { className: "grow" }, file.description));

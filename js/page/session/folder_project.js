@@ -11,7 +11,8 @@ import * as say from "../../words/session.js";
  * @typedef {import("../../core/engine/examples.js").Example} Example
  * @typedef {import("../../core/session/opened_file.js").FileTexts} FileTexts
  *
- * The texts of a project folder, the speed that the project requests ("" for none), and a message about the files that were not read.
+ * The contents of a project folder. `speed` is the speed that the project requests, or "". `words` is a message about the files that were
+ * not read, or "".
  * @typedef {{ texts: Example, speed: string, words: string }} FolderTexts
  */
 
@@ -42,7 +43,7 @@ async function readText(files, path, kind) {
 /**
  * Returns a message about the files that were not read, or "" if all were read. A session has only one text of each kind, so the other
  * files of that kind are omitted.
- * @param {string[][]} lists
+ * @param {string[][]} lists the paths of the project's test files, and of its property files
  */
 function omittedMessage(lists) {
   const omittedPaths = lists.flatMap((paths) => paths.slice(1));
@@ -50,7 +51,7 @@ function omittedMessage(lists) {
 }
 
 /**
- * Resolves to the texts of a project folder. Throws an error if the folder is not a project, or if one of its files has the wrong contents.
+ * Resolves to the texts of a project folder. Rejects if the folder is not a project, or if one of its files has the wrong contents.
  * @param {Folder} folder
  * @returns {Promise<FolderTexts>}
  */

@@ -1,4 +1,4 @@
-// Links that contain a session's texts. Nothing is sent anywhere: the user copies a link, and the recipient opens it in their own page.
+// Links that contain a session's texts. The page sends nothing to a server: the user copies a link, and the recipient opens the link.
 
 import { formatAddress } from "./address.js";
 import { readBoard, parseRefusal } from "../../core/bench/answers.js";

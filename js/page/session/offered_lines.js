@@ -1,5 +1,5 @@
-// Puts the lines of an example or a file into the console's input. If this replaces a text that the user typed, a notice offers to restore
-// that text.
+// Puts the lines of an example or a file into the console's input. If these lines replace text that the user typed, a notice offers to
+// restore the text.
 
 import { byId } from "../ui/dom.js";
 import * as say from "../../words/session.js";

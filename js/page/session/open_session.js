@@ -10,6 +10,7 @@ import { withTimeout, describeStoreError } from "./store.js";
  * @typedef {import("./store.js").SessionStore} SessionStore
  */
 
+/** The number of session records that this page has created. */
 let createdCount = 0;
 
 /**
@@ -18,7 +19,7 @@ let createdCount = 0;
  * @param {Uint8Array} file
  * @param {{ boardText: string, programText: string, testText?: string, propertiesText?: string, breakpoints?: SessionRecord["breakpoints"],
  *   watched?: SessionRecord["watched"], wired?: SessionRecord["wired"] }} content
- * @param {boolean} runs
+ * @param {boolean} runs true if time runs when the session is opened
  * @returns {SessionRecord}
  */
 export function newRecord(name, file, content, runs = false) {
@@ -43,7 +44,7 @@ export class OpenSession {
     this.release = release;
     this.example = example;
     this.unsavedTexts = new UnsavedTexts();
-    if (record.revision > 0) this.unsavedTexts.noteStored(record);
+    if (record.revision > 0) this.unsavedTexts.markStored(record);
     /** @type {Promise<string>} the write in progress */
     this.currentWrite = Promise.resolve("");
     /** @type {Promise<string> | null} the next write after the one in progress; null if there is none */
@@ -93,6 +94,7 @@ export class OpenSession {
     return write;
   }
 
+  /** True if the session is an unchanged example. */
   get isUntouched() {
     return this.example !== "";
   }
@@ -110,7 +112,7 @@ export class OpenSession {
       this.record.changed = Date.now();
       const writtenRecord = { ...this.record };
       await this.store.put(this.record);
-      this.unsavedTexts.noteStored(writtenRecord);
+      this.unsavedTexts.markStored(writtenRecord);
       return "";
     } catch (fault) {
       return describeStoreError(fault);

@@ -14,7 +14,7 @@ const HARMLESS_AFTER_MS = 1000;
  * Another tab may still be opening the session.
  */
 const RECENT_OPENING_MS = 2000;
-/** The window events that tell the page that the user is leaving it. Every browser sends at least one of them. */
+/** The window events for a user who leaves the page. Every browser sends at least one of them. */
 const LEAVE_EVENTS = ["beforeunload", "pagehide"];
 
 export class OpeningGuard {
@@ -79,8 +79,8 @@ export class OpeningGuard {
 
   /** @param {Pick<Window, "addEventListener">} target the page's window */
   listen(target) {
-    // When the user leaves a page, Firefox 153 often does not run functions that have never run. So run all functions that are needed then
-    // once now.
+    // When the user leaves a page, Firefox 153 often does not run functions that have never run before. Therefore, run `handleLeave` once
+    // now, with one opening to clear.
     this.pendingOpenings.set("", { time: this.currentTime(), isEnded: false });
     this.handleLeave();
     for (const name of LEAVE_EVENTS) target.addEventListener(name, () => this.handleLeave());

@@ -12,7 +12,7 @@ import * as say from "../../words/session.js";
 /**
  * The callbacks of the list. Sessions are identified by id.
  * @typedef {object} ListCalls
- * @property {(id: string) => boolean} isShown Returns true if a session is the current one.
+ * @property {(id: string) => boolean} isShown Returns true if a session is the current session.
  * @property {(id: string) => Promise<boolean>} open Opens a session. Resolves to false after a failure. The failure has already been
  *   reported.
  * @property {(id: string) => Promise<boolean>} copy Copies a session and opens the copy. Resolves to false if that fails.
@@ -112,7 +112,7 @@ export class SessionList {
   }
 
   /**
-   * Deletes sessions. The focus then moves to the entry that is now in the position of the first deleted one.
+   * Deletes sessions. The focus then moves to the entry that takes the position of the first deleted entry.
    * @param {SessionRecord[]} records
    */
   async remove(records) {

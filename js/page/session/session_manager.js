@@ -31,13 +31,13 @@ import * as say from "../../words/session.js";
  * @property {(words: string, ...actions: NoticeAction[]) => void} refuse Shows a message that says why an action was not executed, with
  *   buttons for alternative actions.
  * @property {(id: string) => void} setSpeed Sets the speed that a project requests, by its id.
- * @property {(record: SessionRecord) => void} offerReturn Reports a session that the user has left for a new one, and offers to return to
- *   it.
+ * @property {(record: SessionRecord) => void} offerReturn Reports a session that the user has left for a new session, and offers to
+ *   reopen it.
  * @property {(name: string, texts: import("../../core/session/opened_file.js").FileTexts) => Promise<void>} loadTexts Loads the texts of a
  *   file into the editors.
  * @property {(name: string, bytes: Int16Array) => Promise<void>} loadImage Loads the bytes of a file into ROM; -1 leaves a byte unchanged.
- * @property {(record: SessionRecord, release: Release, example: string) => Promise<void>} useSession Makes a session the current one.
- *   `release` releases its lock. `example` is the example's name if the session is still unchanged, otherwise "".
+ * @property {(record: SessionRecord, release: Release, example: string) => Promise<void>} useSession Makes a session the current session.
+ *   `release` releases the session's lock. `example` is the example's name if the session is still unchanged, otherwise "".
  */
 
 
@@ -77,6 +77,7 @@ export class SessionManager {
   }
 
   /**
+   * Shows a message that says why an action was not executed. Returns false.
    * @param {string} words
    * @param {NoticeAction[]} actions buttons for alternative actions
    * @returns {false}
@@ -105,7 +106,7 @@ export class SessionManager {
   /**
    * Creates a session, acquires its lock and opens it. Resolves to true if the session was created.
    * @param {() => Promise<SessionRecord>} makeRecord
-   * @param {string} example
+   * @param {string} example the example's name if the session is an unchanged example, otherwise ""
    */
   async openNew(makeRecord, example = "") {
     const previousSession = this.calls.session();
@@ -176,7 +177,7 @@ export class SessionManager {
 
   /**
    * Opens a project folder as a new session.
-   * @param {() => Promise<import("./folder_files.js").Folder>} read
+   * @param {() => Promise<import("./folder_files.js").Folder>} read reads the folder's files
    */
   async openFolder(read) {
     let name = say.THE_FOLDER;

@@ -31,8 +31,8 @@ import * as say from "../../words/session.js";
  * @property {(name: string, texts: import("../../core/session/opened_file.js").FileTexts) => Promise<void>} loadTexts Loads the texts of a
  *   file into the editors.
  * @property {(name: string, bytes: Int16Array) => Promise<void>} loadImage Loads the bytes of a file into ROM; -1 leaves a byte unchanged.
- * @property {(record: SessionRecord, release: Release, example: string) => Promise<void>} useSession Makes a session the current one.
- *   `release` releases its lock. `example` is the example's name if the session is still unchanged, otherwise "".
+ * @property {(record: SessionRecord, release: Release, example: string) => Promise<void>} useSession Makes a session the current session.
+ *   `release` releases the session's lock. `example` is the example's name if the session is still unchanged, otherwise "".
  * @property {() => void} showLines Brings the console to the front, for an example that consists only of lines.
  * @property {(text: string) => Promise<void>} openLink Opens the session of a link, given the link's contents.
  */
@@ -106,7 +106,7 @@ export class SessionsController {
   }
 
   /**
-   * Reports that the user has left a session for a new one. The notice has a button to return, because the change may have been an
+   * Reports that the user has left a session for a new session. The notice has a button to return, because the change may have been an
    * accident.
    * @param {SessionRecord} record
    */
@@ -115,7 +115,7 @@ export class SessionsController {
   }
 
   /**
-   * Called when the user changes the session. From now on, the user has data to lose, and no longer needs the offer to return to the
+   * Handles a change of the session by the user. From now on, the user has data to lose, and no longer needs the offer to return to the
    * previous session.
    */
   handleSessionChange() {
@@ -195,7 +195,7 @@ export class SessionsController {
     return kind === "example" ? this.beginExampleByName(value) : false;
   }
 
-  /** @param {boolean} isQuiet true to skip sessions that are open in other tabs without a notice */
+  /** @param {boolean} isQuiet true to skip, without a notice, sessions that are open in other tabs */
   async openLast(isQuiet) {
     const records = await this.manager.savedSessions();
     const unendedRecords = records.filter(({ id }) => this.openings.hasUnfinishedOpening(id));

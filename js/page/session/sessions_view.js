@@ -14,17 +14,17 @@ import * as say from "../../words/session.js";
  */
 
 /**
- * The callbacks of the sessions dialog. A call that opens something resolves to false if that fails.
+ * The callbacks of the sessions dialog. A callback that opens something resolves to false after a failure.
  * @typedef {object} SessionsCalls
  * @property {() => Promise<SessionRecord[]>} savedSessions Resolves to the saved sessions.
- * @property {(id: string) => boolean} isShown Returns true if a session, by its id, is the current one.
+ * @property {(id: string) => boolean} isShown Returns true if a session, by its id, is the current session.
  * @property {(id: string) => Promise<boolean>} open Opens a session by its id.
  * @property {(id: string) => Promise<boolean>} copy Copies a session, by its id, and opens the copy.
  * @property {(records: SessionRecord[]) => Promise<void>} remove Deletes sessions. Deleted sessions can be restored.
  * @property {() => SessionRecord[]} deleted Returns the sessions that can be restored.
  * @property {(records: SessionRecord[]) => Promise<void>} restoreSessions Restores deleted sessions.
  * @property {(example: Example) => Promise<boolean>} begin Begins a new session from an example.
- * @property {(example: Example) => Promise<boolean>} beginStory Begins a new session from an example, and shows its story.
+ * @property {(example: Example) => Promise<boolean>} beginStory Begins a new session from an example, and shows the example's story.
  * @property {(file: File) => Promise<boolean>} openFile Opens a file: a project, a session or a text.
  * @property {(read: () => Promise<import("./folder_files.js").Folder>) => Promise<boolean>} openFolder Opens the project in the folder that
  *   `read` reads.
@@ -107,7 +107,7 @@ export class SessionsView {
     this.sessionList.draw(await this.calls.savedSessions());
   }
 
-  /** Draws the examples before the dialog opens for the first time. Their pictures would delay the start of the page. */
+  /** Draws the examples when the dialog first opens. Drawing their pictures earlier would delay the start of the page. */
   drawExamples() {
     const list = block("examples");
     if (list.childElementCount === 0) list.append(...this.examples.map((example) => this.makeExampleEntry(example)));
@@ -150,8 +150,8 @@ export class SessionsView {
   }
 
   /**
-   * Executes an action. Closes the dialog if it succeeds, otherwise draws the dialog again.
-   * @param {() => Promise<boolean>} action
+   * Executes an action. Closes the dialog if the action succeeds, otherwise draws the dialog again.
+   * @param {() => Promise<boolean>} action resolves to false after a failure
    */
   async runAndClose(action) {
     if (await action()) this.close();
@@ -174,7 +174,7 @@ export class SessionsView {
     }
   }
 
-  /** @param {() => Promise<import("./folder_files.js").Folder>} read */
+  /** @param {() => Promise<import("./folder_files.js").Folder>} read reads the folder's files */
   async openFolder(read) {
     if (await this.calls.openFolder(read)) this.close();
   }

@@ -1,5 +1,5 @@
 // A link contains a session's name and texts after the `#` of an address, which browsers do not send to servers. The link begins with its
-// compression method: 1 for deflate, 0 for none. A checksum follows, and then the lines of a project file that precede its session.
+// compression method: 1 for deflate, 0 for none. A checksum follows, and then the lines of a project file up to the bytes of the session.
 
 import { fromBase64, toBase64 } from "../../core/session/base64.js";
 import { makeStream, readOutput } from "./byte_streams.js";
@@ -63,7 +63,7 @@ async function decompress(bytes) {
 }
 
 /**
- * Resolves to the name and the texts in a link. Throws an error if the link is damaged or needs a newer page.
+ * Resolves to the name and the texts in a link. Rejects with a LinkError if the link is damaged or needs a newer page.
  * @param {string} link
  * @returns {Promise<Texts>}
  */

@@ -1,12 +1,13 @@
-// The session store in the browser's IndexedDB. The page itself writes to the store, because the browser terminates the worker at once when
-// the user leaves the page, but still completes the page's requests.
+// The session store in the browser's IndexedDB. The page itself writes to the store: when the user leaves the page, the browser terminates
+// the worker at once, but still completes the page's requests.
 
 import * as say from "../../words/session.js";
 
 /**
  * A session in the store: its file, its name, and the texts of the editors, which the file does not contain. Records from older versions
- * have no tests text and no properties text. `runs`: true if time is running, so that it resumes after a reload. `cycles`: the cycle counts
- * that the page shows. `breakpoints`: the breakpoints of the source. `watched`: the watch list. `isTitled`: true if the name is the title
+ * have no tests text and no properties text. `runs`: true if time is running, so that time resumes after a reload. `revision`: how often
+ * the record has been stored. `changed`: the time of the last change, in milliseconds since 1970. `cycles`: the cycle counts that the page
+ * shows. `breakpoints`: the breakpoints of the source. `watched`: the watch list. `isTitled`: true if the name is the title
  * in the texts because the user has not named the session. `goal`: the goal of the run in progress. `places`: the positions of dragged
  * parts in the board's picture. `printed`: the codes that were sent to the board's printer. `wired`: the texts of the last boards,
  * beginning with the board in use. `rows`: the arrangement of the rows in the logic analyser.
@@ -18,8 +19,9 @@ import * as say from "../../words/session.js";
  *   wired?: import("../../core/board/wired_board_text.js").WiredText[] }} SessionRecord
  *
  * @typedef {{ isPersistent: boolean, isAtomic: boolean, all: () => Promise<SessionRecord[]>, get: (id: string) => Promise<SessionRecord |
- *   undefined>, put: (record: SessionRecord) => Promise<void>, remove: (id: string) => Promise<void> }} SessionStore `isPersistent`: the
- *   sessions outlast the page; `isAtomic`: `put` sends all its requests at once, so that they complete even while the page closes
+ *   undefined>, put: (record: SessionRecord) => Promise<void>, remove: (id: string) => Promise<void> }} SessionStore `isPersistent`: true
+ *   if the sessions outlast the page; `isAtomic`: true if `put` sends all its requests at once, so that they complete even while the page
+ *   closes
  */
 
 /** The error that is thrown if a session cannot be saved or read. Its message is meant for the user. */

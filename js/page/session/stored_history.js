@@ -6,7 +6,7 @@ import { fromBase64, toBase64 } from "../../core/session/base64.js";
 import * as say from "../../words/session.js";
 
 /**
- * @typedef {import("../../core/engine/timeline.js").News} News
+ * @typedef {import("../../core/engine/timeline.js").PastChanges} News
  * @typedef {import("../../core/engine/timeline.js").Entry} Entry
  * @typedef {import("../../core/engine/timeline.js").StoredSegment} StoredSegment
  * @typedef {Pick<Storage, "getItem" | "setItem" | "removeItem">} TabStore
@@ -58,6 +58,7 @@ export class StoredHistory {
   /** @param {TabStore | null} store */
   constructor(store = tabStore()) {
     this.store = store;
+    /** The id of the current session. */
     this.session = "";
     /** @type {StoredSegment[]} */
     this.segments = [];
@@ -67,7 +68,7 @@ export class StoredHistory {
     this.characters = 0;
   }
 
-  /** @param {string} session the id of the session that becomes the current one */
+  /** @param {string} session the id of the opened session */
   begin(session) {
     this.session = session;
     this.segments = [];
@@ -106,7 +107,7 @@ export class StoredHistory {
     this.accessStore((store) => store.setItem(STORAGE_KEY, JSON.stringify({ session: this.session, segments })));
   }
 
-  /** Removes the session's history from the storage and returns it. Returns an empty list if the storage has none for this session. */
+  /** Removes the session's history from the storage. Returns the history, or an empty list if the storage has none for this session. */
   storedSegments() {
     /** @type {StoredSegment[]} */
     let segments = [];
@@ -119,7 +120,7 @@ export class StoredHistory {
   }
 
   /**
-   * Continues a history that the bench has restored after a reload. Appends the entries since the reload to it.
+   * Continues a history that the bench has restored after a reload. Appends the entries since the reload.
    * @param {StoredSegment[]} restoredSegments
    * @param {number} count the number of restored entries in the last segment
    */

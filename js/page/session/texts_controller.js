@@ -20,8 +20,8 @@ import * as say from "../../words/session.js";
  * @property {() => void} handleEdit Handles an edit of a text.
  * @property {(boardText: string) => void} updateNames Updates the names that come from the board's text, which may have changed.
  * @property {() => Promise<string>} source Resolves to a source text that assembles to the contents of ROM. Rejects if the bench fails.
- * @property {(text: string) => Promise<boolean>} isProbablyNotProgram Resolves to true if every line of a text has an error. Then the text
- *   is probably not a program.
+ * @property {(text: string) => Promise<boolean>} isProbablyNotProgram Resolves to true if every code line of a text has an error. Then the
+ *   text is probably not a program.
  * @property {(shownName: TextName, lines: string) => void} handleLoadedTexts Handles texts that were loaded from a file. Shows the text
  *   `shownName` and puts `lines` into the console's input.
  * @property {(fault: unknown) => void} reportFailure Reports an error that a call threw.
@@ -30,8 +30,8 @@ import * as say from "../../words/session.js";
 /**
  * @typedef {keyof typeof say.WHICH_TEXT} TextName
  *
- * A replaced text: its name, the old text, the new text, and whether the editor's undo or redo restores the old text if the user has not
- * edited the text since.
+ * A replaced text: its name, the old text and the new text. `undoStep` says whether the editor's undo or its redo restores the old text.
+ * This works only until the user edits the text.
  * @typedef {{ name: TextName, oldText: string, newText: string, undoStep: "undo" | "redo" }} ReplacedText
  */
 
@@ -100,7 +100,7 @@ export class TextsController {
   }
 
   /**
-   * Loads a file's texts. Asks the user first if a text is probably not a program.
+   * Loads a file's texts. If the source text is probably not a program, asks the user first.
    * @param {string} name the name of the file
    * @param {import("../../core/session/opened_file.js").FileTexts} texts
    */
@@ -202,7 +202,8 @@ export class TextsController {
   }
 
   /**
-   * Replaces a text. Returns a list with the entry that can restore the previous text. The list is empty if the text has not changed.
+   * Replaces a text. Returns a list with the entry that can restore the previous text. The list is empty if the text has
+   * not changed or was blank.
    * @param {TextName} name
    * @param {string} text
    * @returns {ReplacedText[]}
@@ -218,7 +219,7 @@ export class TextsController {
   /**
    * Restores a replaced text with the editor's undo or redo. If the user has edited the text since it was replaced, restores it through a
    * new edit.
-   * @param {ReplacedText} replacedTexts
+   * @param {ReplacedText} replacedText
    * @returns {ReplacedText[]} entries that can restore the texts just replaced
    */
   restoreText({ name, oldText, newText, undoStep }) {

@@ -19,7 +19,7 @@ export class Trash {
   /**
    * @param {SessionStore} store
    * @param {Locks} locks
-   * @param {(words: string) => void} refuse
+   * @param {(words: string) => void} refuse shows the reason why a session was not deleted or restored
    */
   constructor(store, locks, refuse) {
     this.store = store;
@@ -72,7 +72,7 @@ export class Trash {
   async restoreSessions(records) {
     for (const record of records.filter((candidate) => this.deleted.includes(candidate))) {
       try {
-        // The store no longer has a revision of the deleted record, so its revisions begin again.
+        // The store no longer has a revision of the deleted record, so its revisions begin again at 0.
         record.revision = 0;
         await this.store.put(record);
         this.deleted = this.deleted.filter((candidate) => candidate !== record);

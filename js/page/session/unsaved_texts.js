@@ -1,5 +1,5 @@
 // Saves the texts that are not yet in the session store when the user leaves the page. In WebKit, the last write to that store does not
-// complete, so these texts are also written to the browser's local storage, which saves them at once.
+// complete. Therefore, these texts are also written to the browser's local storage, which saves them at once.
 
 import { browserStore } from "../ui/preferences.js";
 
@@ -27,12 +27,12 @@ export class UnsavedTexts {
    * Records that the session store has the texts of a session.
    * @param {SessionRecord} record
    */
-  noteStored(record) {
+  markStored(record) {
     this.storedTexts = formatTexts(record);
   }
 
   /**
-   * Saves the texts of a session in local storage when the user leaves it, unless the session store has them.
+   * Saves the texts of a session in local storage when the user leaves the page, unless the session store has these texts.
    * @param {SessionRecord} record
    */
   saveOnLeave(record) {
@@ -43,7 +43,7 @@ export class UnsavedTexts {
 
   /**
    * Copies the texts in local storage into a record that was read from the session store, if they are newer than the record. The texts stay
-   * in local storage until the session store has newer ones, because the user can leave again before the next write.
+   * in local storage until the session store has newer texts, because the user can leave again before the next write.
    * @param {SessionRecord} record
    */
   restore(record) {

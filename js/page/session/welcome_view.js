@@ -16,7 +16,7 @@ import * as say from "../../words/example_notes.js";
  * @property {() => void} beginTour Begins the tour with the first program.
  * @property {(name: string) => Promise<boolean>} begin Begins a new session from an example, by its name. Resolves to true if the session
  *   was created.
- * @property {() => void} showWiring Brings the Wiring tab's picture to the front.
+ * @property {() => void} showWiring Brings the Wiring tab to the front.
  * @property {() => void} storeSeen Stores the fact that the cards were shown.
  */
 
@@ -35,12 +35,12 @@ export class WelcomeView {
     document.body.append(this.dialog);
   }
 
-  /** Draws the cards before the dialog opens for the first time. Their pictures would delay the start of the page. */
+  /** Draws the cards when the dialog first opens. Drawing their pictures earlier would delay the start of the page. */
   draw() {
     if (this.cards.length > 0) return;
     /** @type {(name: string) => Example | undefined} */
     const findExample = (name) => this.examples.find((example) => example.name === name);
-    this.cards = Object.entries(say.CARDS).map(([name, card]) => this.card(name, card, findExample(card.example)));
+    this.cards = Object.entries(say.CARDS).map(([name, card]) => this.makeCard(name, card, findExample(card.example)));
     const title = element("h2", { id: "welcome-title" }, say.WELCOME);
     this.dialog.append(
       element("div", { className: "bar" }, title, makeButton(say.CLOSE, () => this.dialog.close())),
@@ -52,7 +52,7 @@ export class WelcomeView {
    * @param {{ title: string, words: string, example: string }} card
    * @param {Example | undefined} example
    */
-  card(name, { title, words, example: exampleName }, example) {
+  makeCard(name, { title, words, example: exampleName }, example) {
     const node = element("button", { type: "button", className: "card" });
     const picture = name === "draw" ? icon("chip") : boardPicture(example ? example.board : TOUR_BOARD);
     node.append(picture, element("b", {}, title), element("span", {}, words));
@@ -66,7 +66,7 @@ export class WelcomeView {
 
   /**
    * @param {string} name the name of an example
-   * @param {boolean} showsWiring
+   * @param {boolean} showsWiring true to bring the Wiring tab to the front
    */
   async begin(name, showsWiring) {
     if ((await this.calls.begin(name)) && showsWiring) this.calls.showWiring();

@@ -75,7 +75,7 @@ export class TestsTab {
     return { ...this.calls.texts(), testText: this.editor.text };
   }
 
-  /** Checks the text when a session has been opened or the tab comes to the front. */
+  /** Checks the text. Called when a session has been opened, and when the tab comes to the front. */
   refresh() {
     this.textTab.refresh();
   }
@@ -92,7 +92,7 @@ export class TestsTab {
     this.clear();
   }
 
-  /** Shows the button for a first test if the text of the opened session is empty. */
+  /** Shows the button that inserts a first test, if the opened session has no tests. */
   begin() {
     this.textTab.offerFirstText();
   }

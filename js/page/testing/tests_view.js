@@ -1,4 +1,4 @@
-// The results of tests: a row for each test with its error, the program's coverage, and its cycle profile.
+// The results of tests: a row for each test with its error, and the coverage and the cycle profile of the program.
 
 import { Cell, block, makeButton, descendant, element } from "../ui/dom.js";
 import { hex } from "../../core/bench/numbers.js";

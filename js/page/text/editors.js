@@ -3,7 +3,7 @@
 import { readBoard, parseRefusal } from "../../core/bench/answers.js";
 import { formatQuantity } from "../../core/bench/numbers.js";
 import { TextErrorFinder, findFrontPanelErrors, textRefusalOrNull } from "../../core/text/text_error_finder.js";
-import { programTexts, describeAssembled } from "../../core/text/asm_texts.js";
+import { createProgramTexts, describeAssembled } from "../../core/text/asm_texts.js";
 import { assemblyColours } from "./assembly_colours.js";
 import { boardColours } from "./board_colours.js";
 import { completeBoard } from "../../core/text/board_completion.js";
@@ -43,7 +43,7 @@ import * as say from "../../words/text.js";
  *   a failure. A failure has already been reported.
  * @property {() => Promise<void>} pauseTime Pauses time. Resolves when time is paused.
  * @property {() => void} resumeTime Resumes time.
- * @property {() => string} counter Returns the program counter on the page, as three hexadecimal digits.
+ * @property {() => string} counter Returns the program counter that the page shows, as three hexadecimal digits.
  * @property {(line: number) => void} toggleBreakpoint Sets or removes the breakpoint at a source line.
  * @property {(line: number, fieldName: BreakpointField) => void} editBreakpoint Opens a field of the breakpoint at a line.
  * @property {(line: number, point: { left: number, bottom: number }) => void} openMarginMenu Opens the margin menu of a line at a point of
@@ -89,11 +89,11 @@ export class Editors {
   /** @param {ErrorMessages} words */
   makeFaultSearch(words) {
     return new TextErrorFinder({
-      wiring: (sent) => this.bench.call("wiring", [sent]),
-      errors: (sent) => this.bench.call("errors", [sent]),
-      refuse: (sent) => this.findRefusal("asm", sent),
-      map: async (sent) => (await this.bench.call("checkProgram", [sent])).map,
-      roms: () => this.roms(),
+      findBoardError: (sent) => this.bench.call("wiring", [sent]),
+      findLineErrors: (sent) => this.bench.call("errors", [sent]),
+      findRefusal: (sent) => this.findRefusal("asm", sent),
+      readMap: async (sent) => (await this.bench.call("checkProgram", [sent])).map,
+      readRomNumbers: () => this.roms(),
     }, { instructions: this.instructions, tables: this.tables }, (number) => words.refusalMeaning(number));
   }
 
@@ -141,7 +141,7 @@ export class Editors {
   }
 
   /**
-   * Checks both texts after another session was opened or the board has changed.
+   * Checks the source and the board's text after another session was opened or the board has changed.
    * @param {boolean} isEmpty true if the bench has no board
    */
   checkTexts(isEmpty) {
@@ -189,8 +189,8 @@ export class Editors {
     if (!(await this.hasNoFaults("program"))) return;
     await this.calls.pauseTime();
     const { benchText } = this.program;
-    const { size, left } = await this.bench.call("leftovers", [benchText]);
-    const lines = programTexts(benchText, left).map((text) => `asm\n${text}.\n`).join("");
+    const { size, remainingAddresses: left } = await this.bench.call("leftovers", [benchText]);
+    const lines = createProgramTexts(benchText, left).map((text) => `asm\n${text}.\n`).join("");
     const answer = await this.calls.serveLines(`${lines}reset\n`);
     if (answer === null) return;
     const refusal = parseRefusal(answer);
@@ -257,7 +257,7 @@ export class Editors {
   }
 
   /**
-   * Shows a message that says that a text with errors is not sent. Scrolls to the first error.
+   * Reports that a text is not sent because it has errors. Scrolls to the first error.
    * @param {"program" | "board"} name
    * @param {Fault[]} faults
    */

@@ -39,12 +39,12 @@ export class ErrorView {
     for (const fault of faults) words.set(fault.line, [words.get(fault.line), fault.words].filter(Boolean).join("; "));
     this.marks.showTexts("faults", (line) => (words.has(line) ? "!" : ""), (line) => words.get(line) || "");
     this.editor.showFaults(faults.flatMap((fault) => this.underline(fault)));
-    this.list.replaceChildren(...faults.map((fault) => this.entry(fault)), ...(footnote ? [element("li", {}, footnote)] : []));
+    this.list.replaceChildren(...faults.map((fault) => this.makeEntry(fault)), ...(footnote ? [element("li", {}, footnote)] : []));
     this.list.hidden = faults.length === 0;
   }
 
   /**
-   * Returns the range to underline for an error, or an empty list if the line is empty.
+   * Returns a list with the range to underline for an error. The list is empty if the line is empty.
    * @param {Fault} fault
    */
   underline({ line, from, to, words }) {
@@ -57,7 +57,7 @@ export class ErrorView {
   }
 
   /** @param {Fault} fault */
-  entry(fault) {
+  makeEntry(fault) {
     const button = element("button", { type: "button" }, element("b", {}, `${lineReference(fault.line)}: `), fault.words);
     onClick(button, () => this.goTo(fault));
     return element("li", {}, button);

@@ -1,11 +1,11 @@
-// A bar above a text with one input field, for example for a line number or a new name.
+// A bar with one input field above a text, for example for a line number or a new name.
 
 import { Cell, element, onClick } from "../ui/dom.js";
 import * as say from "../../words/text.js";
 
 /**
  * A question to the user: `label` is the field's label, `value` the field's initial text, and `word` the button's label. `act` receives the
- * typed text. It returns "" if it succeeds, otherwise an error message.
+ * typed text and returns "", or an error message if the text is not valid.
  * @typedef {{ label: string, value: string, word: string, act: (typed: string) => string }} BarQuestion
  */
 

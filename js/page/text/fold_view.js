@@ -12,7 +12,8 @@ import * as say from "../../words/text.js";
  */
 
 /**
- * Returns a function that returns the text of a document's line, by its number from 0. The functions of folding.js take this function.
+ * Returns the function through which folding.js reads a document. The function takes a line number from 0 and returns the line's text, or
+ * undefined if there is no such line.
  * @param {import("@codemirror/state").Text} doc
  * @returns {import("../../core/text/folding.js").LineAt}
  */
@@ -21,8 +22,8 @@ function lineReader(doc) {
 }
 
 /**
- * Returns the element that replaces folded lines and says how many there are.
- * @param {number} count
+ * Returns the element that replaces folded lines and shows their number.
+ * @param {number} count the number of folded lines
  * @param {(event: Event) => void} unfoldRange
  */
 function makePlaceholder(count, unfoldRange) {

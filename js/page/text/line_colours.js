@@ -7,10 +7,10 @@ import { Decoration, ViewPlugin } from "@codemirror/view";
  *
  * A coloured range in a line, with its style class. The ranges of a line are in order.
  * @typedef {{ from: number, to: number, style: string }} ColouredRange
- * @typedef {(line: string) => ColouredRange[]} Colours
+ * @typedef {(line: string) => ColouredRange[]} Colours returns the coloured ranges of a line
  */
 
-/** @type {Map<string, Decoration>} */
+/** @type {Map<string, Decoration>} the CodeMirror decoration of each style class */
 const marksByStyle = new Map();
 
 /** @param {string} style */

@@ -30,12 +30,12 @@ import { descendant } from "../ui/dom.js";
 /**
  * The callbacks of the line editor.
  * @typedef {object} EditorCalls
- * @property {(edits: Edit[]) => void} handleEdits Handles the edits of the text in order.
+ * @property {(edits: Edit[]) => void} handleEdits Handles edits of the text, in the order in which they apply.
  * @property {() => void} handleCaretMove Handles a caret move.
  * @property {(line: number) => void} handleGutterClick Handles a click on a gutter at a line, from 0.
  * @property {(line: number, event: Event) => void} handleGutterMenu Handles a right click on a gutter at a line, from 0.
- * @property {(size: number) => boolean} acceptsSize Returns true if the editor accepts an edit by pasting or dropping that makes the text
- *   `size` characters long.
+ * @property {(size: number) => boolean} acceptsSize Returns true if the editor accepts a paste or a drop after which the text has `size`
+ *   characters.
  * @property {(position: Position) => Completion} complete Returns the completions for the word at a position.
  */
 
@@ -57,7 +57,7 @@ function offsetToPosition(doc, offset) {
 }
 
 /**
- * Returns the edits of a transaction, last edit first. All positions are therefore valid in the text before the transaction.
+ * Returns the edits of a transaction, from the end of the text to its beginning. In this order, their positions in the old text stay valid.
  * @param {Transaction} transaction
  */
 function transactionEdits(transaction) {
@@ -180,13 +180,13 @@ export class LineEditor {
    * @param {Transaction} transaction
    */
   acceptsTransaction(transaction) {
-    const isWholeTextEvent = transaction.docChanged && LONG_TEXT_EVENTS.some((event) => transaction.isUserEvent(event));
-    return !isWholeTextEvent || this.calls.acceptsSize(transaction.newDoc.length);
+    const isPasteOrDrop = transaction.docChanged && LONG_TEXT_EVENTS.some((event) => transaction.isUserEvent(event));
+    return !isPasteOrDrop || this.calls.acceptsSize(transaction.newDoc.length);
   }
 
   /**
-   * Starts a new line with an indentation, which by default is that of the previous line.
-   * @param {string} [indent]
+   * Starts a new line.
+   * @param {string} [indent] the indentation of the new line, by default that of the previous line
    */
   breakLine(indent) {
     const { from, to } = this.state.selection.main;
@@ -229,7 +229,7 @@ export class LineEditor {
   }
 
   /**
-   * Replaces the whole text. The user can undo this.
+   * Replaces the entire text, as one undo step.
    * @param {string} text
    */
   setValue(text) {
@@ -298,7 +298,7 @@ export class LineEditor {
   /**
    * Replaces the selection with a text and puts the caret after the text.
    * @param {string} text
-   * @param {string} [event] the name of the user event; if it is given, one undo step can also include text that was typed before
+   * @param {string} [event] the name of the user event; if it is given, the undo step can include text that the user typed before
    */
   replaceSelection(text, event) {
     const { from, to } = this.state.selection.main;
@@ -383,9 +383,9 @@ export class LineEditor {
   }
 
   /**
-   * Shows an element below a line, or removes it.
+   * Shows an element below a line. Removes the previous element.
    * @param {number} line from 0
-   * @param {HTMLElement | null} node null to remove the element
+   * @param {HTMLElement | null} node null to show no element
    */
   showBelow(line, node) {
     this.nodeBelow = node;
@@ -443,7 +443,7 @@ export class LineEditor {
 
   /**
    * Returns the distance in pixels between the top of the text and a line.
-   * @param {number} line
+   * @param {number} line from 0
    */
   heightAtLine(line) {
     return this.view.lineBlockAt(this.offset({ line, ch: 0 })).top;
@@ -471,13 +471,13 @@ export class LineEditor {
     this.view.requestMeasure();
   }
 
-  /** @param {() => void} action called after CodeMirror's next measurement, when it no longer changes the scroll position */
+  /** @param {() => void} action called after CodeMirror's next layout measurement, which can change the scroll position */
   callAfterLayout(action) {
     this.view.requestMeasure({ read: () => null, write: () => queueMicrotask(action) });
   }
 
   /**
-   * Returns a state in which long lines wrap if they do so in this editor.
+   * Returns the state with line wrapping as in this editor.
    * @param {EditorState} state
    */
   withWrapping(state) {

@@ -113,7 +113,7 @@ export class Layer {
 
   /**
    * @param {EditorView} view
-   * @param {import("@codemirror/state").Range<any>[]} ranges the new ranges, which replace the previous ones
+   * @param {import("@codemirror/state").Range<any>[]} ranges the new ranges, which replace the previous ranges
    */
   show(view, ranges) {
     const oldRanges = view.state.field(this.field);

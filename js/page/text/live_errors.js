@@ -22,7 +22,7 @@ export class LiveErrors {
     this.timer = 0;
   }
 
-  /** Cancels the check in progress, and schedules another one. Called after each edit. */
+  /** Cancels the check in progress, and schedules another check. Called after each edit. */
   handleEdit() {
     this.checkCount += 1;
     clearTimeout(this.timer);
@@ -30,7 +30,8 @@ export class LiveErrors {
   }
 
   /**
-   * Checks the text immediately and shows the result. Resolves to the result, or to undefined if the text was edited in the meantime.
+   * Checks the text immediately and shows the result. Resolves to the result, or to undefined if an edit or a newer check
+   * has cancelled this check.
    * @returns {Promise<Result | undefined>}
    */
   async checkNow() {

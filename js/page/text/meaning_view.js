@@ -39,8 +39,8 @@ export class MeaningView {
   }
 
   /**
-   * @param {Piece[]} pieces
-   * @param {string} words
+   * @param {Piece[]} pieces the word's current values
+   * @param {string} words the word's meaning
    */
   set(pieces, words) {
     const layout = layoutKey(pieces);

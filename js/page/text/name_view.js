@@ -64,7 +64,7 @@ export class NameView {
     const close = element("button", { type: "button" }, say.CLOSE);
     onClick(close, () => this.close());
     this.list.replaceChildren(element("li", {}, say.nameIsAt(name, formatQuantity(references.length, "place")), close),
-      ...references.map((reference) => this.row(reference, lines[reference.line - 1])));
+      ...references.map((reference) => this.makeRow(reference, lines[reference.line - 1])));
     this.list.hidden = false;
   }
 
@@ -72,7 +72,7 @@ export class NameView {
    * @param {Reference} reference
    * @param {string} text the line that contains the reference
    */
-  row(reference, text) {
+  makeRow(reference, text) {
     const node = element("button", { type: "button" }, say.lineOfName(reference.line, reference.isDefinition));
     onClick(node, () => this.selectReference(reference));
     return element("li", {}, node, " ", element("code", {}, text.trim().slice(0, MAX_LINE_LENGTH)));
@@ -91,6 +91,7 @@ export class NameView {
   }
 
   /**
+   * Renames all references to a name. Returns "", or the reason why the new name is rejected.
    * @param {string} name
    * @param {string} newName
    */

@@ -24,7 +24,7 @@ export class ProblemsView {
     /** @type {Map<string, Fault[]>} the errors of each text, by the name of its tab */
     this.faults = new Map();
     /** The number of common mistakes detected while time was running. */
-    this.bugCount = 0;
+    this.mistakeCount = 0;
   }
 
   /**
@@ -35,19 +35,19 @@ export class ProblemsView {
     if (faults.length === 0 && (this.faults.get(name) || []).length === 0) return;
     this.faults.set(name, faults);
     this.list.replaceChildren(...[...this.faults].flatMap(([textName, textFaults]) => (
-      textFaults.map((fault) => this.entry(textName, fault)))));
+      textFaults.map((fault) => this.makeEntry(textName, fault)))));
     this.updateCount();
   }
 
-  /** @param {number} bugCount the number of common mistakes detected while time was running */
-  showBugCount(bugCount) {
-    if (this.bugCount === bugCount) return;
-    this.bugCount = bugCount;
+  /** @param {number} mistakeCount the number of common mistakes detected while time was running */
+  showMistakeCount(mistakeCount) {
+    if (this.mistakeCount === mistakeCount) return;
+    this.mistakeCount = mistakeCount;
     this.updateCount();
   }
 
   updateCount() {
-    const count = [...this.faults.values()].reduce((sum, faults) => sum + faults.length, this.bugCount);
+    const count = [...this.faults.values()].reduce((sum, faults) => sum + faults.length, this.mistakeCount);
     this.emptyNote.hidden = count > 0;
     this.calls.showCount(count);
   }
@@ -56,7 +56,7 @@ export class ProblemsView {
    * @param {string} name
    * @param {Fault} fault
    */
-  entry(name, fault) {
+  makeEntry(name, fault) {
     const button = element("button", { type: "button" }, element("b", {}, say.problemAt(name, fault.line)), fault.words);
     onClick(button, () => this.calls.goTo(name, fault));
     return element("li", {}, button);

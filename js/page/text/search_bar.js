@@ -93,8 +93,8 @@ export class SearchBar {
   }
 
   /**
-   * Selects the next or previous match, ignoring case. The search continues at the other end of the text.
-   * @param {boolean} isBack
+   * Selects the next or previous match, ignoring case. The search wraps around at the ends of the text.
+   * @param {boolean} isBack true to select the previous match
    * @param {number} startOffset the offset at which the search begins
    */
   find(isBack, startOffset = this.editor.selectedRange[isBack ? "from" : "to"]) {

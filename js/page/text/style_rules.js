@@ -3,8 +3,9 @@
 
 import { StyleModule } from "style-mod";
 
-/** @type {Set<StyleModule>} */
+/** @type {Set<StyleModule>} the modules whose rules are in the style sheet */
 const addedModules = new Set();
+/** The number of rules that were inserted. */
 let count = 0;
 
 /** Makes CodeMirror insert its style rules into the page's style sheet. */

@@ -25,11 +25,11 @@ import * as say from "../../words/text.js";
 /**
  * The callbacks of a text editor.
  * @typedef {object} TextCalls
- * @property {(edits: Edit[]) => void} handleEdits Handles the edits of the text in order.
+ * @property {(edits: Edit[]) => void} handleEdits Handles edits of the text, in the order in which they apply.
  * @property {() => void} handleCaretMove Handles a caret move.
  * @property {(line: number) => void} handleGutterClick Handles a click on a gutter at a line, from 1.
  * @property {(line: number, event: Event) => void} handleGutterMenu Handles a right click on a gutter at a line, from 1.
- * @property {() => void} handleNameClick Handles a click with Control on a name. The click has already moved the caret to the name.
+ * @property {() => void} handleNameClick Handles a Ctrl+click on a name. The click has already moved the caret to the name.
  * @property {(size: number) => void} reportTooLong Reports that a text of `size` characters is too long and was rejected.
  * @property {(position: Position) => import("../../core/text/completion.js").Completion} complete Returns the completions for the word at a
  *   position.
@@ -53,13 +53,14 @@ export class TextEditor {
     /** The line to reveal as soon as the text can be measured, or 0 for none. */
     this.pendingLine = 0;
     /**
-     * True if the Tab key moves the focus out of the editor. This is so after Escape, and after Tab has moved the focus into the editor.
+     * True if the Tab key moves the focus out of the editor: after Escape, and after Tab has moved the focus into the editor.
      */
     this.tabMovesFocus = true;
     /** True if the editor has had the focus since its text was loaded, so that the user may have placed the caret. */
     this.hasCaret = false;
-    /** @type {Map<string, StoredText>} the stored editor states, by session name */
+    /** @type {Map<string, StoredText>} the stored editor states, by session id */
     this.storedTexts = new Map();
+    /** The id of the session whose text is shown. */
     this.name = "";
     /** @type {string | null} the editor's text; null after an edit, until the text is read again */
     this.cachedText = null;
@@ -119,7 +120,7 @@ export class TextEditor {
     return this.editor.container;
   }
 
-  /** Restores the scroll position when a hidden text appears again, because the browser may have changed it. */
+  /** Restores the scroll position when a hidden text appears again, because the browser may have changed the position. */
   handleResize() {
     if (this.container.offsetHeight === 0) this.scheduleScroll(this.pendingScrollTop === null ? this.top : this.pendingScrollTop);
     else if (this.pendingScrollTop === null) this.editor.refresh();
@@ -163,7 +164,7 @@ export class TextEditor {
 
   /**
    * Shows a session's text. If the text has not changed since it was last shown, restores its state.
-   * @param {string} name the session's name
+   * @param {string} name the session's id
    * @param {string} text
    */
   open(name, text) {
@@ -183,10 +184,10 @@ export class TextEditor {
   }
 
   /**
-   * Comments out the selected lines, or removes the comment marks if all of them are comments. Blank lines stay unchanged.
-   * @param {string} mark
+   * Comments out the selected lines, or removes the comment marks if all these lines are comments. Blank lines stay unchanged.
+   * @param {string} mark the character that begins a comment
    */
-  comment(mark) {
+  toggleComment(mark) {
     const { editor } = this;
     const [first, last] = [editor.getCursor("from").line, editor.getCursor("to").line];
     const lines = indices(last - first + 1).map((index) => editor.getLine(first + index) || "");
@@ -196,7 +197,7 @@ export class TextEditor {
   }
 
   /**
-   * Replaces the whole text as one undo step.
+   * Replaces the entire text as one undo step.
    * @param {string} text
    */
   replaceText(text) {
@@ -226,7 +227,7 @@ export class TextEditor {
   }
 
   /**
-   * Selects whole lines and scrolls them into view.
+   * Selects complete lines and scrolls them into view.
    * @param {{ from: number, to: number }} lines the first and last line, from 1
    */
   select({ from, to }) {

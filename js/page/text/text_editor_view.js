@@ -11,7 +11,7 @@ import { MeaningView } from "./meaning_view.js";
 import { NameView } from "./name_view.js";
 import { SearchBar } from "./search_bar.js";
 import { TextEditor } from "./text_editor.js";
-import { MAX_STORED_LENGTH, MAX_SENT_LENGTH, alignedText, sentText } from "../../core/text/sendable_text.js";
+import { MAX_STORED_LENGTH, MAX_SENT_LENGTH, asciiCommentsText, sentText } from "../../core/text/sendable_text.js";
 import * as say from "../../words/text.js";
 
 /**
@@ -19,7 +19,7 @@ import * as say from "../../words/text.js";
  * @typedef {import("../../core/text/completion.js").Completion} Completion
  * @typedef {import("../../core/debug/word_values.js").Piece} Piece
  * @typedef {import("../../core/text/sendable_text.js").Fault} Fault
- * @typedef {import("../commands/command_table.js").TextAct} TextAct
+ * @typedef {import("../commands/command_table.js").TextAction} TextAction
  * @typedef {import("./line_editor.js").Position} Position
  * @typedef {import("../../core/debug/breakpoints.js").Edit} Edit
  *
@@ -41,9 +41,9 @@ import * as say from "../../words/text.js";
 /**
  * The callbacks of the view of a text. Lines count from 1.
  * @typedef {object} EditorCalls
- * @property {(edits: Edit[]) => void} handleEdits Handles the edits of the text in order.
+ * @property {(edits: Edit[]) => void} handleEdits Handles edits of the text, in the order in which they apply.
  * @property {() => void} send Sends the text to the bench.
- * @property {() => void} [prove] Proves the text. Missing for texts that cannot be proved.
+ * @property {() => void} [prove] Proves the properties in the text. Missing for other texts.
  * @property {(line: number) => void} toggleBreakpoint Sets or removes the breakpoint at a line.
  * @property {(line: number, what: BreakpointField) => void} [editBreakpoint] Opens a field of the breakpoint at a line. Missing for texts
  *   without breakpoints.
@@ -68,8 +68,8 @@ export class EditorView {
     const container = element("div", { className: "text" });
     const list = element("ul", { "className": "fault-list", "aria-label": say.FAULTS });
     this.meaning = new MeaningView(language.makeEditable || (() => {}));
-    this.counter = new Cell(element("p", { className: "size" }));
-    panel.append(container, list, element("div", { className: "strip" }, this.meaning.node, this.counter.node));
+    this.sizeCell = new Cell(element("p", { className: "size" }));
+    panel.append(container, list, element("div", { className: "strip" }, this.meaning.node, this.sizeCell.node));
     this.status = new Cell(descendant(root, ".status-text", HTMLElement));
     const label = descendant(root, "h2", HTMLElement).textContent || "";
     const { colours, gutters, indent, folds, isInstruction = () => false } = language;
@@ -83,7 +83,7 @@ export class EditorView {
     this.faults = new ErrorView(editor, this.marks, list, (fault) => this.goToFault(fault));
     this.search = new SearchBar(editor, panel, label);
     this.names = new NameView(this.editor, panel, { isInstruction, showMessage: (words) => this.status.set(words) });
-    /** The timer that describes the word at the pointer or the caret once it rests. */
+    /** The timer that starts the description of the word at the pointer or the caret. */
     this.descriptionTimer = 0;
     /** The timer that updates the displayed size of the text. */
     this.sizeTimer = 0;
@@ -108,7 +108,7 @@ export class EditorView {
 
   /**
    * Returns the editing actions of this text, by their names in the command table.
-   * @returns {Partial<Record<TextAct, () => void>>}
+   * @returns {Partial<Record<TextAction, () => void>>}
    */
   editingActions() {
     const { folds, isInstruction, mark } = this.language;
@@ -117,7 +117,7 @@ export class EditorView {
       find: () => this.search.open(),
       replace: () => this.search.open(true),
       line: () => this.names.goToLine(),
-      comment: () => this.editor.comment(mark),
+      comment: () => this.editor.toggleComment(mark),
       complete: () => this.editor.editor.complete(),
       ...(isInstruction ? {
         define: () => this.names.goToDefinition(), uses: () => this.names.listReferences(), rename: () => this.names.askNewName(),
@@ -130,7 +130,7 @@ export class EditorView {
 
   /**
    * Focuses the text and performs an action in it.
-   * @param {TextAct} name
+   * @param {TextAction} name
    */
   performAction(name) {
     const action = this.editingActions()[name];
@@ -205,7 +205,7 @@ export class EditorView {
   }
 
   /**
-   * Returns the current values of the word at a position, or an empty list if there is no such word.
+   * Returns the current values of the word at a position, or an empty list if there are none.
    * @param {Position} position
    * @returns {Piece[]}
    */
@@ -248,9 +248,9 @@ export class EditorView {
     return sentText(this.text, this.language.mark);
   }
 
-  /** The text to which the error positions that the bench reports refer. */
+  /** The text to which the positions of the bench's errors refer. */
   get alignedText() {
-    return alignedText(this.text, this.language.mark);
+    return asciiCommentsText(this.text, this.language.mark);
   }
 
   get lines() {
@@ -259,7 +259,7 @@ export class EditorView {
 
   /**
    * Shows a session's text.
-   * @param {string} session the session's name
+   * @param {string} session the session's id
    * @param {string} text
    */
   open(session, text) {
@@ -274,7 +274,7 @@ export class EditorView {
   }
 
   /**
-   * Replaces the whole text as one undo step.
+   * Replaces the entire text as one undo step.
    * @param {string} text
    */
   replaceText(text) {
@@ -352,8 +352,8 @@ export class EditorView {
       const [{ length }, limit, unit] = isUnsent
         ? [this.text, MAX_STORED_LENGTH, "characters"]
         : [this.benchText, MAX_SENT_LENGTH, "bytes"];
-      this.counter.set(say.sizeOf(length.toLocaleString("en"), limit.toLocaleString("en"), unit));
-      this.counter.node.classList.toggle("too-many", length > limit);
+      this.sizeCell.set(say.sizeOf(length.toLocaleString("en"), limit.toLocaleString("en"), unit));
+      this.sizeCell.node.classList.toggle("too-many", length > limit);
     }, REST_DELAY_MS);
   }
 }

@@ -20,7 +20,7 @@ import { COLOURS } from "../../core/text/test_colours.js";
  * @property {() => Promise<TextFault[]>} faults Resolves to the errors of the board, the program and this text.
  * @property {(count: number) => void} showFaultCount Shows the number of errors in this text.
  * @property {() => void} send Performs the action of the tab's first button.
- * @property {() => void} [prove] Proves the text. Missing for texts that cannot be proved.
+ * @property {() => void} [prove] Proves the properties in the text. Missing for tests.
  */
 
 /**
@@ -98,7 +98,7 @@ export class TextTab {
   }
 
   /**
-   * Checks the text when a session has been opened, its tab comes to the front, or another text has changed: the names that it uses may
+   * Checks the text. Called when a session has been opened and when the tab comes to the front, because the names that the text uses may
    * have changed.
    */
   refresh() {
@@ -111,7 +111,7 @@ export class TextTab {
     return this.editor.text.trim() === "" ? [] : this.tabCalls.faults();
   }
 
-  /** @param {TextFault[]} faults the errors of all three texts */
+  /** @param {TextFault[]} faults the errors of the board, the program and this text */
   showFaults(faults) {
     const { lines } = this.editor;
     const entries = faults.filter(({ text }) => text === this.kind.name).map(({ line, number, words }) => {

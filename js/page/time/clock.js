@@ -17,7 +17,7 @@ import { REAL_TIME_SPEED, canFollowLine, togglesKeys } from "../../core/time/spe
  * @property {(cycles: number, key: Key | null) => Promise<void>} advance Presses `key`, unless it is null, and runs cycles. Resolves when
  *   the cycles have run.
  * @property {() => Promise<void>} runInstruction Runs one instruction. Called at the speed of one instruction per second.
- * @property {() => Promise<void>} runFull Starts full speed, at which the worker continues on its own.
+ * @property {() => Promise<void>} runFull Starts a run at full speed, which the worker continues on its own.
  * @property {(time: number, wasHidden: boolean) => void} reportStandstill Reports that time stood still for `time` milliseconds. The cycles
  *   of that time are skipped. `wasHidden` is true if the page was hidden.
  * @property {(fault: unknown) => void} reportFailure Reports an error that a call threw.
@@ -77,7 +77,7 @@ export class Clock {
   }
 
   /**
-   * Sets the speed. If time is running, it continues at this speed.
+   * Sets the speed. If time is running, time continues at this speed.
    * @param {Speed} speed
    */
   setSpeed(speed) {
@@ -126,7 +126,7 @@ export class Clock {
   }
 
   /**
-   * Runs the cycles that are due. Returns true if there are any.
+   * Runs the cycles that are due. Returns true if any cycles are due.
    * @param {number} now the current time in milliseconds
    * @param {number} [earlyTime] the number of milliseconds to simulate early
    * @param {Key | null} [key] the key to press before the cycles

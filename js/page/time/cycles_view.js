@@ -48,7 +48,7 @@ export class CyclesView {
    * @param {boolean} isRunning true if time is running
    */
   update(counts, isRunning) {
-    this.cycles.take(counts);
+    this.cycles.update(counts);
     if (isRunning && performance.now() - this.lastShowTime < SHOW_INTERVAL) return;
     if (!isRunning) this.cycles.stop();
     this.show();

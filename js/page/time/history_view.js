@@ -26,8 +26,8 @@ const MAX_INSTRUCTIONS = 10000000;
 const MAX_MESSAGE_LENGTH = 200;
 
 /**
- * Returns the names of locations to suggest for a board, such as lamps, ports and registers. The most useful ones are first. The user can
- * also type other locations.
+ * Returns the names of locations to suggest for a board, such as lamps, ports and registers. The most useful names are first. The user
+ * can also type other locations.
  * @param {Board} board
  * @param {string[]} lampNames the name of each lamp; "" for a lamp without a name
  */
@@ -76,9 +76,9 @@ export class HistoryView {
     }
   }
 
-  /** @param {number} future the number of moves back that can be undone */
-  showFuture(future) {
-    const isDisabled = future === 0;
+  /** @param {number} undoableMoves the number of moves back that can be undone */
+  updateForwardButton(undoableMoves) {
+    const isDisabled = undoableMoves === 0;
     if (this.forwardButton.disabled !== isDisabled) this.forwardButton.disabled = isDisabled;
   }
 

@@ -37,8 +37,8 @@ import * as say from "../../words/time.js";
  * @property {() => number} cycles Returns the total number of cycles in the session.
  * @property {() => string} describeCounter Returns a text with the program counter, its name and its source line.
  * @property {(id: number) => string} describeCondition Returns a text with the condition of a breakpoint, by its id.
- * @property {() => number} countUnreadable Returns the number of breakpoints whose condition has an error. These breakpoints stop at every
- *   hit.
+ * @property {() => number} countInvalidBreakpoints Returns the number of breakpoints whose condition has an error. These breakpoints
+ *   stop at every hit.
  * @property {(number: number) => string} describeRefusal Returns the message for a numbered error of the bench.
  * @property {() => Promise<string | null>} step Sends the command for one step to the bench. Resolves to its answer, or to null if the call
  *   failed.
@@ -60,7 +60,7 @@ export class RunController {
     this.bench = bench;
     this.currentSession = currentSession;
     this.calls = calls;
-    /** @type {(why: string) => void} called with the reason when a run has stopped on its own */
+    /** @type {(why: string) => void} called with the reason when a run has ended without a request by the user */
     this.onRunEnd = () => {};
     /** @type {(isRunning: boolean) => void} called when time starts or pauses */
     this.showRunning = () => {};
@@ -125,7 +125,7 @@ export class RunController {
     calls.handleRunStart();
     if (!goal) bench.call("drop", []).catch(calls.reportFailure);
     this.showRunning(true);
-    this.showMessage(goal ? runningToGoal(goal) : say.isRunning(currentSession.name, calls.countUnreadable()));
+    this.showMessage(goal ? runningToGoal(goal) : say.isRunning(currentSession.name, calls.countInvalidBreakpoints()));
     this.clock.start();
     this.startRateMeasurement();
     bench.isRunning = this.clock.isFull;
@@ -149,7 +149,7 @@ export class RunController {
   }
 
   /** Resumes or pauses time at the user's request. */
-  runOrStop() {
+  continueOrPause() {
     this.currentSession.markChanged();
     if (this.clock.isRunning) this.stop();
     else this.run();
@@ -192,16 +192,16 @@ export class RunController {
   }
 
   /**
-   * Shows a message that time stood still, for STANDSTILL_MESSAGE_MS milliseconds. Restarts the measurement of the simulation rate.
+   * Reports that time stood still. The message stays for STANDSTILL_MESSAGE_MS. Restarts the measurement of the simulation rate.
    * @param {number} time the duration in milliseconds
-   * @param {boolean} wasHidden
+   * @param {boolean} wasHidden true if the page was hidden
    */
   reportStandstill(time, wasHidden) {
     this.startRateMeasurement();
     const message = say.wasPausedFor(formatDuration(time), wasHidden);
     this.showMessage(message);
     setTimeout(() => {
-      if (this.status.text === message) this.showMessage(say.isRunning(this.currentSession.name, this.calls.countUnreadable()));
+      if (this.status.text === message) this.showMessage(say.isRunning(this.currentSession.name, this.calls.countInvalidBreakpoints()));
     }, STANDSTILL_MESSAGE_MS);
   }
 
@@ -262,7 +262,7 @@ export class RunController {
     const { currentSession } = this;
     const isNewRate = this.rate.add(frame.cycles, this.clock.now);
     if (frame.stop) this.clock.stop();
-    this.sound.playHeard(frame.heard);
+    this.sound.playLevels(frame.heard);
     this.calls.showFrame(frame);
     if (frame.stop) {
       this.endRun(this.describeStop(frame.stop));
@@ -271,7 +271,7 @@ export class RunController {
       return;
     }
     if (isNewRate || !this.clock.isRunning) this.showRate();
-    // A key press is saved at once. A hidden page receives only one frame per second, so it saves after each frame.
+    // A key press is saved at once. A hidden page receives one frame per second and saves after each frame.
     if (frame.changesKeys || document.hidden || performance.now() - currentSession.lastSaveTime >= SAVE_INTERVAL) currentSession.save();
   }
 
@@ -302,7 +302,7 @@ export class RunController {
 
   /**
    * Queues a key change while time is running.
-   * @param {"press" | "release" | "forget"} word
+   * @param {"press" | "release" | "forget"} word `forget` discards the queued changes of the key
    * @param {Key} key
    */
   queueKeyChange(word, key) {

@@ -13,11 +13,20 @@ export function byId(id, kind) {
   return node;
 }
 
-/** @param {string} id */
+/**
+ * Returns the element with an id, of any kind.
+ * @param {string} id
+ */
 export const block = (id) => byId(id, HTMLElement);
-/** @param {string} id */
+/**
+ * Returns the button with an id.
+ * @param {string} id
+ */
 export const button = (id) => byId(id, HTMLButtonElement);
-/** @param {string} id */
+/**
+ * Returns the input field with an id.
+ * @param {string} id
+ */
 export const field = (id) => byId(id, HTMLInputElement);
 
 /**
@@ -66,7 +75,7 @@ export class Cell {
   }
 
   /**
-   * Sets the text. Returns true if it has changed.
+   * Sets the text. Returns true if the text has changed.
    * @param {string} text
    */
   set(text) {
@@ -157,7 +166,7 @@ export function makeOneTabStop(root, columns) {
 }
 
 /**
- * Makes the first button of a block the one that the Tab key reaches. Called after the buttons have been created.
+ * Makes the first button of a block the only button that the Tab key reaches. Called after the buttons have been created.
  * @param {HTMLElement} root
  */
 export function makeFirstTabStop(root) {

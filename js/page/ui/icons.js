@@ -43,7 +43,7 @@ const SHAPES = {
 export const ICONS = /** @type {IconName[]} */ (Object.keys(SHAPES));
 
 /**
- * Returns a new icon. Screen readers skip it, because the surrounding control has a label.
+ * Returns a new icon. Screen readers skip the icon, because the surrounding control has a label.
  * @param {IconName} name
  * @returns {SVGElement}
  */

@@ -1,15 +1,20 @@
-// Notices about errors and about actions that can be undone. The three newest are visible regardless of the page's scroll position. For
-// most kinds, only the newest notice is visible. Undoable actions and sessions that were not opened each have their own notice. An error
-// notice disappears when its cause is gone; a success notice disappears after some time. A list shows all past notices.
+// Notices about errors and about actions that can be undone. At most three are visible, regardless of the page's scroll position. For most
+// kinds, only the newest notice is visible. Undoable actions and sessions that were not opened each have their own notice. An error notice
+// disappears when its cause is gone; a success notice disappears after some time. A list shows all past notices.
 
 import { block, element } from "./dom.js";
 import { NoticeList } from "./notice_list.js";
 import * as say from "../../words/page.js";
 
 /**
- * The kinds of notices: lasting errors (`kept`, `store`), rejections (`session`, `refusal`), a copied link (`share`), a loaded file
- * (`file`), a session that the user has left for a new one (`left`), a session that was not opened automatically (`unended`), an action
- * that can be undone (`undo`), and any other error ("").
+ * The kinds of notices:
+ * - `kept`, `store`: lasting errors;
+ * - `session`, `refusal`: rejected actions;
+ * - `share`: a copied link; `file`: a loaded file;
+ * - `left`: a session that the user has left for a new session;
+ * - `unended`: a session that was not opened automatically;
+ * - `undo`: an action that can be undone;
+ * - "": any other error.
  * @typedef {"" | "kept" | "session" | "store" | "refusal" | "share" | "file" | "left" | "unended" | "undo"} NoticeKind
  * @typedef {{ word: string, act: () => void }} NoticeAction a button in the notice
  * @typedef {{ kind: NoticeKind, words: string, node: HTMLElement, message: import("./notice_list.js").Message, timer: number }} Row
@@ -51,7 +56,7 @@ export class Notice {
     this.rows = [];
     /** @type {Map<NoticeKind, string>} the texts of dismissed notices about lasting errors */
     this.dismissedTexts = new Map();
-    /** @type {HTMLElement | null} the element that had the focus before the notices appeared */
+    /** @type {HTMLElement | null} the element that had the focus before a notice received the focus */
     this.priorFocus = null;
     this.block.addEventListener("focusin", (event) => {
       const from = event.relatedTarget;
@@ -129,7 +134,7 @@ export class Notice {
     if (hadFocus) this.moveFocusAway();
   }
 
-  /** Moves the focus to the next notice, or to the element that had the focus before the notices appeared. */
+  /** Moves the focus to the next notice, or back to the element that had the focus before a notice received the focus. */
   moveFocusAway() {
     const next = this.block.querySelector("button") || this.priorFocus;
     if (next) next.focus();

@@ -5,8 +5,8 @@ import * as say from "../../words/page.js";
 
 /**
  * @typedef {import("./notice.js").NoticeAction} NoticeAction
- * @typedef {{ words: string, time: Date, actions: NoticeAction[] }} Message the text of a notice, and its actions until one of them is
- *   executed
+ * @typedef {{ words: string, time: Date, actions: NoticeAction[] }} Message a notice: its text, its time, and its actions; the
+ *   list of actions is empty after the user has executed an action
  */
 
 /** The maximum number of stored notices. */
@@ -32,12 +32,12 @@ export class NoticeList {
   }
 
   open() {
-    this.list.replaceChildren(...this.messages.map((message) => this.row(message)));
+    this.list.replaceChildren(...this.messages.map((message) => this.makeRow(message)));
     this.dialog.showModal();
   }
 
   /** @param {Message} message */
-  row(message) {
+  makeRow(message) {
     const time = message.time.toLocaleTimeString([], { hour: "2-digit", minute: "2-digit" });
     const buttons = message.actions.map((action) => makeButton(action.word, () => {
       this.dialog.close();

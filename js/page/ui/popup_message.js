@@ -2,7 +2,7 @@
 
 import { element } from "./dom.js";
 
-/** The time in milliseconds after a click in which messages appear at the position of that click. */
+/** For this time in milliseconds after a click, messages appear at the position of the click. */
 const CLICK_ANCHOR_MS = 3000;
 /** The distance in pixels between a message and the element above it, and between a message and the edges of the window. */
 const GAP = 4;
@@ -11,7 +11,7 @@ const GAP = 4;
  * Moves an element below a point, but keeps it within the width of the window.
  * @param {HTMLElement} node
  * @param {{ left: number, bottom: number }} point window coordinates
- * @param {number} gap
+ * @param {number} gap the distance in pixels between the point and the element
  */
 export function putBelow(node, { left, bottom }, gap) {
   const maxLeft = document.documentElement.clientWidth - node.offsetWidth - GAP;

@@ -5,14 +5,15 @@ import { block } from "./dom.js";
 /** @typedef {import("./preferences.js").Preferences} Preferences */
 
 /**
- * A splitter: the panel that it resizes, the side of the panel that it is on, the CSS property of the panel's size, and the limits of the
- * size in pixels.
- * @typedef {{ id: string, panel: string, property: string, side: "left" | "right" | "top" | "bottom", min: number, max: number }} Border
+ * A splitter, which resizes a panel. `side` is the side of the panel on which the splitter is. `property` is the CSS property of the
+ * panel's size. `min` and `max` are the limits of the size in pixels.
+ * @typedef {{ id: string, panel: string, property: string, side: "left" | "right" | "top" | "bottom", min: number, max: number }}
+ *   SplitterOptions
  */
 
 /** The distance in pixels that an arrow key moves a splitter. */
 const KEY_STEP = 20;
-/** @type {Record<Border["side"], Record<string, number>>} the change of the panel's size in pixels for each key */
+/** @type {Record<SplitterOptions["side"], Record<string, number>>} the change of the panel's size in pixels for each key */
 const SIZE_CHANGES_BY_KEY = {
   left: { ArrowLeft: KEY_STEP, ArrowRight: -KEY_STEP },
   right: { ArrowLeft: -KEY_STEP, ArrowRight: KEY_STEP },
@@ -23,7 +24,7 @@ const SIZE_CHANGES_BY_KEY = {
 export class Splitter {
   /**
    * @param {Preferences} preferences
-   * @param {Border} border
+   * @param {SplitterOptions} border
    */
   constructor(preferences, border) {
     this.preferences = preferences;

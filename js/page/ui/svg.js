@@ -1,9 +1,9 @@
-// Creates elements of SVG_NAMESPACE drawings.
+// Creates the elements of SVG drawings.
 
 const SVG_NAMESPACE = "http://www.w3.org/2000/svg";
 
 /**
- * Returns a new SVG_NAMESPACE element with attributes and children.
+ * Returns a new SVG element with attributes and children.
  * @param {string} name
  * @param {Record<string, string | number>} attributes
  * @param {(Node | string)[]} children

@@ -4,7 +4,7 @@
 
 import { element } from "./dom.js";
 
-/** @typedef {{ words: string, key: string }} Tip */
+/** @typedef {{ words: string, key: string }} Tip the contents of a tooltip: a text, and a key binding or "" */
 
 /** The time in milliseconds for which the pointer must rest before the tooltip opens. */
 const HOVER_DELAY_MS = 500;

@@ -26,8 +26,8 @@ import * as say from "../../words/waves.js";
  * The callbacks of the logic analyser.
  * @typedef {object} ScopeCalls
  * @property {(cycles: number, isBefore: boolean, values: string[]) => Promise<Recording | null>} record Records the last `cycles` cycles
- *   (`isBefore`), or the next ones. `values` are the names of registers and nibbles to include. Resolves to null after a failure. A failure
- *   has already been reported.
+ *   if `isBefore` is true, otherwise the next `cycles` cycles. `values` are the names of registers and nibbles to
+ *   include. Resolves to null after a failure. A failure has already been reported.
  * @property {(wanted: { trigger: string } & LiveSetup, values: string[]) => Promise<{ recorded: Recording | null, fault: string } | null>}
  *   startLive Starts a recording that lasts until `endLive`. Resolves to the first part of the recording or to the error in the trigger's
  *   condition, or to null after a failure.
@@ -42,7 +42,7 @@ import * as say from "../../words/waves.js";
 /** The interval in milliseconds at which the picture of a recording in progress is updated. */
 const DRAW_INTERVAL = 100;
 
-/** Lets at most one panel be open below the controls. Escape and a click outside the panel close it. */
+/** Lets at most one panel be open below the controls. Escape and a click outside the panel close the panel. */
 function listenToPanels() {
   const panels = [.../** @type {NodeListOf<HTMLDetailsElement>} */ (block("wave-bar").querySelectorAll(".pop"))];
   const closeOthers = (/** @type {EventTarget | null} */ target) => {
@@ -85,7 +85,7 @@ export class Scope {
       boardLines: calls.boardLines, showLines: (lines) => this.view.setChosenLines(lines), handleMissingValues: () => this.restartLive(),
     });
     this.isBusy = false;
-    /** @type {LiveWaves | null} the last recording of running time; null if there is none */
+    /** @type {LiveWaves | null} the last live recording, which records while time is running; null if there is none */
     this.liveWaves = null;
     /** True if the picture shows everything that has been recorded so far. */
     this.isUpToDate = true;
@@ -121,7 +121,7 @@ export class Scope {
     return this.liveWaves !== null && this.liveWaves.isOn;
   }
 
-  /** Shows the trigger's controls only for a recording of running time. */
+  /** Shows the trigger's controls only for a live recording. */
   showTrigger() {
     block("trigger-bar").hidden = this.periodSelect.value !== "live";
   }
@@ -165,7 +165,7 @@ export class Scope {
     if (!recorded) return;
     const waves = new Waves(recorded);
     this.status.set(describeRecording(waves, cycles, isBefore));
-    if (waves.span > 0 || !isBefore) this.show(waves);
+    if (waves.length > 0 || !isBefore) this.show(waves);
   }
 
   /** @param {Waves} waves */
@@ -175,7 +175,7 @@ export class Scope {
     this.choice.begin(waves);
   }
 
-  // --- recordings of running time ---
+  // --- live recordings ---
 
   /**
    * Returns the settings of the recording. If a field has no valid number, shows a message and returns null.
@@ -242,7 +242,7 @@ export class Scope {
     const { liveWaves } = this;
     if (!liveWaves || !liveWaves.isOn) return;
     if (part) liveWaves.take(part);
-    else liveWaves.lose();
+    else liveWaves.markLost();
     if (!liveWaves.isOn) this.drawLive(liveWaves);
     else if (this.isUpToDate) {
       this.isUpToDate = false;
@@ -255,16 +255,16 @@ export class Scope {
     this.isUpToDate = true;
     if (this.liveWaves !== liveWaves) return;
     this.view.handleGrowth(liveWaves.triggerMoment);
-    if (liveWaves.over === "trigger") this.view.showAround(liveWaves.triggerMoment);
+    if (liveWaves.endReason === "trigger") this.view.showAround(liveWaves.triggerMoment);
     else if (!liveWaves.isOn) this.view.fit();
     this.choice.handleGrowth();
     this.showLive(liveWaves);
-    const { over: endReason } = liveWaves;
+    const { endReason: endReason } = liveWaves;
     // A change of the program or the board ends the recording. The user usually wants the same recording again, so restart it.
     if (endReason === "board" || endReason === "program") this.beginLive();
   }
 
-  /** Shows the whole recording so far when time is paused. */
+  /** Shows the complete recording so far when time is paused. */
   showPaused() {
     const { liveWaves } = this;
     if (!liveWaves || !liveWaves.isOn) return;

@@ -160,8 +160,8 @@ function drawMeasured(context, { view, gutter, colours }, { from, to }, y) {
 }
 
 /**
- * Returns the name of a line for the gutter. The name of a port includes the name that the board's text gives it. The name of a decoder is
- * its title.
+ * Returns the name of a line for the gutter. The name of a port includes the port's name in the board's text. The name of a decoder is its
+ * title.
  * @param {import("../../core/waves/wave_lines.js").WaveLine} line
  */
 function gutterName(line) {

@@ -52,7 +52,7 @@ export class WaveChoice {
     this.showCount();
   }
 
-  /** Called when the recording has grown. Selects the lines that change, unless the user has selected lines. */
+  /** Selects the lines that change, unless the user has selected lines. Called when the recording has grown. */
   handleGrowth() {
     if (this.isUserSelection || !this.waves) return;
     if (this.selectChangingIn(this.waves)) this.showCount();

@@ -1,4 +1,4 @@
-// Saves waves as picture files.
+// Draws waves into picture files.
 
 import { SvgContext } from "../../core/waves/svg_context.js";
 import { element } from "../ui/dom.js";

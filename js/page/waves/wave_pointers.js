@@ -1,5 +1,5 @@
-// Touch, mouse and wheel input on the waves. A click places the cursor. A drag pans the waves, or moves a row by its name. Two fingers or
-// the wheel zoom.
+// Touch, mouse and wheel input on the waves. A click places the cursor. A drag pans the waves, moves the cursor, or moves a row whose
+// name is dragged. Two fingers or the wheel zoom.
 
 /**
  * @typedef {{ x: number, y: number }} Point

@@ -56,7 +56,7 @@ export class WaveView {
     this.calls = calls;
     this.canvas = byId("wave-canvas", HTMLCanvasElement);
     this.scroll = block("wave-scroll");
-    this.room = block("wave-room");
+    this.spacer = block("wave-room");
     /** @type {Waves | null} */
     this.waves = null;
     /** @type {number[]} the indices of the lines to show, in board order */
@@ -156,17 +156,17 @@ export class WaveView {
   handleGrowth(trigger) {
     if (!this.waves) return;
     this.trigger = trigger;
-    this.view.stretch(this.waves.from, this.waves.cycles);
+    this.view.extendRange(this.waves.from, this.waves.cycles);
     this.requestDrawing();
   }
 
-  /** Shows the whole of a finished recording. Puts the cursors on the first two edges of the first row that has edges. */
+  /** Shows a finished recording in full. Puts the cursors on the first two edges of the first row that has edges. */
   fit() {
     const { waves, view, rows } = this;
     const row = rows.find(({ line }) => waves !== null && line >= 0 && waves.changesOf(line).length > 0);
     const edges = [...(waves && row ? waves.changesOf(row.line).slice(0, 2) : []), view.begin, view.begin];
     view.placeCursors(edges[0], edges[1]);
-    this.changeView(() => view.fit());
+    this.changeView(() => view.showAllIfUnzoomed());
   }
 
   /**
@@ -199,7 +199,7 @@ export class WaveView {
     this.rows = waves ? this.arrangement.arrange(waves.lines, this.chosenLines) : [];
     const { length } = this.rows;
     this.selected = Math.max(selectedRow ? this.indexOfRow(selectedRow) : -1, length > 0 ? 0 : -1);
-    this.room.style.setProperty("height", `${AXIS_HEIGHT + length * ROW_HEIGHT}px`);
+    this.spacer.style.setProperty("height", `${AXIS_HEIGHT + length * ROW_HEIGHT}px`);
     this.scroll.style.setProperty("height", `${AXIS_HEIGHT + Math.max(1, Math.min(MAX_ROWS, length)) * ROW_HEIGHT}px`);
     if (waves) this.values.draw(waves, this.rows.filter(({ line }) => line >= 0));
     this.requestDrawing();
@@ -260,12 +260,12 @@ export class WaveView {
   }
 
   /**
-   * Changes the name, the colour or the group of lines. `names` are the lines' names.
-   * @param {string[]} names
-   * @param {import("../../core/waves/wave_rows.js").RowAppearance} look
+   * Changes the title, the colour or the group of lines.
+   * @param {string[]} names the names of the lines
+   * @param {import("../../core/waves/wave_rows.js").RowAppearance} appearance
    */
-  changeLines(names, look) {
-    this.rearrange(() => names.forEach((name) => this.arrangement.change(name, look)));
+  changeLines(names, appearance) {
+    this.rearrange(() => names.forEach((name) => this.arrangement.change(name, appearance)));
   }
 
   /**
@@ -488,7 +488,7 @@ export class WaveView {
   }
 
   /**
-   * Returns the picture with all rows, including those that are scrolled out of view.
+   * Returns the picture with all rows, including the rows that are scrolled out of view.
    * @param {Waves} waves
    * @returns {Picture}
    */

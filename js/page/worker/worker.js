@@ -1,4 +1,4 @@
-// The bench's worker. The worker serves one request after another. Between requests, time runs at full speed if the page has started it.
+// The bench's worker. The worker serves one request after another. Between requests, the worker continues a run at full speed.
 
 import { BenchCalls } from "../../core/engine/bench_calls.js";
 import { earlySender } from "../bench/early_replies.js";
@@ -98,7 +98,7 @@ class BenchWorker {
   async answerRequest({ number, call, words }) {
     this.currentRequest = number;
     this.lastReportTime = performance.now();
-    // Report the run that preceded the call first.
+    // First report the run that preceded the call.
     if (CHANGING_CALLS[call] && this.calls.bench.fullSpeed.isOn) this.postFrame(this.calls.bench.takeUnreported());
     try {
       const result = await (/** @type {any} */ (this.calls))[call](...words);

@@ -73,7 +73,8 @@ fn one_session_over_two_calls(rt: HostRuntime) {
     expect_answers(alloc, &rt, file.as_mut_slice(), (b"", b"session 4\n"));
 }
 
-/// Returns the commit byte of the first record in the active slot of a file, which the selector (byte 8) selects.
+/// Returns the commit byte of the first record in the active slot of a file. The selector (byte 8) of the file names
+/// this slot.
 fn commit_byte(file: &[u8]) -> Option<u8> {
     let log = if file.get(8) == Some(&0) {
         16_400
@@ -83,8 +84,8 @@ fn commit_byte(file: &[u8]) -> Option<u8> {
     file.get(log).copied()
 }
 
-/// Settles a file, and checks that it has no records. Then serves the input in `row` on the file, and checks the
-/// answers.
+/// Settles a file, and checks that the file then has no records. Then serves the input in `row` on the file, and
+/// checks the answers.
 fn expect_settled(alloc: Global, rt: &impl Abort, file: &mut [u8], row: (&[u8], &[u8])) {
     expect_equal(rt, settled(alloc, file), Ok(()));
     expect_equal(rt, commit_byte(file), Some(0));
@@ -109,8 +110,8 @@ fn a_settled_file_has_no_records(rt: HostRuntime) {
     }
 }
 
-/// Checks that a file was converted from version 1: the active slot has a snapshot of version 2, and the answers to
-/// `regs` are unchanged.
+/// Checks that a file was converted from version 1: the active slot has a snapshot of version 2, and `regs` is
+/// answered with `CONVERTED_ANSWERS`.
 fn expect_converted(alloc: Global, rt: &impl Abort, file: &mut [u8]) {
     let at = if file.get(8) == Some(&0) { 24 } else { 81_944 };
     expect_equal(rt, file.get(at), Some(&2));
@@ -138,8 +139,8 @@ fn settling_converts_a_file_of_version_1(rt: HostRuntime) {
     expect_converted(alloc, &rt, file.as_mut_slice());
 }
 
-/// Checks that a single call that serves an input and settles the file gives the same answers, and leaves the same
-/// bytes in the file, as two separate calls.
+/// Compares a single call that serves an input and settles the file with two separate calls. Checks that both ways
+/// give the same answers and leave the same bytes in the file.
 fn expect_serve_and_settle(alloc: Global, rt: &impl Abort, file: &mut [u8], row: (&[u8], &[u8])) {
     let mut other = copy(alloc, rt, file);
     expect_answers(alloc, rt, other.as_mut_slice(), row);
@@ -167,7 +168,7 @@ fn questions_do_not_change_the_file(rt: HostRuntime) {
     let alloc = rt.alloc();
     let mut file = new_file(alloc, &rt);
     let before = copy(alloc, &rt, file.as_slice());
-    // `Ask` answers commands as if it executed them, but does not change the file; a second call gives the same
+    // `Ask` answers as if the commands were executed, but does not change the file; a second call gives the same
     // answers
     for _ in 0..2 {
         let row = (FIRST_INPUT, FIRST_ANSWERS);
@@ -189,7 +190,7 @@ fn questions_do_not_change_the_file(rt: HostRuntime) {
     );
 }
 
-/// Checks that every call rejects a file with the given error, and leaves the file unchanged.
+/// Checks that every kind of call rejects a file with the given error, and leaves the file unchanged.
 fn expect_refused(alloc: Global, rt: &impl Abort, file: &[u8], fault: StoreFault) {
     let mut kept = copy(alloc, rt, file);
     for call in CALLS {
@@ -241,7 +242,7 @@ fn files_that_hold_no_session(rt: HostRuntime) {
     }
 }
 
-/// Checks that the call fails if the buffer has only `room` bytes for the answers to the input `FIRST_INPUT`, and that it
+/// Checks that every kind of call fails if the buffer has only `room` bytes for the answers to `FIRST_INPUT`, and
 /// leaves the buffer unchanged.
 fn expect_no_room(alloc: Global, rt: &impl Abort, file: &mut [u8], room: usize) {
     let mut buffer = [b'#'; 128];
@@ -255,7 +256,8 @@ fn expect_no_room(alloc: Global, rt: &impl Abort, file: &mut [u8], room: usize) 
     expect_equal(rt, buffer, [b'#'; 128]);
 }
 
-/// Checks that the answers to the input `FIRST_INPUT` are written to the start of a buffer that is longer.
+/// Checks that a call writes the answers to `FIRST_INPUT` to the start of a longer buffer, and leaves the next byte
+/// unchanged.
 fn expect_room(alloc: Global, rt: &impl Abort, file: &mut [u8]) {
     let count = FIRST_ANSWERS.len();
     let mut buffer = [b'#'; 128];

@@ -42,7 +42,7 @@ fn count_of(rt: &impl Abort, report: Result<ServedInput, ServeFault>) -> Result<
 }
 
 impl PageFixture {
-    /// Creates a desk with a file of the right size that holds no session.
+    /// Creates a fixture with a file that has the size of a session file but holds no session.
     fn new(alloc: Global) -> Result<PageFixture, AllocError> {
         Ok(PageFixture {
             file: vec![in alloc; 0xA5u8; FILE_SIZE]?,
@@ -148,8 +148,8 @@ const FIRST_INPUT: &[u8] =
 
 const SECOND_INPUT: &[u8] = b"poke r5 9\nlist 0 1\nseq\n";
 
-/// The answers to the input `FIRST_INPUT` if one of its parts failed for lack of memory, and the answers that `SECOND_INPUT` then
-/// gets. `failed_part` names the part that failed, or is `nothing`.
+/// The answers to `FIRST_INPUT` if one of its parts failed for lack of memory, and the answers that `SECOND_INPUT`
+/// then gets. `failed_part` names the part that failed, or is `nothing`.
 struct ExpectedAnswers {
     failed_part: &'static str,
     first: &'static [u8],
@@ -246,7 +246,8 @@ seq 3
 /// The answers to the input `SECOND_INPUT` if its listing fails for lack of memory.
 const SECOND_WITHOUT_LISTING: &[u8] = b"session 2\nok 3\nno 90\nseq 3\n";
 
-/// The record of the part of a test that ran out of memory. At most one part can, because one allocation fails.
+/// The name of the part of a test that ran out of memory. At most one part can run out, because only one allocation
+/// fails.
 #[derive(Drop)]
 struct MemoryFailure {
     report: &'static str,
@@ -261,8 +262,8 @@ impl MemoryFailure {
     }
 }
 
-/// Checks that the answers to the input `FIRST_INPUT` do not fit into eight bytes. The length that the call reports shows
-/// which part, if any, failed for lack of memory.
+/// Checks that the answers to `FIRST_INPUT` do not fit into eight bytes. The length that the call reports shows which
+/// part, if any, failed for lack of memory.
 fn expect_too_long_answers(
     alloc: Global,
     rt: &impl Abort,
@@ -315,8 +316,8 @@ fn serve_second(
     }
 }
 
-/// Queries the number of commands with two calls, the second of which also settles the file. Checks that both calls
-/// give answers of the same length.
+/// Makes two calls that query the number of commands. The second call also settles the file. Checks that both calls
+/// give the same answers.
 fn ask_and_settle(
     alloc: Global,
     rt: &impl Abort,
@@ -334,8 +335,8 @@ fn ask_and_settle(
     expect_equal(rt, fixture.buffer, answers);
 }
 
-/// Starts a session, serves the inputs `FIRST_INPUT` and `SECOND_INPUT`, and settles the file between them. Then queries the
-/// session with the other calls. Returns the part that ran out of memory, or `nothing`.
+/// Starts a session, serves the input `FIRST_INPUT`, settles the file, and serves the input `SECOND_INPUT`. Then
+/// queries the session with the other kinds of calls. Returns the part that ran out of memory, or `nothing`.
 fn begin_and_serve(alloc: Global, rt: &impl Abort) -> &'static str {
     let Ok(mut fixture) = PageFixture::new(alloc) else {
         return "a file";

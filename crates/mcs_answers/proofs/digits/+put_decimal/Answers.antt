@@ -1,6 +1,6 @@
 use Rattle.std.proofs.Common.{arith, ◌≡◌, ◌+◌, ◌<◌, ◌/◌, ◌%◌, ◌^◌, ◌++◌, ◌∷◌, [], length, ◌∙◌, ap, length-append}
 use Rattle.std.specs.Fmt.{decimal}
-use Rattle.mcs_answers.proofs.DecimalDigits.{length-decimal-step, decimal-onto}
+use Rattle.mcs_answers.proofs.DecimalDigits.{length-decimal-step, decimal-from-appended-last-digit}
 use Rattle.mcs_answers.proofs.digits.+put_decimal.Goals as goal
 
 pub put_decimal-requires : goal.put_decimal-requires
@@ -21,4 +21,4 @@ push-requires-else-n-lt10 t c =
 pub returns-else-n-lt10 : goal.returns-else-n-lt10
 returns-else-n-lt10 t c =
     let fits : c.args.n < 2 ^ 64 = omega arith in
-    c.push-else-n-lt10.ensures.items ∙ ap (λ v. v ++ (48 + c.args.n % 10) ∷ []) c.put_decimal.ensures ∙ decimal-onto c.args.answer.now.items c.args.n c.if-n-lt10.false fits
+    c.push-else-n-lt10.ensures.items ∙ ap (λ v. v ++ (48 + c.args.n % 10) ∷ []) c.put_decimal.ensures ∙ decimal-from-appended-last-digit c.args.answer.now.items c.args.n c.if-n-lt10.false fits

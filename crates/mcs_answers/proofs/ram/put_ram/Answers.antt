@@ -4,7 +4,7 @@ use Rattle.mcs_model.specs.Bus.{chips_of}
 use Rattle.mcs_model.specs.QueryText.{chip_lines, digit_text}
 use Rattle.mcs_model.specs.TextLines.{as_line}
 use Rattle.mcs_answers.proofs.AppendedTexts.{append_piece}
-use Rattle.mcs_answers.proofs.RamTexts.{ram_text_is}
+use Rattle.mcs_answers.proofs.RamTexts.{ram_text_from_parts}
 use Rattle.mcs_answers.proofs.ram.put_ram.Goals as goal
 
 pub loop-chip-preserved : goal.loop-chip-preserved
@@ -16,7 +16,7 @@ loop-chip-preserved c = record {
 pub returns : goal.returns
 returns c =
     let all : c.loop-chip.chip ≡ chips_of c.args.bench.now.bus c.args.bank = omega (arith, c.chips_of-chips.ensures.chips) in
-    ram_text_is c.args.bench.now.bus c.args.bank _ _
+    ram_text_from_parts c.args.bench.now.bus c.args.bank _ _
     (c.put.ensures.text
     ∙ ap (λ v. v ++ 10 ∷ []) (c.put_digit-2.ensures.text ∙ ap (λ v. v ++ codes " chips " ++ digit_text c.chips_of-chips.result) (c.put_digit.ensures.text ∙ ap (λ v. v ++ codes "ram " ++ digit_text c.args.bank) c.requires.empty))
     ∙ ap (λ n. as_line (codes "ram " ++ digit_text c.args.bank ++ codes " chips " ++ digit_text n)) c.chips_of-chips.ensures.chips)

@@ -2,14 +2,14 @@ use Rattle.std.proofs.Common.{◌≡◌, ℕ, List, ◌++◌, codes, map, ap, �
 use Rattle.std.specs.Fmt.{decimal}
 use Rattle.mcs_model.specs.declared.regs.Regs.{Regs}
 use Rattle.mcs_model.specs.QueryText.{address_text, two_hex_digits, comma_list, watch_text}
-use Rattle.mcs_answers.proofs.StateText.{state_text_is}
+use Rattle.mcs_answers.proofs.StateText.{state_text_from_parts}
 use Rattle.mcs_answers.proofs.state.put_state.Goals as goal
 
 pub returns : goal.returns
 returns c =
     let s = c.args.bench.now in
     let count : c.from.result ≡ s.seq = omega arith in
-    state_text_is s _ _ _ _ _ _ _ _ _ _ _ _ _ _ _
+    state_text_from_parts s _ _ _ _ _ _ _ _ _ _ _ _ _ _ _
     (c.put_word_and_number.ensures.text
     ∙ ap (λ (v : List ℕ). v ++ (codes "state seq " ++ decimal c.from.result)) c.requires
     ∙ ap (λ (n : ℕ). codes "state seq " ++ decimal n) count)

@@ -4,7 +4,7 @@ use Rattle.mcs_model.specs.declared.limits.TheConstants.{BANKS}
 use Rattle.mcs_model.specs.QueryText.{bank_items, comma_list}
 use Rattle.mcs_answers.specs.Commas.{with_commas}
 use Rattle.mcs_answers.proofs.AppendedTexts.{append_piece}
-use Rattle.mcs_answers.proofs.ListedWords.{commas-flat_map}
+use Rattle.mcs_answers.proofs.ListedWords.{with_commas-flat_map}
 use Rattle.mcs_answers.proofs.state_lists.put_bank_list.Goals as goal
 
 pub loop-bank-preserved : goal.loop-bank-preserved
@@ -20,6 +20,6 @@ returns-clause-text c =
     let listed : c.loop-bank.answer.items ≡ c.put.new.answer.items ++ with_commas items =
     c.loop-bank.invariant.text
     ∙ ap (λ n. c.put.new.answer.items ++ flat_map (λ bank. with_commas (bank_items c.args.bench.now.bus bank)) (range_with_len 0 n)) all
-    ∙ ap (λ v. c.put.new.answer.items ++ v) (sym (commas-flat_map (bank_items c.args.bench.now.bus) (range_with_len 0 BANKS))) in
+    ∙ ap (λ v. c.put.new.answer.items ++ v) (sym (with_commas-flat_map (bank_items c.args.bench.now.bus) (range_with_len 0 BANKS))) in
     c.end_list.ensures.text c.put.new.answer.items items (omega arith) listed
     ∙ ap (λ v. v ++ comma_list items) c.put.ensures.text

@@ -3,7 +3,7 @@ use Rattle.std.specs.List.{flat_map, range_with_len}
 use Rattle.mcs_model.specs.QueryText.{row_items}
 use Rattle.mcs_answers.specs.Commas.{with_commas}
 use Rattle.mcs_answers.proofs.AppendedTexts.{append_piece}
-use Rattle.mcs_answers.proofs.ListedWords.{commas-flat_map}
+use Rattle.mcs_answers.proofs.ListedWords.{with_commas-flat_map}
 use Rattle.mcs_answers.proofs.state_lists.put_key_rows.Goals as goal
 
 pub loop-row-preserved : goal.loop-row-preserved
@@ -18,4 +18,4 @@ returns-clause-text c =
     let all : c.loop-row.row ≡ c.args.rows = omega arith in
     c.loop-row.invariant.text
     ∙ ap (λ n. c.args.answer.now.items ++ flat_map (λ row. with_commas (f row)) (range_with_len 0 n)) all
-    ∙ ap (λ v. c.args.answer.now.items ++ v) (sym (commas-flat_map f (range_with_len 0 c.args.rows)))
+    ∙ ap (λ v. c.args.answer.now.items ++ v) (sym (with_commas-flat_map f (range_with_len 0 c.args.rows)))

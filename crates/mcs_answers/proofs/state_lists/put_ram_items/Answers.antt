@@ -4,7 +4,7 @@ use Rattle.mcs_model.specs.Bus.{chips_of}
 use Rattle.mcs_answers.specs.PortPieces.{ram_item}
 use Rattle.mcs_answers.specs.Commas.{with_comma}
 use Rattle.mcs_answers.proofs.AppendedTexts.{append_piece}
-use Rattle.mcs_answers.proofs.ListedWords.{commas-map}
+use Rattle.mcs_answers.proofs.ListedWords.{with_commas-map}
 use Rattle.mcs_answers.proofs.state_lists.put_ram_items.Goals as goal
 
 pub loop-chip-preserved : goal.loop-chip-preserved
@@ -19,4 +19,4 @@ returns-clause-text c =
     let all : c.loop-chip.chip ≡ chips_of s c.args.bank = omega (arith, c.chips_of-chips.ensures.chips) in
     c.loop-chip.invariant.text
     ∙ ap (λ n. c.args.answer.now.items ++ flat_map (λ chip. with_comma (ram_item s c.args.bank chip)) (range_with_len 0 n)) all
-    ∙ ap (λ v. c.args.answer.now.items ++ v) (sym (commas-map (ram_item s c.args.bank) (range_with_len 0 (chips_of s c.args.bank))))
+    ∙ ap (λ v. c.args.answer.now.items ++ v) (sym (with_commas-map (ram_item s c.args.bank) (range_with_len 0 (chips_of s c.args.bank))))

@@ -1,11 +1,11 @@
 use Rattle.std.proofs.Common.{◌++◌, map, ap, ◌∙◌, sym, arith}
 use Rattle.mcs_model.specs.QueryText.{watch_text, comma_list}
-use Rattle.mcs_answers.proofs.ListedWords.{commas-map}
+use Rattle.mcs_answers.proofs.ListedWords.{with_commas-map}
 use Rattle.mcs_answers.proofs.state_lists.put_watch_list.Goals as goal
 
 pub returns-clause-text : goal.returns-clause-text
 returns-clause-text c =
     let items = map watch_text c.args.list.now in
     c.end_list.ensures.text c.put.new.answer.items items (omega arith)
-    (c.put_watch_items.ensures.text ∙ ap (λ v. c.put.new.answer.items ++ v) (sym (commas-map watch_text c.args.list.now)))
+    (c.put_watch_items.ensures.text ∙ ap (λ v. c.put.new.answer.items ++ v) (sym (with_commas-map watch_text c.args.list.now)))
     ∙ ap (λ v. v ++ comma_list items) c.put.ensures.text

@@ -4,10 +4,10 @@ use Rattle.mcs_model.specs.Command.{machine_of, stops_of}
 use Rattle.mcs_model.specs.Running.{Machine, StopConditions}
 use Rattle.mcs_bench.specs.declared.running.InstructionResult.{InstructionResult}
 use Rattle.mcs_bench.specs.Runs.{RunContinuesAt, IsInstructionResult, stop_reason}
-use Rattle.mcs_bench.proofs.Runs.{begins, ends, run-is-complete, goes-out, went-goes, went-stops}
+use Rattle.mcs_bench.proofs.Runs.{begins, ends, run-stops-when-cycles-done, run-stops-if-no-cycle-possible, run-continues-after-instruction-result, run-stops-after-instruction-result}
 use Rattle.mcs_probe.specs.Probes.{row}
-use Rattle.mcs_answers.proofs.ForecastLines.{lines_text, is-trace-of-run, trace-so-far-next, within-none}
-use Rattle.mcs_answers.proofs.UnchangedProbes.{row-stays}
+use Rattle.mcs_answers.proofs.ForecastLines.{lines_text, is-trace-of-run, trace-so-far-next, no-lines-within-zero-cycles}
+use Rattle.mcs_answers.proofs.UnchangedProbes.{row-stays-same}
 use Rattle.mcs_answers.proofs.traces.add_lines.Goals as goal
 
 pub loop-done-init : goal.loop-done-init
@@ -15,7 +15,7 @@ loop-done-init g c =
     let b = c.args.bench.now in
     let s : Machine = machine_of b in
     let probes = c.args.probes.now in
-    let none = within-none probes s in
+    let none = no-lines-within-zero-cycles probes s in
     record {
       going = subst (λ (x : BenchState). RunContinuesAt (stops_of b) c.args.n 0 s (machine_of x)) (sym c.in_ok-copy.ensures) (begins (stops_of b) c.args.n s);
       stops = ap stops_of c.in_ok-copy.ensures;
@@ -38,7 +38,7 @@ returns-in-None g c =
     let report = c.in-None.ensures.went in
     let stop = c.trace_result.ensures.stop ∙ ap (λ (x : BenchState). stop_reason (machine_of x) None) report.1 in
     is-trace-of-run c.args.probes.now c.args.n b t k c.trace_result.result c.loop-done.text.items
-    (ends (stops_of b) c.args.n k s t None c.trace_result.result.stop (goes-out (stops_of b) c.args.n k s t going report.0) stop) c.trace_result.ensures.cycles (c.trace_result.ensures.lines ∙ so_far.count) so_far.so_far
+    (ends (stops_of b) c.args.n k s t None c.trace_result.result.stop (run-stops-if-no-cycle-possible (stops_of b) c.args.n k s t going report.0) stop) c.trace_result.ensures.cycles (c.trace_result.ensures.lines ∙ so_far.count) so_far.so_far
 
 pub add_instruction_line-requires-clause-same : goal.add_instruction_line-requires-clause-same
 add_instruction_line-requires-clause-same g c =
@@ -47,7 +47,7 @@ add_instruction_line-requires-clause-same g c =
     let k : ℕ = c.loop-done.done in
     let t : Machine = machine_of c.loop-done.copy in
     let u : Machine = machine_of c.continue_run.new.self in
-    λ on. c.loop-done.invariant.report.row_now ∙ row-stays (stops_of c.loop-done.copy) (n - k) t u c.in-Some.went c.regs-regs.result c.regs.result c.args.probes.now c.in-Some.ensures.went c.regs-regs.ensures.same c.regs.ensures.same (c.row_stays_same-rests.ensures on)
+    λ on. c.loop-done.invariant.report.row_now ∙ row-stays-same (stops_of c.loop-done.copy) (n - k) t u c.in-Some.went c.regs-regs.result c.regs.result c.args.probes.now c.in-Some.ensures.went c.regs-regs.ensures.same c.regs.ensures.same (c.row_stays_same-rests.ensures on)
 
 pub returns-in-Some-mark : goal.returns-in-Some-mark
 returns-in-Some-mark g c =
@@ -60,7 +60,7 @@ returns-in-Some-mark g c =
     let w : InstructionResult = c.in-Some.went in
     let going = c.loop-done.invariant.going in
     let went : IsInstructionResult (stops_of b) (n - k) t u w = subst (λ (x : StopConditions). IsInstructionResult x (n - k) t u w) c.loop-done.invariant.stops c.in-Some.ensures.went in
-    let ran = went-stops (stops_of b) n k s t u w c.in-Some-mark.why going went c.loop-done-test.true c.in-Some-mark.is in
+    let ran = run-stops-after-instruction-result (stops_of b) n k s t u w c.in-Some-mark.why going went c.loop-done-test.true c.in-Some-mark.is in
     let report = trace-so-far-next c.args.probes.now (n - k) k w.cycles s t u c.regs-regs.result c.loop-done.rows.last.items c.loop-done.text.items c.add_instruction_line.new.rows.last.items c.add_instruction_line.new.text.items c.loop-done.lines c.in_ok-lines-in-Some.field-0 going.at went.ran went.some c.regs-regs.ensures.same c.loop-done.invariant.report c.in_ok-lines-in-Some.ensures.row c.in_ok-lines-in-Some.ensures.lines c.in_ok-lines-in-Some.ensures.text in
     let came = c.trace_result-in-Some-mark in
     is-trace-of-run c.args.probes.now n b u (k + w.cycles) came.result c.add_instruction_line.new.text.items
@@ -78,7 +78,7 @@ loop-done-preserved g c =
     let going = c.loop-done.invariant.going in
     let went : IsInstructionResult (stops_of b) (n - k) t u w = subst (λ (x : StopConditions). IsInstructionResult x (n - k) t u w) c.loop-done.invariant.stops c.in-Some.ensures.went in
     record {
-      going = went-goes (stops_of b) n k s t u w going went c.loop-done-test.true c.in_default.is;
+      going = run-continues-after-instruction-result (stops_of b) n k s t u w going went c.loop-done-test.true c.in_default.is;
       stops = ap stops_of c.continue_run.ensures.rest ∙ c.loop-done.invariant.stops;
       report = trace-so-far-next c.args.probes.now (n - k) k w.cycles s t u c.regs-regs.result c.loop-done.rows.last.items c.loop-done.text.items c.add_instruction_line.new.rows.last.items c.add_instruction_line.new.text.items c.loop-done.lines c.in_ok-lines-in-Some.field-0 going.at went.ran went.some c.regs-regs.ensures.same c.loop-done.invariant.report c.in_ok-lines-in-Some.ensures.row c.in_ok-lines-in-Some.ensures.lines c.in_ok-lines-in-Some.ensures.text;
     }
@@ -96,4 +96,4 @@ returns g c =
     let report = c.loop-done.invariant.report in
     let came = c.trace_result-2 in
     is-trace-of-run c.args.probes.now n b t k came.result c.loop-done.text.items
-    (ends (stops_of b) n k s t None came.result.stop (run-is-complete (stops_of b) n k s t going (sym full)) came.ensures.stop) (came.ensures.cycles ∙ full) (came.ensures.lines ∙ report.count) report.so_far
+    (ends (stops_of b) n k s t None came.result.stop (run-stops-when-cycles-done (stops_of b) n k s t going (sym full)) came.ensures.stop) (came.ensures.cycles ∙ full) (came.ensures.lines ∙ report.count) report.so_far

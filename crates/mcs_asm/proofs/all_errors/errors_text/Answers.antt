@@ -4,11 +4,11 @@ use Rattle.mcs_asm.specs.declared.all_errors.LineError.{LineError}
 use Rattle.mcs_asm.specs.Errors.{error_row, errors_header, errors_text}
 use Rattle.mcs_asm.proofs.all_errors.errors_text.Goals as goal
 
-whole : (errors : List LineError) (empty head text : List ℕ) → empty ≡ [] → head ≡ empty ++ as_line (errors_header (length errors)) → text ≡ head ++ text_of (map error_row errors) → text ≡ errors_text errors
+text_is_errors_text : (errors : List LineError) (empty head text : List ℕ) → empty ≡ [] → head ≡ empty ++ as_line (errors_header (length errors)) → text ≡ head ++ text_of (map error_row errors) → text ≡ errors_text errors
 unfolding errors_text
-whole errors empty head text e h t = t ∙ ap (λ (x : List ℕ). x ++ text_of (map error_row errors)) (h ∙ ap (λ (x : List ℕ). x ++ as_line (errors_header (length errors))) e)
+text_is_errors_text errors empty head text e h t = t ∙ ap (λ (x : List ℕ). x ++ text_of (map error_row errors)) (h ∙ ap (λ (x : List ℕ). x ++ as_line (errors_header (length errors))) e)
 
 pub returns : goal.returns
 returns c =
     ap (λ (v : Vec ℕ Global). v.items) c.into_bytes.ensures.value
-    ∙ whole c.args.errors.now _ _ _ c.new-out.ensures.bytes c.in_ok-push_count.ensures c.in_ok-push_errors.ensures
+    ∙ text_is_errors_text c.args.errors.now _ _ _ c.new-out.ensures.bytes c.in_ok-push_count.ensures c.in_ok-push_errors.ensures

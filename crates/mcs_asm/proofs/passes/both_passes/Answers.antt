@@ -4,21 +4,21 @@ use Rattle.mcs_model.specs.TextLines.{lines_of}
 use Rattle.mcs_source.specs.Assembly.{all_names, earliest_first_pass_fault, assembly_of_text}
 use Rattle.mcs_source.specs.Survey.{Survey}
 use Rattle.mcs_asm.specs.declared.fault.AsmFault.{AsmFault}
-use Rattle.mcs_asm.specs.View.{FailsAs}
+use Rattle.mcs_asm.specs.View.{IsErrorAtLine}
 use Rattle.mcs_asm.specs.Passes.{FirstPassState, IsResultOfBothPasses}
-use Rattle.mcs_asm.proofs.PassLists.{texts, parsed_lines, first_pass_fails, second_pass_result_is_final}
+use Rattle.mcs_asm.proofs.PassLists.{texts, parsed_lines, assembly_fails_if_first_pass_fails, second_pass_result_is_final}
 use Rattle.mcs_asm.proofs.passes.both_passes.Goals as goal
 
 -- If `f` is the error that both passes must return, a result that returns `f` is correct.
-returned_error_is_correct : (r : Result (Survey × List (Option ℕ)) AsmFault) (f : AsmFault) (text : List ℕ) → IsErrAnd r (λ e. e ≡ f) → FailsAs f.kind f.line (assembly_of_text text) → IsResultOfBothPasses r text
+returned_error_is_correct : (r : Result (Survey × List (Option ℕ)) AsmFault) (f : AsmFault) (text : List ℕ) → IsErrAnd r (λ e. e ≡ f) → IsErrorAtLine f.kind f.line (assembly_of_text text) → IsResultOfBothPasses r text
 returned_error_is_correct (Ok found) f text is fails = absurd is
-returned_error_is_correct (Err e) f text is fails = subst (λ (x : AsmFault). FailsAs x.kind x.line (assembly_of_text text)) (sym is) fails
+returned_error_is_correct (Err e) f text is fails = subst (λ (x : AsmFault). IsErrorAtLine x.kind x.line (assembly_of_text text)) (sym is) fails
 
 pub returns-in_err-names : goal.returns-in_err-names
 returns-in_err-names c =
     let f : AsmFault = c.in_err-names.field-0.0 in
     let lines : texts c.deref.result.now ≡ lines_of c.args.source.now = ap texts c.deref.ensures.value ∙ (c.in_ok-lines.ensures ∙ ap lines_of c.as_bytes.ensures.value) in
-    returned_error_is_correct c.from_residual-in_err-names.result f c.args.source.now c.from_residual-in_err-names.ensures.1 (first_pass_fails f.kind f.line c.args.source.now (texts c.deref.result.now) lines c.in_err-names.ensures)
+    returned_error_is_correct c.from_residual-in_err-names.result f c.args.source.now c.from_residual-in_err-names.ensures.1 (assembly_fails_if_first_pass_fails f.kind f.line c.args.source.now (texts c.deref.result.now) lines c.in_err-names.ensures)
 
 pub returns : goal.returns
 returns c =

@@ -3,7 +3,7 @@ use Rattle.mcs_model.specs.Listed.{is_listed}
 use Rattle.mcs_bench.specs.Runs.{RunStopsAt, PredictsWatchChange, debug_stop_of}
 use Rattle.mcs_model.specs.declared.regs.Regs.{Regs}
 use Rattle.mcs_model.specs.Running.{Machine, StopConditions}
-use Rattle.mcs_bench.proofs.Runs.{RunInvariant, starts, invariant-after-second-cycle, stop-after-second-cycle, invariant-reaches, invariant-continues, breakpoint-at, no-stop-unlisted, prediction-is-seen}
+use Rattle.mcs_bench.proofs.Runs.{RunInvariant, starts, invariant-after-second-cycle, stop-after-second-cycle, run-reaches-from-invariant, invariant-after-instruction, at_break-after-first-cycle, no-debug-stop-at-unlisted-address, watch-changes-as-predicted}
 use Rattle.mcs_bench.proofs.running.fast_loop.Goals as goal
 use Rattle.mcs_bench.proofs.running.fast_loop.Goals.{then-n-gt0+then-regs-eq1+in_default, else-n-gt0, else-n-gt0-via-then-n-gt0+else-regs-eq1, else-n-gt0-via-else-n-gt0}
 
@@ -53,9 +53,9 @@ returns-then-contains g c =
     let some : 0 < c.run_instruction-next.result.1 = c.run_instruction-next.ensures.goes in
     let later : 0 < c.args.n - (c.loop-left.left - c.run_instruction-next.result.1) = omega arith in
     let foreseen : PredictsWatchChange c.args.watches.now t false = subst (PredictsWatchChange c.args.watches.now t) c.if-op_changes_watch_if.false c.op_changes_watch_if.ensures in
-    let seen = prediction-is-seen c.args.watches.now c.loop-left.left c.run_instruction-next.result.1 t u false ran (c.loop-left.invariant.free (omega arith)) foreseen in
-    let at = ap (λ b. debug_stop_of b false) (breakpoint-at c.args.breaks.now (c.args.n - (c.loop-left.left - c.run_instruction-next.result.1)) u later) in
-    invariant-reaches stops c.args.n c.loop-left.left c.run_instruction-next.result.1 s t u false c.debug_stop_at.result c.loop-left.invariant ran seen (omega arith) some c.run_instruction-next.ensures.owes (at ∙ sym c.debug_stop_at.ensures.mark)
+    let seen = watch-changes-as-predicted c.args.watches.now c.loop-left.left c.run_instruction-next.result.1 t u false ran (c.loop-left.invariant.free (omega arith)) foreseen in
+    let at = ap (λ b. debug_stop_of b false) (at_break-after-first-cycle c.args.breaks.now (c.args.n - (c.loop-left.left - c.run_instruction-next.result.1)) u later) in
+    run-reaches-from-invariant stops c.args.n c.loop-left.left c.run_instruction-next.result.1 s t u false c.debug_stop_at.result c.loop-left.invariant ran seen (omega arith) some c.run_instruction-next.ensures.owes (at ∙ sym c.debug_stop_at.ensures.mark)
 
 pub loop-left-preserved : goal.loop-left-preserved
 loop-left-preserved g c =
@@ -67,9 +67,9 @@ loop-left-preserved g c =
     let more : 1 < c.loop-left.left = c.loop-left-test.true in
     let some : 0 < c.run_instruction-next.result.1 = c.run_instruction-next.ensures.goes in
     let foreseen : PredictsWatchChange c.args.watches.now t false = subst (PredictsWatchChange c.args.watches.now t) c.if-op_changes_watch_if.false c.op_changes_watch_if.ensures in
-    let seen = prediction-is-seen c.args.watches.now c.loop-left.left c.run_instruction-next.result.1 t u false ran (c.loop-left.invariant.free (omega arith)) foreseen in
+    let seen = watch-changes-as-predicted c.args.watches.now c.loop-left.left c.run_instruction-next.result.1 t u false ran (c.loop-left.invariant.free (omega arith)) foreseen in
     let unlisted : is_listed c.args.breaks.now u.0.pc ≡ false = sym c.contains.ensures ∙ c.if-contains.false in
-    invariant-continues stops c.args.n c.loop-left.left c.run_instruction-next.result.1 s t u false c.loop-left.invariant ran seen (omega arith) some c.run_instruction-next.ensures.owes (no-stop-unlisted c.args.breaks.now _ u unlisted)
+    invariant-after-instruction stops c.args.n c.loop-left.left c.run_instruction-next.result.1 s t u false c.loop-left.invariant ran seen (omega arith) some c.run_instruction-next.ensures.owes (no-debug-stop-at-unlisted-address c.args.breaks.now _ u unlisted)
 
 pub returns-then-op_changes_watch_if : goal.returns-then-op_changes_watch_if
 returns-then-op_changes_watch_if g c = c.loop-left.invariant.on

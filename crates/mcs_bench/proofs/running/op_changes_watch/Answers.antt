@@ -9,14 +9,14 @@ use Rattle.mcs_model.specs.declared.op.Op.TheVariants.{Wrm}
 use Rattle.mcs_model.specs.Effect.{instruction_at}
 use Rattle.mcs_model.specs.Running.{Machine}
 use Rattle.mcs_bench.specs.Runs.{selected_index}
-use Rattle.mcs_bench.proofs.Runs.{predicts-new-value, predicts-same-value}
+use Rattle.mcs_bench.proofs.Runs.{predicts-change-if-value-differs, predicts-no-change-if-value-equal}
 use Rattle.mcs_bench.proofs.running.op_changes_watch.Goals as goal
 
-same-op : {a b : Op} → Some a ≡ Some b → a ≡ b
-same-op {a} {b} e = ap (λ o. unwrap_or o a) e
+some-is-injective : {a b : Op} → Some a ≡ Some b → a ≡ b
+some-is-injective {a} {b} e = ap (λ o. unwrap_or o a) e
 
 pub returns-then-not-is_wrm : goal.returns-then-not-is_wrm
-returns-then-not-is_wrm c = inl (inr (λ e. let on = c.is_wrm.ensures.1 (same-op (sym c.requires ∙ e)) in let off = c.if-not-is_wrm.true in cc), refl)
+returns-then-not-is_wrm c = inl (inr (λ e. let on = c.is_wrm.ensures.1 (some-is-injective (sym c.requires ∙ e)) in let off = c.if-not-is_wrm.true in cc), refl)
 
 pub returns-then-eq : goal.returns-then-eq
 unfolding fetch_of
@@ -28,7 +28,7 @@ returns-then-eq c =
     let src : c.ram_src-src.result ≡ slice_index c.args.rig.now.ram_src c.args.cpu.now.dcl = c.ram_src-src.ensures ∙ ap (slice_index c.args.rig.now.ram_src) dcl in
     let place : c.regs-regs.result.dcl * 256 + c.ram_src-src.result ≡ selected_index t = cc (dcl, src) in
     let same : c.ram.result ≡ c.regs-regs.result.acc = eqb-true c.ram.result c.regs-regs.result.acc (sym c.eq.ensures ∙ c.if-eq.true) in
-    predicts-same-value c.args.watches.now t writes
+    predicts-no-change-if-value-equal c.args.watches.now t writes
     (ap (slice_index c.args.rig.now.ram) (sym place) ∙ sym c.ram.ensures ∙ same ∙ acc)
 
 pub returns : goal.returns
@@ -47,5 +47,5 @@ returns c =
     let inside : selected_index t < length c.args.rig.now.ram = omega (arith, place, count, few, byte) in
     let chips : c.bank_chips.result ≡ slice_index c.args.rig.now.board.banks c.args.cpu.now.dcl = c.bank_chips.ensures ∙ ap (λ (b : BoardParts). slice_index b.banks c.regs-regs.result.dcl) c.board.ensures ∙ ap (slice_index c.args.rig.now.board.banks) dcl in
     let there : has_chip c.args.rig.now c.args.cpu.now.dcl (src_of c.args.rig.now c.args.cpu.now.dcl) ≡ nat_lt (c.ram_src-src.result / 64) c.bank_chips.result = ap (λ n. nat_lt (n / 64) (slice_index c.args.rig.now.board.banks c.args.cpu.now.dcl)) (sym src) ∙ ap (nat_lt (c.ram_src-src.result / 64)) (sym chips) in
-    predicts-new-value c.args.watches.now t _ writes
+    predicts-change-if-value-differs c.args.watches.now t _ writes
     (ap (is_listed c.args.watches.now) (sym place) ∙ sym c.contains.ensures ∙ c.if-not-contains.false) new inside there

@@ -5,11 +5,11 @@ use Rattle.mcs_model.specs.Boards.{rom_masks}
 use Rattle.mcs_model.specs.ChipWrites.{rom_of_board}
 use Rattle.mcs_board.proofs.roms.clear_absent_roms.Goals as goal
 
-all_cleared : (b : BoardParts) (old new : List ℕ) → length new ≡ 4096 → ((k : ℕ) → k < 4096 → get_or new k 0 ≡ (if is_some (rom_masks b (k / 256)) then get_or old k 0 else 0)) → new ≡ rom_of_board b old
+rom_of_board-from_each_byte : (b : BoardParts) (old new : List ℕ) → length new ≡ 4096 → ((k : ℕ) → k < 4096 → get_or new k 0 ≡ (if is_some (rom_masks b (k / 256)) then get_or old k 0 else 0)) → new ≡ rom_of_board b old
 unfolding rom_of_board
-all_cleared b old new l h = table_of-unique 4096 (λ k. if is_some (rom_masks b (k / 256)) then get_or old k 0 else 0) new 0 l h
+rom_of_board-from_each_byte b old new l h = table_of-unique 4096 (λ k. if is_some (rom_masks b (k / 256)) then get_or old k 0 else 0) new 0 l h
 
 pub returns : goal.returns
 returns c =
     let whole : length c.loop-at.program.items ≡ 4096 = c.loop-at.invariant.len ∙ c.requires in
-    all_cleared c.args.board.now c.args.program.now.items c.loop-at.program.items whole (λ k h. c.loop-at.invariant.done k (let r = c.requires in omega arith))
+    rom_of_board-from_each_byte c.args.board.now c.args.program.now.items c.loop-at.program.items whole (λ k h. c.loop-at.invariant.done k (let r = c.requires in omega arith))

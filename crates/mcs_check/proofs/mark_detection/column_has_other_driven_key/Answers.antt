@@ -5,7 +5,7 @@ use Rattle.mcs_model.specs.Bus.{BusState}
 use Rattle.mcs_drive.specs.declared.marks.Mark.{Mark}
 use Rattle.mcs_drive.specs.Marks.{is_row_driven}
 use Rattle.mcs_check.proofs.Matrices.{rows-fit}
-use Rattle.mcs_check.proofs.Ranging.{none-of-more, one-passes}
+use Rattle.mcs_check.proofs.Ranging.{none_passes-with_next_number, some_number_passes}
 use Rattle.mcs_check.proofs.mark_detection.column_has_other_driven_key.Goals as goal
 
 abbrev test : BusState → KeyMatrix → Mark → ℕ → ℕ → Bool
@@ -15,11 +15,11 @@ pub is_other_key_driven-requires : goal.is_other_key_driven-requires
 is_other_key_driven-requires c = (let fit = rows-fit c.args.matrix.now c.requires in omega arith)
 
 pub loop-r-preserved : goal.loop-r-preserved
-loop-r-preserved c = none-of-more (test c.args.rig.now c.args.matrix.now c.args.mark c.args.j) c.loop-r.r c.loop-r.invariant (sym c.is_other_key_driven.ensures ∙ c.if-is_other_key_driven.false)
+loop-r-preserved c = none_passes-with_next_number (test c.args.rig.now c.args.matrix.now c.args.mark c.args.j) c.loop-r.r c.loop-r.invariant (sym c.is_other_key_driven.ensures ∙ c.if-is_other_key_driven.false)
 
 pub returns-then-is_other_key_driven : goal.returns-then-is_other_key_driven
 returns-then-is_other_key_driven c =
-    sym (one-passes (test c.args.rig.now c.args.matrix.now c.args.mark c.args.j) c.args.matrix.now.rows c.loop-r.r (omega arith) (sym c.is_other_key_driven.ensures ∙ c.if-is_other_key_driven.true))
+    sym (some_number_passes (test c.args.rig.now c.args.matrix.now c.args.mark c.args.j) c.args.matrix.now.rows c.loop-r.r (omega arith) (sym c.is_other_key_driven.ensures ∙ c.if-is_other_key_driven.true))
 
 pub returns : goal.returns
 returns c =

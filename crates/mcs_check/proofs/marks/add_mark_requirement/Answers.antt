@@ -3,11 +3,11 @@ use Rattle.std.proofs.lemmas.List.{get_or_default, take_all}
 use Rattle.mcs_check.specs.declared.conditions.Condition.{Condition}
 use Rattle.mcs_check.specs.declared.conditions.Condition.TheVariants.{Compare}
 use Rattle.mcs_check.specs.Conditions.{fewer_marks_seen}
-use Rattle.mcs_check.proofs.Opening.{opened-more, opened-none, opened-unmarked, opens_after_marks}
+use Rattle.mcs_check.proofs.Opening.{opens_after_marks-with_next_open_list, opened-none, opens_after_marks-without_marks, opens_after_marks}
 use Rattle.mcs_check.proofs.marks.add_mark_requirement.Goals as goal
 
 pub returns-then-count-eq0 : goal.returns-then-count-eq0
-returns-then-count-eq0 c = λ s. opened-unmarked c.args.never_lists.now.items c.args.opens.now (length c.args.marks.now) s (omega arith)
+returns-then-count-eq0 c = λ s. opens_after_marks-without_marks c.args.never_lists.now.items c.args.opens.now (length c.args.marks.now) s (omega arith)
 
 pub loop-i-init : goal.loop-i-init
 loop-i-init c = λ s. opened-none c.args.never_lists.now.items (length c.args.marks.now) s
@@ -23,7 +23,7 @@ loop-i-preserved c = λ s.
     ∙ ap (λ (cs : List Condition). cs ++ c.fewer_marks_seen.result ∷ []) element
     ∙ ap (λ (x : Condition). get_or opens i [] ++ x ∷ []) (c.fewer_marks_seen.ensures ∙ ap (λ (k : ℕ). Compare (fewer_marks_seen k)) c.count-count.ensures.count) in
     let some : 0 < n = omega arith in
-    opened-more c.args.never_lists.now.items opens c.loop-i.never_lists.items c.push.new.self.items c.in_ok-with_condition.field-0 i n s c.loop-i-test.true some made c.in_ok-push.ensures.items (c.loop-i.invariant s)
+    opens_after_marks-with_next_open_list c.args.never_lists.now.items opens c.loop-i.never_lists.items c.push.new.self.items c.in_ok-with_condition.field-0 i n s c.loop-i-test.true some made c.in_ok-push.ensures.items (c.loop-i.invariant s)
 
 pub returns : goal.returns
 returns c = λ s.

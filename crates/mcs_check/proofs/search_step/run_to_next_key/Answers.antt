@@ -1,8 +1,8 @@
 use Rattle.mcs_check.specs.Conditions.{meets_none, observer_of_property}
 use Rattle.mcs_check.specs.Keys.{IsOnBoard, IsKeyOf, setting_of}
 use Rattle.mcs_check.proofs.Ignoring.{conditions-ignore}
-use Rattle.mcs_check.proofs.Keeping.{keeps-on}
-use Rattle.mcs_check.proofs.Steps.{on-board-kept, reaches-property_holds, walked-leads}
+use Rattle.mcs_check.proofs.Keeping.{keeps-trans}
+use Rattle.mcs_check.proofs.Steps.{on-board-kept, property_holds-at_reached_machine, leads-by_read_and_run}
 use Rattle.mcs_check.proofs.search_step.run_to_next_key.Goals as goal
 
 pub returns-clause-leads : goal.returns-clause-leads
@@ -14,11 +14,11 @@ returns-clause-leads c = λ _.
     let p = meets_none c.args.property.now.never_lists in
     let g = setting_of start c.args.layout.now c.args.property.now in
     let on : IsOnBoard start.1.board start.1.rom m = on-board-kept start m c.show_state_is_valid.ensures.registers c.show_state_is_valid.ensures.bus c.requires.keys c.requires.test c.reload.ensures.keeps in
-    let kept = keeps-on start.1 x.1 n.1 (keeps-on start.1 m.1 x.1 c.reload.ensures.keeps c.read.ensures.keeps) c.run_to_read_point.ensures.keeps in
+    let kept = keeps-trans start.1 x.1 n.1 (keeps-trans start.1 m.1 x.1 c.reload.ensures.keeps c.read.ensures.keeps) c.run_to_read_point.ensures.keeps in
     let reaches = c.run_to_read_point.ensures.reaches c.if-not-run_to_read_point.false in
     let next : IsKeyOf g c.save.new.key n = record {
       on = on-board-kept start n c.show_state_is_valid-2.ensures.registers c.show_state_is_valid-2.ensures.bus c.requires.keys c.requires.test kept;
-      property_holds = reaches-property_holds (observer_of_property c.args.property.now) p x n reaches;
+      property_holds = property_holds-at_reached_machine (observer_of_property c.args.property.now) p x n reaches;
       cells = c.save.ensures;
     } in
-    walked-leads g c.args.key.now c.save.new.key c.args.value m x n (conditions-ignore c.args.property.now.never_lists) c.requires.complete on (c.reload.ensures.loaded c.if-not-reload.false) (c.read.ensures.read c.if-not-read.false) reaches next
+    leads-by_read_and_run g c.args.key.now c.save.new.key c.args.value m x n (conditions-ignore c.args.property.now.never_lists) c.requires.complete on (c.reload.ensures.loaded c.if-not-reload.false) (c.read.ensures.read c.if-not-read.false) reaches next

@@ -1,5 +1,5 @@
-use Rattle.mcs_codec.proofs.CommandCodec.{same_command}
+use Rattle.mcs_codec.proofs.CommandCodec.{encoded_command_is_unique}
 use Rattle.mcs_codec.proofs.commands.one_command.Goals as goal
 
 pub returns : goal.returns
-returns c = same_command
+returns c = encoded_command_is_unique

@@ -2,7 +2,7 @@ use Rattle.std.proofs.Common.{◌≡◌, ℕ, ◌+◌, ◌*◌, ◌<◌, length,
 use Rattle.mcs_codec.specs.CommandBytes.{mark, byte_of_bits}
 use Rattle.mcs_codec.proofs.images.packed_marks.Given as goal
 
--- the first i bytes of `packed` are those of the packed marks
+-- the first `i` bytes of `packed` are the first `i` bytes of the packed marks
 abbrev pub invariant-loop-i : goal.invariant-loop-i
 invariant-loop-i l = record {
   len : length l.packed ≡ 512;

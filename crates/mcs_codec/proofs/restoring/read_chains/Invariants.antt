@@ -4,7 +4,7 @@ use Rattle.mcs_codec.specs.StateReading.{chains_at}
 use Rattle.mcs_codec.proofs.Loops.{with_front}
 use Rattle.mcs_codec.proofs.restoring.read_chains.Given as goal
 
--- the chains already read, with those still to be read, are all chains
+-- the bits already read, followed by the bits still to be read, are the bits of all chains
 abbrev pub invariant-loop-chain : goal.invariant-loop-chain
 invariant-loop-chain l = record {
   count : length l.read.items ≡ l.chain-index;

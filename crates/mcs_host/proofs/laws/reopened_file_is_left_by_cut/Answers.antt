@@ -1,17 +1,17 @@
 use Rattle.std.proofs.Common.{List, ℕ, sym, subst}
-use Rattle.mcs_disk.proofs.StretchComposition.{fresh_durable}
+use Rattle.mcs_disk.proofs.StretchComposition.{durable_without_calls}
 use Rattle.mcs_host.specs.Ending.{as_disk, bytes_found_in}
 use Rattle.mcs_disk.specs.Calls.{images_after_since}
 use Rattle.mcs_disk.specs.NotedCalls.{calls_in}
-use Rattle.mcs_host.proofs.Leaving.{found_since}
+use Rattle.mcs_host.proofs.Leaving.{found_image_is_image_since}
 use Rattle.mcs_host.proofs.laws.reopened_file_is_left_by_cut.Goals as goal
 
 pub returns : goal.returns
 returns c = λ t file again honest left still opened same.
     let start = file.inner_disk.history.start in
-    let found = found_since start (calls_in file.inner_disk.history.notes) left.never_made left.made (calls_in file.inner_disk.end.notes) t (bytes_found_in file) left.all left.calls_before_end left.clock_reached honest in
+    let found = found_image_is_image_since start (calls_in file.inner_disk.history.notes) left.never_made left.made (calls_in file.inner_disk.end.notes) t (bytes_found_in file) left.all left.calls_before_end left.clock_reached honest in
     record {
       honest = still;
       found = subst (λ (bytes : List ℕ). images_after_since start (calls_in file.inner_disk.history.notes) t bytes) (sym same) found;
-      durable = fresh_durable (as_disk again) opened.calls;
+      durable = durable_without_calls (as_disk again) opened.calls;
     }

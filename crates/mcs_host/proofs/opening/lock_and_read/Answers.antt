@@ -2,8 +2,8 @@ use Rattle.std.proofs.Common.{rules, ◌≡◌, min, ◌+◌, length, true}
 use Rattle.mcs_journal.specs.declared.format.TheConstants.{FILE_SIZE}
 use Rattle.mcs_host.specs.HostCalls.{KeepsNameAndNumber, Length, asked}
 use Rattle.mcs_host.specs.Opening.{AreZeros, IsAllZeros, IsWrittenAfter}
-use Rattle.mcs_host.proofs.OpenedFile.{filled_as_opened, rewritten_as_opened}
-use Rattle.mcs_host.proofs.ZeroBytes.{zeros_taken}
+use Rattle.mcs_host.proofs.OpenedFile.{opened_file_if_filled, opened_file_if_rewritten}
+use Rattle.mcs_host.proofs.ZeroBytes.{prefix_of_zeros_is_zeros}
 use Rattle.mcs_host.proofs.opening.lock_and_read.Goals as goal
 
 pub returns-then-found-eq0-clause-asked : goal.returns-then-found-eq0-clause-asked
@@ -13,8 +13,8 @@ returns-then-found-eq0-clause-asked g c =
     let none : c.in_ok-found.found ≡ 0 = search rules in
     let size : length c.fill_and_read.new.bytes.items ≡ FILE_SIZE = search rules in
     let written : length c.truncate.new.self.items ≡ FILE_SIZE = search rules in
-    let zeros : AreZeros c.truncate.new.self.items = rw c.truncate.ensures.items (zeros_taken FILE_SIZE c.args.bytes.now.items c.requires.zeros) in
-    filled_as_opened c.args.create_if_missing c.args.file.now c.fill_and_read.new.bytes.items c.truncate.new.self.items _ (state c.args.opened.now) (state c.lock.new.opened) (state c.length.new.self) _
+    let zeros : AreZeros c.truncate.new.self.items = rw c.truncate.ensures.items (prefix_of_zeros_is_zeros FILE_SIZE c.args.bytes.now.items c.requires.zeros) in
+    opened_file_if_filled c.args.create_if_missing c.args.file.now c.fill_and_read.new.bytes.items c.truncate.new.self.items _ (state c.args.opened.now) (state c.lock.new.opened) (state c.length.new.self) _
     c.if-create_if_missing.true c.requires.named c.requires.begun c.in_ok-lock.ensures.same c.in_ok-lock.ensures.asked measured none
     c.in_ok-fill_and_read.ensures.same c.in_ok-fill_and_read.ensures.asked size (record { size = written; zeros = zeros })
 
@@ -28,7 +28,7 @@ returns-in_ok-write_whole-clause-asked g c =
     let these : c.deref-then-is_blank.result.now ≡ bytes = search rules in
     let still : KeepsNameAndNumber (state c.sync_and_read.new.opened) (state c.write_whole.new.opened) = search rules in
     let writes : IsWrittenAfter c.args.file.now c.deref-then-is_blank.result.now (state c.sync_and_read.new.opened).calls (state c.write_whole.new.opened).calls = search rules in
-    rewritten_as_opened c.args.create_if_missing c.args.file.now bytes c.deref-then-is_blank.result.now _ c.in_ok-found.found (state c.args.opened.now) (state c.lock.new.opened) (state c.length.new.self)
+    opened_file_if_rewritten c.args.create_if_missing c.args.file.now bytes c.deref-then-is_blank.result.now _ c.in_ok-found.found (state c.args.opened.now) (state c.lock.new.opened) (state c.length.new.self)
     (state c.sync_and_read.new.opened) _ c.if-create_if_missing-2.true c.requires.named c.requires.begun c.in_ok-lock.ensures.same c.in_ok-lock.ensures.asked measured size
     c.in_ok-is_name_stable.ensures.same c.in_ok-is_name_stable.ensures.asked blank still these writes
 

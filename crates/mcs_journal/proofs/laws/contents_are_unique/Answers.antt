@@ -1,5 +1,5 @@
-use Rattle.mcs_journal.proofs.UniqueContents.{same_snap, same_records}
+use Rattle.mcs_journal.proofs.UniqueContents.{snapshot_is_unique, records_are_unique}
 use Rattle.mcs_journal.proofs.laws.contents_are_unique.Goals as goal
 
 pub returns : goal.returns
-returns c = λ file snap other records more a b. (same_snap file snap other records more a b, same_records file snap other records more a b)
+returns c = λ file snap other records more a b. (snapshot_is_unique file snap other records more a b, records_are_unique file snap other records more a b)

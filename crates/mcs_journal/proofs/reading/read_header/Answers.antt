@@ -1,14 +1,14 @@
 use Rattle.std.proofs.Common.{sym, ◌∙◌}
-use Rattle.mcs_journal.proofs.Headers.{same_bytes, other_bytes, front, back, header_is}
+use Rattle.mcs_journal.proofs.Headers.{equal_if_bytes_eq, unequal_if_not_bytes_eq, front, back, header_is}
 use Rattle.mcs_journal.proofs.reading.read_header.Goals as goal
 
 pub returns-then-ne-clause-no_session : goal.returns-then-ne-clause-no_session
-returns-then-ne-clause-no_session g c = λ h erred same. other_bytes _ _ c.if-ne.ensures (front _ _ (c.in_ok-read_at.ensures.given h) ∙ same)
+returns-then-ne-clause-no_session g c = λ h erred same. unequal_if_not_bytes_eq _ _ c.if-ne.ensures (front _ _ (c.in_ok-read_at.ensures.given h) ∙ same)
 
 pub returns-then-ne-2-clause-damaged : goal.returns-then-ne-2-clause-damaged
 returns-then-ne-2-clause-damaged g c = λ h erred.
     let given = c.in_ok-read_at.ensures.given h in
-    (sym (front _ _ given) ∙ same_bytes _ _ c.if-ne.ensures, λ same. other_bytes _ _ c.if-ne-2.ensures (back _ _ given ∙ same))
+    (sym (front _ _ given) ∙ equal_if_bytes_eq _ _ c.if-ne.ensures, λ same. unequal_if_not_bytes_eq _ _ c.if-ne-2.ensures (back _ _ given ∙ same))
 
 pub returns-clause-header : goal.returns-clause-header
 returns-clause-header g c = λ h. header_is _ _ (c.in_ok-read_at.ensures.given h) _ c.if-ne.ensures c.if-ne-2.ensures (sym c.named.ensures)

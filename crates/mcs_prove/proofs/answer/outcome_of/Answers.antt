@@ -1,7 +1,7 @@
 use Rattle.std.proofs.Common.{◌≡◌, ◌∙◌, ◌<◌, List, Option, Some, String, Vec, Global, map, option_map, string_bytes, refl, sym, ap, subst}
 use Rattle.mcs_check.specs.declared.conditions.Condition.{Condition}
 use Rattle.mcs_prove.specs.Questions.{QuestionSoFar}
-use Rattle.mcs_prove.proofs.Proved.{answered-alone}
+use Rattle.mcs_prove.proofs.Proved.{is_answer-if_never_lists_proved}
 use Rattle.mcs_prove.proofs.answer.outcome_of.Goals as goal
 
 pub returns-then-max_entries-gt0 : goal.returns-then-max_entries-gt0
@@ -14,6 +14,6 @@ returns-then-max_entries-gt0 c =
     let program : q.program ≡ Some c.as_str-then-max_entries-gt0.result.now =
     ap (λ (a : QuestionSoFar). a.program) own ∙ ap (option_map string_bytes) in_text.is-1 ∙ ap Some (sym c.as_str-then-max_entries-gt0.ensures.value) in
     let never_lists = ap (map (λ (n : Vec Condition Global). n.items)) c.deref.ensures.value ∙ ap (λ (a : QuestionSoFar). a.never_lists) c.question.view_is in
-    answered-alone c.args.text.now c.as_str.result.now c.as_str-then-max_entries-gt0.result.now q _ c.prove_by_sets.result
+    is_answer-if_never_lists_proved c.args.text.now c.as_str.result.now c.as_str-then-max_entries-gt0.result.now q _ c.prove_by_sets.result
     c.in_ok-question.ensures (ap (λ (a : QuestionSoFar). a.has_prove_line) own ∙ in_text.is-3) (sym in_text.ensures') board program
     (subst (λ (a : QuestionSoFar). 0 < a.max_entries) c.question.view_is c.if-max_entries-gt0.true) never_lists c.prove_by_sets.ensures

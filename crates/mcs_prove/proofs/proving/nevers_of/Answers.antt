@@ -2,7 +2,7 @@ use Rattle.std.proofs.Common.{◌≡◌, ◌∙◌, ◌&&◌, Bool, List, Vec, G
 use Rattle.mcs_check.specs.declared.conditions.Condition.{Condition}
 use Rattle.mcs_check.specs.Conditions.{meets_none}
 use Rattle.mcs_prove.specs.Questions.{is_within_limit}
-use Rattle.mcs_prove.proofs.Proved.{in-turn}
+use Rattle.mcs_prove.proofs.Proved.{mark_requirement}
 use Rattle.mcs_prove.proofs.proving.nevers_of.Goals as goal
 
 pub returns : goal.returns
@@ -12,4 +12,4 @@ returns c = λ s.
     let marks = c.args.marks.now in
     c.in_ok-add_mark_requirement.ensures s
     ∙ ap (λ (b : Bool). b && not (not (meets_none opens s) && nat_lt s.2.seen (length marks))) (c.in_ok-conjunctions.ensures s)
-    ∙ ap (λ (b : Bool). (meets_none never_lists s && is_within_limit c.args.limit s) && b) (in-turn opens marks s)
+    ∙ ap (λ (b : Bool). (meets_none never_lists s && is_within_limit c.args.limit s) && b) (mark_requirement opens marks s)

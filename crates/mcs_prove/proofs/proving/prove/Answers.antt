@@ -4,7 +4,7 @@ use Rattle.mcs_check.specs.declared.conditions.Condition.{Condition}
 use Rattle.mcs_check.specs.Conditions.{PropertyConditions, meets_none, observer_of_property, observer_of}
 use Rattle.mcs_check.specs.OutcomeMeaning.{IsProved}
 use Rattle.mcs_prove.specs.Questions.{keeps_property}
-use Rattle.mcs_prove.proofs.Proved.{proved-of}
+use Rattle.mcs_prove.proofs.Proved.{proved_of_texts-if_proved_of_rig}
 use Rattle.mcs_prove.proofs.proving.prove.Goals as goal
 
 pub returns : goal.returns
@@ -28,6 +28,6 @@ returns c =
     let same : (s : TrackedMachine) → meets_none never_lists s ≡ kept s = λ s.
     c.in_ok-never_lists.ensures s
     ∙ ap (λ (o : List (List Condition)). keeps_property (observer_of [] [] o marks) (lists c.args.goal.never_lists) c.args.goal.limit s) (c.deref.ensures.value ∙ c.in_ok-opens.ensures) in
-    proved-of c.args.board.now c.args.program.now w (meets_none never_lists) kept c.new.result c.in_ok-rig.rig found
+    proved_of_texts-if_proved_of_rig c.args.board.now c.args.program.now w (meets_none never_lists) kept c.new.result c.in_ok-rig.rig found
     c.in_ok-rig.ensures c.new.ensures same
     (subst (λ (s : TrackedMachine). IsProved w (meets_none never_lists) s found) c.of.ensures proved)

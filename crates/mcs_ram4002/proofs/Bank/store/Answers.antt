@@ -1,7 +1,7 @@
 use Rattle.std.proofs.Common.{refl, ap, ◌∙◌, ◌≡◌, ◌<◌, ◌≤◌, length, arith}
 use Rattle.std.proofs.lemmas.Bool.{lt-ltb, le-ltb}
 use Rattle.mcs_ram4002.specs.RamBank.{after_write, target_chip, bank_of}
-use Rattle.mcs_ram4002.proofs.BankLemmas.{stored, whole_of}
+use Rattle.mcs_ram4002.proofs.BankLemmas.{stored, bank-has_fixed_lengths}
 use Rattle.mcs_ram4002.proofs.Bank.store.Goals as goal
 
 pub returns-then-chip-self-clause-stored : goal.returns-then-chip-self-clause-stored
@@ -24,7 +24,7 @@ returns-else-chip-self-clause-stored g c =
     rw (← c.self.view_is, le-ltb (target_chip c.args.write) i.chip_count (omega arith)) refl
 
 pub returns-then-chip-self-clause-whole : goal.returns-then-chip-self-clause-whole
-returns-then-chip-self-clause-whole g c = whole_of _ c.self.inside.chips c.self.inside.chip_count c.self.inside.src c.self.view_is
+returns-then-chip-self-clause-whole g c = bank-has_fixed_lengths _ c.self.inside.chips c.self.inside.chip_count c.self.inside.src c.self.view_is
 
 pub returns-else-chip-self-clause-whole : goal.returns-else-chip-self-clause-whole
-returns-else-chip-self-clause-whole g c = whole_of _ c.self.inside.chips c.self.inside.chip_count c.self.inside.src c.self.view_is
+returns-else-chip-self-clause-whole g c = bank-has_fixed_lengths _ c.self.inside.chips c.self.inside.chip_count c.self.inside.src c.self.view_is

@@ -1,6 +1,6 @@
 use Rattle.std.proofs.Common.{◌≡◌, ◌%◌, ◌∙◌, sym, ap, arith, rules, length, slice_index}
 use Rattle.mcs_ram4002.specs.RamBank.{half_of}
-use Rattle.mcs_ram4002.proofs.PackedNibbles.{unpacked-at}
+use Rattle.mcs_ram4002.proofs.PackedNibbles.{unpacked_nibbles-at_index}
 use Rattle.mcs_ram4002.proofs.Chip.status_character.Goals as goal
 
 pub returns : goal.returns
@@ -9,4 +9,4 @@ returns c =
     let len : length status ≡ 8 = search rules in
     c.nibble_in_byte.ensures
     ∙ ap (λ i. half_of (slice_index status i) (c.args.at % 2)) c.from.ensures
-    ∙ sym (unpacked-at status c.args.at 0 (let h = c.requires in omega arith))
+    ∙ sym (unpacked_nibbles-at_index status c.args.at 0 (let h = c.requires in omega arith))

@@ -4,7 +4,7 @@ use Rattle.std.proofs.lemmas.List.Elements.{All-from_get_or}
 use Rattle.mcs_search.specs.Rules.{LeadsInto}
 use Rattle.mcs_search.specs.Verdicts.{IsAddOutcome}
 use Rattle.mcs_search.specs.declared.visited.AddOutcome.{AddOutcome}
-use Rattle.mcs_search.proofs.Closures.{adds-grows, grows-trans, grows-leads, adds-states}
+use Rattle.mcs_search.proofs.Closures.{grows-if_adds, grows-trans, leads_into-after_growth, all_keys-after_add}
 use Rattle.mcs_search.proofs.following.follow_choices.Goals.{in-New, in-Known}
 use Rattle.mcs_search.proofs.following.follow_choices.Goals as goal
 
@@ -25,12 +25,12 @@ loop-i-preserved g c =
       | in-New w ↦ subst (λ (a : AddOutcome). IsAddOutcome c.args.max_states old.keys new.keys into a) w.in-New.is c.in_ok-add.ensures.added
       | in-Known w ↦ subst (λ (a : AddOutcome). IsAddOutcome c.args.max_states old.keys new.keys into a) w.in-Known.is c.in_ok-add.ensures.added
     ] in
-    let grows = adds-grows c.add.ensures.adds in
+    let grows = grows-if_adds c.add.ensures.adds in
     record {
       setting = c.apply_choice.ensures.setting ∙ i.setting;
       grows = grows-trans i.grows grows;
-      states = adds-states r.is_state i.states state c.add.ensures.adds;
-      followed = below_more _ _ (λ j h. grows-leads r key (slice_index c.args.choices.now j) grows (i.followed j h)) (into, leads, found);
+      states = all_keys-after_add r.is_state i.states state c.add.ensures.adds;
+      followed = below_more _ _ (λ j h. leads_into-after_growth r key (slice_index c.args.choices.now j) grows (i.followed j h)) (into, leads, found);
       few = c.add.ensures.few;
       into = c.apply_choice.auto.into ∙ i.into;
     }

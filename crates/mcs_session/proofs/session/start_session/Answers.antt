@@ -1,8 +1,8 @@
-use Rattle.mcs_disk.proofs.CallSequences.{none_added}
+use Rattle.mcs_disk.proofs.CallSequences.{at_most_one_unsynced_without_calls}
 use Rattle.std.proofs.Common.{◌≡◌, rules, sym, subst}
 use Rattle.mcs_codec.specs.declared.versions.Version.TheVariants.{Two}
 use Rattle.mcs_session.specs.Invariant.{IsRecorded}
-use Rattle.mcs_session.proofs.Files.{recorded_new}
+use Rattle.mcs_session.proofs.Files.{recorded_with_only_snapshot}
 use Rattle.mcs_session.proofs.session.start_session.Goals as goal
 
 pub invariant_of-result : goal.invariant_of-result
@@ -17,7 +17,7 @@ invariant_of-result-in-Ok g c = record {
       let was = c.in-Ok.ensures.counts.honest.0 honest in
       let held = c.requires.held was in
       let changes = c.in-Ok.ensures.replaces was held.snap held.records held.holds in
-      subst (λ n. IsRecorded (g.D.Disk.state c.checkpoint.new.self.store.disk) n c.args.replayed.bench) (sym c.in-Ok.ensures.used.1) (recorded_new (g.D.Disk.state c.checkpoint.new.self.store.disk) changes.after.snap c.args.replayed.bench changes.after.spells changes.after.holds changes.durable);
+      subst (λ n. IsRecorded (g.D.Disk.state c.checkpoint.new.self.store.disk) n c.args.replayed.bench) (sym c.in-Ok.ensures.used.1) (recorded_with_only_snapshot (g.D.Disk.state c.checkpoint.new.self.store.disk) changes.after.snap c.args.replayed.bench changes.after.spells changes.after.holds changes.durable);
 }
 
 pub returns-in-Ok-clause-version_1 : goal.returns-in-Ok-clause-version_1
@@ -29,4 +29,4 @@ pub returns-in-Err-clause-failed : goal.returns-in-Err-clause-failed
 returns-in-Err-clause-failed g c = λ honest snap records held. rw c.into_disk.ensures (c.in-Err.ensures.replaces honest snap records held).leaves
 
 pub returns-then-eq-clause-one_unsynced : goal.returns-then-eq-clause-one_unsynced
-returns-then-eq-clause-one_unsynced g c = none_added _
+returns-then-eq-clause-one_unsynced g c = at_most_one_unsynced_without_calls _

@@ -2,7 +2,7 @@ use Rattle.std.proofs.Common.{◌∙◌, slice_index_or, subst, below_more, arit
 use Rattle.mcs_drive.specs.TrackedMachine.{with_zero_counts}
 use Rattle.mcs_sets.specs.declared.entries.Entry.{Entry}
 use Rattle.mcs_sets.specs.Closure.{StaysCoveredOneCycle}
-use Rattle.mcs_sets.proofs.Certified.{stays-moved, closure-suffices}
+use Rattle.mcs_sets.proofs.Certified.{stays-covered-for-equal-program, closure-suffices}
 use Rattle.mcs_sets.proofs.certifying.stays_covered.Goals as goal
 
 pub loop-i-preserved : goal.loop-i-preserved
@@ -14,7 +14,7 @@ loop-i-preserved c =
       stays_covered_one_cycle = λ k d inside.
           below_more (λ k. (d : Entry) → StaysCoveredOneCycle c.args.rig.now.board c.args.rig.now.rom es (slice_index_or es k d)) c.loop-i.i
           (λ k h d. was.stays_covered_one_cycle k d h)
-          (λ d. stays-moved c.loop-i.rig.board c.args.rig.now.board c.loop-i.rig.rom c.args.rig.now.rom es (slice_index_or es c.loop-i.i d) was.board was.rom (now.stays_covered_one_cycle c.if-not-stays_covered_one_cycle_at.false d))
+          (λ d. stays-covered-for-equal-program c.loop-i.rig.board c.args.rig.now.board c.loop-i.rig.rom c.args.rig.now.rom es (slice_index_or es c.loop-i.i d) was.board was.rom (now.stays_covered_one_cycle c.if-not-stays_covered_one_cycle_at.false d))
           k inside d;
       rom = now.rom ∙ was.rom;
       board = now.board ∙ was.board;

@@ -1,6 +1,6 @@
 use Rattle.std.proofs.Common.{◌<◌, ◌∙◌, ℕ, below_more}
 use Rattle.mcs_sets.specs.Covering.{AllowsChoice, IsChoiceCovered, choice_at}
-use Rattle.mcs_sets.proofs.Covered.{covered-moved}
+use Rattle.mcs_sets.proofs.Covered.{choice-covered-for-equal-program}
 use Rattle.mcs_sets.proofs.covering.are_all_covered.Goals as goal
 
 pub loop-flags-preserved : goal.loop-flags-preserved
@@ -14,7 +14,7 @@ loop-flags-preserved c =
     record {
       covered = λ flags bank first second inside b f s ok.
           below_more P c.loop-flags.flags (λ k h bank first second b f s ok. was.covered k bank first second h b f s ok)
-          (λ bank first second b f s ok. covered-moved c.loop-flags.rig.rom c.args.rig.now.rom c.loop-flags.rig.board c.args.rig.now.board es e op (choice_at c.loop-flags.flags bank first second) was.rom was.board (now.covered c.if-not-are_covered_with_flags.false bank first second b f s ok))
+          (λ bank first second b f s ok. choice-covered-for-equal-program c.loop-flags.rig.rom c.args.rig.now.rom c.loop-flags.rig.board c.args.rig.now.board es e op (choice_at c.loop-flags.flags bank first second) was.rom was.board (now.covered c.if-not-are_covered_with_flags.false bank first second b f s ok))
           flags inside bank first second b f s ok;
       rom = now.rom ∙ was.rom;
       board = now.board ∙ was.board;

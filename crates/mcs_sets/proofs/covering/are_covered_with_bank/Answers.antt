@@ -2,7 +2,7 @@ use Rattle.std.proofs.Common.{◌≡◌, ◌+◌, ◌*◌, ◌∙◌, inl, inr, 
 use Rattle.std.proofs.lemmas.Bool.{cases_lt}
 use Rattle.mcs_sets.specs.declared.landing.Choice.{Choice}
 use Rattle.mcs_sets.specs.Covering.{AllowsChoice, IsChoiceCovered, choice_at}
-use Rattle.mcs_sets.proofs.Covered.{choice-is, covered-moved}
+use Rattle.mcs_sets.proofs.Covered.{choice-is-choice_at, choice-covered-for-equal-program}
 use Rattle.mcs_sets.proofs.covering.are_covered_with_bank.Goals as goal
 
 pub loop-byte-preserved : goal.loop-byte-preserved
@@ -25,8 +25,8 @@ loop-byte-preserved c =
                 let lower = c.low_of-in-loop-byte-3.ensures in
                 let v : c.low_of-in-loop-byte-2.result ≡ first = omega arith in
                 let w : c.low_of-in-loop-byte-3.result ≡ second = omega arith in
-                let same = choice-is c.low_of.result c.low_of-in-loop-byte.result c.args.bank c.low_of-in-loop-byte-2.result c.low_of-in-loop-byte-3.result c.args.flags first second c.low_of.ensures c.low_of-in-loop-byte.ensures v w in
-                covered-moved rom c.args.rig.now.rom board c.args.rig.now.board es e op (choice_at c.args.flags c.args.bank first second) was.rom was.board
+                let same = choice-is-choice_at c.low_of.result c.low_of-in-loop-byte.result c.args.bank c.low_of-in-loop-byte-2.result c.low_of-in-loop-byte-3.result c.args.flags first second c.low_of.ensures c.low_of-in-loop-byte.ensures v w in
+                choice-covered-for-equal-program rom c.args.rig.now.rom board c.args.rig.now.board es e op (choice_at c.args.flags c.args.bank first second) was.rom was.board
                 (subst (λ (x : Choice). AllowsChoice e op x → IsChoiceCovered rom board es e op x) same (now.covered c.if-not-is_choice_covered.false) ok)
           ];
       rom = now.rom ∙ was.rom;

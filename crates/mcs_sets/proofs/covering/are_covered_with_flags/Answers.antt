@@ -1,6 +1,6 @@
 use Rattle.std.proofs.Common.{◌<◌, ◌∙◌, ℕ, below_more}
 use Rattle.mcs_sets.specs.Covering.{AllowsChoice, IsChoiceCovered, choice_at}
-use Rattle.mcs_sets.proofs.Covered.{covered-moved}
+use Rattle.mcs_sets.proofs.Covered.{choice-covered-for-equal-program}
 use Rattle.mcs_sets.proofs.covering.are_covered_with_flags.Goals as goal
 
 pub loop-bank-preserved : goal.loop-bank-preserved
@@ -14,7 +14,7 @@ loop-bank-preserved c =
     record {
       covered = λ bank first second inside f s ok.
           below_more P c.loop-bank.bank (λ k h first second f s ok. was.covered k first second h f s ok)
-          (λ first second f s ok. covered-moved c.loop-bank.rig.rom c.args.rig.now.rom c.loop-bank.rig.board c.args.rig.now.board es e op (choice_at c.args.flags c.loop-bank.bank first second) was.rom was.board (now.covered c.if-not-are_covered_with_bank.false first second f s ok))
+          (λ first second f s ok. choice-covered-for-equal-program c.loop-bank.rig.rom c.args.rig.now.rom c.loop-bank.rig.board c.args.rig.now.board es e op (choice_at c.args.flags c.loop-bank.bank first second) was.rom was.board (now.covered c.if-not-are_covered_with_bank.false first second f s ok))
           bank inside first second f s ok;
       rom = now.rom ∙ was.rom;
       board = now.board ∙ was.board;

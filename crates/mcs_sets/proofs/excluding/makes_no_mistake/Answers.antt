@@ -1,9 +1,9 @@
-use Rattle.mcs_sets.proofs.Excluded.{no-mistake-made}
+use Rattle.mcs_sets.proofs.Excluded.{no-mistake-if-checks-pass}
 use Rattle.mcs_sets.proofs.excluding.makes_no_mistake.Goals as goal
 
 pub returns : goal.returns
 returns c = λ h.
-    no-mistake-made c.args.board.now c.args.entry.now c.args.op.now c.args.mistakes.now (record {
+    no-mistake-if-checks-pass c.args.board.now c.args.entry.now c.args.op.now c.args.mistakes.now (record {
       calls = c.calls_allow.ensures c.if-not-calls_allow.false;
       ram = c.avoids_absent_ram.ensures c.if-not-avoids_absent_ram.false;
       here = c.avoids_absent_rom.ensures.here c.if-not-avoids_absent_rom.false;

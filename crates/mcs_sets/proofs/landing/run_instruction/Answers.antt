@@ -1,7 +1,7 @@
 use Rattle.std.proofs.Common.{◌∙◌, ap}
 use Rattle.mcs_model.specs.declared.regs.Regs.{Regs}
 use Rattle.mcs_model.specs.Bus.{BusState}
-use Rattle.mcs_sets.proofs.Running.{bus-same, ran}
+use Rattle.mcs_sets.proofs.Running.{program-unchanged-by-bus_after, ran}
 use Rattle.mcs_sets.proofs.landing.run_instruction.Goals as goal
 
 pub returns-clause-ran : goal.returns-clause-ran
@@ -16,11 +16,11 @@ returns-clause-rom c =
     let op = c.args.op.now in
     let m : BusState = record c.args.rig.now { test = c.args.level } in
     let did = ran op c.processor-cpu.result c.args.regs.now c.set_test.new.self m (c.cycle-cycle.new.cpu, c.cycle-cycle.new.rig) c.cycle-cycle.ensures.state c.processor-cpu.ensures c.set_test.ensures c.requires.not_owed c.requires.instruction in
-    ap (λ (x : Regs × BusState). x.1.rom) did ∙ (bus-same op c.args.regs.now m).rom
+    ap (λ (x : Regs × BusState). x.1.rom) did ∙ (program-unchanged-by-bus_after op c.args.regs.now m).rom
 
 pub returns-clause-board : goal.returns-clause-board
 returns-clause-board c =
     let op = c.args.op.now in
     let m : BusState = record c.args.rig.now { test = c.args.level } in
     let did = ran op c.processor-cpu.result c.args.regs.now c.set_test.new.self m (c.cycle-cycle.new.cpu, c.cycle-cycle.new.rig) c.cycle-cycle.ensures.state c.processor-cpu.ensures c.set_test.ensures c.requires.not_owed c.requires.instruction in
-    ap (λ (x : Regs × BusState). x.1.board) did ∙ (bus-same op c.args.regs.now m).board
+    ap (λ (x : Regs × BusState). x.1.board) did ∙ (program-unchanged-by-bus_after op c.args.regs.now m).board

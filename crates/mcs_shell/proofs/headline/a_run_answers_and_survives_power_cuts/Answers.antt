@@ -1,5 +1,5 @@
-use Rattle.mcs_shell.proofs.SurvivingCommands.{survives}
+use Rattle.mcs_shell.proofs.SurvivingCommands.{run_answers_and_survives}
 use Rattle.mcs_shell.proofs.headline.a_run_answers_and_survives_power_cuts.Goals as goal
 
 pub returns : goal.returns
-returns g c = survives g.D.Disk.state g.E.Disk.state
+returns g c = run_answers_and_survives g.D.Disk.state g.E.Disk.state

@@ -13,7 +13,8 @@ use Rattle.mcs_shell.specs.declared.ends.ShellEnd.{ShellEnd}
 use Rattle.mcs_shell.specs.declared.ends.ShellEnd.TheVariants.{End}
 use Rattle.mcs_shell.proofs.program.run_arguments.Goals as goal
 
--- Holds if the session that began, if one did, was served, and the session returned is the one after its shell.
+-- Holds if no session began, or if the session that began was served and `session` is the session
+-- after its shell.
 abbrev pub ServesIfBegun : {F : Type 0} → Result (SessionView FileDisk) F → Option (SessionView FileDisk) → ℕ
     → StreamsView → StreamsView → Type 0
 ServesIfBegun begun session status streams streams' = IfOk begun (λ before. IsSomeAnd session (λ after.
@@ -23,22 +24,22 @@ status_is_not_two : (end : ShellEnd) → exit_status_of end ≡ 2 → ⊥
 status_is_not_two End e = cc e
 status_is_not_two end e = cc e
 
-usage_of : {F : Type 0} (begun : Result (SessionView FileDisk) F) (session : Option (SessionView FileDisk)) (status : ℕ)
+status_is_not_two_after_begin : {F : Type 0} (begun : Result (SessionView FileDisk) F) (session : Option (SessionView FileDisk)) (status : ℕ)
     (streams streams' : StreamsView) (P : Type 0) → ServesIfBegun begun session status streams streams'
     → OnErr begun (status ≡ 3) → status ≡ 2 → P
-usage_of (Ok before) (Some after) status streams streams' P served refused two =
+status_is_not_two_after_begin (Ok before) (Some after) status streams streams' P served refused two =
     absurd (status_is_not_two served.end (sym served.status_is ∙ two))
-usage_of (Ok before) None status streams streams' P served refused two = absurd served
-usage_of (Err refusal) session status streams streams' P served refused two =
+status_is_not_two_after_begin (Ok before) None status streams streams' P served refused two = absurd served
+status_is_not_two_after_begin (Err refusal) session status streams streams' P served refused two =
     let e : 3 ≡ 2 = sym refused ∙ two in absurd (cc e)
 
-served_as_chosen : {F : Type 0} (entered : Option (List ℕ × List ℕ)) (choice : Choice) (begun : Result (SessionView FileDisk) F)
+served_chosen_session_if_begun : {F : Type 0} (entered : Option (List ℕ × List ℕ)) (choice : Choice) (begun : Result (SessionView FileDisk) F)
     (session : Option (SessionView FileDisk)) (status : ℕ) (streams streams' : StreamsView)
     → entered ≡ Some (arguments_of_choice choice)
     → IfOk begun (λ before. (disk : FileDisk) × HasNoCalls (as_disk disk) × IsBegunOn as_disk choice disk before)
     → ServesIfBegun begun session status streams streams' → OnErr begun (session ≡ None)
     → IfSome session (λ after. ServedChosenSession as_disk entered status streams streams' after)
-served_as_chosen entered choice (Ok before) (Some after) status streams streams' is found served none =
+served_chosen_session_if_begun entered choice (Ok before) (Some after) status streams streams' is found served none =
     record {
       choice = choice;
       chosen_is = is;
@@ -48,40 +49,40 @@ served_as_chosen entered choice (Ok before) (Some after) status streams streams'
       begun = found.2;
       served = served;
     }
-served_as_chosen entered choice (Ok before) None status streams streams' is found served none = tt
-served_as_chosen entered choice (Err refusal) (Some after) status streams streams' is found served none = absurd (cc none)
-served_as_chosen entered choice (Err refusal) None status streams streams' is found served none = tt
+served_chosen_session_if_begun entered choice (Ok before) None status streams streams' is found served none = tt
+served_chosen_session_if_begun entered choice (Err refusal) (Some after) status streams streams' is found served none = absurd (cc none)
+served_chosen_session_if_begun entered choice (Err refusal) None status streams streams' is found served none = tt
 
-unserved_of : {F : Type 0} (begun : Result (SessionView FileDisk) F) (session : Option (SessionView FileDisk)) (status : ℕ)
+status_if_not_served : {F : Type 0} (begun : Result (SessionView FileDisk) F) (session : Option (SessionView FileDisk)) (status : ℕ)
     (streams streams' : StreamsView) → ServesIfBegun begun session status streams streams' → OnErr begun (status ≡ 3)
     → IfNone session ((status ≡ 2) ⊎ (status ≡ 3))
-unserved_of begun (Some after) status streams streams' served refused = tt
-unserved_of (Ok before) None status streams streams' served refused = absurd served
-unserved_of (Err refusal) None status streams streams' served refused = inr refused
+status_if_not_served begun (Some after) status streams streams' served refused = tt
+status_if_not_served (Ok before) None status streams streams' served refused = absurd served
+status_if_not_served (Err refusal) None status streams streams' served refused = inr refused
 
-untouched_of : {F : Type 0} (begun : Result (SessionView FileDisk) F) (session : Option (SessionView FileDisk)) (status : ℕ)
+holds_if_not_served : {F : Type 0} (begun : Result (SessionView FileDisk) F) (session : Option (SessionView FileDisk)) (status : ℕ)
     (streams streams' : StreamsView) (P : Type 0) → ServesIfBegun begun session status streams streams' → OnErr begun P → IfNone session P
-untouched_of begun (Some after) status streams streams' P served same = tt
-untouched_of (Ok before) None status streams streams' P served same = absurd served
-untouched_of (Err refusal) None status streams streams' P served same = same
+holds_if_not_served begun (Some after) status streams streams' P served same = tt
+holds_if_not_served (Ok before) None status streams streams' P served same = absurd served
+holds_if_not_served (Err refusal) None status streams streams' P served same = same
 
 pub returns-clause-usage : goal.returns-clause-usage
 returns-clause-usage g c =
-    usage_of c.begin_session_in-begun.result c.serve_if_begun-ended.result.session (exit_status c.serve_if_begun-ended.result.status) _ _ _ c.serve_if_begun-ended.ensures.served c.serve_if_begun-ended.ensures.refused
+    status_is_not_two_after_begin c.begin_session_in-begun.result c.serve_if_begun-ended.result.session (exit_status c.serve_if_begun-ended.result.status) _ _ _ c.serve_if_begun-ended.ensures.served c.serve_if_begun-ended.ensures.refused
 
 pub returns-clause-served : goal.returns-clause-served
 returns-clause-served g c =
-    served_as_chosen _ c.in-Ok.choice c.begin_session_in-begun.result c.serve_if_begun-ended.result.session (exit_status c.serve_if_begun-ended.result.status) _ _
+    served_chosen_session_if_begun _ c.in-Ok.choice c.begin_session_in-begun.result c.serve_if_begun-ended.result.session (exit_status c.serve_if_begun-ended.result.status) _ _
     c.in-Ok.ensures.given c.begin_session_in-begun.ensures.begun c.serve_if_begun-ended.ensures.served c.serve_if_begun-ended.ensures.unserved
 
 pub returns-clause-unserved : goal.returns-clause-unserved
 returns-clause-unserved g c =
-    unserved_of c.begin_session_in-begun.result c.serve_if_begun-ended.result.session (exit_status c.serve_if_begun-ended.result.status) _ _ c.serve_if_begun-ended.ensures.served c.serve_if_begun-ended.ensures.refused
+    status_if_not_served c.begin_session_in-begun.result c.serve_if_begun-ended.result.session (exit_status c.serve_if_begun-ended.result.status) _ _ c.serve_if_begun-ended.ensures.served c.serve_if_begun-ended.ensures.refused
 
 pub returns-clause-unread : goal.returns-clause-unread
 returns-clause-unread g c =
-    untouched_of c.begin_session_in-begun.result c.serve_if_begun-ended.result.session (exit_status c.serve_if_begun-ended.result.status) _ _ _ c.serve_if_begun-ended.ensures.served c.serve_if_begun-ended.ensures.unread
+    holds_if_not_served c.begin_session_in-begun.result c.serve_if_begun-ended.result.session (exit_status c.serve_if_begun-ended.result.status) _ _ _ c.serve_if_begun-ended.ensures.served c.serve_if_begun-ended.ensures.unread
 
 pub returns-clause-unwritten : goal.returns-clause-unwritten
 returns-clause-unwritten g c =
-    untouched_of c.begin_session_in-begun.result c.serve_if_begun-ended.result.session (exit_status c.serve_if_begun-ended.result.status) _ _ _ c.serve_if_begun-ended.ensures.served c.serve_if_begun-ended.ensures.unwritten
+    holds_if_not_served c.begin_session_in-begun.result c.serve_if_begun-ended.result.session (exit_status c.serve_if_begun-ended.result.status) _ _ _ c.serve_if_begun-ended.ensures.served c.serve_if_begun-ended.ensures.unwritten

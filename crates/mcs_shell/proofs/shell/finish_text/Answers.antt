@@ -1,8 +1,8 @@
-use Rattle.mcs_shell.proofs.ShellLoop.{finished_empty, finished_text}
+use Rattle.mcs_shell.proofs.ShellLoop.{serves_end_outside_text, serves_end_in_text}
 use Rattle.mcs_shell.proofs.shell.finish_text.Goals as goal
 
 pub returns-in-None-clause-served : goal.returns-in-None-clause-served
-returns-in-None-clause-served g c = finished_empty _ _ c.requires c.in-None.ensures
+returns-in-None-clause-served g c = serves_end_outside_text _ _ c.requires c.in-None.ensures
 
 pub returns-in-Some-clause-served : goal.returns-in-Some-clause-served
-returns-in-Some-clause-served g c = finished_text _ _ _ _ _ _ c.requires c.in-Some.ensures c.serve_unended_text.ensures.served
+returns-in-Some-clause-served g c = serves_end_in_text _ _ _ _ _ _ c.requires c.in-Some.ensures c.serve_unended_text.ensures.served

@@ -2,13 +2,13 @@ use Rattle.std.proofs.Common.{◌≡◌, ℕ, zero, suc, [], ◌∷◌, ◌-◌,
 use Rattle.std.proofs.lemmas.List.{take_min}
 use Rattle.mcs_shell.proofs.unfinished.append_fitting.Goals as goal
 
-taken : (n : ℕ) (a b : List ℕ) → length a ≤ n → take n (a ++ b) ≡ a ++ take (n - length a) b
-taken n [] b h = ap (λ k. take k b) (let e : n ≡ n - 0 = omega arith in e)
-taken zero (x ∷ a) b h = absurd (omega (arith, h))
-taken (suc m) (x ∷ a) b h =
+take-append : (n : ℕ) (a b : List ℕ) → length a ≤ n → take n (a ++ b) ≡ a ++ take (n - length a) b
+take-append n [] b h = ap (λ k. take k b) (let e : n ≡ n - 0 = omega arith in e)
+take-append zero (x ∷ a) b h = absurd (omega (arith, h))
+take-append (suc m) (x ∷ a) b h =
     let less : length a ≤ m = omega (arith, h) in
     let e : m - length a ≡ suc m - length (x ∷ a) = omega arith in
-    ap (λ v. x ∷ v) (taken m a b less) ∙ ap (λ k. x ∷ (a ++ take k b)) e
+    ap (λ v. x ∷ v) (take-append m a b less) ∙ ap (λ k. x ∷ (a ++ take k b)) e
 
 pub returns : goal.returns
 returns c =
@@ -17,4 +17,4 @@ returns c =
     let room : c.min-count.result ≡ min (16386 - length c.args.line.now.items) (length c.args.bytes.now) = search rules in
     added ∙ ap (λ n. c.args.line.now.items ++ take n c.args.bytes.now) room
     ∙ ap (λ v. c.args.line.now.items ++ v) (take_min (16386 - length c.args.line.now.items) c.args.bytes.now)
-    ∙ sym (taken 16386 c.args.line.now.items c.args.bytes.now fits)
+    ∙ sym (take-append 16386 c.args.line.now.items c.args.bytes.now fits)

@@ -1,12 +1,12 @@
 use Rattle.std.proofs.Common.{◌≡◌, ◌≢◌, ◌<◌, ap, ◌∙◌, arith, List, ℕ, length, slice_set}
 use Rattle.mcs_shift4003.specs.Packing.{packed_bit, chain_bits_of}
-use Rattle.mcs_shift4003.proofs.WordLemmas.{length-row, set-row, set-packed, refill-all}
+use Rattle.mcs_shift4003.proofs.WordLemmas.{length-chain_bits_of, chain_bits-after_set, packed-after_set, refill-all}
 use Rattle.mcs_shift4003.proofs.Chain.set_bit.Goals as goal
 
 pub set_packed_bit-requires-clause-there : goal.set_packed_bit-requires-clause-there
 set_packed_bit-requires-clause-there g c =
     let i = c.self.inside in
-    let len = length-row i.bits i.words.items in
+    let len = length-chain_bits_of i.bits i.words.items in
     let same = ap length c.self.view_is in
     let used = c.self.invariant.packed.used in
     let words = ap length c.deref_mut.ensures.value in
@@ -19,11 +19,11 @@ invariant_of-self g c =
     let set_packed_bit = c.set_packed_bit.ensures in
     let words = c.deref_mut.ensures.value in
     let len : length c.set_packed_bit.new.words ≡ length i.words.items = set_packed_bit.len ∙ ap length words in
-    let within : c.args.i < i.bits = let h = c.requires in let e = length-row i.bits i.words.items in let same = ap length c.self.view_is in omega arith in
+    let within : c.args.i < i.bits = let h = c.requires in let e = length-chain_bits_of i.bits i.words.items in let same = ap length c.self.view_is in omega arith in
     let others : (k : ℕ) → k ≢ c.args.i → packed_bit c.set_packed_bit.new.words k ≡ packed_bit i.words.items k = λ k ne. set_packed_bit.others k ne ∙ ap (λ (ws : List ℕ). packed_bit ws k) words in
     record {
       fits = c.self.invariant.fits;
-      packed = rw (refill-all i.words.items c.set_packed_bit.new.words len) (set-packed i.bits i.words.items c.set_packed_bit.new.words c.args.i c.self.invariant.packed within len set_packed_bit.ten others);
+      packed = rw (refill-all i.words.items c.set_packed_bit.new.words len) (packed-after_set i.bits i.words.items c.set_packed_bit.new.words c.args.i c.self.invariant.packed within len set_packed_bit.ten others);
     }
 
 pub returns : goal.returns
@@ -32,7 +32,7 @@ returns g c =
     let set_packed_bit = c.set_packed_bit.ensures in
     let words = c.deref_mut.ensures.value in
     let len : length c.set_packed_bit.new.words ≡ length i.words.items = set_packed_bit.len ∙ ap length words in
-    let within : c.args.i < i.bits = let h = c.requires in let e = length-row i.bits i.words.items in let same = ap length c.self.view_is in omega arith in
+    let within : c.args.i < i.bits = let h = c.requires in let e = length-chain_bits_of i.bits i.words.items in let same = ap length c.self.view_is in omega arith in
     ap (chain_bits_of i.bits) (refill-all i.words.items c.set_packed_bit.new.words len)
-    ∙ set-row i.bits i.words.items c.set_packed_bit.new.words c.args.i c.args.bit within set_packed_bit.set (λ k ne. set_packed_bit.others k ne ∙ ap (λ (ws : List ℕ). packed_bit ws k) words)
+    ∙ chain_bits-after_set i.bits i.words.items c.set_packed_bit.new.words c.args.i c.args.bit within set_packed_bit.set (λ k ne. set_packed_bit.others k ne ∙ ap (λ (ws : List ℕ). packed_bit ws k) words)
     ∙ ap (λ (row : List ℕ). slice_set row c.args.i c.args.bit) c.self.view_is

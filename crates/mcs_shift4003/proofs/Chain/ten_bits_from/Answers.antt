@@ -1,5 +1,5 @@
 use Rattle.std.proofs.Common.{◌≡◌, ap, ◌∙◌, ◌+◌, ◌/◌, ◌<◌, sym, List, ℕ, slice_index, subst}
-use Rattle.mcs_shift4003.proofs.WordLemmas.{bit-at_any_index, ten-bits}
+use Rattle.mcs_shift4003.proofs.WordLemmas.{chain_bit-at_any_index, ten_bits-from_two_words}
 use Rattle.mcs_shift4003.proofs.Chain.ten_bits_from.Goals as goal
 
 pub returns-clause-bits : goal.returns-clause-bits
@@ -9,6 +9,6 @@ returns-clause-bits g c = λ j h.
     let low : c.from-low.result ≡ slice_index i.words.items at = c.from-low.ensures ∙ c.word_at.ensures ∙ ap (λ (ws : List ℕ). slice_index ws at) c.as_slice-words.ensures.value in
     let high : c.from-high.result ≡ slice_index i.words.items (at + 1) = c.from-high.ensures ∙ c.word_at-2.ensures ∙ ap (λ (ws : List ℕ). slice_index ws (at + 1)) c.as_slice-words.ensures.value in
     let small : c.from-low.result < 1024 = subst (λ w. w < 1024) (sym low) (c.self.invariant.packed.ten at) in
-    ten-bits i.words.items c.args.first c.from-low.result c.from-high.result j low high small h
-    ∙ sym (bit-at_any_index i.bits i.words.items (c.args.first + j) c.self.invariant.packed)
+    ten_bits-from_two_words i.words.items c.args.first c.from-low.result c.from-high.result j low high small h
+    ∙ sym (chain_bit-at_any_index i.bits i.words.items (c.args.first + j) c.self.invariant.packed)
     ∙ ap (λ (row : List ℕ). slice_index row (c.args.first + j)) c.self.view_is

@@ -4,9 +4,9 @@ use Rattle.mcs_model.specs.Command.{machine_of, stops_of}
 use Rattle.mcs_model.specs.Running.{Machine, StopConditions}
 use Rattle.mcs_bench.specs.declared.running.InstructionResult.{InstructionResult}
 use Rattle.mcs_bench.specs.Runs.{RunContinuesAt, IsInstructionResult, stop_reason}
-use Rattle.mcs_bench.proofs.Runs.{begins, ends, run-is-complete, goes-out, went-goes, went-stops}
-use Rattle.mcs_probe.specs.Forecast.{is_at, jumps}
-use Rattle.mcs_trace.proofs.CountLemmas.{counted-by, same-tally, tally-few, tally-none, runs-next, jumps-next}
+use Rattle.mcs_bench.proofs.Runs.{begins, ends, run-stops-when-cycles-done, run-stops-if-no-cycle-possible, run-continues-after-instruction-result, run-stops-after-instruction-result}
+use Rattle.mcs_probe.specs.Forecast.{begins_at_address, jumps}
+use Rattle.mcs_trace.proofs.CountLemmas.{counts_of_run-if_tallies, tally-of_equal_list, tally_number-at_most_cycles, zeros_are_tally-before_first_cycle, run_tally-after_instruction, jump_tally-after_instruction}
 use Rattle.mcs_trace.proofs.counting.count_run.Goals as goal
 
 pub loop-done-init : goal.loop-done-init
@@ -16,20 +16,20 @@ loop-done-init c =
     record {
       counting = record {
         going = subst (λ (x : BenchState). RunContinuesAt (stops_of b) c.args.n 0 s (machine_of x)) (sym c.in_ok-copy.ensures) (begins (stops_of b) c.args.n s);
-        run_tally = tally-none s (λ a. is_at a) _ c.in_ok-runs.ensures;
-        jump_tally = tally-none s (λ a x. is_at a x && jumps x) _ c.in_ok-jumps.ensures;
+        run_tally = zeros_are_tally-before_first_cycle s (λ a. begins_at_address a) _ c.in_ok-runs.ensures;
+        jump_tally = zeros_are_tally-before_first_cycle s (λ a x. begins_at_address a x && jumps x) _ c.in_ok-jumps.ensures;
       };
       stops = ap stops_of c.in_ok-copy.ensures;
     }
 
 pub count_instruction-requires-clause-few_runs : goal.count_instruction-requires-clause-few_runs
 count_instruction-requires-clause-few_runs c =
-    let few = tally-few c.loop-done.done (machine_of c.args.bench.now) c.loop-done.runs.items (λ a. is_at a) c.regs-before.result.pc (omega arith) c.loop-done.invariant.counting.run_tally in
+    let few = tally_number-at_most_cycles c.loop-done.done (machine_of c.args.bench.now) c.loop-done.runs.items (λ a. begins_at_address a) c.regs-before.result.pc (omega arith) c.loop-done.invariant.counting.run_tally in
     omega arith
 
 pub count_instruction-requires-clause-few_jumps : goal.count_instruction-requires-clause-few_jumps
 count_instruction-requires-clause-few_jumps c =
-    let few = tally-few c.loop-done.done (machine_of c.args.bench.now) c.loop-done.jumps.items (λ a x. is_at a x && jumps x) c.regs-before.result.pc (omega arith) c.loop-done.invariant.counting.jump_tally in
+    let few = tally_number-at_most_cycles c.loop-done.done (machine_of c.args.bench.now) c.loop-done.jumps.items (λ a x. begins_at_address a x && jumps x) c.regs-before.result.pc (omega arith) c.loop-done.invariant.counting.jump_tally in
     omega arith
 
 pub returns-in-None : goal.returns-in-None
@@ -42,8 +42,8 @@ returns-in-None c =
     let noted = c.in-None.ensures.went in
     let came = c.counts_of in
     let stop = came.ensures.stop ∙ ap (λ (x : BenchState). stop_reason (machine_of x) None) noted.1 in
-    counted-by (stops_of b) c.args.n s t k came.result (ends (stops_of b) c.args.n k s t None came.result.stop (goes-out (stops_of b) c.args.n k s t counting.going noted.0) stop) came.ensures.cycles
-    (same-tally s k _ _ (λ a. is_at a) came.ensures.runs counting.run_tally) (same-tally s k _ _ (λ a x. is_at a x && jumps x) came.ensures.jumps counting.jump_tally)
+    counts_of_run-if_tallies (stops_of b) c.args.n s t k came.result (ends (stops_of b) c.args.n k s t None came.result.stop (run-stops-if-no-cycle-possible (stops_of b) c.args.n k s t counting.going noted.0) stop) came.ensures.cycles
+    (tally-of_equal_list s k _ _ (λ a. begins_at_address a) came.ensures.runs counting.run_tally) (tally-of_equal_list s k _ _ (λ a x. begins_at_address a x && jumps x) came.ensures.jumps counting.jump_tally)
 
 pub returns-in-Some-mark : goal.returns-in-Some-mark
 returns-in-Some-mark c =
@@ -56,11 +56,11 @@ returns-in-Some-mark c =
     let w : InstructionResult = c.in-Some.went in
     let counting = c.loop-done.invariant.counting in
     let went : IsInstructionResult (stops_of b) (n - k) t u w = subst (λ (x : StopConditions). IsInstructionResult x (n - k) t u w) c.loop-done.invariant.stops c.in-Some.ensures.went in
-    let ran = went-stops (stops_of b) n k s t u w c.in-Some-mark.why counting.going went c.loop-done-test.true c.in-Some-mark.is in
+    let ran = run-stops-after-instruction-result (stops_of b) n k s t u w c.in-Some-mark.why counting.going went c.loop-done-test.true c.in-Some-mark.is in
     let came = c.counts_of-in-Some-mark in
-    counted-by (stops_of b) n s u (k + w.cycles) came.result (ends (stops_of b) n (k + w.cycles) s u w.mark came.result.stop ran (came.ensures.stop ∙ ap (stop_reason u) (sym c.in-Some-mark.is))) came.ensures.cycles
-    (same-tally s (k + w.cycles) _ _ (λ a. is_at a) came.ensures.runs (runs-next (n - k) k w.cycles s t u c.regs-before.result c.loop-done.runs.items c.count_instruction.new.runs.items counting.going.at went.ran went.some c.regs-before.ensures.same (omega arith) c.count_instruction.ensures.runs counting.run_tally))
-    (same-tally s (k + w.cycles) _ _ (λ a x. is_at a x && jumps x) came.ensures.jumps (jumps-next (n - k) k w.cycles s t u c.regs-before.result c.regs.result c.loop-done.jumps.items c.count_instruction.new.jumps.items counting.going.at went.ran went.some c.regs-before.ensures.same c.regs.ensures.same (omega arith) c.count_instruction.ensures.jumps counting.jump_tally))
+    counts_of_run-if_tallies (stops_of b) n s u (k + w.cycles) came.result (ends (stops_of b) n (k + w.cycles) s u w.mark came.result.stop ran (came.ensures.stop ∙ ap (stop_reason u) (sym c.in-Some-mark.is))) came.ensures.cycles
+    (tally-of_equal_list s (k + w.cycles) _ _ (λ a. begins_at_address a) came.ensures.runs (run_tally-after_instruction (n - k) k w.cycles s t u c.regs-before.result c.loop-done.runs.items c.count_instruction.new.runs.items counting.going.at went.ran went.some c.regs-before.ensures.same (omega arith) c.count_instruction.ensures.runs counting.run_tally))
+    (tally-of_equal_list s (k + w.cycles) _ _ (λ a x. begins_at_address a x && jumps x) came.ensures.jumps (jump_tally-after_instruction (n - k) k w.cycles s t u c.regs-before.result c.regs.result c.loop-done.jumps.items c.count_instruction.new.jumps.items counting.going.at went.ran went.some c.regs-before.ensures.same c.regs.ensures.same (omega arith) c.count_instruction.ensures.jumps counting.jump_tally))
 
 pub loop-done-preserved : goal.loop-done-preserved
 loop-done-preserved c =
@@ -75,9 +75,9 @@ loop-done-preserved c =
     let went : IsInstructionResult (stops_of b) (n - k) t u w = subst (λ (x : StopConditions). IsInstructionResult x (n - k) t u w) c.loop-done.invariant.stops c.in-Some.ensures.went in
     record {
       counting = record {
-        going = went-goes (stops_of b) n k s t u w counting.going went c.loop-done-test.true c.in_default.is;
-        run_tally = runs-next (n - k) k w.cycles s t u c.regs-before.result c.loop-done.runs.items c.count_instruction.new.runs.items counting.going.at went.ran went.some c.regs-before.ensures.same (omega arith) c.count_instruction.ensures.runs counting.run_tally;
-        jump_tally = jumps-next (n - k) k w.cycles s t u c.regs-before.result c.regs.result c.loop-done.jumps.items c.count_instruction.new.jumps.items counting.going.at went.ran went.some c.regs-before.ensures.same c.regs.ensures.same (omega arith) c.count_instruction.ensures.jumps counting.jump_tally;
+        going = run-continues-after-instruction-result (stops_of b) n k s t u w counting.going went c.loop-done-test.true c.in_default.is;
+        run_tally = run_tally-after_instruction (n - k) k w.cycles s t u c.regs-before.result c.loop-done.runs.items c.count_instruction.new.runs.items counting.going.at went.ran went.some c.regs-before.ensures.same (omega arith) c.count_instruction.ensures.runs counting.run_tally;
+        jump_tally = jump_tally-after_instruction (n - k) k w.cycles s t u c.regs-before.result c.regs.result c.loop-done.jumps.items c.count_instruction.new.jumps.items counting.going.at went.ran went.some c.regs-before.ensures.same c.regs.ensures.same (omega arith) c.count_instruction.ensures.jumps counting.jump_tally;
       };
       stops = ap stops_of c.continue_run.ensures.rest ∙ c.loop-done.invariant.stops;
     }
@@ -93,5 +93,5 @@ returns c =
     let within = counting.going.within in
     let full : n ≡ k = omega arith in
     let came = c.counts_of-2 in
-    counted-by (stops_of b) n s t k came.result (ends (stops_of b) n k s t None came.result.stop (run-is-complete (stops_of b) n k s t counting.going (sym full)) came.ensures.stop) (came.ensures.cycles ∙ full)
-    (same-tally s k _ _ (λ a. is_at a) came.ensures.runs counting.run_tally) (same-tally s k _ _ (λ a x. is_at a x && jumps x) came.ensures.jumps counting.jump_tally)
+    counts_of_run-if_tallies (stops_of b) n s t k came.result (ends (stops_of b) n k s t None came.result.stop (run-stops-when-cycles-done (stops_of b) n k s t counting.going (sym full)) came.ensures.stop) (came.ensures.cycles ∙ full)
+    (tally-of_equal_list s k _ _ (λ a. begins_at_address a) came.ensures.runs counting.run_tally) (tally-of_equal_list s k _ _ (λ a x. begins_at_address a x && jumps x) came.ensures.jumps counting.jump_tally)

@@ -1,5 +1,5 @@
-use Rattle.mcs_trace.proofs.Parts.{begun-add-up}
+use Rattle.mcs_trace.proofs.Parts.{begun_instructions-add_up}
 use Rattle.mcs_trace.proofs.laws.instructions_add_up.Goals as goal
 
 pub returns : goal.returns
-returns c = λ stops m n s e. begun-add-up stops m n s e
+returns c = λ stops m n s e. begun_instructions-add_up stops m n s e

@@ -1,7 +1,7 @@
 use Rattle.std.proofs.Common.{◌∙◌, ℕ, List, length, ap, refl}
 use Rattle.mcs_disk.specs.Disk.{bytes_of}
 use Rattle.mcs_disk.specs.States.{mem_disk_state}
-use Rattle.mcs_wasm.proofs.FrontOfBuffer.{answers_of}
+use Rattle.mcs_wasm.proofs.FrontOfBuffer.{answers_in_buffer_after_copy}
 use Rattle.mcs_wasm.proofs.page.ask.Goals as goal
 
 pub returns-clause-served : goal.returns-clause-served
@@ -10,5 +10,5 @@ returns-clause-served c =
     let count = c.copy_to_front-count.ensures.count ∙ ap (λ (bytes : List ℕ). length bytes) output in
     record {
       after = bytes_of (mem_disk_state c.in-Ok.answered.session.disk);
-      answers = answers_of _ _ _ _ _ _ _ _ _ c.in-Ok.ensures.served c.in-Ok.ensures.room count (c.copy_to_front-count.ensures.answers ∙ output) c.copy_to_front-count.ensures.rest refl;
+      answers = answers_in_buffer_after_copy _ _ _ _ _ _ _ _ _ c.in-Ok.ensures.served c.in-Ok.ensures.room count (c.copy_to_front-count.ensures.answers ∙ output) c.copy_to_front-count.ensures.rest refl;
     }

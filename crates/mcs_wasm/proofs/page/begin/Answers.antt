@@ -1,9 +1,9 @@
 use Rattle.std.proofs.Common.{sym}
 use Rattle.mcs_disk.specs.States.{mem_disk_state}
 use Rattle.mcs_model.specs.BenchState.{new_bench_state}
-use Rattle.mcs_session.proofs.Keeping.{stands_now}
+use Rattle.mcs_session.proofs.Keeping.{current_bytes_represent}
 use Rattle.mcs_wasm.proofs.page.begin.Goals as goal
 
 pub returns-clause-made : goal.returns-clause-made
 returns-clause-made c =
-    rw c.write_back.ensures.written (rw (sym c.into_disk.ensures.is) at (stands_now (mem_disk_state c.in-Ok.opened.disk) new_bench_state (c.in-Ok.ensures.created tt).represents))
+    rw c.write_back.ensures.written (rw (sym c.into_disk.ensures.is) at (current_bytes_represent (mem_disk_state c.in-Ok.opened.disk) new_bench_state (c.in-Ok.ensures.created tt).represents))

@@ -1,5 +1,5 @@
 use Rattle.std.proofs.Common.{◌∙◌, IsTrue, Some, refl, rules, subst, sym}
-use Rattle.mcs_wasm.proofs.WholeInput.{keeps_open, keeps_size, size_resumed}
+use Rattle.mcs_wasm.proofs.WholeInput.{live_unchanged_if_all_served, disk_size_unchanged_if_all_served, disk_size_of_resumed_session}
 use Rattle.mcs_wasm.specs.Page.{IsAllServed}
 use Rattle.mcs_wasm.proofs.page.serve_copy.Goals as goal
 
@@ -27,8 +27,8 @@ pub returns-clause-served : goal.returns-clause-served
 returns-clause-served c =
     let whole : IsAllServed c.run_shell-end.result = search rules in
     let resumed = c.in-Ok.ensures.resumed in
-    let size = keeps_size _ _ _ _ _ whole c.run_shell-end.ensures.ran in
-    let stays_open = keeps_open _ _ _ _ _ whole c.run_shell-end.ensures.ran in
+    let size = disk_size_unchanged_if_all_served _ _ _ _ _ whole c.run_shell-end.ensures.ran in
+    let stays_open = live_unchanged_if_all_served _ _ _ _ _ whole c.run_shell-end.ensures.ran in
     record {
       whole = whole;
       run_on_file = record {
@@ -38,5 +38,5 @@ returns-clause-served c =
         ran = rw c.new-output.ensures.items at c.run_shell-end.ensures.ran;
       };
       is_open = subst IsTrue (sym stays_open) resumed.opened.is_open;
-      size = size ∙ size_resumed c.args.file.now c.in-Ok.session resumed;
+      size = size ∙ disk_size_of_resumed_session c.args.file.now c.in-Ok.session resumed;
     }

@@ -5,14 +5,14 @@ use Rattle.mcs_source.specs.Lines.{line_of}
 use Rattle.mcs_source.specs.Assembly.{line_bytes}
 use Rattle.mcs_source.specs.declared.fault.SourceFault.{SourceFault}
 use Rattle.mcs_asm.specs.View.{line_view}
-use Rattle.mcs_asm.specs.Passes.{HasNoFault, SecondPassState, MatchesAdded, span_at}
+use Rattle.mcs_asm.specs.Passes.{HasValidNumberAndAddress, SecondPassState, MatchesStateWithAddedBytes, span_at}
 use Rattle.mcs_asm.proofs.SpelledLists.{line_fits_in_rom, bytes_of_line_are_added}
 use Rattle.mcs_asm.proofs.passes.SecondPassState.emit_line.Goals as goal
 
 pub add-requires-clause-room : goal.add-requires-clause-room
 add-requires-clause-room c =
     let form : Some (line_view c.in-Some.line) ≡ line_of (tokens c.args.line.now) = ap (option_map line_view) (sym c.in-Some.is) ∙ c.in_ok-line.ensures in
-    let free : HasNoFault c.args.self.now.at (Some (line_view c.in-Some.line)) = subst (HasNoFault c.args.self.now.at) (sym form) c.requires in
+    let free : HasValidNumberAndAddress c.args.self.now.at (Some (line_view c.in-Some.line)) = subst (HasValidNumberAndAddress c.args.self.now.at) (sym form) c.requires in
     let room : c.args.self.now.at + length c.in_ok-bytes.bytes.items ≤ 4096 = line_fits_in_rom c.args.self.now.at c.args.names.now.names (line_view c.in-Some.line) c.in_ok-bytes.bytes.items c.in_ok-bytes.ensures free.1 c.args.self.now.in_range in
     rw (c.deref.ensures.value) room
 
@@ -21,7 +21,7 @@ returns-clause-bytes c = λ pairs kept.
     let form : Some (line_view c.in-Some.line) ≡ line_of (tokens c.args.line.now) = ap (option_map line_view) (sym c.in-Some.is) ∙ c.in_ok-line.ensures in
     let bytes = c.in_ok-bytes.ensures ∙ ap Ok (sym c.deref.ensures.value) in
     let before : SecondPassState = record { at = c.args.self.now.at; pairs = pairs } in
-    subst (MatchesAdded c.add.result c.add.new.self.at c.add.new.self.cells) (bytes_of_line_are_added c.args.names.now.names before (line_of (tokens c.args.line.now)) (line_view c.in-Some.line) c.deref.result.now c.next_at-next.result form bytes c.next_at-next.ensures.at)
+    subst (MatchesStateWithAddedBytes c.add.result c.add.new.self.at c.add.new.self.cells) (bytes_of_line_are_added c.args.names.now.names before (line_of (tokens c.args.line.now)) (line_view c.in-Some.line) c.deref.result.now c.next_at-next.result form bytes c.next_at-next.ensures.at)
     (c.add.ensures.bytes pairs kept)
 
 pub returns-clause-span : goal.returns-clause-span

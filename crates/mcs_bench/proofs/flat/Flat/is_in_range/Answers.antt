@@ -3,7 +3,7 @@ use Rattle.arrayvec.specs.ArrayVec.{ArrayVec}
 use Rattle.mcs_model.specs.Boards.{chain_count, chain_bits, key_count}
 use Rattle.mcs_model.specs.Validity.{AreBelow}
 use Rattle.mcs_bench.specs.States.{bits_of_chains}
-use Rattle.mcs_bench.proofs.ChainBits.{chains-count}
+use Rattle.mcs_bench.proofs.ChainBits.{bits_of_chains-length}
 use Rattle.mcs_bench.proofs.PartTests.{decided_by_last_part}
 use Rattle.mcs_bench.proofs.flat.Flat.is_in_range.Goals as goal
 
@@ -22,7 +22,7 @@ returns c =
       rom_ports = cells.4;
       rom_src = omega arith;
       ram_src = c.show_bytes_are_in_range.ensures;
-      chains = chains-count f.chains.items ∙ subst (λ (rows : List (ArrayVec ℕ)). length rows ≡ chain_count f.board) c.as_slice.ensures.value chains.0;
+      chains = bits_of_chains-length f.chains.items ∙ subst (λ (rows : List (ArrayVec ℕ)). length rows ≡ chain_count f.board) c.as_slice.ensures.value chains.0;
       chain_bits = subst (λ (rows : List (ArrayVec ℕ)). (i : ℕ) → i < chain_count f.board → AreBelow (chain_bits f.board i) 2 (get_or (bits_of_chains rows) i [])) c.as_slice.ensures.value chains.1;
       keys = subst (λ n. AreBelow n 2 f.keys.items) c.key_count.ensures.count (subst (λ (xs : List ℕ). AreBelow c.key_count.result 2 xs) keys p);
       test = omega arith;

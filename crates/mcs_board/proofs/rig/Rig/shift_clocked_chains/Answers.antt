@@ -7,22 +7,22 @@ use Rattle.mcs_model.specs.declared.board.Line.{Line}
 use Rattle.mcs_model.specs.Bus.{BusState}
 use Rattle.mcs_model.specs.Boards.{board_fault_of, chain_count}
 use Rattle.mcs_board.specs.ClockEdges.{bits_after_latch_change, state_after_latch_change}
-use Rattle.mcs_board.proofs.ClockLemmas.{latch_change-other_chains}
+use Rattle.mcs_board.proofs.ClockLemmas.{latch_change-independent_of_chains}
 use Rattle.mcs_board.proofs.rig.Rig.shift_clocked_chains.Goals as goal
 
 all_chains-clocked : (s t : BusState) (port : Line) (before after : ℕ) → t ≡ record s { chains = t.chains } → length t.chains ≡ chain_count s.board → ((k : ℕ) → k < chain_count s.board → get_or t.chains k [] ≡ bits_after_latch_change s port before after k (get_or s.chains k [])) → t ≡ state_after_latch_change port before after s
 unfolding state_after_latch_change
 all_chains-clocked s t port before after same l h = same ∙ ap (λ cs. record s { chains = cs }) (table_of-unique (chain_count s.board) _ t.chains [] l h)
 
--- the state after chain i is clocked if its clock line rises
+-- the state after chain `i` is shifted if its clock line rises
 abbrev after_chain_clock : BusState → Line → ℕ → ℕ → ℕ → BusState
 after_chain_clock s port before after i = record s { chains = slice_set s.chains i (bits_after_latch_change s port before after i (get_or s.chains i [])) }
 
--- If two states differ only in their chains, clocking chain i gives the same bits in both.
+-- If two states differ only in their chains, clocking chain `i` gives the same bits in both.
 clocked_chains-equal : (s t u : BusState) (port : Line) (before after i : ℕ) → board_fault_of s.board ≡ None → i < chain_count s.board → t ≡ record s { chains = t.chains } → u ≡ after_chain_clock t port before after i → u.chains ≡ slice_set t.chains i (bits_after_latch_change s port before after i (get_or t.chains i []))
 clocked_chains-equal s t u port before after i v l same new =
     ap (λ (x : BusState). x.chains) new
-    ∙ ap (slice_set t.chains i) (ap (λ x. bits_after_latch_change x port before after i (get_or t.chains i [])) same ∙ latch_change-other_chains s t.chains port before after i (get_or t.chains i []) v l)
+    ∙ ap (slice_set t.chains i) (ap (λ x. bits_after_latch_change x port before after i (get_or t.chains i [])) same ∙ latch_change-independent_of_chains s t.chains port before after i (get_or t.chains i []) v l)
 
 only_chains-change : (s t u : BusState) (port : Line) (before after i : ℕ) → t ≡ record s { chains = t.chains } → u ≡ after_chain_clock t port before after i → u ≡ record s { chains = u.chains }
 only_chains-change s t u port before after i same new =

@@ -2,19 +2,19 @@ use Rattle.std.proofs.Common.{◌∙◌, ◌&&◌, ap, sym, subst, eqb}
 use Rattle.std.proofs.lemmas.Bool.{or_parts, eqb-false, ltb-false}
 use Rattle.mcs_model.specs.Levels.{port_of}
 use Rattle.mcs_check.specs.ReadPoints.{Reads, is_bit_subset}
-use Rattle.mcs_check.proofs.ValuesRead.{nothing-cannot, test-cannot, port-cannot}
+use Rattle.mcs_check.proofs.ValuesRead.{cannot_read-without_input, jcn_cannot_read-above_1, rdr_cannot_read-impossible_bits}
 use Rattle.mcs_check.proofs.replica.SearchMachine.can_read.Goals as goal
 
 pub returns-in-NoInput : goal.returns-in-NoInput
 returns-in-NoInput c = λ no.
     let s = c.args.self.now in
     let parts = or_parts (eqb c.args.value 0) (eqb s.0.owed 1) (sym c.may_answer_without_read.ensures ∙ no) in
-    nothing-cannot c.args.value s (subst (Reads s) c.in-NoInput.is c.requires.reads) parts.1 (eqb-false c.args.value 0 parts.0)
+    cannot_read-without_input c.args.value s (subst (Reads s) c.in-NoInput.is c.requires.reads) parts.1 (eqb-false c.args.value 0 parts.0)
 
 pub returns-in-Test : goal.returns-in-Test
 returns-in-Test c = λ no.
     let s = c.args.self.now in
-    test-cannot c.args.value s (subst (Reads s) c.in-Test.is c.requires.reads) (ltb-false c.args.value 2 no)
+    jcn_cannot_read-above_1 c.args.value s (subst (Reads s) c.in-Test.is c.requires.reads) (ltb-false c.args.value 2 no)
 
 pub returns-in-Port : goal.returns-in-Port
 returns-in-Port c = λ no.
@@ -22,4 +22,4 @@ returns-in-Port c = λ no.
     let v = c.args.value in
     let same = sym (ap (λ n. is_bit_subset n v && is_bit_subset v (port_of s.1)) c.requires.least)
     ∙ sym (ap (λ n. is_bit_subset c.args.least v && is_bit_subset v n) c.requires.most) in
-    port-cannot v s (subst (Reads s) c.in-Port.is c.requires.reads) c.requires.keys (same ∙ sym c.lies_between.ensures ∙ no)
+    rdr_cannot_read-impossible_bits v s (subst (Reads s) c.in-Port.is c.requires.reads) c.requires.keys (same ∙ sym c.lies_between.ensures ∙ no)

@@ -12,7 +12,8 @@ returns-clause-read c =
     let s = c.args.self.now in
     let w = observer_of_property c.args.property.now in
     let seen : c.seen_after-seen.result ≡ seen_after_reading w s c.args.value =
-    c.seen_after-seen.ensures ∙ ap (seen_count_after (length w.marks) s.2.seen (condition_holds_at w s)) c.shows_next_mark-shown.ensures in
+    c.seen_after-seen.ensures ∙ ap (λ b. seen_count_after (length w.marks) s.2.seen b c.shows_next_mark-shown.result) c.opens.ensures
+    ∙ ap (seen_count_after (length w.marks) s.2.seen (condition_holds_at w s)) c.shows_next_mark-shown.ensures in
     let went : (c.self.inside.cpu, c.self.inside.rig, (record { calls = c.self.inside.calls; elapsed = c.self.inside.elapsed; seen = c.self.inside.seen })) ≡ with_seen (seen_after_reading w s c.args.value) (cycled w s) =
     c.self.view_is ∙ c.cycle.ensures ∙ ap (λ (n : ℕ). with_seen n (cycled w s)) seen in
     let value : c.low_of.result ≡ c.args.value = c.low_of.ensures ∙ (let small = c.requires.value in omega arith) in

@@ -3,7 +3,7 @@ use Rattle.mcs_model.specs.Bus.{BusState}
 use Rattle.mcs_drive.specs.TrackedMachine.{TrackedMachine, without_levels, cycled, shows_next_mark}
 use Rattle.mcs_check.specs.Conditions.{observer_of_property}
 use Rattle.mcs_check.proofs.Keeping.{cycle-keeps}
-use Rattle.mcs_check.proofs.ValuesRead.{test-read, test-unseen-at}
+use Rattle.mcs_check.proofs.ValuesRead.{has_read-by_jcn, jcn_shows_no_next_mark-at_any_level}
 use Rattle.mcs_check.proofs.replica.SearchMachine.read_test.Goals as goal
 
 pub cycle_without_mark-requires-clause-unseen : goal.cycle_without_mark-requires-clause-unseen
@@ -15,7 +15,7 @@ cycle_without_mark-requires-clause-unseen c = λ n.
     let set : (c.self.inside.cpu, c.set_test.new.self, (record { calls = c.self.inside.calls; elapsed = c.self.inside.elapsed; seen = c.self.inside.seen })) ≡ (s.0, record s.1 { test = value }, s.2) =
     ap (λ (r : BusState). (c.self.inside.cpu, r, (record { calls = c.self.inside.calls; elapsed = c.self.inside.elapsed; seen = c.self.inside.seen }))) (c.set_test.ensures ∙ ap (λ (n : ℕ). record c.self.inside.rig { test = n }) level)
     ∙ ap (λ (m : TrackedMachine). (m.0, record m.1 { test = value }, m.2)) c.self.view_is in
-    subst (λ (t : TrackedMachine). shows_next_mark w t n ≡ false) (sym set) (test-unseen-at w s value n c.requires.reads)
+    subst (λ (t : TrackedMachine). shows_next_mark w t n ≡ false) (sym set) (jcn_shows_no_next_mark-at_any_level w s value n c.requires.reads)
 
 pub returns-clause-read : goal.returns-clause-read
 returns-clause-read c =
@@ -26,7 +26,7 @@ returns-clause-read c =
     ap (λ (r : BusState). (c.self.inside.cpu, r, (record { calls = c.self.inside.calls; elapsed = c.self.inside.elapsed; seen = c.self.inside.seen }))) (c.set_test.ensures ∙ ap (λ (n : ℕ). record c.self.inside.rig { test = n }) level)
     ∙ ap (λ (m : TrackedMachine). (m.0, record m.1 { test = value }, m.2)) c.self.view_is in
     let went : (c.self-2.inside.cpu, c.self-2.inside.rig, (record { calls = c.self-2.inside.calls; elapsed = c.self-2.inside.elapsed; seen = c.self-2.inside.seen })) ≡ cycled (observer_of_property c.args.property.now) (s.0, record s.1 { test = value }, s.2) = c.self-2.view_is ∙ c.cycle_without_mark.ensures ∙ ap (cycled (observer_of_property c.args.property.now)) set in
-    test-read (observer_of_property c.args.property.now) value s (c.self-2.inside.cpu, c.set_test-2.new.self, (record { calls = c.self-2.inside.calls; elapsed = c.self-2.inside.elapsed; seen = c.self-2.inside.seen })) c.show_state_is_valid.ensures.bus.board.valid c.requires.reads
+    has_read-by_jcn (observer_of_property c.args.property.now) value s (c.self-2.inside.cpu, c.set_test-2.new.self, (record { calls = c.self-2.inside.calls; elapsed = c.self-2.inside.elapsed; seen = c.self-2.inside.seen })) c.show_state_is_valid.ensures.bus.board.valid c.requires.reads
     (ap (λ (r : BusState). without_levels (c.self-2.inside.cpu, r, (record { calls = c.self-2.inside.calls; elapsed = c.self-2.inside.elapsed; seen = c.self-2.inside.seen }))) c.set_test-2.ensures ∙ ap without_levels went)
 
 pub returns-clause-keeps : goal.returns-clause-keeps

@@ -1,17 +1,17 @@
 use Rattle.std.proofs.Common.{◌≡◌, ◌∙◌, inl, inr, true, sym, ap}
-use Rattle.mcs_drive.specs.TrackedMachine.{TrackedMachine}
+use Rattle.mcs_drive.specs.TrackedMachine.{TrackedMachine, without_levels}
 use Rattle.mcs_check.specs.Conditions.{meets_none, observer_of_property}
 use Rattle.mcs_check.specs.Scopes.{has_all_lists}
 use Rattle.mcs_check.proofs.Going.{walked-none, walked-more, walked-reaches, walked-keeps}
-use Rattle.mcs_check.proofs.Scoping.{known-keeps, known-next}
+use Rattle.mcs_check.proofs.Scoping.{meets_none-if_no_mistake, meets_none_without_mistakes-after_cycle, condition_holds-unchanged_by_cycle}
 use Rattle.mcs_check.proofs.Spinning.{spun-apart, spun-walked}
 use Rattle.mcs_check.proofs.replica.SearchMachine.run_to_read_point.Goals as goal
 
 pub loop-init : goal.loop-init
-loop-init c = record { walked = walked-none (observer_of_property c.args.property.now) (meets_none c.args.property.now.never_lists) c.args.self.now; known = λ has rest. absurd (cc) }
+loop-init c = record { walked = walked-none (observer_of_property c.args.property.now) (meets_none c.args.property.now.never_lists) c.args.self.now; known = λ has rest. absurd (cc); opening = λ has rest. absurd (cc) }
 
 pub property_still_holds-requires : goal.property_still_holds-requires
-property_still_holds-requires c = λ has rest free. known-keeps c.scope-scope.result c.args.property.now.never_lists c.loop.self (sym c.is_covered_by-has_all_lists.ensures ∙ has) (c.loop.invariant.known has rest) (sym c.next_cycle_facts-next_cycle_facts.ensures.makes_mistake_in_scope ∙ free)
+property_still_holds-requires c = λ has rest free. meets_none-if_no_mistake c.scope-scope.result c.args.property.now.never_lists c.loop.self (sym c.is_covered_by-has_all_lists.ensures ∙ has) (c.loop.invariant.known has rest) (sym c.next_cycle_facts-next_cycle_facts.ensures.makes_mistake_in_scope ∙ free)
 
 pub loop-preserved : goal.loop-preserved
 loop-preserved c =
@@ -26,7 +26,12 @@ loop-preserved c =
         known = λ has rest.
             let same = c.has_changed-changed.ensures rest in
             let seen = same.1 ∙ ap (λ (m : TrackedMachine). m.2.seen) c.self.view_is in
-            known-next (observer_of_property c.args.property.now) scope never_lists s t (sym c.is_covered_by-has_all_lists.ensures ∙ has) seen (sym c.next_cycle_facts-next_cycle_facts.ensures.changes ∙ same.0) property_holds e;
+            meets_none_without_mistakes-after_cycle (observer_of_property c.args.property.now) scope never_lists s t (sym c.is_covered_by-has_all_lists.ensures ∙ has) seen (sym c.next_cycle_facts-next_cycle_facts.ensures.changes ∙ same.0) property_holds e;
+        opening = λ has rest.
+            let same = c.has_changed-changed.ensures rest in
+            let seen = same.1 ∙ ap (λ (m : TrackedMachine). m.2.seen) c.self.view_is in
+            c.is_open-is_open.ensures
+            ∙ condition_holds-unchanged_by_cycle c.args.property.now scope s t (sym c.is_opening_covered_by-has_opening.ensures ∙ has) seen (sym c.next_cycle_facts-next_cycle_facts.ensures.changes ∙ same.0) e;
       }
       | inr spun ↦
           let may = c.may_spin-may.ensures spun.0 in
@@ -36,6 +41,9 @@ loop-preserved c =
           record {
             walked = spun-walked (observer_of_property c.args.property.now) scope never_lists c.args.self.now s t has rest sound property_holds spun.1 c.loop.invariant.walked;
             known = λ _ _. spun-apart (observer_of_property c.args.property.now) scope never_lists s t has rest sound property_holds spun.1;
+            opening = λ _ _.
+                let closed = spun.1.spins.still.closed in
+                c.is_open-is_open.ensures ∙ closed (without_levels s) ∙ sym (closed (without_levels t));
           }
     ]
 

@@ -1,4 +1,5 @@
 use Rattle.std.proofs.Common.{◌≡◌, true, false}
+use Rattle.mcs_drive.specs.TrackedMachine.{condition_holds_at}
 use Rattle.mcs_check.specs.Conditions.{meets_none, observer_of_property}
 use Rattle.mcs_check.proofs.Going.{RunSoFar}
 use Rattle.mcs_check.proofs.Scoping.{meets_none_without_mistakes}
@@ -8,4 +9,5 @@ abbrev pub invariant-loop : goal.invariant-loop
 invariant-loop l = record {
   walked : RunSoFar (observer_of_property l.property) (meets_none l.property.never_lists) l.fn.self l.self;
   known : l.has_all_lists ≡ true → l.changed ≡ false → meets_none_without_mistakes l.property.never_lists l.self ≡ true;
+  opening : l.has_opening ≡ true → l.changed ≡ false → l.is_open ≡ condition_holds_at (observer_of_property l.property) l.self;
 }

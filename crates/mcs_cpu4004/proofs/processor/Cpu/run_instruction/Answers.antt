@@ -2,7 +2,7 @@ use Rattle.std.proofs.Common.{◌≢◌, ◌-◌, ◌∙◌, sym, ap, subst, ari
 use Rattle.mcs_model.specs.declared.regs.Regs.{Regs}
 use Rattle.mcs_model.specs.Bus.{BusState}
 use Rattle.mcs_cpu4004.specs.IsInstructionRun.{IsInstructionRun}
-use Rattle.mcs_cpu4004.proofs.InstructionRuns.{ran-whole}
+use Rattle.mcs_cpu4004.proofs.InstructionRuns.{instruction_run-of_all_cycles}
 use Rattle.mcs_cpu4004.proofs.processor.Cpu.run_instruction.Goals as goal
 
 pub returns-clause-ran : goal.returns-clause-ran
@@ -20,6 +20,6 @@ returns-clause-ran g c =
     let range = c.self.invariant.1 in
     let free : before.owed ≢ 1 = λ e. c.requires.free (sym (ap (λ (r : Regs). r.owed) c.self.view_is) ∙ e) in
     let whole =
-    ran-whole c.args.left c.args.op (record before { pc = c.args.at }, m) regs n c.execute-next.result.0 c.from-whole.result (omega arith) free (cc)
+    instruction_run-of_all_cycles c.args.left c.args.op (record before { pc = c.args.at }, m) regs n c.execute-next.result.0 c.from-whole.result (omega arith) free (cc)
     (ap (λ x. (record regs { pc = c.execute-next.result.0; owed = x - 1 }, n)) cycles ∙ c.execute-next.ensures.effect) (omega arith) (omega arith) (omega arith) in
     subst (λ (r : Regs). IsInstructionRun c.args.left (record r { pc = c.args.at }, m) (record regs { pc = c.execute-next.result.0 }, n) c.from-whole.result) c.self.view_is whole

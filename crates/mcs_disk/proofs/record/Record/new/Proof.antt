@@ -1,4 +1,5 @@
--- A new record occupies no memory. Its ghost fields hold the values that are given here.
+-- A new record occupies no memory. Its ghost fields hold the given initial bytes and an empty list
+-- of notes.
 use Rattle.std.proofs.Common.{List, [], ◌∷◌, refl, length, ◌≡◌}
 use mir.Syntax.{a_type, named}
 use mir.MapTy.{inst_fn}

@@ -1,4 +1,5 @@
--- The body is empty. The proof opens the borrow and closes it at a record with one more note.
+-- The body of `note` is empty. The proof opens the borrow of the record, and closes the borrow with
+-- a record that has one more note.
 use Rattle.std.proofs.Common.{ℕ, List, [], ◌∷◌, refl, length}
 use mir.Syntax.{a_type, named}
 use mir.MapTy.{inst_fn}

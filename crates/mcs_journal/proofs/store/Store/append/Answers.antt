@@ -3,18 +3,18 @@ use Rattle.mcs_journal.proofs.StoreMethodCalls.{append_one}
 use Rattle.std.proofs.Common.{◌≡◌, ◌+◌, List, [], ◌∷◌, ◌++◌, ℕ, length, sym, ◌∙◌, ap, subst, arith, IsTrue, length-take, length-append, length-drop}
 use Rattle.mcs_disk.specs.Disk.{DiskState, bytes_of}
 use Rattle.mcs_journal.specs.Store.{StoreView, IsIntactStore}
-use Rattle.mcs_journal.specs.File.{Holds, HasRoom, slot_named, frames_of, frame_of, start_of}
+use Rattle.mcs_journal.specs.File.{Holds, HasRoom, slot_selected_by, frames_of, frame_of, start_of}
 use Rattle.mcs_journal.specs.Writing.{IsCommitOffset}
 use Rattle.mcs_journal.specs.declared.slot.Slot.{Slot}
-use Rattle.mcs_journal.proofs.UniqueContents.{same_records}
+use Rattle.mcs_journal.proofs.UniqueContents.{records_are_unique}
 use Rattle.mcs_journal.proofs.Contents.{start_bounds}
-use Rattle.mcs_journal.proofs.Logs.{spelled-push, length-framed}
+use Rattle.mcs_journal.proofs.Logs.{frames_of-push, length-frame_of}
 use Rattle.mcs_journal.proofs.store.Store.append.Goals as goal
 
--- the offset of the commit byte that ends the log
-commit_of : (disk : DiskState) (slot : Slot) (start used n : ℕ) (snap : List ℕ) (records : List (List ℕ)) → start ≡ start_of slot → IsIntactStore disk slot used → HasRoom used n → Holds (bytes_of disk) snap records → IsCommitOffset (bytes_of disk) records (start + 16384 + used) n
-commit_of disk slot start used n snap records at intact room held =
-    let same : length (frames_of intact.records) ≡ length (frames_of records) = ap (λ (l : List (List ℕ)). length (frames_of l)) (same_records _ _ _ _ _ intact.holds held) in
+-- `start + 16384 + used` is the offset of the commit byte that ends the log
+commit_offset_of_intact_store : (disk : DiskState) (slot : Slot) (start used n : ℕ) (snap : List ℕ) (records : List (List ℕ)) → start ≡ start_of slot → IsIntactStore disk slot used → HasRoom used n → Holds (bytes_of disk) snap records → IsCommitOffset (bytes_of disk) records (start + 16384 + used) n
+commit_offset_of_intact_store disk slot start used n snap records at intact room held =
+    let same : length (frames_of intact.records) ≡ length (frames_of records) = ap (λ (l : List (List ℕ)). length (frames_of l)) (records_are_unique _ _ _ _ _ intact.holds held) in
     let place = at ∙ sym (ap start_of intact.active) in
     record { at = omega (arith, same, intact.count, place); room = omega (arith, same, intact.count, room) }
 
@@ -23,7 +23,7 @@ returns-in-Ok-clause-appends g c = rw (← c.self.view_is) (λ h snap records he
     let live : IsTrue c.self.inside.live = subst (λ (v : StoreView g.row.D.Denot). IsTrue v.live) (sym c.self.view_is) c.requires.live in
     let room : HasRoom c.self.inside.used (length c.args.payload.now) = subst (λ (v : StoreView g.row.D.Denot). HasRoom v.used (length c.args.payload.now)) (sym c.self.view_is) c.requires.room in
     let intact = c.self.invariant.intact live h in
-    let changes = c.in-Ok.ensures.changes h intact.durable snap records held (commit_of _ _ _ _ _ snap records c.start.ensures intact room held) in
+    let changes = c.in-Ok.ensures.changes h intact.durable snap records held (commit_offset_of_intact_store _ _ _ _ _ snap records c.start.ensures intact room held) in
     record { after = changes.after; durable = changes.durable; ticks = changes.ticks; leaves = changes.leaves })
 
 pub returns-in-Err-clause-appends : goal.returns-in-Err-clause-appends
@@ -31,7 +31,7 @@ returns-in-Err-clause-appends g c = rw (← c.self.view_is) (λ h snap records h
     let live : IsTrue c.self.inside.live = subst (λ (v : StoreView g.row.D.Denot). IsTrue v.live) (sym c.self.view_is) c.requires.live in
     let room : HasRoom c.self.inside.used (length c.args.payload.now) = subst (λ (v : StoreView g.row.D.Denot). HasRoom v.used (length c.args.payload.now)) (sym c.self.view_is) c.requires.room in
     let intact = c.self.invariant.intact live h in
-    let changes = c.add_record.ensures.changes h intact.durable snap records held (commit_of _ _ _ _ _ snap records c.start.ensures intact room held) in
+    let changes = c.add_record.ensures.changes h intact.durable snap records held (commit_offset_of_intact_store _ _ _ _ _ snap records c.start.ensures intact room held) in
     record { after = tt; durable = tt; ticks = tt; leaves = changes.leaves })
 
 pub invariant_of-self : goal.invariant_of-self
@@ -47,14 +47,14 @@ invariant_of-self g c =
           let beyond = start_bounds c.self.inside.slot in
           let was = c.add_record.ensures.call.honest.0 h in
           let intact = c.self.invariant.intact live was in
-          let changes = c.in-Ok.ensures.changes was intact.durable intact.snap intact.records intact.holds (commit_of _ _ _ _ _ intact.snap intact.records c.start.ensures intact room intact.holds) in
+          let changes = c.in-Ok.ensures.changes was intact.durable intact.snap intact.records intact.holds (commit_offset_of_intact_store _ _ _ _ _ intact.snap intact.records c.start.ensures intact room intact.holds) in
           record {
             durable = changes.durable;
-            active = ap slot_named (c.add_record.ensures.selector was (omega (arith, beyond.0, c.start.ensures))) ∙ intact.active;
+            active = ap slot_selected_by (c.add_record.ensures.selector was (omega (arith, beyond.0, c.start.ensures))) ∙ intact.active;
             snap = intact.snap;
             records = intact.records ++ c.args.payload.now ∷ [];
             holds = changes.after;
-            count = omega (arith, intact.count, ap length (spelled-push intact.records c.args.payload.now), length-append (frames_of intact.records) (frame_of c.args.payload.now), length-framed c.args.payload.now);
+            count = omega (arith, intact.count, ap length (frames_of-push intact.records c.args.payload.now), length-append (frames_of intact.records) (frame_of c.args.payload.now), length-frame_of c.args.payload.now);
           };
     }
 

@@ -1,22 +1,22 @@
-use Rattle.mcs_disk.proofs.CallSequences.{none_added}
-use Rattle.mcs_journal.proofs.ReadCalls.{of_err}
-use Rattle.mcs_journal.proofs.StoreMethodCalls.{open_one, open_synced, refused_open_one}
+use Rattle.mcs_disk.proofs.CallSequences.{at_most_one_unsynced_without_calls}
+use Rattle.mcs_journal.proofs.ReadCalls.{property_of_error}
+use Rattle.mcs_journal.proofs.StoreMethodCalls.{open_at_most_one_unsynced, no_unsynced_write_after_open, at_most_one_unsynced_after_failed_open}
 use Rattle.std.proofs.Common.{rules, length, List, ℕ, inl, sym, ◌∙◌, ap, subst, Err}
-use Rattle.mcs_disk.proofs.StretchComposition.{rests_still, rests_bytes}
+use Rattle.mcs_disk.proofs.StretchComposition.{adds_no_image_without_calls, bytes_unchanged_without_new_image}
 use Rattle.mcs_journal.specs.File.{Holds, slot_of}
 use Rattle.mcs_journal.specs.declared.fault.StoreFault.TheVariants.{Device}
-use Rattle.mcs_journal.proofs.ErrorResults.{counts_ok, counts_err, open_fault, refuses_open}
+use Rattle.mcs_journal.proofs.ErrorResults.{counts_no_fault_if_ok, counts_fault_if_device_error, open_fault_if_not_not_blank, open_error_implies_disk_condition}
 use Rattle.mcs_journal.proofs.store.Store.open.Goals as goal
 
 pub returns-then-size-ne-FILE_SIZE-clause-refused : goal.returns-then-size-ne-FILE_SIZE-clause-refused
-returns-then-size-ne-FILE_SIZE-clause-refused g c = λ h. (inl (λ same. c.if-size-ne-FILE_SIZE.true (c.size.ensures ∙ same)), rests_still _)
+returns-then-size-ne-FILE_SIZE-clause-refused g c = λ h. (inl (λ same. c.if-size-ne-FILE_SIZE.true (c.size.ensures ∙ same)), adds_no_image_without_calls _)
 
 pub returns-in-Err-read_contents-clause-error_counts_fault : goal.returns-in-Err-read_contents-clause-error_counts_fault
-returns-in-Err-read_contents-clause-error_counts_fault g c = counts_err _ _ _ Device _ c.in-Err-read_contents.is c.read_contents.ensures.reads.counts
+returns-in-Err-read_contents-clause-error_counts_fault g c = counts_fault_if_device_error _ _ _ Device _ c.in-Err-read_contents.is c.read_contents.ensures.reads.counts
 
 pub returns-in-Err-read_contents-clause-refused : goal.returns-in-Err-read_contents-clause-refused
 returns-in-Err-read_contents-clause-refused g c = λ h. (
-  refuses_open _ _ (λ fault. c.read_contents.ensures.not_blank (c.in-Err-read_contents.is ∙ ap Err fault))
+  open_error_implies_disk_condition _ _ (λ fault. c.read_contents.ensures.not_blank (c.in-Err-read_contents.is ∙ ap Err fault))
       (sym c.size.ensures ∙ c.if-size-ne-FILE_SIZE.false)
       (λ fault. c.read_contents.ensures.no_session h (c.in-Err-read_contents.is ∙ ap Err fault))
       (λ fault. c.read_contents.ensures.session h (c.in-Err-read_contents.is ∙ ap Err fault))
@@ -25,10 +25,10 @@ returns-in-Err-read_contents-clause-refused g c = λ h. (
 )
 
 pub returns-in-Err-read_contents-clause-possible_errors : goal.returns-in-Err-read_contents-clause-possible_errors
-returns-in-Err-read_contents-clause-possible_errors g c = open_fault _ (λ fault. c.read_contents.ensures.not_blank (c.in-Err-read_contents.is ∙ ap Err fault))
+returns-in-Err-read_contents-clause-possible_errors g c = open_fault_if_not_not_blank _ (λ fault. c.read_contents.ensures.not_blank (c.in-Err-read_contents.is ∙ ap Err fault))
 
 pub returns-in-Ok-read_contents-clause-counts : goal.returns-in-Ok-read_contents-clause-counts
-returns-in-Ok-read_contents-clause-counts g c = counts_ok _ _ _ Device _ c.in-Ok-read_contents.is c.read_contents.ensures.reads.counts
+returns-in-Ok-read_contents-clause-counts g c = counts_no_fault_if_ok _ _ _ Device _ c.in-Ok-read_contents.is c.read_contents.ensures.reads.counts
 
 pub returns-in-Ok-read_contents-clause-opened : goal.returns-in-Ok-read_contents-clause-opened
 returns-in-Ok-read_contents-clause-opened g c = λ h. record { holds = c.in-Ok-read_contents.ensures.holds h; adds_no_image = c.read_contents.ensures.reads.adds_no_image; durable = c.in-Ok-read_contents.ensures.durable h }
@@ -38,10 +38,10 @@ invariant_of-store g c = record {
   disk_size = ap length c.read_contents.ensures.reads.counts.start ∙ sym c.size.ensures ∙ c.if-size-ne-FILE_SIZE.false;
   within = c.in-Ok-read_contents.ensures.within;
   room = search rules;
-  synced = λ live. open_synced _ _ _ c.in-Ok-read_contents.ensures.calls;
+  synced = λ live. no_unsynced_write_after_open _ _ _ c.in-Ok-read_contents.ensures.calls;
   intact = λ live h.
       let was = c.read_contents.ensures.reads.counts.honest.0 h in
-      let same = rests_bytes _ _ c.read_contents.ensures.reads.adds_no_image in
+      let same = bytes_unchanged_without_new_image _ _ c.read_contents.ensures.reads.adds_no_image in
       record {
         durable = c.in-Ok-read_contents.ensures.durable was;
         active = ap slot_of same ∙ c.in-Ok-read_contents.ensures.active was;
@@ -53,16 +53,16 @@ invariant_of-store g c = record {
 }
 
 pub returns-then-size-ne-FILE_SIZE-clause-error_one_unsynced : goal.returns-then-size-ne-FILE_SIZE-clause-error_one_unsynced
-returns-then-size-ne-FILE_SIZE-clause-error_one_unsynced g c = none_added _
+returns-then-size-ne-FILE_SIZE-clause-error_one_unsynced g c = at_most_one_unsynced_without_calls _
 
 pub returns-in-Err-clause-error_one_unsynced : goal.returns-in-Err-clause-error_one_unsynced
-returns-in-Err-clause-error_one_unsynced g c = none_added _
+returns-in-Err-clause-error_one_unsynced g c = at_most_one_unsynced_without_calls _
 
 pub returns-in-Ok-read_contents-clause-one_unsynced : goal.returns-in-Ok-read_contents-clause-one_unsynced
-returns-in-Ok-read_contents-clause-one_unsynced g c = open_one _ _ _ c.in-Ok-read_contents.ensures.calls
+returns-in-Ok-read_contents-clause-one_unsynced g c = open_at_most_one_unsynced _ _ _ c.in-Ok-read_contents.ensures.calls
 
 pub returns-in-Err-read_contents-clause-error_calls : goal.returns-in-Err-read_contents-clause-error_calls
-returns-in-Err-read_contents-clause-error_calls g c = of_err _ _ c.in-Err-read_contents.is c.read_contents.ensures.error_calls
+returns-in-Err-read_contents-clause-error_calls g c = property_of_error _ _ c.in-Err-read_contents.is c.read_contents.ensures.error_calls
 
 pub returns-in-Err-read_contents-clause-error_one_unsynced : goal.returns-in-Err-read_contents-clause-error_one_unsynced
-returns-in-Err-read_contents-clause-error_one_unsynced g c = refused_open_one _ _ (of_err _ _ c.in-Err-read_contents.is c.read_contents.ensures.error_calls)
+returns-in-Err-read_contents-clause-error_one_unsynced g c = at_most_one_unsynced_after_failed_open _ _ (property_of_error _ _ c.in-Err-read_contents.is c.read_contents.ensures.error_calls)

@@ -1,10 +1,10 @@
 use Rattle.std.proofs.Common.{◌++◌, ap, ◌∙◌}
 use Rattle.mcs_search.specs.Keys.{KeyStore, keys_of_blocks}
-use Rattle.mcs_search.proofs.Blocks.{arena-empty}
+use Rattle.mcs_search.proofs.Blocks.{arena_invariant-of_empty_arena}
 use Rattle.mcs_search.proofs.arena.Arena.new.Goals as goal
 
 pub invariant_of-result : goal.invariant_of-result
-invariant_of-result c = arena-empty c.args.width c.new.result.items c.new-2.result c.new.ensures.items c.new-2.ensures
+invariant_of-result c = arena_invariant-of_empty_arena c.args.width c.new.result.items c.new-2.result c.new.ensures.items c.new-2.ensures
 
 pub returns : goal.returns
 unfolding keys_of_blocks

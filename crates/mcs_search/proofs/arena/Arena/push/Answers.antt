@@ -1,6 +1,6 @@
 use Rattle.std.proofs.Common.{◌≡◌, ◌+◌, ◌++◌, [], ◌∷◌, List, sym, ap, ◌∙◌, subst, arith}
 use Rattle.mcs_search.specs.Keys.{KeyStore, ArenaInvariant, keys_of_blocks}
-use Rattle.mcs_search.proofs.Blocks.{arena-block_filled, keys-block_filled}
+use Rattle.mcs_search.proofs.Blocks.{arena_invariant-after_block_filled, arena_keys-after_block_filled}
 use Rattle.mcs_search.proofs.arena.Arena.push.Goals as goal
 
 pub invariant_of-self-2 : goal.invariant_of-self-2
@@ -10,7 +10,7 @@ invariant_of-self-2 c =
     let next = c.replace-block.new.dest in
     let n = c.len.ensures in
     let items : c.push_reserved.new.self.items ≡ a.full.items ++ pushed ∷ [] = c.push_reserved.ensures.items ∙ ap (λ (bs : List KeyStore). bs ++ c.replace-block.result ∷ []) c.reserve.ensures.items ∙ ap (λ (b : KeyStore). a.full.items ++ b ∷ []) c.replace-block.ensures.value in
-    let turned = arena-block_filled a.width a.len a.full.items a.last pushed next c.args.key.now c.self.invariant c.push.ensures.width c.in_ok-push.ensures.keys (let t = c.if-len-lt-KEYS_PER_BLOCK.false in omega arith) (c.replace-block.ensures.after ∙ c.new.ensures) in
+    let turned = arena_invariant-after_block_filled a.width a.len a.full.items a.last pushed next c.args.key.now c.self.invariant c.push.ensures.width c.in_ok-push.ensures.keys (let t = c.if-len-lt-KEYS_PER_BLOCK.false in omega arith) (c.replace-block.ensures.after ∙ c.new.ensures) in
     subst (λ (bs : List KeyStore). ArenaInvariant a.width (a.len + 1) bs next) (sym items) turned
 
 pub returns-clause-keys : goal.returns-clause-keys
@@ -20,5 +20,5 @@ returns-clause-keys c =
     let next = c.replace-block.new.dest in
     let items : c.push_reserved.new.self.items ≡ a.full.items ++ pushed ∷ [] = c.push_reserved.ensures.items ∙ ap (λ (bs : List KeyStore). bs ++ c.replace-block.result ∷ []) c.reserve.ensures.items ∙ ap (λ (b : KeyStore). a.full.items ++ b ∷ []) c.replace-block.ensures.value in
     ap (λ (bs : List KeyStore). keys_of_blocks bs ++ next.keys) items
-    ∙ keys-block_filled a.width a.full.items a.last pushed next c.args.key.now c.in_ok-push.ensures.keys (c.replace-block.ensures.after ∙ c.new.ensures)
+    ∙ arena_keys-after_block_filled a.width a.full.items a.last pushed next c.args.key.now c.in_ok-push.ensures.keys (c.replace-block.ensures.after ∙ c.new.ensures)
     ∙ ap (λ (s : KeyStore). s.keys ++ c.args.key.now ∷ []) c.self.view_is

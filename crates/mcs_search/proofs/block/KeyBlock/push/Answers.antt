@@ -1,6 +1,6 @@
 use Rattle.std.proofs.Common.{◌+◌, [], ◌∷◌, ◌++◌, sym, ap, ◌∙◌, length, arith}
 use Rattle.mcs_search.specs.Keys.{KeyStore, keys_in_bytes}
-use Rattle.mcs_search.proofs.KeyLists.{length-keys_in_bytes, append-key}
+use Rattle.mcs_search.proofs.KeyLists.{length-keys_in_bytes, keys_in_bytes-append_key}
 use Rattle.mcs_search.proofs.block.KeyBlock.push.Goals as goal
 
 pub overflow_add-self : goal.overflow_add-self
@@ -15,5 +15,5 @@ returns-clause-keys c =
     let f = c.self.inside in
     let w = ap (λ (s : KeyStore). s.width) c.self.view_is in
     ap (keys_in_bytes f.width (f.len + 1)) c.in_ok-extend_from_slice.ensures.items
-    ∙ append-key f.width f.len f.bytes.items c.args.key.now c.self.invariant (c.requires.width ∙ sym w)
+    ∙ keys_in_bytes-append_key f.width f.len f.bytes.items c.args.key.now c.self.invariant (c.requires.width ∙ sym w)
     ∙ ap (λ (s : KeyStore). s.keys ++ c.args.key.now ∷ []) c.self.view_is

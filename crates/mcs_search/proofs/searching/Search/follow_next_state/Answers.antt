@@ -3,7 +3,7 @@ use Rattle.std.specs.List.{All}
 use Rattle.mcs_search.specs.Rules.{LeadsInto, Closure}
 use Rattle.mcs_search.specs.Verdicts.{IsUnderWay, SearchProgress, IsFollowOutcome, start_of}
 use Rattle.mcs_search.specs.declared.following.FollowOutcome.{FollowOutcome}
-use Rattle.mcs_search.proofs.Closures.{under-way-grows, under-way-next, closure}
+use Rattle.mcs_search.proofs.Closures.{under_way-after_growth, under_way-after_next_key_followed, closure}
 use Rattle.mcs_search.proofs.searching.Search.follow_next_state.Goals as goal
 
 pub returns-then-self-len-2-clause-proved : goal.returns-then-self-len-2-clause-proved
@@ -23,7 +23,7 @@ returns-in_err-follow_choices-clause-under_way g c =
     let r = g.S.System.rules (g.S.System.setting c.args.system.now) in
     let u = subst (IsUnderWay r) (sym c.self.view_is) c.requires.under_way in
     let states = subst (λ s. All (g.S.System.rules s).is_state c.follow_choices.new.visited.keys) c.choices.ensures.setting c.follow_choices.ensures.states in
-    under-way-grows r a.followed c.follow_choices.ensures.grows c.self.invariant.within states u
+    under_way-after_growth r a.followed c.follow_choices.ensures.grows c.self.invariant.within states u
 
 pub counterexample-requires : goal.counterexample-requires
 counterexample-requires g c =
@@ -31,7 +31,7 @@ counterexample-requires g c =
     let r = g.S.System.rules (g.S.System.setting c.args.system.now) in
     let u = subst (IsUnderWay r) (sym c.self.view_is) c.requires.under_way in
     let states = subst (λ s. All (g.S.System.rules s).is_state c.follow_choices.new.visited.keys) c.choices.ensures.setting c.follow_choices.ensures.states in
-    let grown = under-way-grows r a.followed c.follow_choices.ensures.grows c.self.invariant.within states u in
+    let grown = under_way-after_growth r a.followed c.follow_choices.ensures.grows c.self.invariant.within states u in
     record { under_way = subst (λ s. IsUnderWay (g.S.System.rules s) (record { keys = c.follow_choices.new.visited.keys; followed = a.followed })) (sym (c.follow_choices.ensures.setting ∙ c.choices.ensures.setting)) grown }
 
 pub returns-in_err-counterexample-in-Broken-clause-under_way : goal.returns-in_err-counterexample-in-Broken-clause-under_way
@@ -40,7 +40,7 @@ returns-in_err-counterexample-in-Broken-clause-under_way g c =
     let r = g.S.System.rules (g.S.System.setting c.args.system.now) in
     let u = subst (IsUnderWay r) (sym c.self.view_is) c.requires.under_way in
     let states = subst (λ s. All (g.S.System.rules s).is_state c.follow_choices.new.visited.keys) c.choices.ensures.setting c.follow_choices.ensures.states in
-    subst (IsUnderWay r) (sym c.counterexample.ensures.same) (under-way-grows r a.followed c.follow_choices.ensures.grows c.self.invariant.within states u)
+    subst (IsUnderWay r) (sym c.counterexample.ensures.same) (under_way-after_growth r a.followed c.follow_choices.ensures.grows c.self.invariant.within states u)
 
 pub returns-in_ok-counterexample-in-Broken-clause-under_way : goal.returns-in_ok-counterexample-in-Broken-clause-under_way
 returns-in_ok-counterexample-in-Broken-clause-under_way g c =
@@ -48,7 +48,7 @@ returns-in_ok-counterexample-in-Broken-clause-under_way g c =
     let r = g.S.System.rules (g.S.System.setting c.args.system.now) in
     let u = subst (IsUnderWay r) (sym c.self.view_is) c.requires.under_way in
     let states = subst (λ s. All (g.S.System.rules s).is_state c.follow_choices.new.visited.keys) c.choices.ensures.setting c.follow_choices.ensures.states in
-    subst (IsUnderWay r) (sym c.counterexample.ensures.same) (under-way-grows r a.followed c.follow_choices.ensures.grows c.self.invariant.within states u)
+    subst (IsUnderWay r) (sym c.counterexample.ensures.same) (under_way-after_growth r a.followed c.follow_choices.ensures.grows c.self.invariant.within states u)
 
 pub returns-in-TooMany-clause-under_way : goal.returns-in-TooMany-clause-under_way
 returns-in-TooMany-clause-under_way g c =
@@ -56,7 +56,7 @@ returns-in-TooMany-clause-under_way g c =
     let r = g.S.System.rules (g.S.System.setting c.args.system.now) in
     let u = subst (IsUnderWay r) (sym c.self.view_is) c.requires.under_way in
     let states = subst (λ s. All (g.S.System.rules s).is_state c.follow_choices.new.visited.keys) c.choices.ensures.setting c.follow_choices.ensures.states in
-    under-way-grows r a.followed c.follow_choices.ensures.grows c.self.invariant.within states u
+    under_way-after_growth r a.followed c.follow_choices.ensures.grows c.self.invariant.within states u
 
 pub returns-in-GaveUp-clause-under_way : goal.returns-in-GaveUp-clause-under_way
 returns-in-GaveUp-clause-under_way g c =
@@ -64,7 +64,7 @@ returns-in-GaveUp-clause-under_way g c =
     let r = g.S.System.rules (g.S.System.setting c.args.system.now) in
     let u = subst (IsUnderWay r) (sym c.self.view_is) c.requires.under_way in
     let states = subst (λ s. All (g.S.System.rules s).is_state c.follow_choices.new.visited.keys) c.choices.ensures.setting c.follow_choices.ensures.states in
-    under-way-grows r a.followed c.follow_choices.ensures.grows c.self.invariant.within states u
+    under_way-after_growth r a.followed c.follow_choices.ensures.grows c.self.invariant.within states u
 
 pub returns-in-All-clause-under_way : goal.returns-in-All-clause-under_way
 returns-in-All-clause-under_way g c =
@@ -82,4 +82,4 @@ returns-in-All-clause-under_way g c =
     let at = subst (λ (k : List ℕ). All (LeadsInto r keys k) c.deref-3.result.now) (c.deref-2.ensures.value ∙ stored) here in
     let leads = subst (λ (cs : List ℕ). All (LeadsInto r keys key) cs) c.deref-3.ensures.value at in
     let within : a.followed < length a.visited.keys = (let t = c.if-self-len-2.false in let l = c.len-len.ensures in let w = c.self.invariant.within in omega arith) in
-    under-way-next r a.followed c.follow_choices.ensures.grows within states u (choices, covers, leads)
+    under_way-after_next_key_followed r a.followed c.follow_choices.ensures.grows within states u (choices, covers, leads)

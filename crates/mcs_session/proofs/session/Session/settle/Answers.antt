@@ -1,6 +1,6 @@
-use Rattle.mcs_disk.proofs.CallSequences.{none_added}
+use Rattle.mcs_disk.proofs.CallSequences.{at_most_one_unsynced_without_calls}
 use Rattle.std.proofs.Common.{rules, IsTrue}
-use Rattle.mcs_session.proofs.Room.{leaves_state, recorded_there, settles}
+use Rattle.mcs_session.proofs.Room.{leaves_state_while_records_are_replaced, recorded_after_snapshot, settles_session_by_snapshot}
 use Rattle.mcs_session.proofs.session.Session.settle.Goals as goal
 use Rattle.mcs_session.proofs.session.Session.settle.Goals.{in-Ok, in-Err}
 
@@ -12,7 +12,7 @@ invariant_of-self g c =
       recorded = λ alive h.
           let honest = c.checkpoint.ensures.counts.honest.0 h in
           let was = c.self.invariant.recorded live honest in
-          recorded_there _ _ _ _ _ _ _ was (rw c.checkpoint.ensures.live at alive) (c.checkpoint.ensures.replaces honest was.represents.snap was.represents.records was.represents.holds) c.checkpoint.ensures.used;
+          recorded_after_snapshot _ _ _ _ _ _ _ was (rw c.checkpoint.ensures.live at alive) (c.checkpoint.ensures.replaces honest was.represents.snap was.represents.records was.represents.holds) c.checkpoint.ensures.used;
     }
 
 pub returns-clause-settles : goal.returns-clause-settles
@@ -23,11 +23,11 @@ returns-clause-settles g c = λ h.
     elim c.match-checkpoint.branch [
       | in-Ok w ↦
           let changes = w.in-Ok.ensures.replaces honest was.represents.snap was.represents.records was.represents.holds in
-          rw (w.result-is, ← c.self.view_is) (settles _ _ _ _ was changes.leaves changes.after changes.durable changes.ticks)
+          rw (w.result-is, ← c.self.view_is) (settles_session_by_snapshot _ _ _ _ was changes.leaves changes.after changes.durable changes.ticks)
       | in-Err w ↦
           let changes = w.in-Err.ensures.replaces honest was.represents.snap was.represents.records was.represents.holds in
-          rw (w.result-is, ← c.self.view_is) (was.represents, leaves_state _ _ _ _ was changes.leaves)
+          rw (w.result-is, ← c.self.view_is) (was.represents, leaves_state_while_records_are_replaced _ _ _ _ was changes.leaves)
     ]
 
 pub returns-then-not-is_open-clause-one_unsynced : goal.returns-then-not-is_open-clause-one_unsynced
-returns-then-not-is_open-clause-one_unsynced g c = none_added _
+returns-then-not-is_open-clause-one_unsynced g c = at_most_one_unsynced_without_calls _
