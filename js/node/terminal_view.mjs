@@ -17,7 +17,7 @@ export class TerminalView {
     this.showPrompt = showPrompt;
     this.isDumb = isDumb(env);
     const paint = makePainter(env);
-    this.marks = { head: paint(REVERSE), here: paint(BOLD), other: paint(YELLOW) };
+    this.highlights = { head: paint(REVERSE), nextInstruction: paint(BOLD), changedValue: paint(YELLOW) };
     this.isOn = false;
     /** The number of rows that the view currently occupies. */
     this.rows = 0;
@@ -58,7 +58,7 @@ export class TerminalView {
   draw() {
     const { size, output } = this;
     if (!this.isOn || !size) return;
-    const lines = this.view.lines(size, this.marks);
+    const lines = this.view.lines(size, this.highlights);
     const rowTexts = lines.map((line, index) => `\x1b[${index + 1};1H\x1b[K${line}`).join("");
     output.write(this.isDumb ? `${lines.join("\n")}\n` : `\x1b7\x1b[?7l${rowTexts}\x1b[?7h\x1b8`);
   }

@@ -2,7 +2,7 @@
 // the lamps, and the expressions of `display`. js/node/terminal_view.mjs writes the lines to the terminal.
 //
 //     const view = new View(prompt);
-//     view.lines(viewSize(24, 80), { head, here, other });      viewSize returns null if the terminal is too small
+//     view.lines(viewSize(24, 80), { head, nextInstruction, changedValue });      viewSize returns null if the terminal is too small
 
 import { indices } from "../bench/numbers.js";
 import { MachineState } from "../debug/machine_state.js";
@@ -16,7 +16,7 @@ import * as say from "../../words/prompt.js";
  * @typedef {{ rows: number, columns: number }} ViewSize the number of lines, and the maximum length of a line in characters
  * @typedef {(text: string) => string} Highlight a function that adds control codes, so that the terminal highlights a text
  *
- * The functions that highlight the header line (`head`), the next instruction (`here`), and values that the last move changed (`other`).
+ * The functions that highlight the header line (`head`), the next instruction, and values that the last move changed.
  * @typedef {{ head: Highlight, nextInstruction: Highlight, changedValue: Highlight }} Highlights
  */
 
@@ -74,16 +74,16 @@ export class View {
    * @param {ViewSize} size
    * @param {Highlights} highlights
    */
-  lines({ rows, columns }, { head, nextInstruction: here, changedValue: other }) {
+  lines({ rows, columns }, { head, nextInstruction, changedValue }) {
     this.readRegisters();
     const isWide = columns >= WIDE_COLUMNS;
-    const registers = isWide ? this.registerLinesBeside(other) : this.registerLinesBelow(columns, other);
+    const registers = isWide ? this.registerLinesBeside(changedValue) : this.registerLinesBelow(columns, changedValue);
     const below = [...(isWide ? [] : registers), ...this.boardLines(columns)];
     const height = Math.max(1, rows - 2 - below.length);
     const width = isWide ? columns - SIDE_COLUMNS : columns;
     const bodyLines = this.sourceLines(height).map((line, at) => {
       const text = cutText(line, width);
-      const shownText = line.startsWith(">") ? here(text) : text;
+      const shownText = line.startsWith(">") ? nextInstruction(text) : text;
       return isWide && registers[at] ? `${shownText}${" ".repeat(width - text.length)}  ${registers[at]}` : shownText;
     });
     return [head(this.headLine(columns)), ...bodyLines, ...below, "-".repeat(columns)].slice(0, rows);
