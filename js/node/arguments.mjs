@@ -35,6 +35,19 @@ export function parseCount(name, word, max) {
 }
 
 /**
+ * Resolves to the project in a folder. Throws an error if the folder has no valid project. Loads the modules that read projects on the first call.
+ * @param {string} folder
+ */
+export async function loadProject(folder) {
+  const [{ projectIn }, { ProjectError }] = await Promise.all([import("./project_on_disk.mjs"), import("../core/project/project_folder.js")]);
+  try {
+    return projectIn(folder);
+  } catch (error) {
+    throw error instanceof ProjectError ? new CommandError(error.message) : error;
+  }
+}
+
+/**
  * Returns the project in `folder` (option `-C`). Without this option, returns the project in the current folder if there are fewer than
  * `neededCount` arguments. Returns null if there are enough arguments, or if the current folder has no project.
  * @param {string | undefined} folder
@@ -43,12 +56,7 @@ export function parseCount(name, word, max) {
  */
 export async function findProject(folder, words, neededCount) {
   if (folder === undefined && (words.length >= neededCount || !existsSync(PROJECT_FILE))) return null;
-  const [{ projectIn }, { ProjectError }] = await Promise.all([import("./project_on_disk.mjs"), import("../core/project/project_folder.js")]);
-  try {
-    return projectIn(folder === undefined ? "." : folder);
-  } catch (error) {
-    throw error instanceof ProjectError ? new CommandError(error.message) : error;
-  }
+  return loadProject(folder ?? ".");
 }
 
 /**

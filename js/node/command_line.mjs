@@ -98,8 +98,9 @@ async function reportError(name, error) {
   }
   const { noRoomMessage } = await import("./native_program.mjs");
   const noRoom = noRoomMessage();
-  if (!noRoom && !(error instanceof CommandError)) throw error;
-  printErrorLines(name, noRoom || error.message);
+  if (noRoom) printErrorLines(name, noRoom);
+  else if (error instanceof CommandError) printErrorLines(name, error.message);
+  else throw error;
   return FAILED_STATUS;
 }
 

@@ -3,7 +3,7 @@
 import { closeSync, existsSync, fsyncSync, openSync, realpathSync } from "node:fs";
 import { dirname, isAbsolute, join, resolve, sep } from "node:path";
 import { findLockHolder, readUnlocked } from "./file_locks.mjs";
-import { CommandError } from "./output.mjs";
+import { CommandError, errorMessage } from "./output.mjs";
 import { openProgram } from "./session_process.mjs";
 import { heldBy } from "../words/adapter.js";
 import { isInside, readUserFile, readUserText, prepareReplacement } from "./user_files.mjs";
@@ -61,7 +61,7 @@ async function openSessionFile(name) {
     return await openProgram("open", name);
   } catch (fault) {
     const holder = fault instanceof CommandError && existsSync(name) ? findLockHolder(name) : "";
-    throw holder === "" ? fault : new CommandError(`${fault.message}; ${heldBy(holder)}`);
+    throw holder === "" ? fault : new CommandError(`${errorMessage(fault)}; ${heldBy(holder)}`);
   }
 }
 
@@ -84,7 +84,7 @@ export const host = {
       readUserText(name);
       return "";
     } catch (fault) {
-      return fault.message;
+      return errorMessage(fault);
     }
   },
   fileExists: existsSync,

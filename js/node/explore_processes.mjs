@@ -12,7 +12,7 @@ import { prepareTests } from "../core/testing/test_preparation.js";
 import * as say from "../words/commands.js";
 import { yieldToMessages, interruptChildren, rerunCommand, runCommand } from "./child_processes.mjs";
 import { rejectedTextsError } from "./native_program.mjs";
-import { CommandError, printError } from "./output.mjs";
+import { CommandError, errorMessage, printError } from "./output.mjs";
 import { readPageModule } from "./page_parts.mjs";
 import { readUserText, writeUserFile } from "./user_files.mjs";
 
@@ -47,8 +47,8 @@ function readStartTests({ from }, name) {
   const file = from.file ? join(dirname(name), from.file) : `${name.replace(/\.props$/, "")}.test`;
   try {
     return readUserText(file, MAX_TEST_BYTES);
-  } catch ({ message }) {
-    throw new CommandError(say.testsMustSave(name, from.line, message, from.state));
+  } catch (error) {
+    throw new CommandError(say.testsMustSave(name, from.line, errorMessage(error), from.state));
   }
 }
 
@@ -91,7 +91,7 @@ class Exploration {
     if (faults.length > 0) throw new CommandError(faults.map(({ line, words }) => `${properties.name}:${line}: ${words}`).join("\n"));
     const testText = readStartTests(campaign, properties.name);
     const { searchSetup: preparation, words } = await startCampaign({ subject, campaign }, prepared, testText);
-    if (words) throw new CommandError(`${properties.name}:${campaign.from.line}: ${words}`);
+    if (words) throw new CommandError(`${properties.name}:${campaign.from ? campaign.from.line : 0}: ${words}`);
     return { ...preparation, texts: [board.text, program.text, properties.text, testText] };
   }
 
@@ -158,7 +158,7 @@ class Exploration {
     const jobResults = await Promise.all([...Array(jobs).keys()].map((job) => this.runJob(seed + job)));
     const failedJob = jobResults.find(({ status }) => status === null || status > 1);
     if (failedJob) throw new CommandError(say.jobEnded(failedJob.status));
-    return joinReports(jobResults.map(({ report }) => readReport(report)));
+    return mergeReports(jobResults.map(({ report }) => report));
   }
 }
 
@@ -180,9 +180,10 @@ function readReport(name) {
  */
 export function mergeReports(names) {
   const reports = names.map(readReport);
+  const joinedReport = joinReports(reports);
+  if (joinedReport) return joinedReport;
   const index = reports.findIndex(({ sums }) => sums !== reports[0].sums);
-  if (index > 0) throw new CommandError(say.differentTexts(names[index], names[0]));
-  return joinReports(reports);
+  throw new CommandError(say.differentTexts(names[index], names[0]));
 }
 
 /** @param {Settings} settings */

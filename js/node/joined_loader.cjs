@@ -29,6 +29,7 @@ const HEADER_LENGTH = 80;
  * The kind of a run: "done" if the command did its work; "asked" if it only printed its help or an error, so that fewer functions were compiled.
  * @typedef {"done" | "asked"} RunKind
  */
+/** @typedef {{ run: (words: string[]) => Promise<number> }} JoinedModule the exports of a joined file; `run` resolves to the exit status */
 /** @type {RunKind[]} */
 const RUN_KINDS = ["done", "asked"];
 /** The highest exit status of a run of the kind "done". */
@@ -173,7 +174,7 @@ function loadJoined(file, path, checksum) {
   const script = new Script(source, { filename: file, cachedData });
   const cachedKind = script.cachedDataRejected ? undefined : kind;
   if (path !== "" && cachedKind !== "done") storeCodeAtExit(script, path, checksum, cachedKind);
-  const loadedModule = { exports: {} };
+  const loadedModule = { exports: /** @type {JoinedModule} */ ({}) };
   script.runInThisContext()(require, loadedModule, file, dirname(file));
   return loadedModule.exports;
 }
@@ -197,7 +198,7 @@ function joinedChecksum(folder, name, file) {
 /**
  * Loads the joined file of a command. Returns null if there is none, or if it was built from other sources.
  * @param {string} name
- * @returns {{ run: (words: string[]) => Promise<number> } | null}
+ * @returns {JoinedModule | null}
  */
 function joinedCommand(name) {
   const file = join(COMMANDS_FOLDER, `${name}.cjs`);

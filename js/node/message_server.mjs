@@ -3,7 +3,7 @@
 import { isatty } from "node:tty";
 import { escapeControls } from "../core/text/control_escapes.js";
 import { WAITS_FOR_EDITOR } from "../words/commands.js";
-import { printError } from "./output.mjs";
+import { errorMessage, printError } from "./output.mjs";
 
 /** The time in milliseconds to wait for more bytes of an incomplete message. */
 const MESSAGE_TIMEOUT = 10000;
@@ -56,7 +56,7 @@ export function listenToInput(connection, onEnd) {
     try {
       connection.take(bytes);
     } catch (fault) {
-      end(fault instanceof Error ? fault.message : String(fault));
+      end(errorMessage(fault));
       return;
     }
     if (connection.reader.incomplete !== "") timer = setTimeout(rejectIncomplete, MESSAGE_TIMEOUT, partCount);

@@ -15,7 +15,7 @@ import { join } from "node:path";
 import { isQuery } from "../core/bench/answer_table.js";
 import { BenchRefusal } from "../core/bench/bench_errors.js";
 import { findInputEnd, isSeqQuery, opensText, stripCarriageReturn } from "../core/bench/inputs.js";
-import { CommandError } from "./output.mjs";
+import { CommandError, systemErrorCode } from "./output.mjs";
 import { processes } from "./lazy_child_process.mjs";
 import { removeFolder, temporaryFolder, temporaryRoot } from "./temporary_folders.mjs";
 import { TOP } from "./top_folder.mjs";
@@ -61,6 +61,7 @@ function analyse(lines) {
   let text = null;
   for (const rawLine of lines.replace(/\n$/, "").split("\n")) {
     const line = stripCarriageReturn(rawLine);
+    /** @type {boolean} */
     const isAsking = text ? text.isQuery : isQuery(line.trim().split(/[ \t]/, 1)[0]);
     if (!isAsking && (text || line.trim() !== "")) commands += `${line}\n`;
     if (!text && isSeqQuery(line)) seqCount += 1;
@@ -158,6 +159,7 @@ class Starter {
    */
   start(word, name) {
     const slot = this.freeSlots.pop();
+    if (slot === undefined) throw new Error("all pipes are in use");
     writeSync(this.control, `${word} ${name} ${slot}\n`);
     return { slot, input: openSync(join(this.folder, `in${slot}`), "w"), output: openSync(join(this.folder, `out${slot}`), "r") };
   }
@@ -259,9 +261,8 @@ class Session {
    */
   exchangeLast(lines) {
     const pieces = splitForPipe(lines);
-    const lastPiece = pieces.pop();
-    const answers = this.exchange(pieces.join(""));
-    writeSync(this.input, lastPiece);
+    const answers = this.exchange(pieces.slice(0, -1).join(""));
+    writeSync(this.input, pieces[pieces.length - 1]);
     closeSync(this.input);
     const text = this.readUntil(() => false);
     this.close(this.output);
@@ -277,7 +278,7 @@ class Session {
     try {
       writeSync(this.input, lines);
     } catch (error) {
-      if (error.code !== "EPIPE") throw error;
+      if (systemErrorCode(error) !== "EPIPE") throw error;
     }
     return this.readUntil(isComplete);
   }
@@ -288,7 +289,7 @@ class Session {
     try {
       while (readSync(pipe, this.buffer) > 0) continue;
     } catch (error) {
-      if (error.code !== "EAGAIN") throw error;
+      if (systemErrorCode(error) !== "EAGAIN") throw error;
     } finally {
       closeSync(pipe);
     }

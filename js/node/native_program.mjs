@@ -109,17 +109,18 @@ export function endEngine() {
   nativeEngine = null;
 }
 
-/** @type {((status: number) => void) | null} the function that ends the process after a signal; null before the handlers are registered */
-let signalAction = null;
+/** @type {(status: number) => void} the function that ends the process after a signal */
+let signalAction = process.exit;
+let hasSignalHandlers = false;
 
 /**
  * Registers signal handlers that end the process through `endProcess`, so that its exit handlers remove unfinished files.
  * @param {(status: number) => void} [endProcess] ends the process with an exit status
  */
 export function endOnSignals(endProcess = process.exit) {
-  const isFirst = signalAction === null;
   signalAction = endProcess;
-  if (!isFirst) return;
+  if (hasSignalHandlers) return;
+  hasSignalHandlers = true;
   for (const [signal, status] of Object.entries(SIGNAL_STATUSES)) process.on(signal, () => signalAction(status));
 }
 
@@ -155,7 +156,7 @@ export async function openSession(engine, texts, session) {
 /**
  * Resolves to the error for rejected texts. Loads the modules with the messages on the first call.
  * @param {EngineHost} engine
- * @param {ConstructorParameters<typeof import("./rejected_texts.mjs").RejectedTexts>[1]} givenTexts
+ * @param {import("./rejected_texts.mjs").CheckedTexts} givenTexts
  * @param {import("../core/testing/test_preparation.js").TextFault[]} faults
  */
 export async function rejectedTextsError(engine, givenTexts, faults) {

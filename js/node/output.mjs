@@ -14,6 +14,23 @@ export class CommandError extends Error {}
 export class UsageError extends Error {}
 
 /**
+ * Returns the system's code of an error, such as ENOENT; "" if the error has none.
+ * @param {unknown} error
+ */
+export function systemErrorCode(error) {
+  const { code = "" } = /** @type {NodeJS.ErrnoException} */ (error);
+  return code;
+}
+
+/**
+ * Returns the message of a thrown value.
+ * @param {unknown} thrown
+ */
+export function errorMessage(thrown) {
+  return thrown instanceof Error ? thrown.message : String(thrown);
+}
+
+/**
  * Writes all bytes. Waits while a pipe is full.
  * @param {number} stream
  * @param {Uint8Array} bytes
@@ -23,7 +40,7 @@ function writeAll(stream, bytes) {
     try {
       offset += writeSync(stream, bytes, offset);
     } catch (error) {
-      if (error.code !== "EAGAIN") throw error;
+      if (systemErrorCode(error) !== "EAGAIN") throw error;
       Atomics.wait(new Int32Array(new SharedArrayBuffer(4)), 0, 0, 1);
     }
   }
@@ -48,7 +65,7 @@ export function printBytes(bytes) {
   try {
     writeAll(STDOUT, bytes);
   } catch (error) {
-    if (error.code === "EPIPE") process.exit(PIPE_STATUS);
+    if (systemErrorCode(error) === "EPIPE") process.exit(PIPE_STATUS);
     throw new CommandError(NOT_WRITTEN_MESSAGE);
   }
 }

@@ -4,6 +4,7 @@
 import { closeSync, constants, existsSync, fchmodSync, fstatSync, mkdirSync, openSync, readSync, rmSync, statSync, writeSync } from "node:fs";
 import { dirname, isAbsolute, join } from "node:path";
 import { escapeControls } from "../core/text/control_escapes.js";
+import { systemErrorCode } from "./output.mjs";
 import { prepareReplacement } from "./user_files.mjs";
 
 /** The maximum number of lines in the history. */
@@ -30,13 +31,19 @@ function historyPath({ XDG_STATE_HOME = "", HOME = "" }) {
 }
 
 /**
+ * Returns true if a file belongs to the user. Returns false on Windows, which has no user ids.
+ * @param {import("node:fs").Stats} stat
+ */
+const belongsToUser = ({ uid }) => process.getuid !== undefined && uid === process.getuid();
+
+/**
  * Creates a missing folder and its parents. Throws an error if the existing parent belongs to another user, so that root leaves no files in other
  * home folders.
  */
 function makeFolder(folder) {
   const missingFolders = [];
   for (let path = folder; !existsSync(path); path = dirname(path)) missingFolders.unshift(path);
-  if (missingFolders.length > 0 && statSync(dirname(missingFolders[0])).uid !== process.getuid()) throw new Error("it is a place of another user");
+  if (missingFolders.length > 0 && !belongsToUser(statSync(dirname(missingFolders[0])))) throw new Error("it is a place of another user");
   for (const name of missingFolders) mkdirSync(name, 0o700);
 }
 
@@ -44,7 +51,7 @@ function makeFolder(folder) {
 function openFile(name) {
   const file = openSync(name, APPEND_FLAGS, OWNER_ONLY_MODE);
   const stat = fstatSync(file);
-  if (!stat.isFile() || stat.uid !== process.getuid()) {
+  if (!stat.isFile() || !belongsToUser(stat)) {
     closeSync(file);
     throw new Error("it is not a file of the user's own");
   }
@@ -72,7 +79,7 @@ function acquireLock(lock) {
       closeSync(openSync(lock, "wx", OWNER_ONLY_MODE));
       return true;
     } catch (error) {
-      if (error.code !== "EEXIST") return false;
+      if (systemErrorCode(error) !== "EEXIST") return false;
     }
     const lockStat = statSync(lock, { throwIfNoEntry: false });
     if (lockStat && Date.now() - lockStat.mtimeMs > STALE_LOCK_AGE) rmSync(lock, { force: true });

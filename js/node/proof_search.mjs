@@ -53,7 +53,9 @@ class ProofSession {
       askBySets: (question) => this.ask(question, { most: 0, sets: MAX_SETS }),
       confirms: (counterexample, isGoal) => this.confirms(counterexample, isGoal),
       reason: (answer) => this.reason(answer),
-      yieldToMessages,
+      yieldToMessages: async () => {
+        await yieldToMessages();
+      },
     });
   }
 

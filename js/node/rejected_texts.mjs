@@ -19,6 +19,9 @@ import { readPageData } from "./page_parts.mjs";
  * @typedef {import("../core/testing/test_preparation.js").TextFault} TextFault
  * @typedef {import("../core/text/sendable_text.js").Fault} Fault
  * @typedef {import("./input_texts.mjs").GivenText} GivenText
+ *
+ * The texts that the bench may have rejected, by kind.
+ * @typedef {{ board?: Omit<GivenText, "encoding">, program?: Omit<GivenText, "encoding"> }} CheckedTexts
  */
 
 const MAX_ERRORS = 20;
@@ -66,7 +69,7 @@ export function spellingHint(line) {
 export class RejectedTexts {
   /**
    * @param {EngineHost} engine
-   * @param {{ board?: GivenText, program: GivenText }} givenTexts
+   * @param {CheckedTexts} givenTexts
    */
   constructor(engine, givenTexts) {
     this.engine = engine;
@@ -122,7 +125,9 @@ export class RejectedTexts {
   formatError(fault) {
     const { text: kind, file, line, number } = fault;
     if (kind === "tests") return `${file}:${line}: ${fault.words}`;
-    const { name, text, before } = this.givenTexts[kind];
+    const checkedText = kind === "properties" ? undefined : this.givenTexts[kind];
+    if (!checkedText) throw new Error(`there is no text of the kind ${kind}`);
+    const { name, text, before } = checkedText;
     const error = number > 0 ? this.findError(fault, text) : null;
     const lineNumber = line || (error ? error.line : 0);
     const shownLines = lineNumber > 0 && number > 0 ? [text.split("\n")[lineNumber - 1]] : [];

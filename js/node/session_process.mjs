@@ -32,13 +32,14 @@ export class SessionProcess {
     this.words = "";
     /** The first answer line. */
     this.openingLine = "";
+    /** @type {() => void} continues `readLines` */
     this.wake = () => {};
     this.hasEnded = false;
     /** The program's exit status. Valid once the program has ended. */
     this.status = 1;
     this.child.stdout.on("data", (text) => {
       const lines = (this.partialLine + text).split("\n");
-      this.partialLine = lines.pop();
+      this.partialLine = lines.pop() ?? "";
       this.lines.push(...lines);
       this.wake();
     });
@@ -48,6 +49,7 @@ export class SessionProcess {
       });
     }
     this.child.stdin.on("error", () => {});
+    /** @type {Promise<void>} */
     this.endPromise = new Promise((resolve) => {
       const finish = (words) => {
         this.hasEnded = true;
@@ -57,7 +59,7 @@ export class SessionProcess {
       };
       this.child.on("error", ({ message }) => finish(message));
       this.child.on("close", (status, signal) => {
-        this.status = signal ? SIGNAL_STATUS_OFFSET + constants.signals[signal] : status;
+        this.status = signal ? SIGNAL_STATUS_OFFSET + constants.signals[signal] : status ?? 1;
         finish("");
       });
     });
@@ -70,9 +72,9 @@ export class SessionProcess {
   async readLines(count) {
     while (this.lines.length < count) {
       if (this.hasEnded) throw new ProgramEnded(programEnded([...this.lines, this.words.trim()].filter(Boolean).join("; ")));
-      await new Promise((resolve) => {
+      await /** @type {Promise<void>} */ (new Promise((resolve) => {
         this.wake = resolve;
-      });
+      }));
     }
     return this.lines.splice(0, count);
   }

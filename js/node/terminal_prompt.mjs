@@ -80,6 +80,9 @@ export class TerminalPrompt {
       input: this.keys, output, terminal: !this.isDumb, history: this.history.lines, historySize: MAX_LINES, crlfDelay: Infinity,
       completer: (line, callback) => this.complete(line, callback),
     });
+    /** @type {(result?: Promise<void>) => void} */
+    this.resolveEnd = () => {};
+    /** @type {Promise<void>} */
     this.endPromise = new Promise((resolve) => {
       this.resolveEnd = resolve;
     });
@@ -233,7 +236,7 @@ export class TerminalPrompt {
     }
     const markIndex = text.indexOf(pasteMark);
     const textBeforeMark = markIndex < 0 ? text.replace(PARTIAL_MARK, "") : text.slice(0, markIndex);
-    const [piece] = /^[^\r\n]*(\r\n|\r|\n)?/.exec(textBeforeMark);
+    const [piece = ""] = /^[^\r\n]*(\r\n|\r|\n)?/.exec(textBeforeMark) || [];
     if (this.isPasting) this.paste(piece);
     else if (piece !== "") this.keys.emit("data", piece);
     return text.slice(piece.length);

@@ -9,7 +9,6 @@ import { yieldToMessages, rejectedTextsError, openSession, startEngine } from ".
 import { CommandError, UsageError, print, printError } from "./output.mjs";
 
 /**
- * @typedef {import("../core/testing/recorders.js").ExecutionRecorder} ExecutionRecorder
  * @typedef {import("../core/testing/coverage.js").Coverage} Coverage
  * @typedef {import("../core/testing/profile.js").Profile} Profile
  * @typedef {import("../core/testing/test_run.js").Outcome} Outcome
@@ -17,9 +16,9 @@ import { CommandError, UsageError, print, printError } from "./output.mjs";
  *
  * The description of a command. `Counting` is the class of its recorder. `checkNames` checks the file names before the files are read. `outcome`
  * formats the result of each test. `report` prints the counts at the end.
- * @typedef {{ name: string, Counting: typeof ExecutionRecorder, checkNames?: (names: string[]) => void,
+ * @typedef {{ name: string, Counting: typeof import("../core/testing/recorders.js").ExecutionRecorder, checkNames?: (names: string[]) => void,
  *   outcome?: (outcome: Outcome, number: number, total: number) => string,
- *   report?: (counts: { coverage: Coverage | null, profile: Profile | null }, program: GivenText) => void }} Tool
+ *   report?: (counts: { coverage: Coverage, profile: Profile }, program: GivenText) => void }} Tool
  */
 
 const MAX_CYCLES = 100000000;
@@ -56,10 +55,10 @@ export async function runTestCommand({ Counting, checkNames = () => {}, outcome:
     print(formatOutcome(outcome, number, total));
   };
   const suite = { boardText: board.text, programText: program.text, sources };
-  const result = await runTests(engine, suite, yieldToMessages, { Counting, ended: printOutcome });
-  if (result.faults.length > 0) throw await rejectedTextsError(engine, { board, program }, result.faults);
-  report(result, program);
-  return result.outcomes.some(({ failure }) => failure) ? 1 : 0;
+  const { faults, outcomes, coverage, profile } = await runTests(engine, suite, yieldToMessages, { Counting, ended: printOutcome });
+  if (!coverage || !profile) throw await rejectedTextsError(engine, { board, program }, faults);
+  report({ coverage, profile }, program);
+  return outcomes.some(({ failure }) => failure) ? 1 : 0;
 }
 
 /**
@@ -79,8 +78,8 @@ export async function countCycles({ name, Counting, checkNames = () => {}, repor
   const engine = await startEngine();
   const state = await openSession(engine, texts, session);
   const { faults, other, counted: counts } = await countSession(engine, state, program.text, cycles, Counting);
-  if (faults.length > 0) throw await rejectedTextsError(engine, { program }, faults);
   if (other) throw new CommandError(otherProgram(programName, other.address, other.romByte, other.line + program.before, other.sourceByte));
+  if (!counts) throw await rejectedTextsError(engine, { program }, faults);
   if (counts.stop !== "end") printError(`${name}: ${sessionStopped(counts.elapsed, counts.stop)}\n`);
   report(counts, program);
   return 0;

@@ -99,8 +99,8 @@ export function formatRemark({ isGoal, applied, states, leftOut, chains, found }
 
 /**
  * Returns the source location of a property: the file and the line.
- * @param {PropertyResult} property
- * @param {Report} report
+ * @param {Pick<PropertyResult, "line">} property
+ * @param {Pick<Report, "names">} report
  */
 export function propertyLocation({ line }, { names }) {
   return line > 0 ? `${names.properties}:${line}` : names.properties;

@@ -6,7 +6,7 @@ import * as say from "../../words/commands.js";
 import { parseCount, checkArguments } from "../arguments.mjs";
 import { InputTexts } from "../input_texts.mjs";
 import { openSession, programPath, startEngine } from "../native_program.mjs";
-import { CommandError, print } from "../output.mjs";
+import { CommandError, errorMessage, print } from "../output.mjs";
 import { checkWritableFile } from "../user_files.mjs";
 
 const MAX_COMMANDS = 99999;
@@ -64,7 +64,7 @@ function truncateLog(session, offset) {
       closeSync(file);
     }
   } catch (error) {
-    throw new CommandError(`${say.cannotWrite(session)}: ${error.message}`);
+    throw new CommandError(`${say.cannotWrite(session)}: ${errorMessage(error)}`);
   }
 }
 

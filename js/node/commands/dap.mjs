@@ -5,6 +5,7 @@ import { Engine } from "../../core/engine/engine.js";
 import { checkArguments, waitForExit } from "../arguments.mjs";
 import { host } from "../debug_host.mjs";
 import { exitAfterOutput, listenToInput, explainAtTerminal } from "../message_server.mjs";
+import { errorMessage } from "../output.mjs";
 import { readPageData, readPageModule } from "../page_parts.mjs";
 
 const end = exitAfterOutput("dap");
@@ -25,6 +26,6 @@ export function run(_, positionals) {
   checkArguments(positionals, []);
   explainAtTerminal("dap");
   process.stdin.on("error", () => process.exit(1));
-  serve().catch((fault) => end(1, fault instanceof Error ? fault.message : String(fault)));
+  serve().catch((fault) => end(1, errorMessage(fault)));
   return waitForExit();
 }

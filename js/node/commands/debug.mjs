@@ -31,19 +31,28 @@ async function runScript(prompt, position) {
   return hasRejected ? 1 : 0;
 }
 
+/**
+ * The terminal and the view of an interactive prompt. Both are null until `runInteractive` creates them.
+ * @type {{ terminal: TerminalPrompt | null, view: TerminalView | null }}
+ */
+const screen = { terminal: null, view: null };
+
 /** The functions by which the prompt controls the view. They forward each call, because the view is created later. */
-const viewCalls = { toggle: () => viewCalls.view.toggle(), turn: (isOn) => viewCalls.view.turn(isOn), view: null };
+const viewCalls = {
+  toggle: () => (screen.view ? screen.view.toggle() : ""),
+  turn: (/** @type {boolean} */ isOn) => (screen.view ? screen.view.turn(isOn) : ""),
+};
 
 /** Runs an interactive prompt. Ctrl-L and a resize redraw the view. Resolves to the exit status. */
-async function runInteractive(prompt, terminalHolder) {
+async function runInteractive(prompt) {
   const terminal = new TerminalPrompt(prompt, {
     output: process.stdout, onServed: () => view.draw(), onLeave: () => view.leave(), onReturn: () => view.redraw(),
   });
   const view = new TerminalView(prompt, process.stdout, process.env, () => {
     if (!prompt.machine.isMoving) terminal.show();
   });
-  terminalHolder.terminal = terminal;
-  viewCalls.view = view;
+  screen.terminal = terminal;
+  screen.view = view;
   process.stdout.on("resize", () => view.redraw());
   terminal.keys.on("keypress", (_, key) => {
     if (key && key.ctrl && key.name === "l") setImmediate(() => view.redraw());
@@ -61,11 +70,10 @@ async function debugFiles(names) {
   const data = readPageData();
   const debugging = await launch(engine, { ...names, cwd: process.cwd() }, host, new ErrorMessages(data.refusals));
   const position = { line: 0 };
-  const terminalHolder = { terminal: null };
   const prompt = new Prompt(debugging, data, {
     print: (words) => process.stdout.write(`${escapeControls(words)}\n`),
     complain: (words) => {
-      if (isInteractive) terminalHolder.terminal.complain(words);
+      if (screen.terminal) screen.terminal.complain(words);
       else process.stderr.write(`debug: line ${position.line}: ${escapeControls(words)}\n`);
     },
     pause: host.pause,
@@ -77,11 +85,11 @@ async function debugFiles(names) {
     },
     files: fileNames,
     source: () => (debugging.program === "" ? null : host.read(debugging.program)),
-    isInteractive: isInteractive,
+    isInteractive,
     view: isInteractive ? viewCalls : null,
   });
   try {
-    if (isInteractive) return await runInteractive(prompt, terminalHolder);
+    if (isInteractive) return await runInteractive(prompt);
     await prompt.begin();
     return await runScript(prompt, position);
   } finally {

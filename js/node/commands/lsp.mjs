@@ -4,6 +4,7 @@ import { LanguageServer } from "../../core/server/language_server.js";
 import { Engine } from "../../core/engine/engine.js";
 import { checkArguments, waitForExit } from "../arguments.mjs";
 import { exitAfterOutput, listenToInput, explainAtTerminal } from "../message_server.mjs";
+import { errorMessage } from "../output.mjs";
 import { readPageData, readPageModule } from "../page_parts.mjs";
 import { isInside, readUserText } from "../user_files.mjs";
 
@@ -36,6 +37,6 @@ export function run(_, positionals) {
   explainAtTerminal("lsp");
   process.stdout.on("error", () => process.exit(1));
   process.stdin.on("error", () => process.exit(1));
-  serve().catch((fault) => end(1, fault instanceof Error ? fault.message : String(fault)));
+  serve().catch((fault) => end(1, errorMessage(fault)));
   return waitForExit();
 }

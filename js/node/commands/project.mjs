@@ -5,7 +5,7 @@ import { MAX_PROJECT_BYTES, InvalidProject, projectText, readProject, tooLongMes
 import { PROJECT_FILE_NAMES, parseBreakpoints, splitProject, parseWatchLines } from "../../core/session/project_parts.js";
 import { newSession } from "../../core/testing/test_preparation.js";
 import * as say from "../../words/commands.js";
-import { checkArguments, findProject } from "../arguments.mjs";
+import { checkArguments, loadProject } from "../arguments.mjs";
 import { MAX_TEXT_BYTES } from "../input_texts.mjs";
 import { SESSION_BYTES } from "../native_engine.mjs";
 import { endOnSignals, rejectedTextsError, startEngine } from "../native_program.mjs";
@@ -80,7 +80,7 @@ async function textPaths(folder) {
     const [tests, properties] = LIST_KINDS.map((kind) => (existsSync(inFolder(PROJECT_FILE_NAMES[kind])) ? inFolder(PROJECT_FILE_NAMES[kind]) : ""));
     return { board: inFolder(PROJECT_FILE_NAMES.board), program: inFolder(PROJECT_FILE_NAMES.program), tests, properties };
   }
-  const project = await findProject(folder, [], 0);
+  const project = await loadProject(folder);
   for (const kind of LIST_KINDS) if (project[kind].length > 1) throw new CommandError(say.tooManyTexts(project.file, project[kind].length, kind));
   return { board: project.board, program: project.program, tests: project.tests[0] || "", properties: project.properties[0] || "" };
 }

@@ -11,7 +11,7 @@ import { VcdText } from "../../core/waves/vcd.js";
 import { createRecordedProgram } from "../../core/waves/wave_program.js";
 import { createWav } from "../../core/waves/wav.js";
 import * as say from "../../words/commands.js";
-import { parseCount, checkArguments, findProject } from "../arguments.mjs";
+import { parseCount, checkArguments, loadProject } from "../arguments.mjs";
 import { InputTexts } from "../input_texts.mjs";
 import { yieldToMessages, rejectedTextsError, openSession, readCheckedMap, startEngine } from "../native_program.mjs";
 import { CommandError, UsageError, print, printError } from "../output.mjs";
@@ -36,7 +36,7 @@ const WAV_HEADER = "RIFF";
  * @param {Values} values
  */
 async function resolveNames({ folder, board, names }) {
-  const project = folder === undefined ? null : await findProject(folder, [], 0);
+  const project = folder === undefined ? null : await loadProject(folder);
   return { board: board ?? (project ? project.board : undefined), program: names ?? (project ? project.program : undefined) };
 }
 
@@ -120,18 +120,24 @@ async function printVcd(openedSession, cycles, words) {
 }
 
 /**
- * Returns the line that drives the buzzer: `word` if it is given; otherwise the line that the front panel names.
+ * Returns the line that drives the buzzer of the front panel. Throws a CommandError if there is no such line.
+ * @param {OpenedSession} openedSession
+ */
+function panelBuzzerLine({ board, boardText, face: { buzzer } }) {
+  if (!boardText) throw new CommandError(say.NO_BUZZER_GIVEN);
+  if (!buzzer) throw new CommandError(say.noBuzzer(boardText.name));
+  if (hasOutput(board, buzzer.place)) return buzzer.place;
+  throw new CommandError(say.noOutputAt(boardText.name, buzzer.line + boardText.before, buzzer.place));
+}
+
+/**
+ * Returns the output line whose sound the user wants: `word` if it is given; otherwise the line that the front panel names.
  * @param {OpenedSession} openedSession
  * @param {string | undefined} word
  */
-function buzzerLine({ board, boardText, face: { buzzer } }, word) {
-  if (word === undefined && !boardText) throw new CommandError(say.NO_BUZZER_GIVEN);
-  if (word === undefined && !buzzer) throw new CommandError(say.noBuzzer(boardText.name));
-  if (word === undefined && !hasOutput(board, buzzer.place)) {
-    throw new CommandError(say.noOutputAt(boardText.name, buzzer.line + boardText.before, buzzer.place));
-  }
-  const name = word ?? buzzer.place;
-  const isOutput = /^(rom|ram|chain)[\d.]*\.\d+$/.test(name) && hasOutput(board, name);
+function buzzerLine(openedSession, word) {
+  const name = word ?? panelBuzzerLine(openedSession);
+  const isOutput = /^(rom|ram|chain)[\d.]*\.\d+$/.test(name) && hasOutput(openedSession.board, name);
   if (!isOutput) throw new CommandError(say.noOutputLine(name));
   return name;
 }
