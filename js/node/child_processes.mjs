@@ -17,6 +17,11 @@ const HAS_GROUPS = process.platform !== "win32";
  */
 const KILL_DELAYS = { command: 1000, tool: 10000 };
 
+/**
+ * The end of a child: its exit status, or the signal that ended it. `error` is a message if the child could not start, otherwise "".
+ * @typedef {{ status: number | null, signal: NodeJS.Signals | null, error: string }} ChildEnd
+ */
+
 /** @type {Map<number, { child: import("node:child_process").ChildProcess, hasGroup: boolean }>} the running children, by process id */
 const runningChildren = new Map();
 let isEnding = false;
@@ -39,20 +44,21 @@ function sendSignal(pid, signal) {
 }
 
 /**
- * Tracks a child until it ends. Resolves to its exit status, its signal, and an error message if the child could not start.
+ * Tracks a child until it ends.
  * @param {import("node:child_process").ChildProcess} child
- * @param {boolean} hasGroup
+ * @param {boolean} hasGroup true if the child has its own process group
+ * @returns {Promise<ChildEnd>}
  */
 function trackChild(child, hasGroup) {
   const { pid } = child;
   if (pid !== undefined) runningChildren.set(pid, { child, hasGroup });
   return new Promise((resolve) => {
-    const finish = (result) => {
+    const finish = (/** @type {ChildEnd} */ childEnd) => {
       if (pid !== undefined) runningChildren.delete(pid);
-      resolve(result);
+      resolve(childEnd);
     };
-    child.on("error", ({ message }) => finish({ status: null, signal: null, words: message }));
-    child.on("close", (status, signal) => finish({ status, signal, words: "" }));
+    child.on("error", ({ message }) => finish({ status: null, signal: null, error: message }));
+    child.on("close", (status, signal) => finish({ status, signal, error: "" }));
   });
 }
 
@@ -65,7 +71,7 @@ function trackChild(child, hasGroup) {
 export async function runCommand(command, words, input = "") {
   const env = { ...process.env, [IS_RUN_BY_COMMAND]: "1" };
   const child = processes().spawn(command, words, { detached: HAS_GROUPS, env, stdio: ["pipe", "pipe", "pipe"] });
-  const endResult = trackChild(child, true);
+  const endPromise = trackChild(child, true);
   const outputs = [child.stdout, child.stderr].map((stream) => {
     const output = { text: "" };
     stream.setEncoding("utf8");
@@ -77,9 +83,9 @@ export async function runCommand(command, words, input = "") {
   });
   child.stdin.on("error", () => {});
   child.stdin.end(input);
-  const { status, signal, words: startError } = await endResult;
+  const { status, signal, error } = await endPromise;
   if (isEnding) await waitForever();
-  return { status, signal, stdout: outputs[0].text, stderr: outputs[1].text || startError };
+  return { status, signal, stdout: outputs[0].text, stderr: outputs[1].text || error };
 }
 
 /**

@@ -7,6 +7,9 @@ const WIDTH = 79;
 const INDENT = "  ";
 const DEEP_INDENT = INDENT.repeat(3);
 
+/** @type {Record<string, import("../words/commands.js").CommandWords>} the help texts of the commands, by command name */
+export const HELP_TEXTS = say.COMMAND_WORDS;
+
 /** @type {(text: string, first?: string, otherIndent?: string) => string} */
 const foldText = (text, first = "", otherIndent = first) => wrapText(text, WIDTH, first, otherIndent);
 
@@ -44,10 +47,9 @@ export function mcs4Usage() {
  * @param {string} name
  */
 export function optionRows(name) {
-  /** @type {Record<string, string>} */
-  const words = say.COMMAND_WORDS[name].options;
+  const { options: descriptions } = HELP_TEXTS[name];
   const rows = Object.entries(COMMANDS[name].options).map(([option, { short, value }]) => (
-    [`${short ? `-${short}, ` : ""}--${option}${value ? ` ${value}` : ""}`, words[option]]));
+    [`${short ? `-${short}, ` : ""}--${option}${value ? ` ${value}` : ""}`, descriptions[option]]));
   return [...rows, ["-h, --help", say.HELP_OPTION]];
 }
 
@@ -62,7 +64,7 @@ const formatItems = (head, lines) => `${head}\n${lines.map((line) => foldText(li
  * @param {string} name
  */
 export function commandHelp(name) {
-  const { text, examples, status } = say.COMMAND_WORDS[name];
+  const { text, examples, status } = HELP_TEXTS[name];
   return `${[
     usageText(name),
     ...splitParagraphs(text).map((paragraph) => foldText(paragraph)),
@@ -74,7 +76,7 @@ export function commandHelp(name) {
 
 /** Returns the groups of commands: the title of each group, and its commands with their descriptions. */
 export function commandsByGroup() {
-  const commands = Object.entries(COMMANDS).map(([name, { group }]) => ({ name, group, does: say.COMMAND_WORDS[name].summary }));
+  const commands = Object.entries(COMMANDS).map(([name, { group }]) => ({ name, group, does: HELP_TEXTS[name].summary }));
   return Object.entries(say.GROUPS).map(([groupName, title]) => ({ title, commands: commands.filter(({ group }) => group === groupName) }));
 }
 

@@ -63,6 +63,7 @@ async function checkOption({ name, rawName, value, inlineValue }, options) {
  * @returns {Promise<{ values: Values, positionals: string[] }>}
  */
 async function parseCommandLine(command, words) {
+  /** @type {Command["options"]} */
   const options = { help: HELP_OPTION, ...command.options };
   const { values, positionals, tokens } = parseArgs({ args: words, options, strict: false, allowPositionals: true, tokens: true });
   const seenOptions = new Set();

@@ -3,7 +3,7 @@
 import { mkdirSync, writeFileSync } from "node:fs";
 import { join } from "node:path";
 import * as say from "../words/commands.js";
-import { commandsByGroup, usageLines, commandHelp, mcs4Help, optionRows, splitParagraphs } from "./command_help.mjs";
+import { HELP_TEXTS, commandsByGroup, usageLines, commandHelp, mcs4Help, optionRows, splitParagraphs } from "./command_help.mjs";
 import { COMMANDS } from "./commands/table.mjs";
 
 const ROFF_BOLD = "\\fB";
@@ -41,7 +41,7 @@ const statusRows = (lines) => lines.map((line) => [line.slice(0, 1), line.slice(
  * @param {string} name
  */
 function manualPage(name) {
-  const { summary, text, examples, status } = say.COMMAND_WORDS[name];
+  const { summary, text, examples, status } = HELP_TEXTS[name];
   const titles = say.MANUAL_SECTIONS;
   return [
     `.TH MCS4\\-${name.toUpperCase()} 1 "" Fethsaim "${say.MANUAL_TITLE}"`,
@@ -80,7 +80,7 @@ function mcs4ManualPage() {
 function listCompletions() {
   const commands = Object.entries(COMMANDS).map(([name, { options, usage }]) => ({
     name,
-    does: say.COMMAND_WORDS[name].summary,
+    does: HELP_TEXTS[name].summary,
     words: [...usage.map((form) => form.split(" ")[0]).filter((word) => /^[a-z]+$/.test(word)),
       ...Object.keys(options).map((option) => `--${option}`),
       "--help"],

@@ -11,18 +11,39 @@ import { isInside, readUserFile, readUserText, prepareReplacement } from "./user
 /** The maximum size of a session file in bytes. */
 const MAX_SESSION_BYTES = 1048576;
 
-/** A session file and the program that serves it. `replace` replaces the file atomically, so that the file is complete at every moment. */
+/** @typedef {import("../core/adapter/session_writer.js").OpenFile} OpenFile */
+
+/**
+ * A session file and the program that serves it.
+ * @implements {OpenFile}
+ */
 class SessionFile {
+  /**
+   * @param {string} name
+   * @param {import("./session_process.mjs").SessionProcess} program
+   */
   constructor(name, program) {
     this.name = name;
     this.program = program;
     this.bytes = new Uint8Array(readUserFile(name, MAX_SESSION_BYTES));
   }
 
+  /**
+   * Sends lines to the program. Resolves to the answer lines.
+   * @param {string} lines
+   * @param {number} count the number of answer lines
+   */
   ask(lines, count) {
     return this.program.ask(lines, count);
   }
 
+  /**
+   * Replaces the file atomically with a session that starts from `bytes` and executes `lines`. Does not change the file if `check` throws an error.
+   * @param {Uint8Array} bytes
+   * @param {string} lines
+   * @param {number} count the number of answer lines
+   * @param {(answers: string[]) => void} check
+   */
   async replace(bytes, lines, count, check) {
     const { name, program: oldProgram } = this;
     const replacement = prepareReplacement(name, bytes);
@@ -49,13 +70,20 @@ class SessionFile {
 /** @type {(name: string) => string} converts a path to forward slashes, which the debugger expects and Windows accepts */
 const toSlashes = (name) => (sep === "/" ? name : name.split(sep).join("/"));
 
+/**
+ * Makes the renamed files of a folder durable.
+ * @param {string} name
+ */
 function syncFolder(name) {
   const folder = openSync(name, "r");
   fsyncSync(folder);
   closeSync(folder);
 }
 
-/** Starts the native program on a session file. If another process holds the file's lock, the error names that process. */
+/**
+ * Starts the native program on a session file. If another process holds the file's lock, the error names that process.
+ * @param {string} name
+ */
 async function openSessionFile(name) {
   try {
     return await openProgram("open", name);
@@ -65,7 +93,7 @@ async function openSessionFile(name) {
   }
 }
 
-/** The host functions of the debugger, as js/core/adapter/session_launch.js describes them. */
+/** @type {import("../core/adapter/session_launch.js").Host} */
 export const host = {
   nameOf: (name, folder) => {
     const path = isAbsolute(name) ? name : resolve(folder || ".", name);

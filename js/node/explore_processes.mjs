@@ -17,6 +17,8 @@ import { readPageModule } from "./page_parts.mjs";
 import { readUserText, writeUserFile } from "./user_files.mjs";
 
 /**
+ * @typedef {import("../core/explore/campaign.js").Campaign} Campaign
+ * @typedef {import("../core/explore/report.js").Report} Report
  * @typedef {import("./input_texts.mjs").GivenText} GivenText
  *
  * The settings of a search. `seconds` is its duration, `jobs` the number of processes, and `seed` the seed of its random numbers. `allowsModel` is
@@ -39,7 +41,7 @@ let isStopped = false;
 /**
  * Returns the text of the tests that save the start state of a campaign; "" if the campaign has no start state. If the campaign names no
  * test file, reads the `.test` file next to the properties file.
- * @param {{ from: { file: string, line: number, state: string } | null }} campaign
+ * @param {Campaign} campaign
  * @param {string} name the name of the properties file
  */
 function readStartTests({ from }, name) {
@@ -54,7 +56,9 @@ function readStartTests({ from }, name) {
 
 /**
  * Asks a model about key sequences. The model is a shell command that reads a line for each sequence and prints what the display must show.
- * Resolves to the printed lines (`shown`) and an error message (`fault`; "" for none).
+ * @param {string} command
+ * @param {string[]} keySequences
+ * @returns {Promise<import("../core/explore/model.js").ModelOutput>}
  */
 async function askModel(command, keySequences) {
   const { status, stdout, stderr, signal } = await runCommand("sh", ["-c", command], `${keySequences.join("\n")}\n`);
@@ -95,14 +99,20 @@ class Exploration {
     return { ...preparation, texts: [board.text, program.text, properties.text, testText] };
   }
 
-  /** Prints the command of a model before it runs for the first time. */
+  /**
+   * Prints the command of a model before the command runs for the first time.
+   * @param {Campaign} campaign
+   */
   announceModel({ command, properties }) {
-    if (command === "" || !this.settings.allowsModel) return;
-    const { line } = properties.find(({ form }) => form === "model");
-    printError(`# ${say.runsModelCommand(this.names.properties, line, command)}\n`);
+    const model = properties.find(({ form }) => form === "model");
+    if (model && this.settings.allowsModel) printError(`# ${say.runsModelCommand(this.names.properties, model.line, command)}\n`);
   }
 
-  /** Resolves to true if `mcs4 test` confirms the test for a counterexample. Repeats the run once if Ctrl-C stopped it. */
+  /**
+   * Resolves to true if `mcs4 test` confirms the test for a counterexample. Repeats the run once if Ctrl-C stopped it.
+   * @param {string} test
+   * @param {boolean} isGoal
+   */
   async confirm(test, isGoal) {
     const name = join(this.settings.folder, `find.${process.pid}.test`);
     writeFileSync(name, test);
@@ -113,10 +123,15 @@ class Exploration {
     return false;
   }
 
-  /** Runs one search, with the seed in the settings. Resolves to the report. */
+  /**
+   * Runs one search, with the seed in the settings. Resolves to the report.
+   * @param {Awaited<ReturnType<Exploration["readTexts"]>>} search
+   * @returns {Promise<Report>}
+   */
   async search({ subject, campaign, texts }) {
     const { settings: { seconds, seed, allowsModel }, names } = this;
-    const model = allowsModel ? (keySequences) => askModel(campaign.command, keySequences) : null;
+    const model = allowsModel ? (/** @type {string[]} */ keySequences) => askModel(campaign.command, keySequences) : null;
+    /** @type {import("../core/explore/campaign_run.js").ConfirmTest} */
     const confirm = (test, isGoal) => this.confirm(test, isGoal);
     const run = new CampaignRun(subject, campaign, seed, confirm, minimisingCycleLimit(seconds), model, yieldToMessages, initialProofTime(seconds));
     const startUsage = process.cpuUsage();
@@ -133,12 +148,19 @@ class Exploration {
     return run.report({ names, sums, seconds: (user + system) / 1e6, isStopped });
   }
 
-  /** Prints a counterexample to standard error. */
+  /**
+   * Prints a counterexample to standard error.
+   * @param {import("../core/explore/properties.js").Property} property
+   * @param {import("../core/explore/report.js").Counterexample} counterexample
+   */
   printCounterexample(property, { steps }) {
     printError(`# ${say.foundLine(propertyLocation(property, { names: this.names }), property.text, property.isGoal, formatSteps(steps))}\n`);
   }
 
-  /** Runs one search in another process. Resolves to its exit status and the file name of its report. */
+  /**
+   * Runs one search in another process. Resolves to the exit status of the process and the file name of its report.
+   * @param {number} seed
+   */
   async runJob(seed) {
     const { settings } = this;
     const report = join(settings.folder, `report.${seed}`);
@@ -162,7 +184,11 @@ class Exploration {
   }
 }
 
-/** Returns the report of another search. Throws an error if the file is not a report. */
+/**
+ * Reads the report of another search. Throws an error if the file is not a report.
+ * @param {string} name
+ * @returns {Report}
+ */
 function readReport(name) {
   const text = readUserText(name, MAX_REPORT_BYTES);
   try {
@@ -203,7 +229,10 @@ export async function exploreTexts(settings) {
   return (await startExploration(settings)).searchAll();
 }
 
-/** Returns the settings of this process if it is a job of another process, otherwise null. */
+/**
+ * Returns the settings of this process if it is a job of another process, otherwise null.
+ * @returns {Settings & { report: string } | null}
+ */
 export function jobSettings() {
   const name = process.env[JOB_VARIABLE];
   return name ? JSON.parse(readUserText(name, 2 * MAX_REPORT_BYTES)) : null;

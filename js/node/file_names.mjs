@@ -7,7 +7,10 @@ import { escapeControls } from "../core/text/control_escapes.js";
 /** The maximum number of completions. */
 const MAX_NAMES = 1000;
 
-/** Replaces a leading `~` in a path with the home folder. */
+/**
+ * Replaces a leading `~` in a path with the home folder.
+ * @param {string} name
+ */
 export function expandTilde(name) {
   return name === "~" || name.startsWith("~/") ? homedir() + name.slice(1) : name;
 }
@@ -31,7 +34,8 @@ export function fileNames(begin) {
   const [folder, name] = [begin.slice(0, nameStart), begin.slice(nameStart)];
   const folderPath = expandTilde(folder) || ".";
   try {
-    const isMatching = (file) => file.startsWith(name) && (name.startsWith(".") || !file.startsWith(".")) && escapeControls(file) === file;
+    const isMatching = (/** @type {string} */ file) => (
+      file.startsWith(name) && (name.startsWith(".") || !file.startsWith(".")) && escapeControls(file) === file);
     return readdirSync(folderPath).filter(isMatching).sort().slice(0, MAX_NAMES)
       .map((file) => `${folder}${file}${isFolder(join(folderPath, file)) ? "/" : ""}`);
   } catch {

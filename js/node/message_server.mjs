@@ -42,13 +42,15 @@ export function listenToInput(connection, onEnd) {
   let partCount = 0;
   /** @type {NodeJS.Timeout | undefined} */
   let timer;
-  const end = (words) => {
+  const end = (/** @type {string} */ words) => {
     clearTimeout(timer);
     if (!hasEnded) onEnd(words);
     hasEnded = true;
   };
   // If this process was suspended or busy, the rest of the message may be in the pipe. setImmediate lets Node read it first.
-  const rejectIncomplete = (earlierCount) => setImmediate(() => earlierCount === partCount && !hasEnded && end(connection.reportIncomplete()));
+  const rejectIncomplete = (/** @type {number} */ earlierCount) => setImmediate(() => {
+    if (earlierCount === partCount && !hasEnded) end(connection.reportIncomplete());
+  });
   process.stdin.on("data", (bytes) => {
     if (hasEnded) return;
     clearTimeout(timer);

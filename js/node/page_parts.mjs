@@ -4,18 +4,26 @@ import { inflateRawSync } from "node:zlib";
 
 const PAGE = new URL("../../page/fethsaim.html", import.meta.url);
 
-/** Returns the text of a script element of the page, by its id. */
+/**
+ * Returns the text of a script element of the page.
+ * @param {string} id
+ */
 function readPagePart(id) {
   const match = new RegExp(`<script type="[a-z/]+" id="${id}">([^<]*)<`).exec(readFileSync(PAGE, "utf8"));
   if (!match) throw new Error("page/fethsaim.html is not the page of the bench");
   return match[1];
 }
 
-/** Returns the decompressed bytes of a script element of the page, by its id. */
+/** @type {(id: string) => Buffer} returns the decompressed bytes of a script element of the page */
 const unpackedPart = (id) => inflateRawSync(Buffer.from(readPagePart(id), "base64"));
 
 /** Returns the bytes of the proved module. */
 export const readPageModule = () => unpackedPart("module");
 
-/** Returns the page's data: the messages of refusals, the manual and the examples. */
+/**
+ * The page's data: the messages of refusals by their numbers, and the sections of the manual.
+ * @typedef {{ refusals: Record<string, string>, manual: import("../core/help/manual.js").ManualSection[] }} PageData
+ */
+
+/** @type {() => PageData} */
 export const readPageData = () => JSON.parse(unpackedPart("data").toString());

@@ -22,11 +22,11 @@ const INVERSE_SEQUENCE = "\x1b[7m";
 const MIN_SIZE_TEXT = say.columnsByRows(MIN_SIZE.columns, MIN_SIZE.rows);
 /** The minimum colour depth of a terminal, in bits, for 256 colours and for 8 colours. */
 const MIN_BITS = { colours256: 8, colours8: 4 };
-/** The codes of each lamp colour on a terminal with 256 colours, for three levels of brightness: dim, half and full. */
+/** @type {Record<string, number[]>} the codes of each lamp colour on a terminal with 256 colours, for three levels of brightness: dim, half, full */
 const COLOURS_OF_256 = {
   red: [88, 160, 196], amber: [94, 172, 214], yellow: [100, 184, 226], green: [22, 34, 46], blue: [19, 27, 33], white: [240, 248, 231],
 };
-/** The code of each lamp colour on a terminal with 8 colours. Amber has the code of yellow, without the brightest level. */
+/** @type {Record<string, number>} the code of each lamp colour on a terminal with 8 colours; amber is yellow without its brightest level */
 const COLOURS_OF_8 = { red: 31, amber: 33, yellow: 33, green: 32, blue: 34, white: 37 };
 
 /** @type {(colour: string, level: number) => string} */

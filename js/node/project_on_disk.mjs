@@ -6,7 +6,11 @@ import { PROJECT_FILE } from "../core/project/project_toml.js";
 import { leadsOut } from "../words/server.js";
 import { MAX_USER_TEXT, isInside, readUserFile, statInput } from "./user_files.mjs";
 
-/** Returns an error message if a path does not name a file in a folder, otherwise "". */
+/**
+ * Returns an error message if a path does not name a file in a folder, otherwise "".
+ * @param {string} folder
+ * @param {string} path the path of the file, relative to the folder
+ */
 export function pathError(folder, path) {
   const fullPath = join(folder, path);
   if (!existsSync(fullPath)) return `there is no file ${path}`;
@@ -16,14 +20,17 @@ export function pathError(folder, path) {
 
 /** @typedef {ReturnType<typeof projectIn>} DiskProject */
 
-/** Returns the project in a folder. The paths in the result are relative to the current folder. Throws a ProjectError with file, line and message. */
+/**
+ * Returns the project in a folder. The paths in the result are relative to the current folder. Throws a ProjectError with file, line and message.
+ * @param {string} folder
+ */
 export function projectIn(folder) {
   const file = join(folder, PROJECT_FILE);
   const stat = statInput(file);
   if (!stat) throw new ProjectError(file, "there is no such file; it names the files of a project");
   if (!stat.isFile()) throw new ProjectError(file, "it is not a file");
   const project = readProject(readUserFile(file, MAX_USER_TEXT), (path) => pathError(folder, path), file);
-  const inFolder = (path) => join(folder, path);
+  const inFolder = (/** @type {string} */ path) => join(folder, path);
   return {
     ...project,
     folder,

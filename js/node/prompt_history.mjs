@@ -24,7 +24,10 @@ const OWNER_ONLY_MODE = 0o600;
 const OTHERS_ACCESS_BITS = 0o077;
 const APPEND_FLAGS = constants.O_RDWR | constants.O_APPEND | constants.O_CREAT | constants.O_NONBLOCK | constants.O_NOCTTY;
 
-/** Returns the path of the history file, or "" if the environment names no home folder. */
+/**
+ * Returns the path of the history file, or "" if the environment names no home folder.
+ * @param {Record<string, string | undefined>} env
+ */
 function historyPath({ XDG_STATE_HOME = "", HOME = "" }) {
   if (isAbsolute(XDG_STATE_HOME)) return join(XDG_STATE_HOME, "mcs4/history");
   return isAbsolute(HOME) ? join(HOME, ".local/state/mcs4/history") : "";
@@ -37,8 +40,9 @@ function historyPath({ XDG_STATE_HOME = "", HOME = "" }) {
 const belongsToUser = ({ uid }) => process.getuid !== undefined && uid === process.getuid();
 
 /**
- * Creates a missing folder and its parents. Throws an error if the existing parent belongs to another user, so that root leaves no files in other
- * home folders.
+ * Creates a missing folder and its missing parents. Throws an error if the innermost existing folder belongs to another user, so that root leaves no
+ * files in other home folders.
+ * @param {string} folder
  */
 function makeFolder(folder) {
   const missingFolders = [];
@@ -47,7 +51,10 @@ function makeFolder(folder) {
   for (const name of missingFolders) mkdirSync(name, 0o700);
 }
 
-/** Opens the file, which must be a regular file that belongs to the user. Removes the access rights of other users. */
+/**
+ * Opens the history file, which must be a regular file that belongs to the user. Removes the access rights of other users.
+ * @param {string} name
+ */
 function openFile(name) {
   const file = openSync(name, APPEND_FLAGS, OWNER_ONLY_MODE);
   const stat = fstatSync(file);
@@ -59,20 +66,31 @@ function openFile(name) {
   return file;
 }
 
-/** Reads an open file from an offset to the end. */
+/**
+ * Reads an open file from an offset to the end.
+ * @param {number} file
+ * @param {number} first the offset
+ */
 function readTail(file, first) {
   const bytes = Buffer.alloc(Math.max(0, fstatSync(file).size - first));
   return bytes.subarray(0, readSync(file, bytes, 0, bytes.length, first));
 }
 
-/** Returns the last complete lines that fit into `maxBytes` bytes. */
+/**
+ * Returns the last complete lines that fit into `maxBytes` bytes.
+ * @param {Buffer} bytes
+ * @param {number} maxBytes
+ */
 function lastCompleteLines(bytes, maxBytes) {
   if (bytes.length <= maxBytes) return bytes;
   const tail = bytes.subarray(bytes.length - maxBytes);
   return tail.subarray(tail.indexOf("\n") + 1);
 }
 
-/** Acquires the lock. Returns false if it cannot be acquired in time. */
+/**
+ * Acquires the lock. Returns false if it cannot be acquired in time.
+ * @param {string} lock the path of the lock file
+ */
 function acquireLock(lock) {
   for (let waitedTime = 0; waitedTime < LOCK_TIMEOUT; waitedTime += RETRY_INTERVAL) {
     try {
@@ -88,19 +106,23 @@ function acquireLock(lock) {
   return false;
 }
 
-/** Shortens a file that is too long, keeping its last lines. */
+/**
+ * Shortens a file that is too long, keeping its last lines.
+ * @param {string} name
+ * @param {number} file the open file
+ */
 function shortenFile(name, file) {
   if (fstatSync(file).size > MAX_BYTES) prepareReplacement(name, lastCompleteLines(readTail(file, 0), SHORTENED_BYTES)).replaceTarget();
 }
 
-/** Returns true if a terminal can show a line unchanged. The file can contain other lines if the user has edited it. */
+/** @type {(line: string) => boolean} true if a terminal can show a line unchanged; the user may have added other lines to the file */
 const isPrintable = (line) => line !== "" && escapeControls(line) === line;
 
 export class PromptHistory {
   /** @param {Record<string, string | undefined>} env */
   constructor(env) {
     this.name = historyPath(env);
-    /** The lines of the file when the prompt started, newest first. */
+    /** @type {string[]} the lines of the file when the prompt started, newest first */
     this.lines = [];
     /** The last line that was added. */
     this.lastLine = "";
@@ -111,7 +133,10 @@ export class PromptHistory {
     });
   }
 
-  /** Calls `operation` with the open file, and holds the lock during the call if possible. After an error, does not use the file again. */
+  /**
+   * Calls `operation` with the open file, and holds the lock during the call if possible. After an error, does not use the file again.
+   * @param {(file: number, isLocked: boolean) => void} operation
+   */
   withFile(operation) {
     if (this.name === "") return;
     const lock = `${this.name}.lock`;
@@ -132,7 +157,10 @@ export class PromptHistory {
     }
   }
 
-  /** Adds a line, unless it is blank, too long, or equal to the last line. */
+  /**
+   * Adds a line, unless it is blank, too long, or equal to the last line.
+   * @param {string} line
+   */
   add(line) {
     if (line.trim() === "" || line === this.lastLine || line.length > MAX_LINE_LENGTH) return;
     this.lastLine = line;

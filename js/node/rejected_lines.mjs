@@ -11,7 +11,7 @@ import { MAX_SHOWN_LENGTH, NO_FORM, RejectedTexts, spellingHint, describeRefusal
  * @typedef {import("../core/bench/script_answers.js").AnsweredInput} AnsweredInput
  */
 
-/** The kinds of texts in a script, by the command or query that precedes the text. */
+/** @type {Record<string, "board" | "program">} the kinds of texts in a script, by the command or query that precedes the text */
 const TEXT_KINDS = { wire: "board", wiring: "board", asm: "program", map: "program", errors: "program" };
 
 /** @type {(line: string) => string} describes the first invalid character in a line; "" if there is none */
@@ -34,6 +34,7 @@ export class RejectedLines {
     this.describeAddress = describeAddress;
     /**
      * The text of the current board; "" for none. The value is null if the text is unknown because the board was wired before the script.
+     * @type {string | null}
      */
     this.boardText = null;
   }

@@ -48,7 +48,10 @@ function readManual() {
   return { tables, instructions };
 }
 
-/** Returns the meaning of a refusal, given by its number. */
+/**
+ * Returns the meaning of a refusal.
+ * @param {number} number
+ */
 export function describeRefusal(number) {
   if (!errorMessages) {
     const rows = readFileSync(new URL("../../tools/lib/refusals.txt", import.meta.url), "utf8").split("\n");

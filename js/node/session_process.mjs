@@ -51,7 +51,7 @@ export class SessionProcess {
     this.child.stdin.on("error", () => {});
     /** @type {Promise<void>} */
     this.endPromise = new Promise((resolve) => {
-      const finish = (words) => {
+      const finish = (/** @type {string} */ words) => {
         this.hasEnded = true;
         this.words += words;
         this.wake();

@@ -15,8 +15,10 @@ import { TerminalPrompt } from "./terminal_prompt.mjs";
  * Returns the callbacks of the prompt for a program and a terminal.
  * @param {SessionProcess} program
  * @param {{ print: (words: string) => void, complain: (words: string) => void }} terminal
+ * @returns {import("../core/prompt/bench_prompt.js").SessionPromptCalls}
  */
 function makePromptCalls(program, terminal) {
+  /** @type {import("./page_parts.mjs").PageData | null} */
   let data = null;
   const manual = () => {
     if (!data) data = readPageData();
@@ -32,6 +34,7 @@ function makePromptCalls(program, terminal) {
       return firstLine;
     },
     ask: async (line) => {
+      /** @type {string[]} */
       const lines = [];
       await program.serve(`${line}\n`, (answerLine) => lines.push(answerLine));
       return lines;
@@ -49,7 +52,11 @@ function makePromptCalls(program, terminal) {
   };
 }
 
-/** Ends the program: sends it the rest of the input, waits for its end, and prints its last answers. */
+/**
+ * Ends the program: sends it the rest of the input, waits for its end, and prints its last answers.
+ * @param {SessionProcess} program
+ * @param {string} unservedInput
+ */
 async function endProgram(program, unservedInput) {
   program.child.stdin.write(unservedInput);
   await program.end();
@@ -69,8 +76,10 @@ export async function servePrompt(word, name) {
     const [firstLine] = await program.readLines(1);
     print(`${firstLine}\n`);
     if (firstLine.startsWith("session ")) {
-      const terminalCalls = { print: (words) => terminal.print(words), complain: (words) => terminal.complain(words) };
-      const prompt = new SessionPrompt(makePromptCalls(program, terminalCalls));
+      const prompt = new SessionPrompt(makePromptCalls(program, {
+        print: (words) => terminal.print(words), complain: (words) => terminal.complain(words),
+      }));
+      /** @type {TerminalPrompt} */
       const terminal = new TerminalPrompt(prompt, { output: process.stderr });
       terminal.print(BEGINNING);
       signalStatus = await terminal.run();

@@ -44,12 +44,16 @@ const MIN_WIDTH = 20;
 class KeyStream extends PassThrough {
   isTTY = true;
 
+  /** @param {boolean} isRaw */
   setRawMode(isRaw) {
     process.stdin.setRawMode(isRaw);
   }
 }
 
-/** Replaces control characters in pasted text with U+FFFD, so that they cannot move the cursor. The bench rejects a line with U+FFFD. */
+/**
+ * Replaces control characters in pasted text with U+FFFD, so that they cannot move the cursor. The bench rejects a line with U+FFFD.
+ * @param {string} text
+ */
 function replaceControlCharacters(text) {
   // eslint-disable-next-line no-control-regex
   return text.replace(/[\x00-\x08\x0b-\x1f\x7f-\x9f]/g, "\ufffd");
@@ -67,7 +71,7 @@ export class TerminalPrompt {
     this.isDumb = isDumb(process.env);
     this.paint = makePainter(process.env);
     this.history = new PromptHistory(process.env);
-    /** The pieces of input that wait for handling. */
+    /** @type {string[]} the pieces of input that wait for handling */
     this.waitingInput = [];
     /** True during the execution or completion of a line, and before the first prompt. */
     this.isBusy = true;
@@ -100,7 +104,10 @@ export class TerminalPrompt {
     this.output.write(`${wrapMessage(escapeControls(words), this.width)}\n`);
   }
 
-  /** Prints an error message in red. Quoted lines are not coloured. */
+  /**
+   * Prints an error message in red. Quoted lines are not coloured.
+   * @param {string} words
+   */
   complain(words) {
     const lines = wrapMessage(escapeControls(words), this.width).split("\n");
     const paint = this.paint(RED);
@@ -155,6 +162,7 @@ export class TerminalPrompt {
     this.terminal.prompt(true);
   }
 
+  /** @param {string} line */
   async serveLine(line) {
     this.isBusy = true;
     this.history.add(line);
@@ -169,7 +177,10 @@ export class TerminalPrompt {
     else if (!this.hasEnded) this.showNextPrompt();
   }
 
-  /** Ends the prompt after an unexpected error. The promise of `run` then rejects with this error. */
+  /**
+   * Ends the prompt after an unexpected error. The promise of `run` then rejects with this error.
+   * @param {unknown} error
+   */
   endWithError(error) {
     const resolve = this.resolveEnd;
     this.resolveEnd = () => resolve(Promise.reject(error));
@@ -200,6 +211,7 @@ export class TerminalPrompt {
   /**
    * Handles input from the terminal. If Ctrl-C arrives during the execution of a line, stops the line and discards the input before the
    * key.
+   * @param {string} text
    */
   handleInput(text) {
     const stopIndex = this.isBusy && !this.isDumb && !this.isPasting ? text.lastIndexOf(CTRL_C) : -1;
@@ -227,7 +239,10 @@ export class TerminalPrompt {
     if (this.hasInputEnded && !this.isBusy && !this.hasEnded) this.end();
   }
 
-  /** Handles one piece of input: a paste mark, or characters up to the end of a line. Returns the remaining input. */
+  /**
+   * Handles one piece of input: a paste mark, or characters up to the end of a line. Returns the remaining input.
+   * @param {string} text
+   */
   handlePiece(text) {
     const pasteMark = this.isPasting ? PASTE_SEQUENCES.ends : PASTE_SEQUENCES.begins;
     if (text.startsWith(pasteMark)) {
@@ -242,15 +257,24 @@ export class TerminalPrompt {
     return text.slice(piece.length);
   }
 
-  /** Inserts pasted characters into the line. None of them acts as a key. */
+  /**
+   * Inserts pasted characters into the line. None of them acts as a key.
+   * @param {string} piece
+   */
   paste(piece) {
     const text = piece.replace(/[\r\n]+$/, "");
     if (text !== "") this.terminal.write(replaceControlCharacters(text));
     if (text.length < piece.length) this.terminal.write(null, { name: "return" });
   }
 
+  /**
+   * Completes a line.
+   * @param {string} line
+   * @param {(error: null, completions: [string[], string]) => void} callback
+   */
   async complete(line, callback) {
     this.isBusy = true;
+    /** @type {[string[], string]} */
     let completions = [[], line];
     try {
       completions = await this.prompt.complete(line);

@@ -10,7 +10,13 @@ const YELLOW = 33;
 const NO_ROOM_MESSAGE = `the view needs a terminal of ${MIN_COLUMNS} columns and ${MIN_ROWS} rows at least`;
 
 export class TerminalView {
-  /** Creates a hidden view. The callback `showPrompt` shows the prompt again at the cursor. */
+  /**
+   * Creates a hidden view.
+   * @param {import("../core/prompt/debugger_prompt.js").Prompt} prompt
+   * @param {import("node:tty").WriteStream} output
+   * @param {Record<string, string | undefined>} env
+   * @param {() => void} showPrompt shows the prompt again at the cursor
+   */
   constructor(prompt, output, env, showPrompt) {
     this.view = new View(prompt);
     this.output = output;
@@ -24,10 +30,14 @@ export class TerminalView {
   }
 
   get size() {
-    return viewSize(this.output.rows, this.output.columns);
+    const { rows = 0, columns = 0 } = this.output;
+    return viewSize(rows, columns);
   }
 
-  /** Shows or hides the view. Returns the reason why it cannot be shown, or "". */
+  /**
+   * Shows or hides the view. Returns the reason why the view cannot be shown, or "".
+   * @param {boolean} isOn
+   */
   turn(isOn) {
     if (isOn === this.isOn) return "";
     if (isOn && !this.size) return NO_ROOM_MESSAGE;

@@ -50,7 +50,7 @@ export async function runTestCommand({ Counting, checkNames = () => {}, outcome:
   const program = texts.text(programName, "asm");
   const sources = names.map((fileName) => texts.source(fileName));
   const engine = await startEngine();
-  const printOutcome = (outcome, number, total) => {
+  const printOutcome = (/** @type {Outcome} */ outcome, /** @type {number} */ number, /** @type {number} */ total) => {
     printError(failureLine(outcome));
     print(formatOutcome(outcome, number, total));
   };

@@ -382,6 +382,7 @@ export function writeNewFiles(folder, files, names) {
   const existingPath = withFolderError(() => names.map((name) => join(folder, name)).find((name) => lstatSync(name, { throwIfNoEntry: false })));
   if (existingPath) throw new UserFileError(say.alreadyExists(existingPath));
   const madeFolders = withFileError(`cannot make ${folder}`, () => makeFolder(folder));
+  /** @type {Replacement[]} */
   const replacements = [];
   try {
     for (const { name, content } of files) replacements.push(prepareReplacement(join(folder, name), content));

@@ -6,7 +6,7 @@ import { didYouMean } from "./text.js";
 /**
  * The help of a command: a short summary, its text, its options by their long names, examples with their effects, and the meaning of each
  * exit status. Blank lines in the text separate paragraphs; other line breaks are ignored.
- * @typedef {{ summary: string, text: string, options: Record<string, string>, examples: [string, string][],
+ * @typedef {{ summary: string, text: string, options: Record<string, string>, examples: string[][],
  *   status: string[] }} CommandWords
  */
 

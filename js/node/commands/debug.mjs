@@ -18,9 +18,18 @@ import { TerminalView } from "../terminal_view.mjs";
 import { SAVED_HEAD } from "../../words/prompt.js";
 import { NOT_A_BREAKPOINTS_FILE, noSessionToDebug } from "../../words/commands.js";
 
+/**
+ * The file names of board, program and session; undefined for none.
+ * @typedef {{ board?: string, program?: string, session?: string }} DebuggedNames
+ */
+
 const isInteractive = process.stdin.isTTY === true && process.stdout.isTTY === true;
 
-/** Runs commands from standard input. Counts their lines in `position`. Resolves to the exit status, which is 1 if a command was rejected. */
+/**
+ * Runs commands from standard input. Resolves to the exit status, which is 1 if a command was rejected.
+ * @param {Prompt} prompt
+ * @param {{ line: number }} position the number of the current line, which this function updates
+ */
 async function runScript(prompt, position) {
   let hasRejected = false;
   for await (const line of createInterface({ input: process.stdin, crlfDelay: Infinity })) {
@@ -43,7 +52,10 @@ const viewCalls = {
   turn: (/** @type {boolean} */ isOn) => (screen.view ? screen.view.turn(isOn) : ""),
 };
 
-/** Runs an interactive prompt. Ctrl-L and a resize redraw the view. Resolves to the exit status. */
+/**
+ * Runs an interactive prompt. Ctrl-L and a resize redraw the view. Resolves to the exit status.
+ * @param {Prompt} prompt
+ */
 async function runInteractive(prompt) {
   const terminal = new TerminalPrompt(prompt, {
     output: process.stdout, onServed: () => view.draw(), onLeave: () => view.leave(), onReturn: () => view.redraw(),
@@ -64,7 +76,10 @@ async function runInteractive(prompt) {
   return status;
 }
 
-/** Debugs a board, a program and a session, given by their file names (undefined for none). Resolves to the exit status. */
+/**
+ * Debugs a board, a program and a session. Resolves to the exit status.
+ * @param {DebuggedNames} names
+ */
 async function debugFiles(names) {
   const engine = await Engine.load(readPageModule());
   const data = readPageData();
@@ -80,7 +95,7 @@ async function debugFiles(names) {
     read: (name) => readDecodedFile(expandTilde(name), MAX_TEXT_BYTES).text,
     write: (name, text) => {
       const file = expandTilde(name);
-      checkOutputFile(file, SAVED_HEAD, NOT_A_BREAKPOINTS_FILE, [names.board, names.program, names.session].filter(Boolean));
+      checkOutputFile(file, SAVED_HEAD, NOT_A_BREAKPOINTS_FILE, [names.board, names.program, names.session].flatMap((each) => each ?? []));
       writeUserFile(file, text);
     },
     files: fileNames,
@@ -97,7 +112,12 @@ async function debugFiles(names) {
   }
 }
 
-/** Resolves to the file names of board, program and session, from the arguments or from the project. */
+/**
+ * Resolves to the file names from the arguments or from the project.
+ * @param {string | undefined} folder
+ * @param {string[]} words
+ * @returns {Promise<DebuggedNames>}
+ */
 async function resolveNames(folder, words) {
   if (words.length > 1 && folder !== undefined) checkArguments(words, [], 1);
   const project = await findProject(folder, words, 2);

@@ -10,7 +10,10 @@ import { isInside, readUserText } from "../user_files.mjs";
 
 const end = exitAfterOutput("lsp");
 
-/** Returns the contents of a file, or null if the file cannot be read or is outside its project's folder. `folder` is "" without a project. */
+/**
+ * Returns the text of a file. Returns null if the file cannot be read, or is outside the folder of its project.
+ * @type {import("../../core/server/text_kinds.js").ReadText}
+ */
 function readFile(uri, folder) {
   try {
     const address = new URL(uri);

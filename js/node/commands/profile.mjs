@@ -6,6 +6,9 @@ import { runTestsOrSession } from "../test_commands.mjs";
 
 /** @type {import("./table.mjs").CommandModule["run"]} */
 export function run({ folder, session }, positionals) {
-  const report = ({ profile }) => print(profileText(profile));
-  return runTestsOrSession({ name: "profile", Counting: ExecutionRecorder, report }, { folder, session }, positionals);
+  return runTestsOrSession({
+    name: "profile",
+    Counting: ExecutionRecorder,
+    report: ({ profile }) => print(profileText(profile)),
+  }, { folder, session }, positionals);
 }

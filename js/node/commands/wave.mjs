@@ -90,7 +90,11 @@ function convertLineErrors(choose) {
   }
 }
 
-/** @param {import("../../core/waves/wave_recording.js").Waves} waves */
+/**
+ * Prints a message if the program stopped before the recording was complete.
+ * @param {import("../../core/waves/wave_recording.js").Waves} waves
+ * @param {number} wantedCycles the length of a complete recording
+ */
 function reportStop({ isStuck, cycles }, wantedCycles) {
   if (isStuck && cycles < wantedCycles) printError(`wave: ${say.stoppedAtCode(cycles)}\n`);
 }
