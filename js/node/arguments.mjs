@@ -64,7 +64,7 @@ export async function findProject(folder, words, neededCount) {
  * @param {import("./project_on_disk.mjs").DiskProject} project
  * @param {"tests" | "properties"} kind
  */
-export function projectFiles(project, kind) {
+export function requireProjectFiles(project, kind) {
   if (project[kind].length === 0) throw new CommandError(say.projectLacks(project.file, kind));
   return project[kind];
 }
@@ -78,7 +78,7 @@ export async function resolveFileNames(folder, words) {
   const project = await findProject(folder, words, 3);
   if (!project) return words;
   if (words.length > 0) return [project.board, project.program, ...words];
-  const properties = projectFiles(project, "properties");
+  const properties = requireProjectFiles(project, "properties");
   if (properties.length > 1) throw new CommandError(say.nameOneFile(project.file, properties));
   return [project.board, project.program, ...properties];
 }

@@ -4,7 +4,7 @@ import { Face } from "../core/board/face.js";
 import { findNameErrors, wireBoard } from "../core/testing/test_preparation.js";
 import { pressLines } from "../core/testing/press_lines.js";
 import { keysWithoutNames, noKeyOnBoard } from "../words/commands.js";
-import { rejectedTextsError } from "./native_program.mjs";
+import { createRejectedTextsError } from "./native_program.mjs";
 import { CommandError } from "./output.mjs";
 
 /** @typedef {import("./input_texts.mjs").GivenText} GivenText */
@@ -19,7 +19,7 @@ export async function readBoardAndFace(engine, boardFile) {
   const face = new Face(boardFile.text);
   const board = readBoard(answers);
   const errors = faults.length > 0 ? faults : findNameErrors(face, board);
-  if (errors.length > 0) throw await rejectedTextsError(engine, { board: boardFile }, errors);
+  if (errors.length > 0) throw await createRejectedTextsError(engine, { board: boardFile }, errors);
   return { board, face, answers };
 }
 

@@ -1,6 +1,6 @@
 // The child processes of the Node tools. Most children have their own process group, so that a signal from the tool also reaches the
 // processes that the child has started.
-import { processes } from "./lazy_child_process.mjs";
+import { loadChildProcess } from "./lazy_child_process.mjs";
 
 /** The maximum output of a child in characters. A child that prints more is terminated. */
 const MAX_OUTPUT = 1048576;
@@ -8,7 +8,7 @@ const MAX_OUTPUT = 1048576;
  * An environment variable that this module sets for children. A command with this variable suppresses the messages that each user should
  * see only once.
  */
-export const IS_RUN_BY_COMMAND = "MCS4_IS_RUN_BY_COMMAND";
+export const RUN_BY_COMMAND_VARIABLE = "MCS4_IS_RUN_BY_COMMAND";
 /** True if the system has process groups. Windows has none. */
 const HAS_GROUPS = process.platform !== "win32";
 /**
@@ -69,8 +69,8 @@ function trackChild(child, hasGroup) {
  * @param {string} [input]
  */
 export async function runCommand(command, words, input = "") {
-  const env = { ...process.env, [IS_RUN_BY_COMMAND]: "1" };
-  const child = processes().spawn(command, words, { detached: HAS_GROUPS, env, stdio: ["pipe", "pipe", "pipe"] });
+  const env = { ...process.env, [RUN_BY_COMMAND_VARIABLE]: "1" };
+  const child = loadChildProcess().spawn(command, words, { detached: HAS_GROUPS, env, stdio: ["pipe", "pipe", "pipe"] });
   const endPromise = trackChild(child, true);
   const outputs = [child.stdout, child.stderr].map((stream) => {
     const output = { text: "" };
@@ -94,7 +94,7 @@ export async function runCommand(command, words, input = "") {
  * @param {Record<string, string | undefined>} env
  */
 export async function rerunCommand(env) {
-  const child = processes().spawn(process.execPath, process.argv.slice(1, 3), { env, stdio: ["ignore", "ignore", "inherit"] });
+  const child = loadChildProcess().spawn(process.execPath, process.argv.slice(1, 3), { env, stdio: ["ignore", "ignore", "inherit"] });
   const { status } = await trackChild(child, false);
   if (isEnding) await waitForever();
   return status;

@@ -25,7 +25,7 @@ export function splitParagraphs(text) {
  * Returns the usage lines of a command: the forms of the command line that it accepts.
  * @param {string} name
  */
-export function usageLines(name) {
+export function listUsageLines(name) {
   return COMMANDS[name].usage.map((form) => `mcs4 ${name}${form && ` ${form}`}`);
 }
 
@@ -33,12 +33,12 @@ export function usageLines(name) {
  * Returns the usage text of a command.
  * @param {string} name
  */
-export function usageText(name) {
-  return say.formatUsage(usageLines(name));
+export function formatUsageText(name) {
+  return say.formatUsage(listUsageLines(name));
 }
 
 /** Returns the usage text of mcs4. */
-export function mcs4Usage() {
+export function formatMcs4Usage() {
   return say.formatUsage(say.MCS4_USAGE.map(([form]) => form).filter((form) => !form.endsWith("refusals")));
 }
 
@@ -46,7 +46,7 @@ export function mcs4Usage() {
  * Returns a row for each option of a command: the option as the user types it, and its description.
  * @param {string} name
  */
-export function optionRows(name) {
+export function listOptionRows(name) {
   const { options: descriptions } = HELP_TEXTS[name];
   const rows = Object.entries(COMMANDS[name].options).map(([option, { short, value }]) => (
     [`${short ? `-${short}, ` : ""}--${option}${value ? ` ${value}` : ""}`, descriptions[option]]));
@@ -63,19 +63,19 @@ const formatItems = (head, lines) => `${head}\n${lines.map((line) => foldText(li
  * Returns the help of a command.
  * @param {string} name
  */
-export function commandHelp(name) {
+export function formatCommandHelp(name) {
   const { text, examples, status } = HELP_TEXTS[name];
   return `${[
-    usageText(name),
+    formatUsageText(name),
     ...splitParagraphs(text).map((paragraph) => foldText(paragraph)),
-    formatList(say.OPTIONS_HEAD, optionRows(name)),
+    formatList(say.OPTIONS_HEAD, listOptionRows(name)),
     formatList(say.EXAMPLES_HEAD, examples),
     formatItems(say.STATUS_HEAD, status),
   ].join("\n\n")}\n`;
 }
 
 /** Returns the groups of commands: the title of each group, and its commands with their descriptions. */
-export function commandsByGroup() {
+export function groupCommands() {
   const commands = Object.entries(COMMANDS).map(([name, { group }]) => ({ name, group, does: HELP_TEXTS[name].summary }));
   return Object.entries(say.GROUPS).map(([groupName, title]) => ({ title, commands: commands.filter(({ group }) => group === groupName) }));
 }
@@ -84,9 +84,9 @@ export function commandsByGroup() {
  * Returns the help of `mcs4` itself.
  * @param {string} top the folder of mcs4; "" omits the location of the manual
  */
-export function mcs4Help(top) {
+export function formatMcs4Help(top) {
   const width = Math.max(...say.MCS4_USAGE.map(([form]) => form.length));
-  const groups = commandsByGroup().map(({ title, commands }) => (
+  const groups = groupCommands().map(({ title, commands }) => (
     `${title}:\n${commands.map(({ name, does }) => foldText(does, `${INDENT}${name.padEnd(9)} `, " ".repeat(12))).join("\n")}`));
   return `${[
     `usage:\n${say.MCS4_USAGE.map(([form, does]) => `${INDENT}${form.padEnd(width)}  ${does}`).join("\n")}`,

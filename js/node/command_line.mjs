@@ -30,7 +30,7 @@ async function findSuggestions(word, words) {
  * @param {string} word the option as typed
  * @param {Command["options"]} options
  */
-async function unknownOptionError(word, options) {
+async function createUnknownOptionError(word, options) {
   const isLong = word.startsWith("--");
   const suggestions = isLong ? await findSuggestions(word.slice(2), Object.keys(options)) : [];
   return new UsageError(say.noOption(word, suggestions.map((name) => `--${name}`)));
@@ -49,7 +49,7 @@ const lacksValue = (value, isInline) => value === undefined || value === "" || (
  */
 async function checkOption({ name, rawName, value, inlineValue }, options) {
   const option = options[name];
-  if (!option) throw await unknownOptionError(rawName, options);
+  if (!option) throw await createUnknownOptionError(rawName, options);
   if (option.type === "boolean" && value !== undefined) throw new UsageError(say.noValue(rawName));
   if (option.type === "string" && lacksValue(value, inlineValue === true)) {
     throw new UsageError(say.valueMissing(option.value || name.toUpperCase(), rawName));
@@ -92,13 +92,13 @@ function printErrorLines(name, message) {
  */
 async function reportError(name, error) {
   if (error instanceof UsageError) {
-    const { usageText } = await import("./command_help.mjs");
+    const { formatUsageText } = await import("./command_help.mjs");
     printErrorLines(name, error.message);
-    printError(`${usageText(name)}\n`);
+    printError(`${formatUsageText(name)}\n`);
     return WRONG_ARGUMENTS_STATUS;
   }
-  const { noRoomMessage } = await import("./native_program.mjs");
-  const noRoom = noRoomMessage();
+  const { findRoomError } = await import("./native_program.mjs");
+  const noRoom = findRoomError();
   if (noRoom) printErrorLines(name, noRoom);
   else if (error instanceof CommandError) printErrorLines(name, error.message);
   else throw error;
@@ -116,8 +116,8 @@ export async function runCommand(name, words, load = COMMANDS[name].load) {
   try {
     const { values, positionals } = await parseCommandLine(command, words);
     if (values.help) {
-      const { commandHelp } = await import("./command_help.mjs");
-      print(commandHelp(name));
+      const { formatCommandHelp } = await import("./command_help.mjs");
+      print(formatCommandHelp(name));
       return 0;
     }
     const { run } = await load();
@@ -142,17 +142,17 @@ async function rejectCommand(word) {
  * @param {string[]} words
  */
 async function printHelp([name, ...extraWords]) {
-  const { commandHelp, mcs4Help, mcs4Usage } = await import("./command_help.mjs");
+  const { formatCommandHelp, formatMcs4Help, formatMcs4Usage } = await import("./command_help.mjs");
   if (extraWords.length > 0) {
     printErrorLines("mcs4", say.oneTooMany(extraWords[0]));
-    printError(`${mcs4Usage()}\n`);
+    printError(`${formatMcs4Usage()}\n`);
     return WRONG_ARGUMENTS_STATUS;
   }
   const isAboutMcs4 = name === undefined || Object.hasOwn(say.BUILT_IN_COMPLETIONS, name);
   if (!isAboutMcs4 && !Object.hasOwn(COMMANDS, name)) return rejectCommand(name);
   const { TOP } = await import("./top_folder.mjs");
   try {
-    print(isAboutMcs4 ? mcs4Help(TOP) : commandHelp(name));
+    print(isAboutMcs4 ? formatMcs4Help(TOP) : formatCommandHelp(name));
     return 0;
   } catch (error) {
     return reportError("mcs4", error);
@@ -167,8 +167,8 @@ export async function runLine([name = "", ...words]) {
   if (Object.hasOwn(COMMANDS, name)) return runCommand(name, words);
   if (name === "help") return printHelp(words);
   if (name !== "" && name !== "version") return rejectCommand(name);
-  const { mcs4Usage } = await import("./command_help.mjs");
+  const { formatMcs4Usage } = await import("./command_help.mjs");
   if (name === "version") printErrorLines("mcs4", say.oneTooMany(words[0]));
-  printError(`${mcs4Usage()}\n`);
+  printError(`${formatMcs4Usage()}\n`);
   return WRONG_ARGUMENTS_STATUS;
 }

@@ -3,7 +3,7 @@
 import { mkdirSync, writeFileSync } from "node:fs";
 import { join } from "node:path";
 import * as say from "../words/commands.js";
-import { HELP_TEXTS, commandsByGroup, usageLines, commandHelp, mcs4Help, optionRows, splitParagraphs } from "./command_help.mjs";
+import { HELP_TEXTS, groupCommands, listUsageLines, formatCommandHelp, formatMcs4Help, listOptionRows, splitParagraphs } from "./command_help.mjs";
 import { COMMANDS } from "./commands/table.mjs";
 
 const ROFF_BOLD = "\\fB";
@@ -34,31 +34,31 @@ const insertBetween = (lines, separator) => lines.flatMap((line, index) => (inde
 /** @type {(text: string) => string[]} */
 const formatParagraphs = (text) => insertBetween(splitParagraphs(text).map(escapeRoff), ".PP");
 /** @type {(lines: string[]) => string[][]} splits each line, such as `0: all was done.`, into the exit status and its meaning */
-const statusRows = (lines) => lines.map((line) => [line.slice(0, 1), line.slice(2)]);
+const splitStatusLines = (lines) => lines.map((line) => [line.slice(0, 1), line.slice(2)]);
 
 /**
  * Returns the manual page of a command.
  * @param {string} name
  */
-function manualPage(name) {
+function formatManualPage(name) {
   const { summary, text, examples, status } = HELP_TEXTS[name];
   const titles = say.MANUAL_SECTIONS;
   return [
     `.TH MCS4\\-${name.toUpperCase()} 1 "" Fethsaim "${say.MANUAL_TITLE}"`,
     ...formatSection(titles.name, [`mcs4-${name} \\- ${escapeRoff(summary)}`]),
-    ...formatSection(titles.synopsis, insertBetween(usageLines(name).map((form) => `.B ${escapeRoff(form)}`), ".br")),
+    ...formatSection(titles.synopsis, insertBetween(listUsageLines(name).map((form) => `.B ${escapeRoff(form)}`), ".br")),
     ...formatSection(titles.description, formatParagraphs(text)),
-    ...formatSection(titles.options, formatTaggedRows(optionRows(name))),
+    ...formatSection(titles.options, formatTaggedRows(listOptionRows(name))),
     ...formatSection(titles.examples, formatTaggedRows(examples)),
-    ...formatSection(titles.status, formatTaggedRows(statusRows(status))),
+    ...formatSection(titles.status, formatTaggedRows(splitStatusLines(status))),
     ...formatSection(titles.seeAlso, [".BR mcs4 (1)"]),
   ].map((line) => `${line}\n`).join("");
 }
 
 /** Returns the manual page of mcs4 itself. */
-function mcs4ManualPage() {
+function formatMcs4ManualPage() {
   const titles = say.MANUAL_SECTIONS;
-  const groups = commandsByGroup().flatMap(({ title, commands }) => (
+  const groups = groupCommands().flatMap(({ title, commands }) => (
     [`.SS ${title}`, ...commands.flatMap(({ name, does }) => [".TP", `.BR mcs4\\-${name} (1)`, escapeRoff(does)])]));
   const [variables, files] = [say.MCS4_ENVIRONMENT.map((line) => [line.split(" ")[0], line.slice(line.indexOf(" ") + 1)]), [say.FILES_OF_MCS4]];
   return [
@@ -67,7 +67,7 @@ function mcs4ManualPage() {
     ...formatSection(titles.synopsis, insertBetween(say.MCS4_USAGE.map(([form]) => `.B ${escapeRoff(form)}`), ".br")),
     ...formatSection(titles.description, [...formatTaggedRows(say.MCS4_USAGE), ".PP", ...formatParagraphs(say.MCS4_TEXT)]),
     ...formatSection(titles.commands, groups),
-    ...formatSection(titles.status, formatTaggedRows(statusRows(say.MCS4_STATUS))),
+    ...formatSection(titles.status, formatTaggedRows(splitStatusLines(say.MCS4_STATUS))),
     ...formatSection(titles.environment, formatTaggedRows(variables)),
     ...formatSection(titles.files, formatTaggedRows(files)),
     ...formatSection(titles.seeAlso, [escapeRoff(say.MANUAL_REFERENCE)]),
@@ -94,7 +94,7 @@ function listCompletions() {
 const quoteForShell = (text) => `'${text.replace(/'/g, "'\\''")}'`;
 
 /** @param {ReturnType<typeof listCompletions>} words */
-function bashCompletion(words) {
+function formatBashCompletion(words) {
   const commands = words.filter((word) => word.words.length > 0);
   const cases = commands.map((word) => `            ${word.name}) words=${quoteForShell(word.words.join(" "))} ;;`);
   return `# Completion of mcs4 for bash.
@@ -117,7 +117,7 @@ complete -o default -F _mcs4 mcs4
 }
 
 /** @param {ReturnType<typeof listCompletions>} words */
-function zshCompletion(words) {
+function formatZshCompletion(words) {
   const otherCommands = words.filter((word) => word.name !== "help" && word.words.length > 0);
   return `#compdef mcs4
 # Completion of mcs4 for zsh.
@@ -139,7 +139,7 @@ _files
 }
 
 /** @param {ReturnType<typeof listCompletions>} words */
-function fishCompletion(words) {
+function formatFishCompletion(words) {
   const quoteForFish = (/** @type {string} */ text) => `'${text.replace(/\\/g, "\\\\").replace(/'/g, "\\'")}'`;
   const completeAfter = (/** @type {string} */ name) => `complete -c mcs4 -n '__fish_seen_subcommand_from ${name}'`;
   const lines = words.flatMap(({ name, does, words: nextWords }) => [
@@ -153,13 +153,13 @@ function fishCompletion(words) {
 // --- all files ---
 
 /** Returns the names and contents of all files. */
-export function commandPages() {
+export function createFiles() {
   const names = Object.keys(COMMANDS);
   const words = listCompletions();
   return [
-    ["help/mcs4.txt", mcs4Help("")], ["man/mcs4.1", mcs4ManualPage()],
-    ...names.flatMap((name) => [[`help/${name}.txt`, commandHelp(name)], [`man/mcs4-${name}.1`, manualPage(name)]]),
-    ["completions/bash", bashCompletion(words)], ["completions/zsh", zshCompletion(words)], ["completions/fish", fishCompletion(words)],
+    ["help/mcs4.txt", formatMcs4Help("")], ["man/mcs4.1", formatMcs4ManualPage()],
+    ...names.flatMap((name) => [[`help/${name}.txt`, formatCommandHelp(name)], [`man/mcs4-${name}.1`, formatManualPage(name)]]),
+    ["completions/bash", formatBashCompletion(words)], ["completions/zsh", formatZshCompletion(words)], ["completions/fish", formatFishCompletion(words)],
   ];
 }
 
@@ -169,4 +169,4 @@ if (folder === "" || folder.startsWith("-") || extraWords.length > 0) {
   process.exit(2);
 }
 for (const part of ["help", "man", "completions"]) mkdirSync(join(folder, part), { recursive: true });
-for (const [name, text] of commandPages()) writeFileSync(join(folder, name), text);
+for (const [name, text] of createFiles()) writeFileSync(join(folder, name), text);

@@ -11,7 +11,7 @@ import { createSubject } from "../core/explore/subject.js";
 import { prepareTests } from "../core/testing/test_preparation.js";
 import * as say from "../words/commands.js";
 import { yieldToMessages, interruptChildren, rerunCommand, runCommand } from "./child_processes.mjs";
-import { rejectedTextsError } from "./native_program.mjs";
+import { createRejectedTextsError } from "./native_program.mjs";
 import { CommandError, errorMessage, printError } from "./output.mjs";
 import { readPageModule } from "./page_parts.mjs";
 import { readUserText, writeUserFile } from "./user_files.mjs";
@@ -89,7 +89,7 @@ class Exploration {
   async readTexts() {
     const { engine, settings: { texts: { board, program, properties } } } = this;
     const { prepared, faults: textErrors } = prepareTests(engine, { boardText: board.text, programText: program.text });
-    if (!prepared) throw await rejectedTextsError(engine, { board, program }, textErrors);
+    if (!prepared) throw await createRejectedTextsError(engine, { board, program }, textErrors);
     const subject = createSubject(engine, board.text, program.text, program.before);
     const { campaign, faults } = readCampaign(properties.text, subject);
     if (faults.length > 0) throw new CommandError(faults.map(({ line, words }) => `${properties.name}:${line}: ${words}`).join("\n"));
@@ -233,7 +233,7 @@ export async function exploreTexts(settings) {
  * Returns the settings of this process if it is a job of another process, otherwise null.
  * @returns {Settings & { report: string } | null}
  */
-export function jobSettings() {
+export function readJobSettings() {
   const name = process.env[JOB_VARIABLE];
   return name ? JSON.parse(readUserText(name, 2 * MAX_REPORT_BYTES)) : null;
 }

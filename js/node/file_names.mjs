@@ -29,7 +29,7 @@ function isFolder(name) {
  * dot.
  * @param {string} begin
  */
-export function fileNames(begin) {
+export function completePath(begin) {
   const nameStart = begin.lastIndexOf("/") + 1;
   const [folder, name] = [begin.slice(0, nameStart), begin.slice(nameStart)];
   const folderPath = expandTilde(folder) || ".";

@@ -11,7 +11,7 @@ export const MAX_TEXT_BYTES = 1048576;
 export const STANDARD_INPUT = 0;
 const UTF8_MARK = Buffer.from([0xEF, 0xBB, 0xBF]);
 /** @type {Record<string, string>} the encodings, by byte order mark in hexadecimal; PowerShell writes UTF-16 */
-const UTF_16 = { fffe: "utf-16le", feff: "utf-16be" };
+const UTF_16_ENCODINGS = { fffe: "utf-16le", feff: "utf-16be" };
 
 /**
  * The text of a board or a program, from a file. `name` is the name of the file, `before` is the number of lines before the text in the
@@ -25,7 +25,7 @@ const UTF_16 = { fffe: "utf-16le", feff: "utf-16be" };
  * @returns {{ text: string, encoding: BufferEncoding }}
  */
 function decodeText(bytes) {
-  const utf16Encoding = UTF_16[bytes.toString("hex", 0, 2)];
+  const utf16Encoding = UTF_16_ENCODINGS[bytes.toString("hex", 0, 2)];
   if (utf16Encoding) return { text: new TextDecoder(utf16Encoding).decode(bytes), encoding: "utf8" };
   try {
     return { text: new TextDecoder("utf-8", { fatal: true }).decode(bytes), encoding: "utf8" };

@@ -56,7 +56,7 @@ function belongsToUser(name) {
 }
 
 /** Returns the path of mcs4's private cache folder, and creates the folder if necessary. Returns "" if it cannot be created. */
-function cacheFolder() {
+function findCacheFolder() {
   const { XDG_CACHE_HOME = "", HOME = "", LOCALAPPDATA = "" } = process.env;
   const cache = IS_WINDOWS ? LOCALAPPDATA : XDG_CACHE_HOME.startsWith("/") ? XDG_CACHE_HOME : /^\/./.test(HOME) ? join(HOME, ".cache") : "";
   if (cache === "") return "";
@@ -75,7 +75,7 @@ function cacheFolder() {
  * Returns the sizes and times of files as one text, and whether any of the files changed less than RECENT_CHANGE_TIME ago.
  * @param {string[]} names
  */
-function fileStamps(names) {
+function readFileStamps(names) {
   const stats = names.map((name) => statSync(name, { bigint: true }));
   const hasRecentChange = stats.some(({ mtimeMs, ctimeMs }) => [mtimeMs, ctimeMs].some((time) => Number(time) > Date.now() - RECENT_CHANGE_TIME));
   return { stamps: stats.map(({ dev, ino, size, mtimeNs, ctimeNs }) => `${dev} ${ino} ${size} ${mtimeNs} ${ctimeNs}\n`).join(""), hasRecentChange };
@@ -113,11 +113,11 @@ function writeToCache(path, ...parts) {
 function areUnchanged(folder, name, files, checksum) {
   if (folder === "") return hashFiles(files) === checksum;
   const path = join(folder, `${TOP.replace(/[/\\:]/g, "%")}.${name}.joined`);
-  const { stamps, hasRecentChange } = fileStamps(files);
+  const { stamps, hasRecentChange } = readFileStamps(files);
   const entry = `${checksum}\n${stamps}`;
   if (existsSync(path) && readFileSync(path, "utf8") === entry) return true;
   if (hashFiles(files) !== checksum) return false;
-  if (!hasRecentChange && fileStamps(files).stamps === stamps) writeToCache(path, entry);
+  if (!hasRecentChange && readFileStamps(files).stamps === stamps) writeToCache(path, entry);
   return true;
 }
 
@@ -125,7 +125,7 @@ function areUnchanged(folder, name, files, checksum) {
  * @type {(checksum: string, kind: RunKind, length: number) => string} returns the header of a file with compiled code: the checksum of the source,
  * the kind of the run, and the length of the code
  */
-const codeHeader = (checksum, kind, length) => `${checksum} ${kind} ${length}\n`.padEnd(HEADER_LENGTH);
+const formatCodeHeader = (checksum, kind, length) => `${checksum} ${kind} ${length}\n`.padEnd(HEADER_LENGTH);
 
 /**
  * Returns the cached compiled code of the joined file with a checksum, and its kind. Returns undefined if there is none.
@@ -138,7 +138,7 @@ function readCachedCode(path, checksum) {
     const bytes = readFileSync(path);
     const code = bytes.subarray(HEADER_LENGTH);
     const head = bytes.latin1Slice(0, HEADER_LENGTH);
-    const kind = RUN_KINDS.find((runKind) => head === codeHeader(checksum, runKind, code.length));
+    const kind = RUN_KINDS.find((runKind) => head === formatCodeHeader(checksum, runKind, code.length));
     return kind && { code, kind };
   } catch {
     return undefined;
@@ -158,7 +158,7 @@ function storeCodeAtExit(script, path, checksum, cachedKind) {
     const kind = isHelpOrError ? "asked" : "done";
     if (cachedKind === kind) return;
     const code = script.createCachedData();
-    writeToCache(path, codeHeader(checksum, kind, code.length), code);
+    writeToCache(path, formatCodeHeader(checksum, kind, code.length), code);
   });
 }
 
@@ -168,7 +168,7 @@ function storeCodeAtExit(script, path, checksum, cachedKind) {
  * @param {string} path the path of the compiled code in the cache; "" if there is no cache
  * @param {string} checksum
  */
-function loadJoined(file, path, checksum) {
+function runJoinedFile(file, path, checksum) {
   const source = `(function (require, module, __filename, __dirname) {${readFileSync(file, "latin1")}\n})`;
   const { code: cachedData, kind = undefined } = (path && readCachedCode(path, checksum)) || {};
   const script = new Script(source, { filename: file, cachedData });
@@ -185,7 +185,7 @@ function loadJoined(file, path, checksum) {
  * @param {string} name the name of a command
  * @param {string} file
  */
-function joinedChecksum(folder, name, file) {
+function findJoinedChecksum(folder, name, file) {
   try {
     const [checksum, ...sources] = readFileSync(join(COMMANDS_FOLDER, "sources", name), "utf8").trimEnd().split("\n");
     const isWithoutSources = !existsSync(join(TOP, "js/core"));
@@ -203,9 +203,9 @@ function joinedChecksum(folder, name, file) {
 function joinedCommand(name) {
   const file = join(COMMANDS_FOLDER, `${name}.cjs`);
   if (!/^[a-z]+$/.test(name) || !existsSync(file)) return null;
-  const folder = cacheFolder();
-  const checksum = joinedChecksum(folder, name, file);
-  return checksum === "" ? null : loadJoined(file, folder === "" ? "" : join(folder, `${name}.code`), checksum);
+  const folder = findCacheFolder();
+  const checksum = findJoinedChecksum(folder, name, file);
+  return checksum === "" ? null : runJoinedFile(file, folder === "" ? "" : join(folder, `${name}.code`), checksum);
 }
 
-module.exports = { hashFiles, joinedCommand, cacheFolder };
+module.exports = { hashFiles, joinedCommand, cacheFolder: findCacheFolder };

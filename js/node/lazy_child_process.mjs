@@ -4,4 +4,4 @@ import { createRequire } from "node:module";
 const require = createRequire(import.meta.url);
 
 /** @type {() => typeof import("node:child_process")} */
-export const processes = () => require("node:child_process");
+export const loadChildProcess = () => require("node:child_process");

@@ -22,7 +22,7 @@ export function explainAtTerminal(name) {
  * @param {string} name the command's name
  * @returns {(status: number, words?: string) => void}
  */
-export function exitAfterOutput(name) {
+export function makeExitFunction(name) {
   return (status, words = "") => {
     if (words) process.stderr.write(`${name}: ${escapeControls(words)}\n`);
     process.exitCode = status;

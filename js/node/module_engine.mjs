@@ -4,7 +4,7 @@
 import { closeSync, existsSync, openSync } from "node:fs";
 import { join } from "node:path";
 import { Engine } from "../core/engine/engine.js";
-import { IS_RUN_BY_COMMAND } from "./child_processes.mjs";
+import { RUN_BY_COMMAND_VARIABLE } from "./child_processes.mjs";
 import joined from "./joined_loader.cjs";
 import { printError } from "./output.mjs";
 import { readPageModule } from "./page_parts.mjs";
@@ -33,6 +33,6 @@ function recordFirstUse() {
  */
 export function startModule(words) {
   const engine = new Engine(new WebAssembly.Module(readPageModule()));
-  if (words !== "" && !process.env[IS_RUN_BY_COMMAND] && recordFirstUse()) printError(`mcs4: ${words}\n`);
+  if (words !== "" && !process.env[RUN_BY_COMMAND_VARIABLE] && recordFirstUse()) printError(`mcs4: ${words}\n`);
   return engine;
 }

@@ -16,8 +16,8 @@ import { isQuery } from "../core/bench/answer_table.js";
 import { BenchRefusal } from "../core/bench/bench_errors.js";
 import { findInputEnd, isSeqQuery, opensText, stripCarriageReturn } from "../core/bench/inputs.js";
 import { CommandError, systemErrorCode } from "./output.mjs";
-import { processes } from "./lazy_child_process.mjs";
-import { removeFolder, temporaryFolder, temporaryRoot } from "./temporary_folders.mjs";
+import { loadChildProcess } from "./lazy_child_process.mjs";
+import { removeFolder, createTemporaryFolder, findTemporaryRoot } from "./temporary_folders.mjs";
 import { TOP } from "./top_folder.mjs";
 
 /**
@@ -133,11 +133,11 @@ class Starter {
    * sources
    */
   constructor(program) {
-    this.root = temporaryRoot();
-    this.folder = temporaryFolder("mcs4");
+    this.root = findTemporaryRoot();
+    this.folder = createTemporaryFolder("mcs4");
     this.freeSlots = [...Array(MAX_PROCESSES + 1).keys()];
     const pipes = ["control", ...this.freeSlots.flatMap((slot) => [`in${slot}`, `out${slot}`])].map((name) => join(this.folder, name));
-    const { status, signal, stdout } = processes().spawnSync(
+    const { status, signal, stdout } = loadChildProcess().spawnSync(
       "/bin/sh", ["-c", SHELL_SCRIPT, SHELL, program, TOP, this.folder, ...pipes], { encoding: "utf8", stdio: ["ignore", "pipe", "ignore"] });
     // A signal to the process group, such as Ctrl-C, can end the shell before the shell ignores signals. This process has received the same signal,
     // so end it in the same way.

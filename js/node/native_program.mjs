@@ -7,7 +7,7 @@ import { BenchRefusal } from "../core/bench/bench_errors.js";
 import { MAX_TEXT_BYTES } from "./input_texts.mjs";
 import { statInput } from "./user_files.mjs";
 import { CommandError } from "./output.mjs";
-import { processes } from "./lazy_child_process.mjs";
+import { loadChildProcess } from "./lazy_child_process.mjs";
 import { TOP } from "./top_folder.mjs";
 import {
   NO_PROGRAM_IN_COPY, inUse, needsProgram, noNamedProver, noProver, notForSystem, otherProgram, runsOnModule, sessionRefused,
@@ -37,7 +37,7 @@ const hasStarter = existsSync(join(TOP, "tools/lib/start.sh"));
  */
 function runStarter(script) {
   if (!hasStarter) return null;
-  const { status, stdout, error } = processes().spawnSync("/bin/sh", ["-c", script, TOP], { encoding: "utf8", stdio: ["ignore", "pipe", "inherit"] });
+  const { status, stdout, error } = loadChildProcess().spawnSync("/bin/sh", ["-c", script, TOP], { encoding: "utf8", stdio: ["ignore", "pipe", "inherit"] });
   if (error) return null;
   if (status !== 0) process.exit(status || 1);
   const [program, fault, isUnsupported = "1"] = stdout.split("\n");
@@ -45,7 +45,7 @@ function runStarter(script) {
 }
 
 /** @returns {FoundProgram} the result if the starter cannot run: an editor extension does not contain it, and Windows has no shell for it */
-const noProgramResult = () => ({ program: "", fault: hasStarter ? notForSystem(type(), process.arch) : NO_PROGRAM_IN_COPY, isUnsupported: true });
+const createNoProgramResult = () => ({ program: "", fault: hasStarter ? notForSystem(type(), process.arch) : NO_PROGRAM_IN_COPY, isUnsupported: true });
 
 /** @type {FoundProgram | null} the cached result of the search for the program */
 let foundProgram = null;
@@ -55,12 +55,12 @@ let foundProgram = null;
  */
 function findProgram() {
   if (process.env.MCS4) return { program: process.env.MCS4, fault: "", isUnsupported: false };
-  foundProgram ||= runStarter(FIND_PROGRAM) || noProgramResult();
+  foundProgram ||= runStarter(FIND_PROGRAM) || createNoProgramResult();
   return foundProgram;
 }
 
 /** Returns the program's path. Throws an error if there is no program for this system. */
-export function programPath() {
+export function findProgramPath() {
   const { program, fault } = findProgram();
   if (program === "") throw new CommandError(needsProgram(fault));
   return program;
@@ -70,11 +70,11 @@ export function programPath() {
  * Returns the path of the prover: the program that the environment variable MCS4_PROVE names, a local build, or the shipped program. Returns "" if
  * there is none for this system.
  */
-export function proverPath() {
+export function findProverPath() {
   const { MCS4_PROVE: proverName } = process.env;
   if (proverName && !existsSync(proverName)) throw new CommandError(noNamedProver(proverName));
   if (proverName) return proverName;
-  const { program, fault, isUnsupported } = runStarter(FIND_PROVER) || noProgramResult();
+  const { program, fault, isUnsupported } = runStarter(FIND_PROVER) || createNoProgramResult();
   if (program === "" && !isUnsupported) throw new CommandError(noProver(fault));
   return program;
 }
@@ -127,7 +127,7 @@ export function endOnSignals(endProcess = process.exit) {
 /**
  * Returns a message that the folder for temporary files has no room for a session. Returns "" if it has room, or if no native engine was started.
  */
-export function noRoomMessage() {
+export function findRoomError() {
   return nativeEngine ? nativeEngine.noRoomMessage : "";
 }
 
@@ -159,7 +159,7 @@ export async function openSession(engine, texts, session) {
  * @param {import("./rejected_texts.mjs").CheckedTexts} givenTexts
  * @param {import("../core/testing/test_preparation.js").TextFault[]} faults
  */
-export async function rejectedTextsError(engine, givenTexts, faults) {
+export async function createRejectedTextsError(engine, givenTexts, faults) {
   const { RejectedTexts } = await import("./rejected_texts.mjs");
   return new CommandError(new RejectedTexts(engine, givenTexts).message(faults));
 }
@@ -173,7 +173,7 @@ export async function rejectedTextsError(engine, givenTexts, faults) {
 export async function readCheckedMap(engine, codes, program) {
   const { sessionProgram } = await import("../core/engine/session_program.js");
   const { faults, other, map } = sessionProgram(engine, codes, program.text);
-  if (faults.length > 0) throw await rejectedTextsError(engine, { program }, faults);
+  if (faults.length > 0) throw await createRejectedTextsError(engine, { program }, faults);
   if (other) throw new CommandError(otherProgram(program.name, other.address, other.romByte, other.line + program.before, other.sourceByte));
   return map;
 }
@@ -195,7 +195,7 @@ export async function yieldToMessages() {
 export async function assembleProgram(engine, program) {
   const { readSource } = await import("../core/engine/session_program.js");
   const { faults, map, bytes } = readSource(engine, program.text);
-  if (faults.length > 0) throw await rejectedTextsError(engine, { program }, faults);
+  if (faults.length > 0) throw await createRejectedTextsError(engine, { program }, faults);
   return { map, bytes };
 }
 

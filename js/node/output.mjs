@@ -108,7 +108,7 @@ export function printError(text) {
  * @param {string} text
  * @param {BufferEncoding} encoding
  */
-export function printFile(text, encoding) {
+export function printVerbatim(text, encoding) {
   if (fstatSync(STDOUT).isCharacterDevice()) print(text);
   else printBytes(Buffer.from(text, encoding));
 }

@@ -15,10 +15,10 @@ function readPagePart(id) {
 }
 
 /** @type {(id: string) => Buffer} returns the decompressed bytes of a script element of the page */
-const unpackedPart = (id) => inflateRawSync(Buffer.from(readPagePart(id), "base64"));
+const unpackPart = (id) => inflateRawSync(Buffer.from(readPagePart(id), "base64"));
 
 /** Returns the bytes of the proved module. */
-export const readPageModule = () => unpackedPart("module");
+export const readPageModule = () => unpackPart("module");
 
 /**
  * The page's data: the messages of refusals by their numbers, and the sections of the manual.
@@ -26,4 +26,4 @@ export const readPageModule = () => unpackedPart("module");
  */
 
 /** @type {() => PageData} */
-export const readPageData = () => JSON.parse(unpackedPart("data").toString());
+export const readPageData = () => JSON.parse(unpackPart("data").toString());

@@ -11,7 +11,7 @@ import { MAX_USER_TEXT, isInside, readUserFile, statInput } from "./user_files.m
  * @param {string} folder
  * @param {string} path the path of the file, relative to the folder
  */
-export function pathError(folder, path) {
+export function findPathError(folder, path) {
   const fullPath = join(folder, path);
   if (!existsSync(fullPath)) return `there is no file ${path}`;
   if (statSync(fullPath).isDirectory()) return `${path} is a folder, not a file`;
@@ -29,7 +29,7 @@ export function projectIn(folder) {
   const stat = statInput(file);
   if (!stat) throw new ProjectError(file, "there is no such file; it names the files of a project");
   if (!stat.isFile()) throw new ProjectError(file, "it is not a file");
-  const project = readProject(readUserFile(file, MAX_USER_TEXT), (path) => pathError(folder, path), file);
+  const project = readProject(readUserFile(file, MAX_USER_TEXT), (path) => findPathError(folder, path), file);
   const inFolder = (/** @type {string} */ path) => join(folder, path);
   return {
     ...project,

@@ -28,7 +28,7 @@ const APPEND_FLAGS = constants.O_RDWR | constants.O_APPEND | constants.O_CREAT |
  * Returns the path of the history file, or "" if the environment names no home folder.
  * @param {Record<string, string | undefined>} env
  */
-function historyPath({ XDG_STATE_HOME = "", HOME = "" }) {
+function findHistoryPath({ XDG_STATE_HOME = "", HOME = "" }) {
   if (isAbsolute(XDG_STATE_HOME)) return join(XDG_STATE_HOME, "mcs4/history");
   return isAbsolute(HOME) ? join(HOME, ".local/state/mcs4/history") : "";
 }
@@ -81,7 +81,7 @@ function readTail(file, first) {
  * @param {Buffer} bytes
  * @param {number} maxBytes
  */
-function lastCompleteLines(bytes, maxBytes) {
+function takeLastLines(bytes, maxBytes) {
   if (bytes.length <= maxBytes) return bytes;
   const tail = bytes.subarray(bytes.length - maxBytes);
   return tail.subarray(tail.indexOf("\n") + 1);
@@ -112,7 +112,7 @@ function acquireLock(lock) {
  * @param {number} file the open file
  */
 function shortenFile(name, file) {
-  if (fstatSync(file).size > MAX_BYTES) prepareReplacement(name, lastCompleteLines(readTail(file, 0), SHORTENED_BYTES)).replaceTarget();
+  if (fstatSync(file).size > MAX_BYTES) prepareReplacement(name, takeLastLines(readTail(file, 0), SHORTENED_BYTES)).replaceTarget();
 }
 
 /** @type {(line: string) => boolean} true if a terminal can show a line unchanged; the user may have added other lines to the file */
@@ -121,13 +121,13 @@ const isPrintable = (line) => line !== "" && escapeControls(line) === line;
 export class PromptHistory {
   /** @param {Record<string, string | undefined>} env */
   constructor(env) {
-    this.name = historyPath(env);
+    this.name = findHistoryPath(env);
     /** @type {string[]} the lines of the file when the prompt started, newest first */
     this.lines = [];
     /** The last line that was added. */
     this.lastLine = "";
     this.withFile((file, isLocked) => {
-      this.lines = lastCompleteLines(readTail(file, 0), SHORTENED_BYTES).toString("utf8").split("\n").filter(isPrintable).slice(-MAX_LINES).reverse();
+      this.lines = takeLastLines(readTail(file, 0), SHORTENED_BYTES).toString("utf8").split("\n").filter(isPrintable).slice(-MAX_LINES).reverse();
       [this.lastLine = ""] = this.lines;
       if (isLocked) shortenFile(this.name, file);
     });

@@ -10,9 +10,9 @@ import { createSubject } from "../core/explore/subject.js";
 import { prepareTests } from "../core/testing/test_preparation.js";
 import * as say from "../words/prove.js";
 import { interruptChildren, runCommand } from "./child_processes.mjs";
-import { yieldToMessages, rejectedTextsError, proverPath, startEngine } from "./native_program.mjs";
+import { yieldToMessages, createRejectedTextsError, findProverPath, startEngine } from "./native_program.mjs";
 import { CommandError } from "./output.mjs";
-import { removeFolder, temporaryFolder } from "./temporary_folders.mjs";
+import { removeFolder, createTemporaryFolder } from "./temporary_folders.mjs";
 
 /**
  * @typedef {import("./input_texts.mjs").GivenText} GivenText
@@ -31,7 +31,7 @@ class ProofSession {
   constructor(texts, limits) {
     this.texts = texts;
     this.limits = limits;
-    this.program = proverPath();
+    this.program = findProverPath();
     /** @type {((question: string) => string) | null} answers a question with the module; null if the program mcs4-prove answers the questions */
     this.module = null;
     // This handler runs before the engine's handler. Ctrl-C does not reach the search, because the search has its own process group.
@@ -44,7 +44,7 @@ class ProofSession {
     if (this.program === "") this.module = (await import("./module_prover.mjs")).makeModuleProver();
     const { board, program, properties } = this.texts;
     const { prepared, faults: textErrors } = prepareTests(engine, { boardText: board.text, programText: program.text });
-    if (!prepared) throw await rejectedTextsError(engine, { board, program }, textErrors);
+    if (!prepared) throw await createRejectedTextsError(engine, { board, program }, textErrors);
     const subject = createSubject(engine, board.text, program.text, program.before);
     const { campaign, faults } = readCampaign(properties.text, subject, false);
     if (faults.length > 0) throw new CommandError(faults.map(({ line, words }) => `${properties.name}:${line}: ${words}`).join("\n"));
@@ -100,7 +100,7 @@ class ProofSession {
    */
   async confirms({ isTest, text }, isGoal) {
     if (!isTest) return true;
-    const folder = temporaryFolder("prove");
+    const folder = createTemporaryFolder("prove");
     const names = ["board_text", "program_text", "found.test"].map((name) => join(folder, name));
     [this.texts.board.text, this.texts.program.text, text].forEach((content, index) => writeFileSync(names[index], content));
     try {

@@ -5,7 +5,7 @@ import { INVALID_CHARACTER, LINE_TOO_LONG, MAX_LINE_LENGTH, NOT_ASCII, opensText
 import { parseNumber } from "../core/bench/numbers.js";
 import { ADDRESS_COUNT } from "../core/bench/rom_bytes.js";
 import * as say from "../words/commands.js";
-import { MAX_SHOWN_LENGTH, NO_FORM, RejectedTexts, spellingHint, describeRefusal } from "./rejected_texts.mjs";
+import { MAX_SHOWN_LENGTH, UNKNOWN_FORM, RejectedTexts, findSpellingHint, describeRefusal } from "./rejected_texts.mjs";
 
 /**
  * @typedef {import("../core/bench/script_answers.js").AnsweredInput} AnsweredInput
@@ -81,7 +81,7 @@ export class RejectedLines {
     const { number } = refusal;
     const error = opensText(input.line) ? this.findTextError(answeredInput, refusal) : null;
     const shownLine = this.lines[at + (error ? error.line : 0) - 1];
-    const hint = number === NOT_ASCII ? describeInvalidCharacter(shownLine) : number === NO_FORM && error ? spellingHint(shownLine) : "";
+    const hint = number === NOT_ASCII ? describeInvalidCharacter(shownLine) : number === UNKNOWN_FORM && error ? findSpellingHint(shownLine) : "";
     return [
       say.rejectedLine(at, number, error ? error.line : 0, `${error ? error.words : describeRefusal(number)}${hint}`),
       `    ${shownLine.slice(0, MAX_SHOWN_LENGTH)}`, ...this.addressLines(answeredInput),

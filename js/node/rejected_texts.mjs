@@ -27,9 +27,9 @@ import { readPageData } from "./page_parts.mjs";
 const MAX_ERRORS = 20;
 export const MAX_SHOWN_LENGTH = 120;
 /** The error number of the assembler for a line whose form it does not know. */
-export const NO_FORM = 30;
+export const UNKNOWN_FORM = 30;
 /** Matches a line in the syntax of another assembler. */
-const OTHER_SPELLING = new RegExp("[ \\t,][0-7]P([ \\t,]|$)|[0-9]<|[ \\t,][0-9][0-9A-F]*H([ \\t,]|$)|[ \\t,][$][0-9A-F]|^[A-Z_][A-Z0-9_]*,|"
+const OTHER_SYNTAX = new RegExp("[ \\t,][0-7]P([ \\t,]|$)|[0-9]<|[ \\t,][0-9][0-9A-F]*H([ \\t,]|$)|[ \\t,][$][0-9A-F]|^[A-Z_][A-Z0-9_]*,|"
   + "[ \\t]/|[ \\t](TZ|TN|CZ|CN|AZ|AN)[ \\t,]");
 
 /** @type {ErrorMessages | null} */
@@ -64,8 +64,8 @@ export function describeRefusal(number) {
  * Returns a hint if a line is in the syntax of another assembler, otherwise "".
  * @param {string} line
  */
-export function spellingHint(line) {
-  return OTHER_SPELLING.test(line.replace(/;.*/, "").toUpperCase()) ? "; mcs4 import takes programs in Intel's and AS's spelling" : "";
+export function findSpellingHint(line) {
+  return OTHER_SYNTAX.test(line.replace(/;.*/, "").toUpperCase()) ? "; mcs4 import takes programs in Intel's and AS's spelling" : "";
 }
 
 /** The messages about rejected texts. An engine checks the texts again to find the details. */
@@ -115,7 +115,7 @@ export class RejectedTexts {
   findError({ text: kind, line, number }, text) {
     if (kind === "board") return line > 0 ? null : this.findBoardError(text);
     if (number === MISSING_ROM) return this.findLineWithoutRom(text);
-    if (line === 0 || number < NO_FORM) return null;
+    if (line === 0 || number < UNKNOWN_FORM) return null;
     const lines = asciiCommentsText(text, ";").split("\n");
     const facts = { instructions: readManual().instructions, names: findDefinedNames(lines) };
     return createLineError(lines, { line, number }, facts, describeRefusal);
@@ -134,7 +134,7 @@ export class RejectedTexts {
     const error = number > 0 ? this.findError(fault, text) : null;
     const lineNumber = line || (error ? error.line : 0);
     const shownLines = lineNumber > 0 && number > 0 ? [text.split("\n")[lineNumber - 1]] : [];
-    const hint = number === NO_FORM && shownLines.length > 0 ? spellingHint(shownLines[0]) : "";
+    const hint = number === UNKNOWN_FORM && shownLines.length > 0 ? findSpellingHint(shownLines[0]) : "";
     const reason = `${number > 0 ? `no ${number}: ` : ""}${fault.words || (error ? error.words : describeRefusal(number))}${hint}`;
     const location = lineNumber > 0 ? `line ${lineNumber + before}: ` : "";
     return [`${name}: ${location}${reason}`, ...shownLines.map((shownLine) => `    ${shownLine.slice(0, MAX_SHOWN_LENGTH)}`)].join("\n");

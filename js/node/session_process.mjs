@@ -3,7 +3,7 @@ import { spawn } from "node:child_process";
 import { constants } from "node:os";
 import { parseRefusal } from "../core/bench/answers.js";
 import { SEQ_ANSWER, isSeqQuery } from "../core/bench/inputs.js";
-import { programPath } from "./native_program.mjs";
+import { findProgramPath } from "./native_program.mjs";
 import { CommandError } from "./output.mjs";
 import { programEnded, sessionWasRefused } from "../words/commands.js";
 
@@ -22,7 +22,7 @@ export class SessionProcess {
    *   program
    */
   constructor(word, name, isAtTerminal = false) {
-    this.child = spawn(programPath(), [word, name], { stdio: ["pipe", "pipe", isAtTerminal ? "inherit" : "pipe"], detached: isAtTerminal });
+    this.child = spawn(findProgramPath(), [word, name], { stdio: ["pipe", "pipe", isAtTerminal ? "inherit" : "pipe"], detached: isAtTerminal });
     this.child.stdout.setEncoding("utf8");
     /** @type {string[]} the answer lines that `readLines` has not returned yet */
     this.lines = [];

@@ -3,7 +3,7 @@
 import { joinLines } from "../core/bench/inputs.js";
 import { SessionPrompt } from "../core/prompt/bench_prompt.js";
 import { BEGINNING } from "../words/session_prompt.js";
-import { fileNames, expandTilde } from "./file_names.mjs";
+import { completePath, expandTilde } from "./file_names.mjs";
 import { MAX_SCRIPT_BYTES, readDecodedFile } from "./input_texts.mjs";
 import { print } from "./output.mjs";
 import { readPageData } from "./page_parts.mjs";
@@ -42,7 +42,7 @@ function makePromptCalls(program, terminal) {
     print: (words) => terminal.print(words),
     complain: (words) => terminal.complain(words),
     read: (name) => readDecodedFile(expandTilde(name), MAX_SCRIPT_BYTES).text,
-    files: fileNames,
+    files: completePath,
     errorsOf: async (word, text, board) => {
       const { findTextErrors } = await import("./text_errors.mjs");
       return findTextErrors(word, text, board, { manual: manual(), wordsOf: describeRefusal });

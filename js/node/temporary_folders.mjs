@@ -13,7 +13,7 @@ process.on("exit", () => {
 });
 
 /** Returns the folder for temporary files: the folder that TMPDIR names, or a folder in memory if possible. */
-export function temporaryRoot() {
+export function findTemporaryRoot() {
   if (process.env.TMPDIR) return process.env.TMPDIR;
   try {
     accessSync("/dev/shm", constants.W_OK);
@@ -27,8 +27,8 @@ export function temporaryRoot() {
  * Creates a temporary folder. Returns its path.
  * @param {string} name the beginning of the folder's name
  */
-export function temporaryFolder(name) {
-  const root = temporaryRoot();
+export function createTemporaryFolder(name) {
+  const root = findTemporaryRoot();
   try {
     const folder = mkdtempSync(join(root, `${name}.`));
     folders.add(folder);

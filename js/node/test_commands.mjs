@@ -3,9 +3,9 @@
 import { runTests } from "../core/testing/test_suite.js";
 import { failureLine } from "../core/testing/tap.js";
 import { excludeEachOther, otherProgram, sessionStopped } from "../words/commands.js";
-import { parseCount, projectFiles, checkArguments, findProject } from "./arguments.mjs";
+import { parseCount, requireProjectFiles, checkArguments, findProject } from "./arguments.mjs";
 import { InputTexts } from "./input_texts.mjs";
-import { yieldToMessages, rejectedTextsError, openSession, startEngine } from "./native_program.mjs";
+import { yieldToMessages, createRejectedTextsError, openSession, startEngine } from "./native_program.mjs";
 import { CommandError, UsageError, print, printError } from "./output.mjs";
 
 /**
@@ -30,7 +30,7 @@ const MAX_CYCLES = 100000000;
  */
 async function resolveNames(folder, givenNames) {
   const project = await findProject(folder, givenNames, 3);
-  const names = project ? [project.board, project.program, ...(givenNames.length > 0 ? givenNames : projectFiles(project, "tests"))] : givenNames;
+  const names = project ? [project.board, project.program, ...(givenNames.length > 0 ? givenNames : requireProjectFiles(project, "tests"))] : givenNames;
   checkArguments(names, ["BOARD", "PROGRAM", "TEST"], Infinity, true);
   return names;
 }
@@ -56,7 +56,7 @@ export async function runTestCommand({ Counting, checkNames = () => {}, outcome:
   };
   const suite = { boardText: board.text, programText: program.text, sources };
   const { faults, outcomes, coverage, profile } = await runTests(engine, suite, yieldToMessages, { Counting, ended: printOutcome });
-  if (!coverage || !profile) throw await rejectedTextsError(engine, { board, program }, faults);
+  if (!coverage || !profile) throw await createRejectedTextsError(engine, { board, program }, faults);
   report({ coverage, profile }, program);
   return outcomes.some(({ failure }) => failure) ? 1 : 0;
 }
@@ -79,7 +79,7 @@ export async function countCycles({ name, Counting, checkNames = () => {}, repor
   const state = await openSession(engine, texts, session);
   const { faults, other, counted: counts } = await countSession(engine, state, program.text, cycles, Counting);
   if (other) throw new CommandError(otherProgram(programName, other.address, other.romByte, other.line + program.before, other.sourceByte));
-  if (!counts) throw await rejectedTextsError(engine, { program }, faults);
+  if (!counts) throw await createRejectedTextsError(engine, { program }, faults);
   if (counts.stop !== "end") printError(`${name}: ${sessionStopped(counts.elapsed, counts.stop)}\n`);
   report(counts, program);
   return 0;

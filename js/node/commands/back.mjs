@@ -5,7 +5,7 @@ import { closeSync, constants, fsyncSync, openSync, writeSync } from "node:fs";
 import * as say from "../../words/commands.js";
 import { parseCount, checkArguments } from "../arguments.mjs";
 import { InputTexts } from "../input_texts.mjs";
-import { openSession, programPath, startEngine } from "../native_program.mjs";
+import { openSession, findProgramPath, startEngine } from "../native_program.mjs";
 import { CommandError, errorMessage, print } from "../output.mjs";
 import { checkWritableFile } from "../user_files.mjs";
 
@@ -39,7 +39,7 @@ async function acquireLock(session) {
  * Returns the offsets of the commit bytes of all records in the active slot's log.
  * @param {Uint8Array} bytes the contents of a session file
  */
-function commitOffsets(bytes) {
+function findCommitOffsets(bytes) {
   const logStart = OFFSETS.slots[bytes[OFFSETS.active] % 2] + OFFSETS.log;
   const offsets = [];
   for (let offset = logStart; offset < logStart + OFFSETS.logSize && bytes[offset] === COMMITTED_BYTE;) {
@@ -79,7 +79,7 @@ async function removeCommands(session, count) {
   const state = await openSession(engine, texts, session);
   const bytes = engine.bytesOf(state);
   const commands = Number(engine.ask(state, "seq\n").opened.slice("session ".length));
-  const offsets = commitOffsets(bytes);
+  const offsets = findCommitOffsets(bytes);
   if (count === 0) return say.describeRemovableCommands(commands, offsets.length);
   if (count > offsets.length) throw new CommandError(say.logIsShorter(session, offsets.length, commands, count));
   const offset = offsets[offsets.length - count];
@@ -97,7 +97,7 @@ export async function run(_, positionals) {
   const [session, word] = positionals;
   const count = word === undefined ? 0 : parseCount("N", word, MAX_COMMANDS);
   checkWritableFile(session);
-  programPath();
+  findProgramPath();
   const unlock = await acquireLock(session);
   try {
     print(`${await removeCommands(session, count)}\n`);

@@ -4,11 +4,11 @@ import { DebugAdapter } from "../../core/adapter/debug_adapter.js";
 import { Engine } from "../../core/engine/engine.js";
 import { checkArguments, waitForExit } from "../arguments.mjs";
 import { host } from "../debug_host.mjs";
-import { exitAfterOutput, listenToInput, explainAtTerminal } from "../message_server.mjs";
+import { makeExitFunction, listenToInput, explainAtTerminal } from "../message_server.mjs";
 import { errorMessage } from "../output.mjs";
 import { readPageData, readPageModule } from "../page_parts.mjs";
 
-const end = exitAfterOutput("dap");
+const end = makeExitFunction("dap");
 
 async function serve() {
   const connection = new AdapterConnection((bytes) => process.stdout.write(bytes));

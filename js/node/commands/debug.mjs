@@ -8,7 +8,7 @@ import { escapeControls } from "../../core/text/control_escapes.js";
 import { Engine } from "../../core/engine/engine.js";
 import { checkArguments, findProject } from "../arguments.mjs";
 import { host } from "../debug_host.mjs";
-import { fileNames, expandTilde } from "../file_names.mjs";
+import { completePath, expandTilde } from "../file_names.mjs";
 import { MAX_TEXT_BYTES, readDecodedFile } from "../input_texts.mjs";
 import { CommandError, exitOnOutputError } from "../output.mjs";
 import { readPageData, readPageModule } from "../page_parts.mjs";
@@ -98,7 +98,7 @@ async function debugFiles(names) {
       checkOutputFile(file, SAVED_HEAD, NOT_A_BREAKPOINTS_FILE, [names.board, names.program, names.session].flatMap((each) => each ?? []));
       writeUserFile(file, text);
     },
-    files: fileNames,
+    files: completePath,
     source: () => (debugging.program === "" ? null : host.read(debugging.program)),
     isInteractive,
     view: isInteractive ? viewCalls : null,

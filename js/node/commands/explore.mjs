@@ -3,10 +3,10 @@
 import { join } from "node:path";
 import { hasExpectedResult, formatTap, formatReportTests } from "../../core/explore/report.js";
 import { resolveFileNames, parseCount, checkArguments } from "../arguments.mjs";
-import { exploreAsJob, exploreTexts, jobSettings, mergeReports } from "../explore_processes.mjs";
+import { exploreAsJob, exploreTexts, readJobSettings, mergeReports } from "../explore_processes.mjs";
 import { InputTexts } from "../input_texts.mjs";
 import { UsageError, print } from "../output.mjs";
-import { temporaryFolder } from "../temporary_folders.mjs";
+import { createTemporaryFolder } from "../temporary_folders.mjs";
 import { checkOutputFile, writeUserFile } from "../user_files.mjs";
 import { NOT_COUNTEREXAMPLES, NOT_A_REPORT, excludeEachOther } from "../../words/commands.js";
 
@@ -25,7 +25,7 @@ const parseOption = (name, word, { max, defaultValue }) => (word === undefined ?
 
 /** @type {import("./table.mjs").CommandModule["run"]} */
 export async function run(values, positionals) {
-  const job = jobSettings();
+  const job = readJobSettings();
   if (job) return exploreAsJob(job);
   const { folder, out, report: reportName, merge } = values;
   const limits = {
@@ -56,6 +56,6 @@ function searchTexts([board, program, properties], limits) {
   const texts = new InputTexts();
   const commandTexts = { board: texts.text(board, "wire"), program: texts.text(program, "asm") };
   const source = texts.source(properties);
-  const folder = temporaryFolder("explore");
+  const folder = createTemporaryFolder("explore");
   return exploreTexts({ ...limits, folder: join(folder), texts: { ...commandTexts, properties: source } });
 }

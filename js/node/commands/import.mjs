@@ -5,8 +5,8 @@ import { findTextErrors } from "../../core/testing/test_preparation.js";
 import { sentText } from "../../core/text/sendable_text.js";
 import { checkArguments } from "../arguments.mjs";
 import { InputTexts, MAX_TEXT_BYTES } from "../input_texts.mjs";
-import { rejectedTextsError, startEngine } from "../native_program.mjs";
-import { CommandError, printFile } from "../output.mjs";
+import { createRejectedTextsError, startEngine } from "../native_program.mjs";
+import { CommandError, printVerbatim } from "../output.mjs";
 
 const UTF8_MARK = /^\u00ef\u00bb\u00bf/;
 
@@ -24,7 +24,7 @@ async function checkOnBench(name, source, text) {
   // Use the message of the refusal, because a message about the line would describe the bench's syntax.
   const { describeRefusal } = await import("../rejected_texts.mjs");
   const faults = refusal ? [{ text: /** @type {const} */ ("program"), ...refusal, words: describeRefusal(refusal.number) }] : textFaults;
-  throw await rejectedTextsError(engine, { program: { name, text: source, before: 0 } }, faults);
+  throw await createRejectedTextsError(engine, { program: { name, text: source, before: 0 } }, faults);
 }
 
 /** @type {import("./table.mjs").CommandModule["run"]} */
@@ -36,6 +36,6 @@ export async function run(values, words) {
   const { text, faults } = importProgram(source);
   if (faults.length > 0) throw new CommandError(faults.map(({ line, words: why }) => `${name}:${line}: ${why}`).join("\n"));
   await checkOnBench(name, source, text);
-  printFile(text, "latin1");
+  printVerbatim(text, "latin1");
   return 0;
 }

@@ -6,8 +6,8 @@ import { benchRejected } from "../../words/commands.js";
 import { parseCount, checkArguments, findProject } from "../arguments.mjs";
 import { readBoardAndFace, makeKeyLines } from "../board_file.mjs";
 import { InputTexts, MAX_TEXT_BYTES } from "../input_texts.mjs";
-import { programPath, startEngine } from "../native_program.mjs";
-import { CommandError, print, printFile } from "../output.mjs";
+import { findProgramPath, startEngine } from "../native_program.mjs";
+import { CommandError, print, printVerbatim } from "../output.mjs";
 
 const MAX_CYCLES = 100000;
 
@@ -50,12 +50,12 @@ export async function run({ folder, down, up, "until-stop": session }, positiona
   const boardText = texts.text(boardName, "wire");
   if (session !== undefined) {
     texts.read(session, MAX_TEXT_BYTES);
-    programPath();
+    findProgramPath();
   }
   const engine = await startEngine();
   const { face } = await readBoardAndFace(engine, boardText);
   const lines = makeKeyLines(face, boardName, keys, pace);
   if (session !== undefined) return pressInSession(session, lines);
-  printFile(joinLines(lines), "utf8");
+  printVerbatim(joinLines(lines), "utf8");
   return 0;
 }

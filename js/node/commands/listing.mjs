@@ -5,7 +5,7 @@ import { excludeEachOther } from "../../words/commands.js";
 import { checkArguments, findProject } from "../arguments.mjs";
 import { InputTexts } from "../input_texts.mjs";
 import { assembleProgram, startEngine } from "../native_program.mjs";
-import { UsageError, printFile } from "../output.mjs";
+import { UsageError, printVerbatim } from "../output.mjs";
 
 /** @type {import("./table.mjs").CommandModule["run"]} */
 export async function run({ folder, names, labels }, positionals) {
@@ -17,6 +17,6 @@ export async function run({ folder, names, labels }, positionals) {
   const { map, bytes } = await assembleProgram(await startEngine(), program);
   const lines = names || labels ? programNames(map, Boolean(labels)).map(({ name, value }) => `${name} ${value}`)
     : programListing(program.text, map, bytes);
-  printFile(joinLines(lines), program.encoding);
+  printVerbatim(joinLines(lines), program.encoding);
   return 0;
 }

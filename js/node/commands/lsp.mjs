@@ -3,12 +3,12 @@ import { Connection } from "../../core/server/connection.js";
 import { LanguageServer } from "../../core/server/language_server.js";
 import { Engine } from "../../core/engine/engine.js";
 import { checkArguments, waitForExit } from "../arguments.mjs";
-import { exitAfterOutput, listenToInput, explainAtTerminal } from "../message_server.mjs";
+import { makeExitFunction, listenToInput, explainAtTerminal } from "../message_server.mjs";
 import { errorMessage } from "../output.mjs";
 import { readPageData, readPageModule } from "../page_parts.mjs";
 import { isInside, readUserText } from "../user_files.mjs";
 
-const end = exitAfterOutput("lsp");
+const end = makeExitFunction("lsp");
 
 /**
  * Returns the text of a file. Returns null if the file cannot be read, or is outside the folder of its project.

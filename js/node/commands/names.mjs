@@ -4,7 +4,7 @@ import { inLine } from "../../words/commands.js";
 import { checkArguments, findProject } from "../arguments.mjs";
 import { InputTexts } from "../input_texts.mjs";
 import { assembleProgram, startEngine } from "../native_program.mjs";
-import { CommandError, printFile } from "../output.mjs";
+import { CommandError, printVerbatim } from "../output.mjs";
 
 /** @type {import("./table.mjs").CommandModule["run"]} */
 export async function run({ folder }, positionals) {
@@ -16,6 +16,6 @@ export async function run({ folder }, positionals) {
   const { map } = await assembleProgram(await startEngine(), texts.text(words[0], "asm"));
   const { lines, line, words: error } = replaceNames(text, map);
   if (error !== "") throw new CommandError(inLine(line, error));
-  printFile(lines === "" || lines.endsWith("\n") ? lines : `${lines}\n`, encoding);
+  printVerbatim(lines === "" || lines.endsWith("\n") ? lines : `${lines}\n`, encoding);
   return 0;
 }

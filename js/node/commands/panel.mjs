@@ -12,7 +12,7 @@ import { noteOfBoard } from "../../words/panel.js";
 import { checkArguments, findProject } from "../arguments.mjs";
 import { readBoardAndFace } from "../board_file.mjs";
 import { InputTexts, MAX_TEXT_BYTES } from "../input_texts.mjs";
-import { endEngine, endOnSignals, readCheckedMap, programPath, startEngine } from "../native_program.mjs";
+import { endEngine, endOnSignals, readCheckedMap, findProgramPath, startEngine } from "../native_program.mjs";
 import { CommandError } from "../output.mjs";
 import { PanelTerminal } from "../panel_terminal.mjs";
 import { describeRefusal } from "../rejected_texts.mjs";
@@ -77,7 +77,7 @@ async function readTexts(session, name, texts) {
  * @param {Awaited<ReturnType<typeof readTexts>>} panelTexts
  * @param {number} linesBefore the number of lines before the board's text in its file
  */
-function missingPartNote({ board, face }, linesBefore) {
+function findMissingPartNote({ board, face }, linesBefore) {
   const [note] = sortByLine([...face.faults, ...missingParts(face, board)]);
   return note ? noteOfBoard(note.line + linesBefore, note.words) : "";
 }
@@ -136,7 +136,7 @@ export async function run(values, words) {
   const program = names.program === undefined ? null : texts.text(names.program, "asm");
   texts.read(names.session, MAX_TEXT_BYTES);
   // If there is no native program, fail before the terminal changes.
-  programPath();
+  findProgramPath();
   const terminal = new PanelTerminal();
   const session = await openProgram("open", names.session);
   try {
@@ -147,7 +147,7 @@ export async function run(values, words) {
     });
     const panel = new Panel((lines) => readAnswers(session, lines), {
       ...panelTexts, name: basename(names.session), describeRefusal, isPaused: values.stopped === true,
-      note: missingPartNote(panelTexts, board.before),
+      note: findMissingPartNote(panelTexts, board.before),
     }, performance.now());
     return await runPanel(terminal, panel);
   } catch (error) {

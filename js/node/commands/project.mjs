@@ -8,7 +8,7 @@ import * as say from "../../words/commands.js";
 import { checkArguments, loadProject } from "../arguments.mjs";
 import { MAX_TEXT_BYTES } from "../input_texts.mjs";
 import { SESSION_BYTES } from "../native_engine.mjs";
-import { endOnSignals, rejectedTextsError, startEngine } from "../native_program.mjs";
+import { endOnSignals, createRejectedTextsError, startEngine } from "../native_program.mjs";
 import { CommandError, UsageError } from "../output.mjs";
 import { isInside, checkOutputFile, readUserFile, statInput, writeNewFiles, writeUserFile } from "../user_files.mjs";
 
@@ -74,7 +74,7 @@ function readText(folder, name) {
  * @param {string} folder
  * @returns {Promise<{ board: string, program: string, tests: string, properties: string }>} "" if there are no tests or no properties
  */
-async function textPaths(folder) {
+async function findTextPaths(folder) {
   const inFolder = (/** @type {string} */ name) => join(folder, name);
   if (!existsSync(inFolder(PROJECT_FILE_NAMES.project))) {
     const [tests, properties] = LIST_KINDS.map((kind) => (existsSync(inFolder(PROJECT_FILE_NAMES[kind])) ? inFolder(PROJECT_FILE_NAMES[kind]) : ""));
@@ -105,14 +105,14 @@ async function readSession(folder, names, texts) {
   const makeGivenText = (/** @type {string} */ textName, /** @type {string} */ text) => ({ name: textName, text, before: 0 });
   const board = makeGivenText(names.board, texts.boardText);
   const program = makeGivenText(names.program, texts.programText);
-  throw await rejectedTextsError(engine, { board, program }, faults);
+  throw await createRejectedTextsError(engine, { board, program }, faults);
 }
 
 /**
  * Returns the name of the project in a folder: the first line of its name file, or else the name of the folder.
  * @param {string} folder
  */
-function projectName(folder) {
+function readProjectName(folder) {
   const file = join(folder, PROJECT_FILE_NAMES.name);
   if (!existsSync(file)) return basename(realpathSync(folder));
   const [name] = readText(folder, file).split(/\r?\n/);
@@ -140,13 +140,13 @@ function readList(folder, part, parse) {
 async function joinFiles(folder, name) {
   if (!statInput(folder)?.isDirectory()) throw new CommandError(say.noFolder(folder));
   checkOutputFile(name, PROJECT_HEADER, say.NOT_A_PROJECT, []);
-  const names = await textPaths(folder);
+  const names = await findTextPaths(folder);
   const [boardText, programText, testText, propertiesText] = [names.board, names.program, names.tests, names.properties]
     .map((path) => (path === "" ? "" : readText(folder, path)));
   const message = tooLongMessage({ boardText, programText, testText, propertiesText });
   if (message) throw new CommandError(`${folder}: ${message}`);
   const project = {
-    name: projectName(folder),
+    name: readProjectName(folder),
     boardText, programText, testText, propertiesText,
     breakpoints: readList(folder, PROJECT_FILE_NAMES.breakpoints, parseBreakpoints),
     watched: readList(folder, PROJECT_FILE_NAMES.values, parseWatchLines),

@@ -6,7 +6,7 @@ import { compareWithScript } from "../../core/bench/script_progress.js";
 import { changedMeanwhile, scriptDoesNotMatch, sessionRefused, sessionWasRefused } from "../../words/commands.js";
 import { checkArguments } from "../arguments.mjs";
 import { InputTexts, MAX_TEXT_BYTES, MAX_SCRIPT_BYTES } from "../input_texts.mjs";
-import { yieldToMessages, openSession, programPath, startEngine } from "../native_program.mjs";
+import { yieldToMessages, openSession, findProgramPath, startEngine } from "../native_program.mjs";
 import { CommandError, printBytes, printError } from "../output.mjs";
 import { describeRefusal } from "../rejected_texts.mjs";
 
@@ -35,7 +35,7 @@ async function printAnswers(stream) {
  * @param {Buffer} bytes
  */
 async function serveBytes(session, bytes) {
-  const child = spawn(programPath(), ["open", session], { stdio: ["pipe", "pipe", "pipe"] });
+  const child = spawn(findProgramPath(), ["open", session], { stdio: ["pipe", "pipe", "pipe"] });
   const closeEvent = once(child, "close");
   child.stderr.setEncoding("utf8");
   child.stderr.on("data", printError);
@@ -71,7 +71,7 @@ export async function run(_, positionals) {
   const bytes = texts.read(scriptName, MAX_SCRIPT_BYTES);
   const sessionBytes = texts.read(session, MAX_TEXT_BYTES);
   // If there is no native program, fail before anything else.
-  programPath();
+  findProgramPath();
   const engine = await startEngine();
   const { lines, words, differing: differingLines } = await compareWithScript(
     engine, await openSession(engine, texts, session), bytes.toString("latin1"), yieldToMessages,

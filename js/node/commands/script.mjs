@@ -7,15 +7,15 @@ import { CYCLES_BEFORE_KEYS } from "../../core/time/mcs4_time.js";
 import { checkArguments, findProject } from "../arguments.mjs";
 import { makeKeyLines } from "../board_file.mjs";
 import { InputTexts } from "../input_texts.mjs";
-import { rejectedTextsError, startEngine } from "../native_program.mjs";
-import { printFile } from "../output.mjs";
+import { createRejectedTextsError, startEngine } from "../native_program.mjs";
+import { printVerbatim } from "../output.mjs";
 
 /**
  * Returns a text with its comments, or without them if the text with comments is too long for the bench.
  * @param {string} text
  * @param {import("../../core/text/sendable_text.js").CommentMark} mark
  */
-function textForBench(text, mark) {
+function prepareForBench(text, mark) {
   const fullText = asciiCommentsText(text, mark);
   const isTooLong = fullText.length > MAX_SENT_LENGTH || fullText.split("\n").some((line) => line.length > MAX_LINE_LENGTH);
   return isTooLong ? sentText(text, mark) : fullText;
@@ -32,9 +32,9 @@ export async function run({ folder }, positionals) {
   const program = texts.text(programName, "asm");
   const engine = await startEngine();
   const { prepared: preparation, faults } = prepareTests(engine, { boardText: board.text, programText: program.text });
-  if (!preparation) throw await rejectedTextsError(engine, { board, program }, faults);
+  if (!preparation) throw await createRejectedTextsError(engine, { board, program }, faults);
   const keyLines = makeKeyLines(preparation.names.face, boardName, keys, DEFAULT_PACE);
   const lines = joinLines([`run ${CYCLES_BEFORE_KEYS}`, ...keyLines]);
-  printFile(`wire\n${textForBench(board.text, "#")}.\nasm\n${textForBench(program.text, ";")}.\n${lines}`, "utf8");
+  printVerbatim(`wire\n${prepareForBench(board.text, "#")}.\nasm\n${prepareForBench(program.text, ";")}.\n${lines}`, "utf8");
   return 0;
 }

@@ -13,7 +13,7 @@ import { createWav } from "../../core/waves/wav.js";
 import * as say from "../../words/commands.js";
 import { parseCount, checkArguments, loadProject } from "../arguments.mjs";
 import { InputTexts } from "../input_texts.mjs";
-import { yieldToMessages, rejectedTextsError, openSession, readCheckedMap, startEngine } from "../native_program.mjs";
+import { yieldToMessages, createRejectedTextsError, openSession, readCheckedMap, startEngine } from "../native_program.mjs";
 import { CommandError, UsageError, print, printError } from "../output.mjs";
 import { checkOutputFile, writeUserFile } from "../user_files.mjs";
 
@@ -48,10 +48,10 @@ async function resolveNames({ folder, board, names }) {
  */
 async function checkBoard(engine, boardFile, wantedAnswers) {
   const { faults, answers } = wireBoard(engine, boardFile.text);
-  if (faults.length > 0) throw await rejectedTextsError(engine, { board: boardFile }, faults);
+  if (faults.length > 0) throw await createRejectedTextsError(engine, { board: boardFile }, faults);
   if (answers.join() !== wantedAnswers.join()) throw new CommandError(say.boardDiffers(boardFile.name));
   const nameErrors = findNameErrors(new Face(boardFile.text), readBoard(answers));
-  if (nameErrors.length > 0) throw await rejectedTextsError(engine, { board: boardFile }, nameErrors);
+  if (nameErrors.length > 0) throw await createRejectedTextsError(engine, { board: boardFile }, nameErrors);
 }
 
 /**
