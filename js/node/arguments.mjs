@@ -35,7 +35,7 @@ export function parseCount(name, word, max) {
 }
 
 /**
- * Resolves to the project in a folder. Throws an error if the folder has no valid project. Loads the modules that read projects on the first call.
+ * Resolves to the project in a folder. Throws a CommandError if the folder has no valid project. The first call loads the modules that read projects.
  * @param {string} folder
  */
 export async function loadProject(folder) {
@@ -48,8 +48,8 @@ export async function loadProject(folder) {
 }
 
 /**
- * Returns the project in `folder` (option `-C`). Without this option, returns the project in the current folder if there are fewer than
- * `neededCount` arguments. Returns null if there are enough arguments, or if the current folder has no project.
+ * Resolves to the project in `folder` (option `-C`). Without this option, resolves to the project in the current folder if there are fewer than
+ * `neededCount` arguments. Resolves to null if there are enough arguments, or if the current folder has no project.
  * @param {string | undefined} folder
  * @param {string[]} words
  * @param {number} neededCount the number of arguments that makes a project unnecessary
@@ -60,7 +60,7 @@ export async function findProject(folder, words, neededCount) {
 }
 
 /**
- * Returns the test files or the properties files of a project; throws an error if it has none.
+ * Returns the test files or the properties files of a project. Throws a CommandError if the project has none.
  * @param {import("./project_on_disk.mjs").DiskProject} project
  * @param {"tests" | "properties"} kind
  */
@@ -70,7 +70,7 @@ export function requireProjectFiles(project, kind) {
 }
 
 /**
- * Returns the file names of board, program and properties, from the arguments or from the project.
+ * Resolves to the file names of board, program and properties, from the arguments or from the project.
  * @param {string | undefined} folder
  * @param {string[]} words
  */

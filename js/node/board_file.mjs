@@ -7,12 +7,12 @@ import { keysWithoutNames, noKeyOnBoard } from "../words/commands.js";
 import { createRejectedTextsError } from "./native_program.mjs";
 import { CommandError } from "./output.mjs";
 
-/** @typedef {import("./input_texts.mjs").GivenText} GivenText */
+/** @typedef {import("./input_texts.mjs").InputText} InputText */
 
 /**
  * Reads a board and its front panel. Resolves to both, and to the bench's answer lines to `board`.
  * @param {import("../core/engine/engine_host.js").EngineHost} engine
- * @param {GivenText} boardFile
+ * @param {InputText} boardFile
  */
 export async function readBoardAndFace(engine, boardFile) {
   const { faults, answers } = wireBoard(engine, boardFile.text);

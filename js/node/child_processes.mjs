@@ -1,11 +1,11 @@
 // The child processes of the Node tools. Most children have their own process group, so that a signal from the tool also reaches the
-// processes that the child has started.
+// processes that a child has started.
 import { loadChildProcess } from "./lazy_child_process.mjs";
 
 /** The maximum output of a child in characters. A child that prints more is terminated. */
 const MAX_OUTPUT = 1048576;
 /**
- * An environment variable that this module sets for children. A command with this variable suppresses the messages that each user should
+ * The name of an environment variable that this module sets for children. If this variable is set, a command omits the messages that each user should
  * see only once.
  */
 export const RUN_BY_COMMAND_VARIABLE = "MCS4_IS_RUN_BY_COMMAND";

@@ -3,6 +3,7 @@ import { wrapText } from "../core/text/line_wrapping.js";
 import * as say from "../words/commands.js";
 import { COMMANDS } from "./commands/table.mjs";
 
+/** The maximum length of a line, in characters. */
 const WIDTH = 79;
 const INDENT = "  ";
 const DEEP_INDENT = INDENT.repeat(3);
@@ -10,8 +11,8 @@ const DEEP_INDENT = INDENT.repeat(3);
 /** @type {Record<string, import("../words/commands.js").CommandWords>} the help texts of the commands, by command name */
 export const HELP_TEXTS = say.COMMAND_WORDS;
 
-/** @type {(text: string, first?: string, otherIndent?: string) => string} */
-const foldText = (text, first = "", otherIndent = first) => wrapText(text, WIDTH, first, otherIndent);
+/** @type {(text: string, firstIndent?: string, otherIndent?: string) => string} wraps a text; the indents of its first line and other lines are texts */
+const foldText = (text, firstIndent = "", otherIndent = firstIndent) => wrapText(text, WIDTH, firstIndent, otherIndent);
 
 /**
  * Returns the paragraphs of a text, each joined into one line.
@@ -53,11 +54,11 @@ export function listOptionRows(name) {
   return [...rows, ["-h, --help", say.HELP_OPTION]];
 }
 
-/** @type {(head: string, rows: string[][]) => string} formats a list with a heading, and the description of each entry below the entry */
-const formatList = (head, rows) => `${head}\n${rows.map(([word, does]) => `${INDENT}${word}\n${foldText(does, DEEP_INDENT)}`).join("\n")}`;
+/** @type {(heading: string, rows: string[][]) => string} formats a list with a heading, and the description of each entry below the entry */
+const formatList = (heading, rows) => `${heading}\n${rows.map(([word, description]) => `${INDENT}${word}\n${foldText(description, DEEP_INDENT)}`).join("\n")}`;
 
-/** @type {(head: string, lines: string[]) => string} */
-const formatItems = (head, lines) => `${head}\n${lines.map((line) => foldText(line, INDENT, DEEP_INDENT)).join("\n")}`;
+/** @type {(heading: string, lines: string[]) => string} formats a list of items with a heading */
+const formatItems = (heading, lines) => `${heading}\n${lines.map((line) => foldText(line, INDENT, DEEP_INDENT)).join("\n")}`;
 
 /**
  * Returns the help of a command.
@@ -74,9 +75,9 @@ export function formatCommandHelp(name) {
   ].join("\n\n")}\n`;
 }
 
-/** Returns the groups of commands: the title of each group, and its commands with their descriptions. */
+/** Returns the title of each group of commands, and the commands of the group with their descriptions. */
 export function groupCommands() {
-  const commands = Object.entries(COMMANDS).map(([name, { group }]) => ({ name, group, does: HELP_TEXTS[name].summary }));
+  const commands = Object.entries(COMMANDS).map(([name, { group }]) => ({ name, group, description: HELP_TEXTS[name].summary }));
   return Object.entries(say.GROUPS).map(([groupName, title]) => ({ title, commands: commands.filter(({ group }) => group === groupName) }));
 }
 
@@ -87,9 +88,9 @@ export function groupCommands() {
 export function formatMcs4Help(top) {
   const width = Math.max(...say.MCS4_USAGE.map(([form]) => form.length));
   const groups = groupCommands().map(({ title, commands }) => (
-    `${title}:\n${commands.map(({ name, does }) => foldText(does, `${INDENT}${name.padEnd(9)} `, " ".repeat(12))).join("\n")}`));
+    `${title}:\n${commands.map(({ name, description }) => foldText(description, `${INDENT}${name.padEnd(9)} `, " ".repeat(12))).join("\n")}`));
   return `${[
-    `usage:\n${say.MCS4_USAGE.map(([form, does]) => `${INDENT}${form.padEnd(width)}  ${does}`).join("\n")}`,
+    `usage:\n${say.MCS4_USAGE.map(([form, description]) => `${INDENT}${form.padEnd(width)}  ${description}`).join("\n")}`,
     ...splitParagraphs(say.MCS4_TEXT).map((paragraph) => foldText(paragraph)),
     ...groups,
     formatItems(say.STATUS_HEAD, say.MCS4_STATUS),

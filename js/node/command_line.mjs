@@ -16,7 +16,7 @@ const WRONG_ARGUMENTS_STATUS = 2;
 const HELP_OPTION = { type: "boolean", short: "h" };
 
 /**
- * Resolves to the words that are most similar to a mistyped word. Loads the module that finds them on the first call.
+ * Resolves to the words that are most similar to a mistyped word. The first call loads the module that compares words.
  * @param {string} word
  * @param {string[]} words
  */
@@ -98,8 +98,8 @@ async function reportError(name, error) {
     return WRONG_ARGUMENTS_STATUS;
   }
   const { findRoomError } = await import("./native_program.mjs");
-  const noRoom = findRoomError();
-  if (noRoom) printErrorLines(name, noRoom);
+  const roomError = findRoomError();
+  if (roomError) printErrorLines(name, roomError);
   else if (error instanceof CommandError) printErrorLines(name, error.message);
   else throw error;
   return FAILED_STATUS;
@@ -138,7 +138,7 @@ async function rejectCommand(word) {
 }
 
 /**
- * Prints the help of a command, or of mcs4 if no command is named. Returns the exit status.
+ * Prints the help of a command, or of mcs4 if no command is named. Resolves to the exit status.
  * @param {string[]} words
  */
 async function printHelp([name, ...extraWords]) {

@@ -20,7 +20,7 @@ const ROFF_ESCAPES = { "\\": "\\e", "-": "\\-", "`": "\\(ga", "^": "\\(ha", "~":
  */
 function escapeRoff(text) {
   const parts = text.replace(/\s+/g, " ").trim().split("`");
-  const escapedParts = parts.map((part) => part.replace(/[\\\-`^~']/g, (sign) => ROFF_ESCAPES[sign]));
+  const escapedParts = parts.map((part) => part.replace(/[\\\-`^~']/g, (character) => ROFF_ESCAPES[character]));
   const line = escapedParts.map((part, index) => (index % 2 === 1 ? `${ROFF_BOLD}${part}${ROFF_PLAIN}` : part)).join("");
   return line.startsWith(".") ? `\\&${line}` : line;
 }
@@ -28,7 +28,7 @@ function escapeRoff(text) {
 /** @type {(title: string, lines: string[]) => string[]} */
 const formatSection = (title, lines) => [`.SH ${title}`, ...lines];
 /** @type {(rows: string[][]) => string[]} */
-const formatTaggedRows = (rows) => rows.flatMap(([tag, does]) => [".TP", `.B ${escapeRoff(tag)}`, escapeRoff(does)]);
+const formatTaggedRows = (rows) => rows.flatMap(([tag, description]) => [".TP", `.B ${escapeRoff(tag)}`, escapeRoff(description)]);
 /** @type {(lines: string[], separator: string) => string[]} */
 const insertBetween = (lines, separator) => lines.flatMap((line, index) => (index > 0 ? [separator, line] : [line]));
 /** @type {(text: string) => string[]} */
@@ -59,7 +59,7 @@ function formatManualPage(name) {
 function formatMcs4ManualPage() {
   const titles = say.MANUAL_SECTIONS;
   const groups = groupCommands().flatMap(({ title, commands }) => (
-    [`.SS ${title}`, ...commands.flatMap(({ name, does }) => [".TP", `.BR mcs4\\-${name} (1)`, escapeRoff(does)])]));
+    [`.SS ${title}`, ...commands.flatMap(({ name, description }) => [".TP", `.BR mcs4\\-${name} (1)`, escapeRoff(description)])]));
   const [variables, files] = [say.MCS4_ENVIRONMENT.map((line) => [line.split(" ")[0], line.slice(line.indexOf(" ") + 1)]), [say.FILES_OF_MCS4]];
   return [
     `.TH MCS4 1 "" Fethsaim "${say.MANUAL_TITLE}"`,
@@ -80,12 +80,12 @@ function formatMcs4ManualPage() {
 function listCompletions() {
   const commands = Object.entries(COMMANDS).map(([name, { options, usage }]) => ({
     name,
-    does: HELP_TEXTS[name].summary,
+    description: HELP_TEXTS[name].summary,
     words: [...usage.map((form) => form.split(" ")[0]).filter((word) => /^[a-z]+$/.test(word)),
       ...Object.keys(options).map((option) => `--${option}`),
       "--help"],
   }));
-  const builtIn = Object.entries(say.BUILT_IN_COMPLETIONS).map(([name, does]) => ({ name, does, words: /** @type {string[]} */ ([]) }));
+  const builtIn = Object.entries(say.BUILT_IN_COMPLETIONS).map(([name, description]) => ({ name, description, words: /** @type {string[]} */ ([]) }));
   const names = [...builtIn, ...commands].map(({ name }) => name);
   return [...builtIn.map((word) => (word.name === "help" ? { ...word, words: [...names, "refusals"] } : word)), ...commands];
 }
@@ -123,7 +123,7 @@ function formatZshCompletion(words) {
 # Completion of mcs4 for zsh.
 local -a commands words_here
 commands=(
-${words.map(({ name, does }) => `    ${quoteForShell(`${name}:${does.replace(/:/g, "\\:")}`)}`).join("\n")}
+${words.map(({ name, description }) => `    ${quoteForShell(`${name}:${description.replace(/:/g, "\\:")}`)}`).join("\n")}
 )
 if (( CURRENT == 2 )); then
     _describe command commands
@@ -142,8 +142,8 @@ _files
 function formatFishCompletion(words) {
   const quoteForFish = (/** @type {string} */ text) => `'${text.replace(/\\/g, "\\\\").replace(/'/g, "\\'")}'`;
   const completeAfter = (/** @type {string} */ name) => `complete -c mcs4 -n '__fish_seen_subcommand_from ${name}'`;
-  const lines = words.flatMap(({ name, does, words: nextWords }) => [
-    `complete -c mcs4 -n __fish_use_subcommand -f -a ${name} -d ${quoteForFish(does)}`,
+  const lines = words.flatMap(({ name, description, words: nextWords }) => [
+    `complete -c mcs4 -n __fish_use_subcommand -f -a ${name} -d ${quoteForFish(description)}`,
     ...(name === "help" ? [`${completeAfter(name)} -f -a ${quoteForFish(nextWords.join(" "))}`]
       : nextWords.map((word) => `${completeAfter(name)} ${word.startsWith("--") ? `-l ${word.slice(2)}` : `-a ${word}`}`)),
   ]);

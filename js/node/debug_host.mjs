@@ -52,10 +52,10 @@ class SessionFile {
       program = await openProgram("open", replacement.name);
       check(await program.ask(lines, count));
       replacement.replaceTarget();
-    } catch (fault) {
+    } catch (error) {
       replacement.drop();
       if (program) await program.end();
-      throw fault;
+      throw error;
     }
     this.program = program;
     syncFolder(dirname(name));
@@ -87,9 +87,9 @@ function syncFolder(name) {
 async function openSessionFile(name) {
   try {
     return await openProgram("open", name);
-  } catch (fault) {
-    const holder = fault instanceof CommandError && existsSync(name) ? findLockHolder(name) : "";
-    throw holder === "" ? fault : new CommandError(`${errorMessage(fault)}; ${heldBy(holder)}`);
+  } catch (error) {
+    const holder = error instanceof CommandError && existsSync(name) ? findLockHolder(name) : "";
+    throw holder === "" ? error : new CommandError(`${errorMessage(error)}; ${heldBy(holder)}`);
   }
 }
 
@@ -111,8 +111,8 @@ export const host = {
     try {
       readUserText(name);
       return "";
-    } catch (fault) {
-      return errorMessage(fault);
+    } catch (error) {
+      return errorMessage(error);
     }
   },
   fileExists: existsSync,

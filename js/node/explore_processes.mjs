@@ -19,13 +19,13 @@ import { readUserText, writeUserFile } from "./user_files.mjs";
 /**
  * @typedef {import("../core/explore/campaign.js").Campaign} Campaign
  * @typedef {import("../core/explore/report.js").Report} Report
- * @typedef {import("./input_texts.mjs").GivenText} GivenText
+ * @typedef {import("./input_texts.mjs").InputText} InputText
  *
  * The settings of a search. `seconds` is its duration, `jobs` the number of processes, and `seed` the seed of its random numbers. `allowsModel` is
  * true if the search may run the model command of the properties file. `folder` is a temporary folder. `report` is the file to which a job writes its
  * report.
  * @typedef {{ seconds: number, jobs: number, seed: number, allowsModel: boolean, folder: string,
- *   texts: { board: GivenText, program: GivenText, properties: { name: string, text: string } }, report?: string }} Settings
+ *   texts: { board: InputText, program: InputText, properties: { name: string, text: string } }, report?: string }} Settings
  */
 
 /** The time in milliseconds for which the search runs before it checks the clock and signals. */
@@ -36,6 +36,7 @@ const MAX_REPORT_BYTES = 16777216;
 /** The environment variable that contains the name of a job's settings file. */
 const JOB_VARIABLE = "MCS4_EXPLORE_JOB";
 
+/** True after Ctrl-C. */
 let isStopped = false;
 
 /**
@@ -83,7 +84,7 @@ class Exploration {
   }
 
   /**
-   * Reads the texts. Resolves to the subject of the search (the board and its program), the campaign, the initial state, and all texts that
+   * Reads the texts. Resolves to the subject of the search (the board and its program in the start state), the campaign, and all texts that
    * determine the result.
    */
   async readTexts() {
@@ -94,9 +95,9 @@ class Exploration {
     const { campaign, faults } = readCampaign(properties.text, subject);
     if (faults.length > 0) throw new CommandError(faults.map(({ line, words }) => `${properties.name}:${line}: ${words}`).join("\n"));
     const testText = readStartTests(campaign, properties.name);
-    const { searchSetup: preparation, words } = await startCampaign({ subject, campaign }, prepared, testText);
+    const { searchSetup, words } = await startCampaign({ subject, campaign }, prepared, testText);
     if (words) throw new CommandError(`${properties.name}:${campaign.from ? campaign.from.line : 0}: ${words}`);
-    return { ...preparation, texts: [board.text, program.text, properties.text, testText] };
+    return { ...searchSetup, texts: [board.text, program.text, properties.text, testText] };
   }
 
   /**
@@ -116,7 +117,7 @@ class Exploration {
   async confirm(test, isGoal) {
     const name = join(this.settings.folder, `find.${process.pid}.test`);
     writeFileSync(name, test);
-    for (let tries = 0; tries < 2; tries++) {
+    for (let attempt = 1; attempt <= 2; attempt++) {
       const { status, stdout } = await runCommand(process.execPath, [process.argv[1], "test", this.files.board, this.files.program, name]);
       if (/^(not )?ok 1/m.test(stdout)) return isGoal ? status === 0 : status === 1;
     }
@@ -212,7 +213,10 @@ export function mergeReports(names) {
   throw new CommandError(say.differentTexts(names[index], names[0]));
 }
 
-/** @param {Settings} settings */
+/**
+ * Loads the engine of a search. Ctrl-C then stops the search. Resolves to the search.
+ * @param {Settings} settings
+ */
 async function startExploration(settings) {
   process.on("SIGINT", () => {
     isStopped = true;

@@ -5,7 +5,7 @@ import { join } from "node:path";
 import { escapeControls } from "../core/text/control_escapes.js";
 
 /** The maximum number of completions. */
-const MAX_NAMES = 1000;
+const MAX_COMPLETIONS = 1000;
 
 /**
  * Replaces a leading `~` in a path with the home folder.
@@ -25,18 +25,18 @@ function isFolder(name) {
 }
 
 /**
- * Returns the paths that start with `begin`. The path of a folder ends with a slash. Hidden files are included only if `begin` includes their initial
- * dot.
- * @param {string} begin
+ * Returns the paths that start with a prefix. The path of a folder ends with a slash. Hidden files are included only if the prefix includes their
+ * initial dot.
+ * @param {string} prefix
  */
-export function completePath(begin) {
-  const nameStart = begin.lastIndexOf("/") + 1;
-  const [folder, name] = [begin.slice(0, nameStart), begin.slice(nameStart)];
+export function completePath(prefix) {
+  const nameStart = prefix.lastIndexOf("/") + 1;
+  const [folder, name] = [prefix.slice(0, nameStart), prefix.slice(nameStart)];
   const folderPath = expandTilde(folder) || ".";
   try {
     const isMatching = (/** @type {string} */ file) => (
       file.startsWith(name) && (name.startsWith(".") || !file.startsWith(".")) && escapeControls(file) === file);
-    return readdirSync(folderPath).filter(isMatching).sort().slice(0, MAX_NAMES)
+    return readdirSync(folderPath).filter(isMatching).sort().slice(0, MAX_COMPLETIONS)
       .map((file) => `${folder}${file}${isFolder(join(folderPath, file)) ? "/" : ""}`);
   } catch {
     return [];

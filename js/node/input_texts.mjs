@@ -8,15 +8,16 @@ import { noAnswers } from "../words/commands.js";
 export const MAX_SCRIPT_BYTES = 16777216;
 export const MAX_ANSWERS_BYTES = 67108864;
 export const MAX_TEXT_BYTES = 1048576;
+/** The file descriptor of standard input. */
 export const STANDARD_INPUT = 0;
 const UTF8_MARK = Buffer.from([0xEF, 0xBB, 0xBF]);
 /** @type {Record<string, string>} the encodings, by byte order mark in hexadecimal; PowerShell writes UTF-16 */
 const UTF_16_ENCODINGS = { fffe: "utf-16le", feff: "utf-16be" };
 
 /**
- * The text of a board or a program, from a file. `name` is the name of the file, `before` is the number of lines before the text in the
- * file, and `encoding` is the encoding for output of the text.
- * @typedef {{ name: string, text: string, before: number, encoding: BufferEncoding }} GivenText
+ * The text of a board or a program, from a file. `name` is the name of the file. `before` is the number of lines before the text in the file.
+ * `encoding` is the encoding in which a command prints the text.
+ * @typedef {{ name: string, text: string, before: number, encoding: BufferEncoding }} InputText
  */
 
 /**
@@ -44,12 +45,16 @@ export function readDecodedFile(name, maxBytes) {
   return decodeText(readUserFile(name, maxBytes));
 }
 
-/** @param {string} name */
+/**
+ * Returns true if a name refers to a pipe or a character device.
+ * @param {string} name
+ */
 function isPipe(name) {
   const stat = statInput(name);
   return stat !== undefined && (stat.isFIFO() || stat.isCharacterDevice());
 }
 
+/** The inputs of a command. */
 export class InputTexts {
   constructor() {
     /** @type {Buffer | null} the contents of standard input, which can be read only once; null before it is read */
@@ -67,13 +72,17 @@ export class InputTexts {
     return bytes;
   }
 
-  /** @param {number} maxBytes the maximum number of bytes */
+  /**
+   * Returns the contents of standard input. Reads them on the first call.
+   * @param {number} maxBytes the maximum number of bytes
+   */
   readStandardInput(maxBytes) {
     if (!this.standardInput) this.standardInput = readStream(STANDARD_INPUT, "-", maxBytes);
     return this.standardInput;
   }
 
   /**
+   * Returns the contents of a file or a pipe.
    * @param {string} name
    * @param {number} maxBytes the maximum number of bytes
    */
@@ -91,7 +100,7 @@ export class InputTexts {
    * Returns the text of a tests file or properties file.
    * @param {string} name
    */
-  source(name) {
+  readSource(name) {
     return { name, text: decodeText(this.read(name, MAX_TEXT_BYTES)).text.replace(/\r\n?/g, "\n") };
   }
 
@@ -100,9 +109,9 @@ export class InputTexts {
    * command, otherwise the complete file.
    * @param {string} name
    * @param {"wire" | "asm"} word
-   * @returns {GivenText}
+   * @returns {InputText}
    */
-  text(name, word) {
+  readText(name, word) {
     const bytes = this.read(name, MAX_SCRIPT_BYTES);
     const { text, encoding } = decodeText(bytes);
     const lines = text.split(/\r\n?|\n/);
@@ -117,7 +126,7 @@ export class InputTexts {
   }
 
   /** Returns the text on standard input. */
-  lines() {
+  readInputText() {
     return decodeText(this.readStandardInput(MAX_SCRIPT_BYTES));
   }
 
@@ -125,16 +134,16 @@ export class InputTexts {
    * Returns the bench's answer lines on standard input. Ignores a last line without a line feed, because it is truncated.
    * @param {string} command the command that reads the answers
    */
-  answers(command) {
+  readAnswers(command) {
     if (this.readStandardInput(MAX_ANSWERS_BYTES).length === 0) throw new CommandError(noAnswers(command));
     return decodeText(this.readStandardInput(MAX_ANSWERS_BYTES)).text.split("\n").slice(0, -1).map((line) => line.replace(/\r$/, ""));
   }
 
   /**
-   * Returns a session script.
+   * Returns the text of a session script.
    * @param {string} name
    */
-  script(name) {
+  readScript(name) {
     return decodeText(this.read(name, MAX_SCRIPT_BYTES)).text;
   }
 }

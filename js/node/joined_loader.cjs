@@ -208,4 +208,4 @@ function joinedCommand(name) {
   return checksum === "" ? null : runJoinedFile(file, folder === "" ? "" : join(folder, `${name}.code`), checksum);
 }
 
-module.exports = { hashFiles, joinedCommand, cacheFolder: findCacheFolder };
+module.exports = { hashFiles, joinedCommand, findCacheFolder };

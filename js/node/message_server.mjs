@@ -57,8 +57,8 @@ export function listenToInput(connection, onEnd) {
     partCount += 1;
     try {
       connection.take(bytes);
-    } catch (fault) {
-      end(errorMessage(fault));
+    } catch (error) {
+      end(errorMessage(error));
       return;
     }
     if (connection.reader.incomplete !== "") timer = setTimeout(rejectIncomplete, MESSAGE_TIMEOUT, partCount);

@@ -12,12 +12,12 @@ import { readPageModule } from "./page_parts.mjs";
 const OWNER_ONLY_MODE = 0o600;
 
 /**
- * Returns true if this user has not used the module before, and records the use in the cache. Returns false if the use cannot be recorded, as
- * tools/lib/start.sh does.
+ * Records in the user's cache that the user has used the module. Returns true if this is the first use. Returns false for a later use, or if the use
+ * cannot be recorded.
  */
 function recordFirstUse() {
   try {
-    const folder = joined.cacheFolder();
+    const folder = joined.findCacheFolder();
     const noteFile = join(folder, "reported_module");
     if (folder === "" || existsSync(noteFile)) return false;
     closeSync(openSync(noteFile, "wx", OWNER_ONLY_MODE));

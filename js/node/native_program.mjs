@@ -168,7 +168,7 @@ export async function createRejectedTextsError(engine, givenTexts, faults) {
  * Resolves to the source map of a program. Throws an error if the contents of ROM are not this program.
  * @param {EngineHost} engine
  * @param {Uint8Array} codes the contents of ROM
- * @param {import("./input_texts.mjs").GivenText} program
+ * @param {import("./input_texts.mjs").InputText} program
  */
 export async function readCheckedMap(engine, codes, program) {
   const { sessionProgram } = await import("../core/engine/session_program.js");
@@ -190,7 +190,7 @@ export async function yieldToMessages() {
  * Assembles a program on a board with all possible ROM chips, instead of its own board. Resolves to the program's source map, and the byte
  * at each address.
  * @param {EngineHost} engine
- * @param {import("./input_texts.mjs").GivenText} program
+ * @param {import("./input_texts.mjs").InputText} program
  */
 export async function assembleProgram(engine, program) {
   const { readSource } = await import("../core/engine/session_program.js");
@@ -211,7 +211,7 @@ export async function makeAddressDescriber(texts, engine, programName, session) 
   const [{ romCodes }, { formatSourceLocation }] = await Promise.all([
     import("../core/engine/rom_codes.js"), import("../core/machine/source_locations.js"),
   ]);
-  const program = texts.text(programName, "asm");
+  const program = texts.readText(programName, "asm");
   const map = await readCheckedMap(engine, romCodes(engine, await openSession(engine, texts, session)), program);
   const source = { lines: program.text.split("\n"), before: program.before };
   return (address) => formatSourceLocation(map, source, address);

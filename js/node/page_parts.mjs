@@ -21,8 +21,9 @@ const unpackPart = (id) => inflateRawSync(Buffer.from(readPagePart(id), "base64"
 export const readPageModule = () => unpackPart("module");
 
 /**
- * The page's data: the messages of refusals by their numbers, and the sections of the manual.
- * @typedef {{ refusals: Record<string, string>, manual: import("../core/help/manual.js").ManualSection[] }} PageData
+ * The page's data: the messages of refusals by their numbers, the sections of the manual, and the examples.
+ * @typedef {{ refusals: Record<string, string>, manual: import("../core/help/manual.js").ManualSection[],
+ *   examples: import("../core/engine/examples.js").Example[] }} PageData
  */
 
 /** @type {() => PageData} */

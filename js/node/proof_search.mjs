@@ -15,8 +15,8 @@ import { CommandError } from "./output.mjs";
 import { removeFolder, createTemporaryFolder } from "./temporary_folders.mjs";
 
 /**
- * @typedef {import("./input_texts.mjs").GivenText} GivenText
- * @typedef {{ board: GivenText, program: GivenText, properties: { name: string, text: string } }} Texts
+ * @typedef {import("./input_texts.mjs").InputText} InputText
+ * @typedef {{ board: InputText, program: InputText, properties: { name: string, text: string } }} Texts
  *
  * The limits of a search. `most` is the maximum number of states, and `memory` the maximum memory for them in MB (0 for all memory).
  * @typedef {{ most: number, memory: number }} Limits

@@ -18,10 +18,10 @@ import { readPageData } from "./page_parts.mjs";
  * @typedef {import("../core/engine/engine_host.js").EngineHost} EngineHost
  * @typedef {import("../core/testing/test_preparation.js").TextFault} TextFault
  * @typedef {import("../core/text/sendable_text.js").Fault} Fault
- * @typedef {import("./input_texts.mjs").GivenText} GivenText
+ * @typedef {import("./input_texts.mjs").InputText} InputText
  *
  * The texts that the bench may have rejected, by kind.
- * @typedef {{ board?: Omit<GivenText, "encoding">, program?: Omit<GivenText, "encoding"> }} CheckedTexts
+ * @typedef {{ board?: Omit<InputText, "encoding">, program?: Omit<InputText, "encoding"> }} CheckedTexts
  */
 
 const MAX_ERRORS = 20;

@@ -12,19 +12,19 @@ import { CommandError, UsageError, print, printError } from "./output.mjs";
  * @typedef {import("../core/testing/coverage.js").Coverage} Coverage
  * @typedef {import("../core/testing/profile.js").Profile} Profile
  * @typedef {import("../core/testing/test_run.js").Outcome} Outcome
- * @typedef {import("./input_texts.mjs").GivenText} GivenText
+ * @typedef {import("./input_texts.mjs").InputText} InputText
  *
  * The description of a command. `Counting` is the class of its recorder. `checkNames` checks the file names before the files are read. `outcome`
  * formats the result of each test. `report` prints the counts at the end.
  * @typedef {{ name: string, Counting: typeof import("../core/testing/recorders.js").ExecutionRecorder, checkNames?: (names: string[]) => void,
  *   outcome?: (outcome: Outcome, number: number, total: number) => string,
- *   report?: (counts: { coverage: Coverage, profile: Profile }, program: GivenText) => void }} Tool
+ *   report?: (counts: { coverage: Coverage, profile: Profile }, program: InputText) => void }} Tool
  */
 
 const MAX_CYCLES = 100000000;
 
 /**
- * Returns the file names of board, program and tests, from the arguments or from the project.
+ * Resolves to the file names of board, program and tests, from the arguments or from the project.
  * @param {string | undefined} folder
  * @param {string[]} givenNames
  */
@@ -46,9 +46,9 @@ export async function runTestCommand({ Counting, checkNames = () => {}, outcome:
   checkNames(allNames);
   const [boardName, programName, ...names] = allNames;
   const texts = new InputTexts();
-  const board = texts.text(boardName, "wire");
-  const program = texts.text(programName, "asm");
-  const sources = names.map((fileName) => texts.source(fileName));
+  const board = texts.readText(boardName, "wire");
+  const program = texts.readText(programName, "asm");
+  const sources = names.map((fileName) => texts.readSource(fileName));
   const engine = await startEngine();
   const printOutcome = (/** @type {Outcome} */ outcome, /** @type {number} */ number, /** @type {number} */ total) => {
     printError(failureLine(outcome));
@@ -74,7 +74,7 @@ export async function countCycles({ name, Counting, checkNames = () => {}, repor
   checkNames([session, programName]);
   const { countSession } = await import("../core/testing/session_count.js");
   const texts = new InputTexts();
-  const program = texts.text(programName, "asm");
+  const program = texts.readText(programName, "asm");
   const engine = await startEngine();
   const state = await openSession(engine, texts, session);
   const { faults, other, counted: counts } = await countSession(engine, state, program.text, cycles, Counting);

@@ -29,7 +29,7 @@ export async function run({ source }, positionals) {
   const [session, words] = source === undefined ? ["", positionals] : [positionals[0], positionals.slice(1)];
   const { first, last } = parseRange(words);
   const texts = new InputTexts();
-  const answers = texts.answers("cycles");
+  const answers = texts.readAnswers("cycles");
   const describeAddress = source === undefined ? null : await makeAddressDescriber(texts, await startEngine(), source, session);
   const describeCounter = describeAddress && ((/** @type {string} */ counter) => describeAddress(parseInt(counter, 16)));
   const { runs, sum, words: error } = runTimes(answers, first, last, describeCounter);

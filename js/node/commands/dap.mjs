@@ -10,12 +10,13 @@ import { readPageData, readPageModule } from "../page_parts.mjs";
 
 const end = makeExitFunction("dap");
 
+/** Starts the debug adapter. */
 async function serve() {
   const connection = new AdapterConnection((bytes) => process.stdout.write(bytes));
   const adapter = new DebugAdapter(connection, await Engine.load(readPageModule()), readPageData(), { ...host, end });
   // The client has ended without a disconnect request, or has sent unreadable data. Save the work so far.
   listenToInput(connection, (words) => {
-    connection.queueEnd.then(() => adapter.leave()).then((left) => end(1, words || left));
+    connection.queueEnd.then(() => adapter.leave()).then((message) => end(1, words || message));
   });
   process.stdout.on("error", () => adapter.leave().then(() => process.exit(1)));
   for (const signal of ["SIGTERM", "SIGINT", "SIGHUP"]) process.on(signal, () => adapter.leave().then(() => process.exit(1)));
@@ -26,6 +27,6 @@ export function run(_, positionals) {
   checkArguments(positionals, []);
   explainAtTerminal("dap");
   process.stdin.on("error", () => process.exit(1));
-  serve().catch((fault) => end(1, errorMessage(fault)));
+  serve().catch((error) => end(1, errorMessage(error)));
   return waitForExit();
 }

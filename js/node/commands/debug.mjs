@@ -136,8 +136,8 @@ export async function run({ folder }, positionals) {
   exitOnOutputError("debug");
   try {
     return await debugFiles(names);
-  } catch (fault) {
-    throw fault instanceof Error ? new CommandError(fault.message) : fault;
+  } catch (error) {
+    throw error instanceof Error ? new CommandError(error.message) : error;
   } finally {
     process.stdin.destroy();
   }

@@ -14,9 +14,9 @@ export async function run({ folder }, positionals) {
   checkArguments(words, ["BOARD"], 1, true);
   const [name] = words;
   const texts = new InputTexts();
-  const boardText = texts.text(name, "wire");
+  const boardText = texts.readText(name, "wire");
   // Read standard input before the engine starts, so that a signal ends the waiting process immediately.
-  const answers = texts.answers("display");
+  const answers = texts.readAnswers("display");
   const { board, face } = await readBoardAndFace(await startEngine(), boardText);
   const { lines, words: error } = convertLampAnswers(face, board, name, answers);
   if (error !== "") throw new CommandError(error);

@@ -13,8 +13,8 @@ export async function run({ source }, positionals) {
   if (source === undefined) checkArguments(positionals, ["SCRIPT"]);
   else checkArguments([source, ...positionals], ["PROGRAM", "SESSION", "SCRIPT"]);
   const texts = new InputTexts();
-  const script = texts.script(positionals[positionals.length - 1]);
-  const answers = texts.answers("explain");
+  const script = texts.readScript(positionals[positionals.length - 1]);
+  const answers = texts.readAnswers("explain");
   const engine = await startEngine();
   const describeAddress = source === undefined ? null : await makeAddressDescriber(texts, engine, source, positionals[0]);
   const { inputs, words } = matchScriptAnswers(script, answers);

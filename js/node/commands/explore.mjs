@@ -54,8 +54,8 @@ export async function run(values, positionals) {
  */
 function searchTexts([board, program, properties], limits) {
   const texts = new InputTexts();
-  const commandTexts = { board: texts.text(board, "wire"), program: texts.text(program, "asm") };
-  const source = texts.source(properties);
+  const commandTexts = { board: texts.readText(board, "wire"), program: texts.readText(program, "asm") };
+  const source = texts.readSource(properties);
   const folder = createTemporaryFolder("explore");
   return exploreTexts({ ...limits, folder: join(folder), texts: { ...commandTexts, properties: source } });
 }

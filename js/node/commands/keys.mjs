@@ -47,7 +47,7 @@ export async function run({ folder, down, up, "until-stop": session }, positiona
   checkArguments(words, ["BOARD", "KEYS"], 2, true);
   const [boardName, keys] = words;
   const texts = new InputTexts();
-  const boardText = texts.text(boardName, "wire");
+  const boardText = texts.readText(boardName, "wire");
   if (session !== undefined) {
     texts.read(session, MAX_TEXT_BYTES);
     findProgramPath();

@@ -13,7 +13,7 @@ export async function run({ folder, names, labels }, positionals) {
   const project = await findProject(folder, positionals, 1);
   const words = project ? [project.program, ...positionals] : positionals;
   checkArguments(words, ["PROGRAM"], 1, true);
-  const program = new InputTexts().text(words[0], "asm");
+  const program = new InputTexts().readText(words[0], "asm");
   const { map, bytes } = await assembleProgram(await startEngine(), program);
   const lines = names || labels ? programNames(map, Boolean(labels)).map(({ name, value }) => `${name} ${value}`)
     : programListing(program.text, map, bytes);

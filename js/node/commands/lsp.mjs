@@ -27,6 +27,7 @@ const pause = () => new Promise((resume) => {
   setImmediate(resume);
 });
 
+/** Starts the language server. */
 async function serve() {
   const connection = new Connection((bytes) => process.stdout.write(bytes), end);
   const server = new LanguageServer(connection, await Engine.load(readPageModule()), readPageData(), { readFile, pause });
@@ -40,6 +41,6 @@ export function run(_, positionals) {
   explainAtTerminal("lsp");
   process.stdout.on("error", () => process.exit(1));
   process.stdin.on("error", () => process.exit(1));
-  serve().catch((fault) => end(1, errorMessage(fault)));
+  serve().catch((error) => end(1, errorMessage(error)));
   return waitForExit();
 }

@@ -12,8 +12,8 @@ export async function run({ folder }, positionals) {
   const words = project ? [project.program, ...positionals] : positionals;
   checkArguments(words, ["PROGRAM"], 1, true);
   const texts = new InputTexts();
-  const { text, encoding } = texts.lines();
-  const { map } = await assembleProgram(await startEngine(), texts.text(words[0], "asm"));
+  const { text, encoding } = texts.readInputText();
+  const { map } = await assembleProgram(await startEngine(), texts.readText(words[0], "asm"));
   const { lines, line, words: error } = replaceNames(text, map);
   if (error !== "") throw new CommandError(inLine(line, error));
   printVerbatim(lines === "" || lines.endsWith("\n") ? lines : `${lines}\n`, encoding);

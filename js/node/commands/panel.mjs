@@ -19,7 +19,7 @@ import { describeRefusal } from "../rejected_texts.mjs";
 import { openProgram } from "../session_process.mjs";
 
 /**
- * @typedef {import("../input_texts.mjs").GivenText} GivenText
+ * @typedef {import("../input_texts.mjs").InputText} InputText
  * @typedef {import("../session_process.mjs").SessionProcess} SessionProcess
  */
 
@@ -28,7 +28,7 @@ const FAILED_STATUS = 1;
 const FRAME_INTERVAL = 100;
 
 /**
- * Returns the file names of board, session and program, from the arguments or from the project.
+ * Resolves to the file names of board, session and program, from the arguments or from the project.
  * @param {import("./table.mjs").Values} values
  * @param {string[]} words
  */
@@ -58,7 +58,7 @@ async function readAnswers(session, lines) {
  * Reads the board and the program. Throws an error if they differ from the session's board or from the contents of its ROM.
  * @param {SessionProcess} session
  * @param {string} name the session's file name
- * @param {{ board: GivenText, program: GivenText | null }} texts
+ * @param {{ board: InputText, program: InputText | null }} texts
  */
 async function readTexts(session, name, texts) {
   const engine = await startEngine();
@@ -132,8 +132,8 @@ async function runPanel(terminal, panel) {
 export async function run(values, words) {
   const names = await resolveNames(values, words);
   const texts = new InputTexts();
-  const board = texts.text(names.board, "wire");
-  const program = names.program === undefined ? null : texts.text(names.program, "asm");
+  const board = texts.readText(names.board, "wire");
+  const program = names.program === undefined ? null : texts.readText(names.program, "asm");
   texts.read(names.session, MAX_TEXT_BYTES);
   // If there is no native program, fail before the terminal changes.
   findProgramPath();

@@ -21,8 +21,8 @@ export async function run({ folder, most: statesWord, memory: memoryWord }, posi
   const names = await resolveFileNames(folder, positionals);
   checkArguments(names, ["BOARD", "PROGRAM", "PROPERTIES"], 3, true);
   const texts = new InputTexts();
-  const [board, program] = [texts.text(names[0], "wire"), texts.text(names[1], "asm")];
-  const properties = texts.source(names[2]);
+  const [board, program] = [texts.readText(names[0], "wire"), texts.readText(names[1], "asm")];
+  const properties = texts.readSource(names[2]);
   return proveAll(await beginProving({ board, program, properties }, { most: maxStates, memory }), properties.name);
 }
 

@@ -28,8 +28,8 @@ export async function run({ folder }, positionals) {
   checkArguments(words, ["BOARD", "PROGRAM", "KEYS?"], 3, true);
   const [boardName, programName, keys = ""] = words;
   const texts = new InputTexts();
-  const board = texts.text(boardName, "wire");
-  const program = texts.text(programName, "asm");
+  const board = texts.readText(boardName, "wire");
+  const program = texts.readText(programName, "asm");
   const engine = await startEngine();
   const { prepared: preparation, faults } = prepareTests(engine, { boardText: board.text, programText: program.text });
   if (!preparation) throw await createRejectedTextsError(engine, { board, program }, faults);

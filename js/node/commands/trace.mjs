@@ -29,7 +29,7 @@ export async function run(values, words) {
   const cycles = parseCount("CYCLES", word, lastCount > 0 ? MAX_CYCLES_WITH_LAST : MAX_CYCLES);
   const programName = await findProgramName(values);
   const texts = new InputTexts();
-  const program = programName === undefined ? null : texts.text(programName, "asm");
+  const program = programName === undefined ? null : texts.readText(programName, "asm");
   const engine = await startEngine();
   const state = await openSession(engine, texts, session);
   const trace = new SessionTrace(engine, state, yieldToMessages);

@@ -18,13 +18,13 @@ import { CommandError, UsageError, print, printError } from "../output.mjs";
 import { checkOutputFile, writeUserFile } from "../user_files.mjs";
 
 /**
- * @typedef {import("../input_texts.mjs").GivenText} GivenText
+ * @typedef {import("../input_texts.mjs").InputText} InputText
  * @typedef {import("./table.mjs").Values} Values
  *
  * An opened session. `state` is its state without breakpoints and watches. `boardText` is the text of its board; null if the user names
  * none. `program` is the program with its labels; null if the user names none.
  * @typedef {{ engine: import("../../core/engine/engine_host.js").EngineHost, state: Uint8Array, board: import("../../core/bench/answers.js").Board,
- *   boardText: GivenText | null, face: Face, program: import("../../core/engine/wave_recorder.js").RecordedProgram | null }} OpenedSession
+ *   boardText: InputText | null, face: Face, program: import("../../core/engine/wave_recorder.js").RecordedProgram | null }} OpenedSession
  */
 
 const MAX_CYCLES = 10000000;
@@ -43,7 +43,7 @@ async function resolveNames({ folder, board, names }) {
 /**
  * Throws an error if a board's text does not describe the session's board, or if its front panel names chips or lines that the board does not have.
  * @param {OpenedSession["engine"]} engine
- * @param {GivenText} boardFile
+ * @param {InputText} boardFile
  * @param {string[]} wantedAnswers the session's answers to `board`
  */
 async function checkBoard(engine, boardFile, wantedAnswers) {
@@ -64,8 +64,8 @@ async function openWiredSession(session, { board: boardName, program: programNam
   const texts = new InputTexts();
   const engine = await startEngine();
   const openedState = await openSession(engine, texts, session);
-  const boardText = boardName === undefined ? null : texts.text(boardName, "wire");
-  const program = programName === undefined ? null : texts.text(programName, "asm");
+  const boardText = boardName === undefined ? null : texts.readText(boardName, "wire");
+  const program = programName === undefined ? null : texts.readText(programName, "asm");
   const answers = engine.ask(openedState, "board\n").answers;
   if (boardText) await checkBoard(engine, boardText, answers);
   const map = program && await readCheckedMap(engine, romCodes(engine, openedState), program);
