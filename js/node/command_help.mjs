@@ -11,7 +11,7 @@ const DEEP_INDENT = INDENT.repeat(3);
 /** @type {Record<string, import("../words/commands.js").CommandWords>} the help texts of the commands, by command name */
 export const HELP_TEXTS = say.COMMAND_WORDS;
 
-/** @type {(text: string, firstIndent?: string, otherIndent?: string) => string} wraps a text; the indents of its first line and other lines are texts */
+/** @type {(text: string, firstIndent?: string, otherIndent?: string) => string} wraps a text; `firstIndent` is the beginning of its first line */
 const foldText = (text, firstIndent = "", otherIndent = firstIndent) => wrapText(text, WIDTH, firstIndent, otherIndent);
 
 /**
@@ -55,7 +55,8 @@ export function listOptionRows(name) {
 }
 
 /** @type {(heading: string, rows: string[][]) => string} formats a list with a heading, and the description of each entry below the entry */
-const formatList = (heading, rows) => `${heading}\n${rows.map(([word, description]) => `${INDENT}${word}\n${foldText(description, DEEP_INDENT)}`).join("\n")}`;
+const formatList = (heading, rows) => (
+  `${heading}\n${rows.map(([word, description]) => `${INDENT}${word}\n${foldText(description, DEEP_INDENT)}`).join("\n")}`);
 
 /** @type {(heading: string, lines: string[]) => string} formats a list of items with a heading */
 const formatItems = (heading, lines) => `${heading}\n${lines.map((line) => foldText(line, INDENT, DEEP_INDENT)).join("\n")}`;

@@ -159,7 +159,9 @@ export function createFiles() {
   return [
     ["help/mcs4.txt", formatMcs4Help("")], ["man/mcs4.1", formatMcs4ManualPage()],
     ...names.flatMap((name) => [[`help/${name}.txt`, formatCommandHelp(name)], [`man/mcs4-${name}.1`, formatManualPage(name)]]),
-    ["completions/bash", formatBashCompletion(words)], ["completions/zsh", formatZshCompletion(words)], ["completions/fish", formatFishCompletion(words)],
+    ["completions/bash", formatBashCompletion(words)],
+    ["completions/zsh", formatZshCompletion(words)],
+    ["completions/fish", formatFishCompletion(words)],
   ];
 }
 

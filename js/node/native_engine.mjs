@@ -10,7 +10,7 @@
 import {
   closeSync, constants, copyFileSync, openSync, readFileSync, readSync, renameSync, rmSync, writeFileSync, writeSync,
 } from "node:fs";
-import { constants as system } from "node:os";
+import { constants as osConstants } from "node:os";
 import { join } from "node:path";
 import { isQuery } from "../core/bench/answer_table.js";
 import { BenchRefusal } from "../core/bench/bench_errors.js";
@@ -40,7 +40,9 @@ const MAX_COPIES = 32;
 /** The minimum number of bytes that a pipe accepts while nobody reads from it. */
 const PIPE_CAPACITY = 4096;
 const BUFFER_SIZE = 1 << 16;
+/** The size of a token in bytes. */
 const TOKEN_SIZE = 4;
+/** The size of a session file in bytes. */
 export const SESSION_BYTES = 163856;
 /** The maximum number of cached analyses. The engine caches them because it often serves the same lines again. */
 const MAX_ANALYSES = 500;
@@ -57,16 +59,16 @@ export class ProgramError extends CommandError {}
  */
 function analyse(lines) {
   let [commands, seqCount] = ["", 0];
-  /** @type {{ isQuery: boolean } | null} */
+  /** @type {{ isQuery: boolean } | null} the unfinished text; null outside of a text */
   let text = null;
   for (const rawLine of lines.replace(/\n$/, "").split("\n")) {
     const line = stripCarriageReturn(rawLine);
     /** @type {boolean} */
-    const isAsking = text ? text.isQuery : isQuery(line.trim().split(/[ \t]/, 1)[0]);
-    if (!isAsking && (text || line.trim() !== "")) commands += `${line}\n`;
+    const isPartOfQuery = text ? text.isQuery : isQuery(line.trim().split(/[ \t]/, 1)[0]);
+    if (!isPartOfQuery && (text || line.trim() !== "")) commands += `${line}\n`;
     if (!text && isSeqQuery(line)) seqCount += 1;
     if (text && line === ".") text = null;
-    else if (!text && opensText(line)) text = { isQuery: isAsking };
+    else if (!text && opensText(line)) text = { isQuery: isPartOfQuery };
   }
   return { commands, seqCount, isComplete: !text && (lines === "" || lines.endsWith("\n")) };
 }
@@ -80,15 +82,15 @@ function splitForPipe(lines) {
   if (lines.length <= PIPE_CAPACITY) return [lines];
   const pieces = [];
   let piece = "";
-  for (let at = 0; at < lines.length;) {
-    const end = findInputEnd(lines, at, 1);
-    const input = lines.slice(at, end);
+  for (let start = 0; start < lines.length;) {
+    const end = findInputEnd(lines, start, 1);
+    const input = lines.slice(start, end);
     if (piece !== "" && piece.length + input.length > PIPE_CAPACITY) {
       pieces.push(piece);
       piece = "";
     }
     piece += input;
-    at = end;
+    start = end;
   }
   return [...pieces, piece];
 }
@@ -108,9 +110,9 @@ done < "$folder/control"
 if [ -e "$folder" ]; then rm -rf -- "$folder"; fi`;
 
 /** The name of the shell, with which its messages start. */
-const SHELL = "starter";
+const SHELL_NAME = "starter";
 /** The exit status of the shell if no program is given and start.sh does not know one. */
-const UNKNOWN_PROGRAM = 3;
+const UNKNOWN_PROGRAM_STATUS = 3;
 /**
  * The shell script. The script finds the program if none is given, creates the pipes, starts the loop, and prints the path of the program.
  */
@@ -119,7 +121,7 @@ program=$1 top=$2 folder=$3
 shift 3
 if [ -z "$program" ]; then
     . "$top/tools/lib/start.sh"
-    find_known || exit ${UNKNOWN_PROGRAM}
+    find_known || exit ${UNKNOWN_PROGRAM_STATUS}
 fi
 mkfifo -- "$@" || exit 1
 { ${SHELL_LOOP}
@@ -138,16 +140,17 @@ class Starter {
     this.freeSlots = [...Array(MAX_PROCESSES + 1).keys()];
     const pipes = ["control", ...this.freeSlots.flatMap((slot) => [`in${slot}`, `out${slot}`])].map((name) => join(this.folder, name));
     const { status, signal, stdout } = loadChildProcess().spawnSync(
-      "/bin/sh", ["-c", SHELL_SCRIPT, SHELL, program, TOP, this.folder, ...pipes], { encoding: "utf8", stdio: ["ignore", "pipe", "ignore"] });
+      "/bin/sh", ["-c", SHELL_SCRIPT, SHELL_NAME, program, TOP, this.folder, ...pipes], { encoding: "utf8", stdio: ["ignore", "pipe", "ignore"] });
     // A signal to the process group, such as Ctrl-C, can end the shell before the shell ignores signals. This process has received the same signal,
     // so end it in the same way.
     if (signal) {
       removeFolder(this.folder);
-      process.exit(128 + system.signals[signal]);
+      process.exit(128 + osConstants.signals[signal]);
     }
     this.program = stdout;
+    /** The file descriptor of the control pipe; -1 if the shell does not know a program. */
     this.control = -1;
-    if (status === UNKNOWN_PROGRAM) removeFolder(this.folder);
+    if (status === UNKNOWN_PROGRAM_STATUS) removeFolder(this.folder);
     else if (status !== 0) throw new ProgramError(`cannot make pipes in ${this.folder}; TMPDIR names another place for temporary files`);
     else this.control = openSync(join(this.folder, "control"), "w");
   }
@@ -165,11 +168,12 @@ class Starter {
   }
 
   /** The lines that the programs wrote to standard error, without the shell's messages and without lines that name this folder. */
-  get words() {
+  get errorLines() {
     const lines = readFileSync(join(this.folder, "words"), "latin1").split("\n");
-    return lines.filter((line) => line !== "" && !line.startsWith(`${SHELL}: `) && !line.includes(this.folder));
+    return lines.filter((line) => line !== "" && !line.startsWith(`${SHELL_NAME}: `) && !line.includes(this.folder));
   }
 
+  /** Removes the folder and ends the shell. */
   end() {
     removeFolder(this.folder);
     closeSync(this.control);
@@ -211,13 +215,13 @@ class Session {
 
   /** Returns the error for a program whose first line shows that it is not the native program of mcs4. */
   makeNoAnswerError() {
-    const { program, words } = this.starter;
-    return new ProgramError([...words, `${program} does not answer; MCS4 names the program where it is not the mcs4 at the top`].join("\n"));
+    const { program, errorLines } = this.starter;
+    return new ProgramError([...errorLines, `${program} does not answer; MCS4 names the program where it is not the mcs4 at the top`].join("\n"));
   }
 
   /** Returns the error for a program that has ended before it answered. */
   makeEndedError() {
-    return new ProgramError(`the session has ended; the program said: ${this.starter.words.join("; ") || "nothing"}`);
+    return new ProgramError(`the session has ended; the program said: ${this.starter.errorLines.join("; ") || "nothing"}`);
   }
 
   /**
@@ -259,7 +263,7 @@ class Session {
    * Sends lines that end without a line feed or within a text, and ends the session. Returns the answer lines.
    * @param {string} lines
    */
-  exchangeLast(lines) {
+  exchangeIncomplete(lines) {
     const pieces = splitForPipe(lines);
     const answers = this.exchange(pieces.slice(0, -1).join(""));
     writeSync(this.input, pieces[pieces.length - 1]);
@@ -354,13 +358,13 @@ export class NativeEngine {
    * @param {State} into
    */
   serve(state, lines, into) {
-    const number = this.nodeIndex(state);
+    const stateIndex = this.readIndex(state);
     const { commands, isComplete } = this.analyse(lines);
-    if (!isComplete) return this.serveLast(number, lines, into);
-    const session = this.sessionAt(number);
+    if (!isComplete) return this.serveIncomplete(stateIndex, lines, into);
+    const session = this.sessionAt(stateIndex);
     const opened = `session ${session.count}`;
     const answers = this.exchange(session, lines);
-    if (commands !== "") session.stateIndex = this.addState({ parent: number, commands, copy: "", count: session.count });
+    if (commands !== "") session.stateIndex = this.addState({ parent: stateIndex, commands, copy: "", count: session.count });
     this.writeIndex(into, session.stateIndex);
     return { status: 0, opened, answers };
   }
@@ -370,42 +374,42 @@ export class NativeEngine {
    * @param {string} lines
    */
   ask(state, lines) {
-    const number = this.nodeIndex(state);
+    const stateIndex = this.readIndex(state);
     const { commands, isComplete } = this.analyse(lines);
     if (commands === "" && isComplete) {
-      const session = this.sessionAt(number);
+      const session = this.sessionAt(stateIndex);
       return { status: 0, opened: `session ${session.count}`, answers: this.exchange(session, lines) };
     }
-    const session = this.newSession(number);
+    const session = this.startSession(stateIndex);
     const opened = `session ${session.count}`;
-    const answers = isComplete ? this.exchange(session, lines) : session.exchangeLast(lines);
+    const answers = isComplete ? this.exchange(session, lines) : session.exchangeIncomplete(lines);
     this.drop(session, isComplete);
     return { status: 0, opened, answers };
   }
 
   /** @param {State} state */
   keep(state) {
-    const number = this.nodeIndex(state);
-    const { file } = this.sessionAt(number);
-    this.automaticCopies = this.automaticCopies.filter((each) => each !== number);
-    if (this.states[number].copy === "") this.copy(number, file);
+    const stateIndex = this.readIndex(state);
+    const { file } = this.sessionAt(stateIndex);
+    this.automaticCopies = this.automaticCopies.filter((index) => index !== stateIndex);
+    if (this.states[stateIndex].copy === "") this.copy(stateIndex, file);
   }
 
   /** @param {State} state */
   bytesOf(state) {
-    const number = this.nodeIndex(state);
-    return new Uint8Array(readFileSync(this.states[number].copy || this.sessionAt(number).file));
+    const stateIndex = this.readIndex(state);
+    return new Uint8Array(readFileSync(this.states[stateIndex].copy || this.sessionAt(stateIndex).file));
   }
 
   /** @param {Uint8Array} bytes */
   stateOf(bytes) {
-    const copy = this.newFile();
+    const copy = this.makeFilePath();
     writeFileSync(copy, bytes);
     return this.writeIndex(new Uint8Array(this.size), this.addState({ parent: -1, commands: "", copy, count: -1 }));
   }
 
-  /** A message that the folder for temporary files has no room for a session; "" if it has room. */
-  get noRoomMessage() {
+  /** A message that the folder for temporary files has no room for a session; "" if the folder has room. */
+  get roomError() {
     const { folder, root } = this.starter;
     const room = join(folder, "room");
     try {
@@ -427,22 +431,22 @@ export class NativeEngine {
   // --- reaching a state ---
 
   /**
-   * Returns the index of a state's node.
+   * Reads the index of a state's node.
    * @param {State} state
    */
-  nodeIndex(state) {
-    const number = new DataView(state.buffer, state.byteOffset).getUint32(0);
-    if (state.length !== this.size || number >= this.states.length) throw new Error("these bytes are not a state of this engine");
-    return number;
+  readIndex(state) {
+    const stateIndex = new DataView(state.buffer, state.byteOffset).getUint32(0);
+    if (state.length !== this.size || stateIndex >= this.states.length) throw new Error("these bytes are not a state of this engine");
+    return stateIndex;
   }
 
   /**
    * Writes a node's index into a state. Returns the state.
    * @param {State} state
-   * @param {number} number
+   * @param {number} stateIndex
    */
-  writeIndex(state, number) {
-    new DataView(state.buffer, state.byteOffset).setUint32(0, number);
+  writeIndex(state, stateIndex) {
+    new DataView(state.buffer, state.byteOffset).setUint32(0, stateIndex);
     return state;
   }
 
@@ -483,15 +487,15 @@ export class NativeEngine {
 
   /**
    * Executes lines that end without a line feed or within a text. The new state is a copy of the session file.
-   * @param {number} number the index of the state
+   * @param {number} stateIndex
    * @param {string} lines
    * @param {State} into
    */
-  serveLast(number, lines, into) {
-    const session = this.newSession(number);
+  serveIncomplete(stateIndex, lines, into) {
+    const session = this.startSession(stateIndex);
     const opened = `session ${session.count}`;
-    const answers = session.exchangeLast(lines);
-    const copy = this.newFile();
+    const answers = session.exchangeIncomplete(lines);
+    const copy = this.makeFilePath();
     renameSync(session.file, copy);
     this.drop(session, false);
     this.writeIndex(into, this.addState({ parent: -1, commands: "", copy, count: -1 }));
@@ -500,42 +504,42 @@ export class NativeEngine {
 
   /**
    * Returns a session at a state. Starts a new session if there is none.
-   * @param {number} number the index of the state
+   * @param {number} stateIndex
    */
-  sessionAt(number) {
-    const index = this.sessions.findIndex(({ stateIndex }) => stateIndex === number);
-    if (index < 0) return this.newSession(number);
+  sessionAt(stateIndex) {
+    const index = this.sessions.findIndex((session) => session.stateIndex === stateIndex);
+    if (index < 0) return this.startSession(stateIndex);
     if (index > 0) this.sessions.unshift(...this.sessions.splice(index, 1));
     return this.sessions[0];
   }
 
   /**
    * Starts the program and brings it to a state.
-   * @param {number} number the index of the state
+   * @param {number} stateIndex
    */
-  newSession(number) {
-    const { lines, copy } = this.commandsTo(number);
-    const file = this.newFile();
+  startSession(stateIndex) {
+    const { lines, copy } = this.collectCommands(stateIndex);
+    const file = this.makeFilePath();
     if (copy !== "") copyFileSync(copy, file);
     const session = new Session(this.starter, copy === "" ? "new" : "open", file.slice(this.starter.folder.length + 1));
     this.sessions.unshift(session);
     if (this.sessions.length > MAX_PROCESSES) this.drop(this.sessions[MAX_PROCESSES], true);
     if (lines !== "") {
       this.exchange(session, lines);
-      this.storeCopy(number, session.file);
+      this.storeCopy(stateIndex, session.file);
     }
-    session.stateIndex = number;
+    session.stateIndex = stateIndex;
     return session;
   }
 
   /**
    * Returns the path of the nearest copy at a state or above it in the tree ("" for a new session), and the commands that lead from this copy to the
    * state.
-   * @param {number} number the index of the state
+   * @param {number} stateIndex
    */
-  commandsTo(number) {
+  collectCommands(stateIndex) {
     const commands = [];
-    let from = number;
+    let from = stateIndex;
     for (; from > 0 && this.states[from].copy === ""; from = this.states[from].parent) commands.push(this.states[from].commands);
     return { lines: commands.reverse().join(""), copy: this.states[from].copy };
   }
@@ -543,12 +547,12 @@ export class NativeEngine {
   /**
    * Stores a copy of a state that the engine had to rebuild, so that it need not rebuild the state again. Keeps only the last MAX_COPIES
    * copies.
-   * @param {number} number the index of the state
+   * @param {number} stateIndex
    * @param {string} file
    */
-  storeCopy(number, file) {
-    this.copy(number, file);
-    this.automaticCopies.push(number);
+  storeCopy(stateIndex, file) {
+    this.copy(stateIndex, file);
+    this.automaticCopies.push(stateIndex);
     if (this.automaticCopies.length <= MAX_COPIES) return;
     const oldestNode = this.states[/** @type {number} */ (this.automaticCopies.shift())];
     rmSync(oldestNode.copy, { force: true });
@@ -557,17 +561,17 @@ export class NativeEngine {
 
   /**
    * Copies a session file for a state.
-   * @param {number} number the index of the state
+   * @param {number} stateIndex
    * @param {string} file
    */
-  copy(number, file) {
-    const copy = this.newFile();
+  copy(stateIndex, file) {
+    const copy = this.makeFilePath();
     copyFileSync(file, copy);
-    this.states[number].copy = copy;
+    this.states[stateIndex].copy = copy;
   }
 
-  /** Returns the path for a new session file. */
-  newFile() {
+  /** Returns an unused path for a session file. */
+  makeFilePath() {
     this.fileCount += 1;
     return join(this.starter.folder, `${this.fileCount}.mcs`);
   }
@@ -578,7 +582,7 @@ export class NativeEngine {
    * @param {boolean} isOpen true if the session's pipes are still open
    */
   drop(session, isOpen) {
-    this.sessions = this.sessions.filter((each) => each !== session);
+    this.sessions = this.sessions.filter((openSession) => openSession !== session);
     if (isOpen) session.end();
     rmSync(session.file, { force: true });
   }

@@ -37,7 +37,8 @@ const hasStarter = existsSync(join(TOP, "tools/lib/start.sh"));
  */
 function runStarter(script) {
   if (!hasStarter) return null;
-  const { status, stdout, error } = loadChildProcess().spawnSync("/bin/sh", ["-c", script, TOP], { encoding: "utf8", stdio: ["ignore", "pipe", "inherit"] });
+  const options = /** @type {const} */ ({ encoding: "utf8", stdio: ["ignore", "pipe", "inherit"] });
+  const { status, stdout, error } = loadChildProcess().spawnSync("/bin/sh", ["-c", script, TOP], options);
   if (error) return null;
   if (status !== 0) process.exit(status || 1);
   const [program, fault, isUnsupported = "1"] = stdout.split("\n");
@@ -45,7 +46,8 @@ function runStarter(script) {
 }
 
 /** @returns {FoundProgram} the result if the starter cannot run: an editor extension does not contain it, and Windows has no shell for it */
-const createNoProgramResult = () => ({ program: "", fault: hasStarter ? notForSystem(type(), process.arch) : NO_PROGRAM_IN_COPY, isUnsupported: true });
+const createNoProgramResult = () => (
+  { program: "", fault: hasStarter ? notForSystem(type(), process.arch) : NO_PROGRAM_IN_COPY, isUnsupported: true });
 
 /** @type {FoundProgram | null} the cached result of the search for the program */
 let foundProgram = null;
@@ -125,10 +127,11 @@ export function endOnSignals(endProcess = process.exit) {
 }
 
 /**
- * Returns a message that the folder for temporary files has no room for a session. Returns "" if it has room, or if no native engine was started.
+ * Returns a message that the folder for temporary files has no room for a session. Returns "" if the folder has room, or if no native engine was
+ * started.
  */
 export function findRoomError() {
-  return nativeEngine ? nativeEngine.noRoomMessage : "";
+  return nativeEngine ? nativeEngine.roomError : "";
 }
 
 /**
@@ -154,14 +157,14 @@ export async function openSession(engine, texts, session) {
 }
 
 /**
- * Resolves to the error for rejected texts. Loads the modules with the messages on the first call.
+ * Resolves to the error for rejected texts. The first call loads the modules that compose the messages.
  * @param {EngineHost} engine
  * @param {import("./rejected_texts.mjs").CheckedTexts} givenTexts
  * @param {import("../core/testing/test_preparation.js").TextFault[]} faults
  */
 export async function createRejectedTextsError(engine, givenTexts, faults) {
   const { RejectedTexts } = await import("./rejected_texts.mjs");
-  return new CommandError(new RejectedTexts(engine, givenTexts).message(faults));
+  return new CommandError(new RejectedTexts(engine, givenTexts).formatMessage(faults));
 }
 
 /**
@@ -172,10 +175,11 @@ export async function createRejectedTextsError(engine, givenTexts, faults) {
  */
 export async function readCheckedMap(engine, codes, program) {
   const { sessionProgram } = await import("../core/engine/session_program.js");
-  const { faults, other, map } = sessionProgram(engine, codes, program.text);
+  const { faults, other: otherByte, map } = sessionProgram(engine, codes, program.text);
   if (faults.length > 0) throw await createRejectedTextsError(engine, { program }, faults);
-  if (other) throw new CommandError(otherProgram(program.name, other.address, other.romByte, other.line + program.before, other.sourceByte));
-  return map;
+  if (!otherByte) return map;
+  const { address, romByte, line, sourceByte } = otherByte;
+  throw new CommandError(otherProgram(program.name, address, romByte, line + program.before, sourceByte));
 }
 
 /** Lets signal handlers run between the pieces of a long computation. Resolves to true. */

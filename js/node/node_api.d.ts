@@ -1,5 +1,5 @@
-// The part of Node's interface that the Node tools use, and the global names that Node shares with browsers. Debian has no package with Node's types.
-// A new use of Node needs its declaration here. https://nodejs.org/docs/latest-v18.x/api/ describes the members.
+// The part of Node's interface that the Node tools use, and the global names that Node shares with browsers. Debian has no package with Node's types,
+// so a new use of Node needs its declaration here. https://nodejs.org/docs/latest-v18.x/api/ describes the members.
 
 type BufferEncoding = "utf8" | "latin1" | "hex" | "base64";
 type Environment = Record<string, string | undefined>;
@@ -13,11 +13,8 @@ interface Buffer extends Uint8Array {
   toString(encoding?: BufferEncoding, start?: number, end?: number): string;
 }
 declare const Buffer: {
-  alloc(size: number): Buffer;
-  allocUnsafe(size: number): Buffer;
-  concat(parts: Uint8Array[]): Buffer;
-  from(contents: number[]): Buffer;
-  from(text: string, encoding?: BufferEncoding): Buffer;
+  alloc(size: number): Buffer, allocUnsafe(size: number): Buffer, concat(parts: Uint8Array[]): Buffer,
+  from(contents: number[]): Buffer, from(text: string, encoding?: BufferEncoding): Buffer,
 };
 
 declare namespace NodeJS {
@@ -25,7 +22,7 @@ declare namespace NodeJS {
   interface Timeout { unref(): void }
   /** An error of the system. `code` is its name, such as ENOENT. */
   interface ErrnoException extends Error { code?: string }
-  /** A source of events. The values of "data" events depend on the encoding of the stream, so their type is not known. */
+  /** A source of events. The type of "data" depends on the encoding of the stream, so it is not declared. */
   interface EventEmitter {
     on(event: "error", listener: (error: ErrnoException) => void): this;
     on(event: "exit", listener: (status: number) => void): this;
@@ -45,11 +42,9 @@ declare const process: NodeJS.EventEmitter & {
   exitCode: number | null | undefined,
   stdin: import("node:tty").ReadStream, stdout: import("node:tty").WriteStream, stderr: import("node:tty").WriteStream,
   cpuUsage(start?: { user: number, system: number }): { user: number, system: number },
-  cwd(): string,
-  exit(status?: number): never,
+  cwd(): string, exit(status?: number): never, kill(pid: number, signal: NodeJS.Signals): void,
   /** Missing on Windows. */
   getuid?(): number,
-  kill(pid: number, signal: NodeJS.Signals): void,
 };
 declare const __dirname: string;
 declare const module: { exports: unknown };
@@ -65,11 +60,13 @@ declare function setTimeout(action: (...values: any[]) => void, milliseconds: nu
 declare function clearInterval(timer: NodeJS.Timeout): void;
 declare function clearTimeout(timer: NodeJS.Timeout | undefined): void;
 
-// The names that Node shares with browsers. These declarations replace TypeScript's library "DOM", which also declares names that only a browser has.
+// The names that Node shares with browsers. TypeScript's library "DOM" would also declare names that only a browser has.
 type BufferSource = ArrayBuffer | Uint8Array;
+interface ImportMeta { url: string }
 declare const performance: { now(): number };
 declare function atob(text: string): string;
 declare function btoa(letters: string): string;
+declare class URL { constructor(url: string, base?: string | URL); href: string }
 declare class TextDecoder {
   constructor(encoding?: string, options?: { fatal?: boolean, ignoreBOM?: boolean });
   decode(bytes: Uint8Array): string;
@@ -78,58 +75,43 @@ declare class TextEncoder {
   encode(text: string): Uint8Array;
   encodeInto(text: string, target: Uint8Array): { read: number, written: number };
 }
-declare class URL {
-  constructor(url: string, base?: string | URL);
-  href: string;
-}
-interface ImportMeta { url: string }
 declare namespace WebAssembly {
   class Memory { buffer: ArrayBuffer }
   class Module { constructor(bytes: BufferSource) }
-  class Instance {
-    constructor(module: Module, imports: object);
-    exports: object;
-  }
+  class Instance { constructor(module: Module, imports: object); exports: object }
   function compile(bytes: BufferSource): Promise<Module>;
 }
 
 declare module "node:child_process" {
   import { Readable, Writable } from "node:stream";
   type Pipe = "pipe" | "ignore" | "inherit";
+  type Result<Output> = { status: number | null, signal: NodeJS.Signals | null, stdout: Output, error?: Error };
+  type SyncOptions = { maxBuffer?: number, stdio: Pipe | readonly Pipe[] };
+  /** Each stream exists only if its entry in `stdio` is "pipe". */
   interface ChildProcess extends NodeJS.EventEmitter { pid?: number, stdin: Writable, stdout: Readable, stderr: Readable }
-  /** A stream of a child exists only if its entry in `stdio` is "pipe". */
   function spawn(command: string, words: string[], options: { detached?: boolean, env?: Environment, stdio: Pipe[] }): ChildProcess;
-  type SpawnResult<Output> = { status: number | null, signal: NodeJS.Signals | null, stdout: Output, error?: Error };
-  type SpawnOptions = { maxBuffer?: number, stdio: Pipe | Pipe[] };
-  function spawnSync(command: string, words: string[], options: SpawnOptions & { encoding: "utf8" }): SpawnResult<string>;
-  function spawnSync(command: string, words: string[], options: SpawnOptions): SpawnResult<Buffer>;
+  function spawnSync(command: string, words: string[], options: SyncOptions & { encoding: "utf8" }): Result<string>;
+  function spawnSync(command: string, words: string[], options: SyncOptions): Result<Buffer>;
 }
-declare module "child_process" {
-  export * from "node:child_process";
-}
+declare module "child_process" { export * from "node:child_process" }
 declare module "node:crypto" {
-  interface Hash {
-    update(contents: string | Uint8Array): Hash;
-    digest(encoding: "hex"): string;
-  }
+  interface Hash { update(contents: string | Uint8Array): Hash, digest(encoding: "hex"): string }
   function createHash(algorithm: "sha256"): Hash;
   function randomBytes(count: number): Buffer;
 }
-declare module "node:events" {
-  function once(emitter: NodeJS.EventEmitter, event: string): Promise<any[]>;
-}
+declare module "node:events" { function once(emitter: NodeJS.EventEmitter, event: string): Promise<any[]> }
 declare module "node:fs" {
+  type PathLike = string | URL;
   interface Stats {
     dev: number, gid: number, ino: number, mode: number, mtimeMs: number, size: number, uid: number,
     isCharacterDevice(): boolean, isDirectory(): boolean, isFIFO(): boolean, isFile(): boolean, isSymbolicLink(): boolean,
   }
   interface BigIntStats { ctimeMs: bigint, ctimeNs: bigint, dev: bigint, ino: bigint, mtimeMs: bigint, mtimeNs: bigint, size: bigint }
-  type PathLike = string | URL;
-  type StatFunction = {
+  interface StatFunction {
     (path: PathLike): Stats;
     (path: PathLike, options: { bigint: true }): BigIntStats;
     (path: PathLike, options: { throwIfNoEntry: false }): Stats | undefined;
-  };
+  }
   const constants: Record<"O_APPEND" | "O_CREAT" | "O_NOCTTY" | "O_NONBLOCK" | "O_RDONLY" | "O_RDWR" | "W_OK", number>;
   const lstatSync: StatFunction;
   const statSync: StatFunction;
@@ -157,9 +139,7 @@ declare module "node:fs" {
   function writeSync(file: number, text: string): number;
   function writeSync(file: number, bytes: Uint8Array, offset?: number, length?: number, position?: number): number;
 }
-declare module "node:module" {
-  function createRequire(url: string): typeof require;
-}
+declare module "node:module" { function createRequire(url: string): typeof require }
 declare module "node:os" {
   const constants: { signals: Record<string, number> };
   function homedir(): string;
@@ -176,15 +156,14 @@ declare module "node:path" {
 }
 declare module "node:readline" {
   import { Readable, Writable } from "node:stream";
-  type Completer = (line: string, callback: (error: Error | null, completions: [string[], string]) => void) => void;
-  type Key = { ctrl?: boolean, name: string };
+  type Completer = (line: string, callback: (error: null, completions: [string[], string]) => void) => void;
   interface Interface extends NodeJS.EventEmitter, AsyncIterable<string> {
     line: string;
     clearLine(): void;
     close(): void;
     prompt(preservesCursor?: boolean): void;
     setPrompt(prompt: string): void;
-    write(text: string | null, key?: Key): void;
+    write(text: string | null, key?: { ctrl?: boolean, name: string }): void;
   }
   function createInterface(options: {
     input: Readable, output?: Writable, terminal?: boolean, history?: string[], historySize?: number, crlfDelay?: number, completer?: Completer,
@@ -203,19 +182,16 @@ declare module "node:stream" {
 }
 declare module "node:tty" {
   import { Readable, Writable } from "node:stream";
-  /** Standard input. `setRawMode` exists only on a terminal. */
+  /** Standard input. `setRawMode` exists only at a terminal. */
   interface ReadStream extends Readable { isTTY?: boolean, setRawMode(isRaw: boolean): void }
-  /** Standard output or standard error. `columns`, `rows` and `getColorDepth` exist only on a terminal. */
+  /** Standard output or standard error. `columns`, `rows` and `getColorDepth` exist only at a terminal. */
   interface WriteStream extends Writable { isTTY?: boolean, columns?: number, rows?: number, getColorDepth(env: Environment): number }
   function isatty(file: number): boolean;
 }
-declare module "node:url" {
-  function fileURLToPath(url: URL): string;
-}
+declare module "node:url" { function fileURLToPath(url: URL): string }
 declare module "node:util" {
   type Option = { type: "string" | "boolean", short?: string, multiple?: boolean };
-  type OptionToken = { kind: "option", name: string, rawName: string, value?: string, inlineValue?: boolean };
-  type Token = OptionToken | { kind: "positional" | "option-terminator" };
+  type Token = { kind: "option", name: string, rawName: string, value?: string, inlineValue?: boolean } | { kind: "positional" | "option-terminator" };
   function parseArgs(settings: { args: string[], options: Record<string, Option>, strict: false, allowPositionals: true, tokens: true }): {
     values: Record<string, string | boolean | undefined>, positionals: string[], tokens: Token[],
   };
@@ -228,6 +204,4 @@ declare module "node:vm" {
     runInThisContext(): Function;
   }
 }
-declare module "node:zlib" {
-  function inflateRawSync(bytes: Uint8Array): Buffer;
-}
+declare module "node:zlib" { function inflateRawSync(bytes: Uint8Array): Buffer }

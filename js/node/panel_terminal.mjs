@@ -151,11 +151,12 @@ export class PanelTerminal {
    */
   draw(rows) {
     if (!this.isOn) return;
-    const begin = this.drawnRows.length === rows.length ? "" : CLEAR_SEQUENCE;
-    const texts = rows.map((row) => this.rowText(row));
-    const changedText = texts.map((text, index) => (begin === "" && text === this.drawnRows[index] ? "" : `\x1b[${index + 1};1H${text}`)).join("");
+    const clearSequence = this.drawnRows.length === rows.length ? "" : CLEAR_SEQUENCE;
+    const texts = rows.map((row) => this.formatRow(row));
+    const isUnchanged = (/** @type {number} */ index) => clearSequence === "" && texts[index] === this.drawnRows[index];
+    const changedText = texts.map((text, index) => (isUnchanged(index) ? "" : `\x1b[${index + 1};1H${text}`)).join("");
     this.drawnRows = texts;
-    if (changedText !== "") this.output.write(begin + changedText);
+    if (changedText !== "") this.output.write(clearSequence + changedText);
   }
 
   /** Shows that the terminal is too small. Does nothing after the terminal has been restored. */
@@ -166,14 +167,20 @@ export class PanelTerminal {
     this.output.write(`\x1b[H${CLEAR_SEQUENCE}${say.needsRoom(`${MIN_SIZE.columns} by ${MIN_SIZE.rows}`, columns, rows)}`);
   }
 
-  /** @param {ScreenRow} row */
-  rowText({ pieces, isInverse }) {
-    const text = pieces.map((piece) => this.pieceText(piece)).join("");
+  /**
+   * Returns the characters that draw a row.
+   * @param {ScreenRow} row
+   */
+  formatRow({ pieces, isInverse }) {
+    const text = pieces.map((piece) => this.formatPiece(piece)).join("");
     return isInverse ? `${INVERSE_SEQUENCE}${text}${PLAIN_SEQUENCE}` : text;
   }
 
-  /** @param {Piece} piece */
-  pieceText({ text, colour, level }) {
+  /**
+   * Returns the characters that draw a piece of a row.
+   * @param {Piece} piece
+   */
+  formatPiece({ text, colour, level }) {
     return this.paint && colour !== "" ? `${this.paint(colour, level)}${text}${PLAIN_SEQUENCE}` : text;
   }
 }

@@ -47,7 +47,7 @@ const belongsToUser = ({ uid }) => process.getuid !== undefined && uid === proce
 function makeFolder(folder) {
   const missingFolders = [];
   for (let path = folder; !existsSync(path); path = dirname(path)) missingFolders.unshift(path);
-  if (missingFolders.length > 0 && !belongsToUser(statSync(dirname(missingFolders[0])))) throw new Error("it is a place of another user");
+  if (missingFolders.length > 0 && !belongsToUser(statSync(dirname(missingFolders[0])))) throw new Error("the folder belongs to another user");
   for (const name of missingFolders) mkdirSync(name, 0o700);
 }
 
@@ -60,7 +60,7 @@ function openFile(name) {
   const stat = fstatSync(file);
   if (!stat.isFile() || !belongsToUser(stat)) {
     closeSync(file);
-    throw new Error("it is not a file of the user's own");
+    throw new Error("it is not a regular file of the user");
   }
   if ((stat.mode & OTHERS_ACCESS_BITS) !== 0) fchmodSync(file, OWNER_ONLY_MODE);
   return file;
@@ -69,11 +69,11 @@ function openFile(name) {
 /**
  * Reads an open file from an offset to the end.
  * @param {number} file
- * @param {number} first the offset
+ * @param {number} offset
  */
-function readTail(file, first) {
-  const bytes = Buffer.alloc(Math.max(0, fstatSync(file).size - first));
-  return bytes.subarray(0, readSync(file, bytes, 0, bytes.length, first));
+function readTail(file, offset) {
+  const bytes = Buffer.alloc(Math.max(0, fstatSync(file).size - offset));
+  return bytes.subarray(0, readSync(file, bytes, 0, bytes.length, offset));
 }
 
 /**

@@ -51,8 +51,8 @@ class ProofSession {
     return new PropertyJudge(subject, campaign, {
       ask: (question) => this.ask(question, this.limits),
       askBySets: (question) => this.ask(question, { most: 0, sets: MAX_SETS }),
-      confirms: (counterexample, isGoal) => this.confirms(counterexample, isGoal),
-      reason: (answer) => this.reason(answer),
+      confirms: (counterexample, isGoal) => this.confirm(counterexample, isGoal),
+      reason: (answer) => this.describeNoAnswer(answer),
       yieldToMessages: async () => {
         await yieldToMessages();
       },
@@ -63,7 +63,7 @@ class ProofSession {
    * Returns the reason why an answer of the prover neither proves nor disproves a property.
    * @param {import("../core/prove/question.js").NoAnswer} answer
    */
-  reason(answer) {
+  describeNoAnswer(answer) {
     const { most, memory } = this.limits;
     if (answer.kind === "more") return say.moreStates(formatNumber(most));
     if (answer.kind === "lost") return say.GAVE_UP;
@@ -98,7 +98,7 @@ class ProofSession {
    * @param {import("../core/prove/counterexample.js").Counterexample} counterexample
    * @param {boolean} isGoal
    */
-  async confirms({ isTest, text }, isGoal) {
+  async confirm({ isTest, text }, isGoal) {
     if (!isTest) return true;
     const folder = createTemporaryFolder("prove");
     const names = ["board_text", "program_text", "found.test"].map((name) => join(folder, name));

@@ -63,7 +63,7 @@ export class RejectedLines {
    * known.
    * @param {AnsweredInput} answeredInput
    */
-  addressLines({ input: { line, words: [kind, first = "", second = ""] } }) {
+  formatAddressLines({ input: { line, words: [kind, first = "", second = ""] } }) {
     if (!this.describeAddress || opensText(line)) return [];
     const word = /^(break|unbreak|list)$/.test(kind) ? first : kind !== "poke" ? "" : first === "pc" ? second
       : first.startsWith("rom.") ? first.slice("rom.".length) : "";
@@ -84,7 +84,7 @@ export class RejectedLines {
     const hint = number === NOT_ASCII ? describeInvalidCharacter(shownLine) : number === UNKNOWN_FORM && error ? findSpellingHint(shownLine) : "";
     return [
       say.rejectedLine(at, number, error ? error.line : 0, `${error ? error.words : describeRefusal(number)}${hint}`),
-      `    ${shownLine.slice(0, MAX_SHOWN_LENGTH)}`, ...this.addressLines(answeredInput),
+      `    ${shownLine.slice(0, MAX_SHOWN_LENGTH)}`, ...this.formatAddressLines(answeredInput),
     ];
   }
 
@@ -93,18 +93,18 @@ export class RejectedLines {
    * @param {AnsweredInput[]} inputs
    * @param {string} openingLine the first answer line
    */
-  reportLines(inputs, openingLine) {
+  createReport(inputs, openingLine) {
     const openingRefusal = parseRefusal(openingLine);
     const lines = openingRefusal ? [say.sessionWasRefusedBy(openingRefusal.number, describeRefusal(openingRefusal.number))] : [];
     if (openingLine === "session 0") this.boardText = "";
-    for (const [index, each] of inputs.entries()) {
-      const { input, at, answer } = each;
+    for (const [index, answeredInput] of inputs.entries()) {
+      const { input, at, answer } = answeredInput;
       if (answer === "") {
         const shownLine = `    ${input.line.slice(0, MAX_SHOWN_LENGTH)}`;
-        return [...lines, say.notAnswered(at, index === inputs.length - 1), shownLine, ...this.addressLines(each)];
+        return [...lines, say.notAnswered(at, index === inputs.length - 1), shownLine, ...this.formatAddressLines(answeredInput)];
       }
       const refusal = parseRefusal(answer);
-      if (refusal) lines.push(...this.describeInput(each, refusal));
+      if (refusal) lines.push(...this.describeInput(answeredInput, refusal));
       else if (input.kind === "wire") this.boardText = input.text.map((line) => `${line}\n`).join("");
     }
     return lines;

@@ -24,7 +24,9 @@ import { readPageData } from "./page_parts.mjs";
  * @typedef {{ board?: Omit<InputText, "encoding">, program?: Omit<InputText, "encoding"> }} CheckedTexts
  */
 
+/** The maximum number of errors in a message. */
 const MAX_ERRORS = 20;
+/** The maximum number of characters of a line in a message. */
 export const MAX_SHOWN_LENGTH = 120;
 /** The error number of the assembler for a line whose form it does not know. */
 export const UNKNOWN_FORM = 30;
@@ -68,7 +70,7 @@ export function findSpellingHint(line) {
   return OTHER_SYNTAX.test(line.replace(/;.*/, "").toUpperCase()) ? "; mcs4 import takes programs in Intel's and AS's spelling" : "";
 }
 
-/** The messages about rejected texts. An engine checks the texts again to find the details. */
+/** The composer of messages about rejected texts. An engine checks the texts again to find the details. */
 export class RejectedTexts {
   /**
    * @param {EngineHost} engine
@@ -100,8 +102,8 @@ export class RejectedTexts {
     const file = engine.begin();
     engine.serve(file, `wire\n${sentText(board.text, "#")}.\n`, file);
     const roms = new Set(readBoard(engine.ask(file, "board\n").answers).roms.map(({ chip }) => chip));
-    const sent = sentText(text, ";");
-    const [error = null] = findMissingRoms(sent.split("\n"), new SourceMap(readProgram(engine, sent).map, sent), roms)
+    const sentSource = sentText(text, ";");
+    const [error = null] = findMissingRoms(sentSource.split("\n"), new SourceMap(readProgram(engine, sentSource).map, sentSource), roms)
       .sort((first, second) => first.line - second.line);
     return error;
   }
@@ -144,7 +146,7 @@ export class RejectedTexts {
    * Returns the messages about the first MAX_ERRORS errors, and the number of further errors.
    * @param {TextFault[]} faults
    */
-  message(faults) {
+  formatMessage(faults) {
     const moreLines = faults.length > MAX_ERRORS ? [`and ${faults.length - MAX_ERRORS} more`] : [];
     return [...faults.slice(0, MAX_ERRORS).map((fault) => this.formatError(fault)), ...moreLines].join("\n");
   }

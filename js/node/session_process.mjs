@@ -16,8 +16,8 @@ export class ProgramEnded extends CommandError {}
 /** A running program that serves a session file. */
 export class SessionProcess {
   /**
-   * @param {"new" | "open"} word
-   * @param {string} name
+   * @param {"new" | "open"} word the subcommand of the program
+   * @param {string} name the session's file name
    * @param {boolean} [isAtTerminal] true if the program uses this process's standard error; signals from the terminal then do not reach the
    *   program
    */
@@ -28,8 +28,8 @@ export class SessionProcess {
     this.lines = [];
     /** The incomplete last line of the output. */
     this.partialLine = "";
-    /** The program's output on standard error; the error message if the program did not start. */
-    this.words = "";
+    /** The program's output on standard error; an error message if the program did not start. */
+    this.errorOutput = "";
     /** The first answer line. */
     this.openingLine = "";
     /** @type {() => void} continues `readLines` */
@@ -45,15 +45,15 @@ export class SessionProcess {
     });
     if (this.child.stderr) {
       this.child.stderr.on("data", (text) => {
-        this.words += text;
+        this.errorOutput += text;
       });
     }
     this.child.stdin.on("error", () => {});
     /** @type {Promise<void>} */
     this.endPromise = new Promise((resolve) => {
-      const finish = (/** @type {string} */ words) => {
+      const finish = (/** @type {string} */ error) => {
         this.hasEnded = true;
-        this.words += words;
+        this.errorOutput += error;
         this.wake();
         resolve();
       };
@@ -71,7 +71,7 @@ export class SessionProcess {
    */
   async readLines(count) {
     while (this.lines.length < count) {
-      if (this.hasEnded) throw new ProgramEnded(programEnded([...this.lines, this.words.trim()].filter(Boolean).join("; ")));
+      if (this.hasEnded) throw new ProgramEnded(programEnded([...this.lines, this.errorOutput.trim()].filter(Boolean).join("; ")));
       await /** @type {Promise<void>} */ (new Promise((resolve) => {
         this.wake = resolve;
       }));
@@ -97,12 +97,12 @@ export class SessionProcess {
    */
   async serve(input, onAnswer) {
     this.child.stdin.write(`${input}seq\n`);
-    let expectedSeqs = isSeqQuery(input.trimEnd()) ? 1 : 0;
+    let expectedSeqCount = isSeqQuery(input.trimEnd()) ? 1 : 0;
     for (;;) {
       const [line] = await this.readLines(1);
       if (SEQ_ANSWER.test(line)) {
-        if (expectedSeqs === 0) return;
-        expectedSeqs -= 1;
+        if (expectedSeqCount === 0) return;
+        expectedSeqCount -= 1;
       }
       onAnswer(line);
     }
@@ -142,5 +142,5 @@ export async function openProgram(word, name) {
   program.openingLine = firstLine;
   if (firstLine.startsWith("session ")) return program;
   await program.end();
-  throw new CommandError(sessionWasRefused(name, [await addRefusalMessage(firstLine), program.words.trim()].filter(Boolean).join("; ")));
+  throw new CommandError(sessionWasRefused(name, [await addRefusalMessage(firstLine), program.errorOutput.trim()].filter(Boolean).join("; ")));
 }

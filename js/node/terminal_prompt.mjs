@@ -29,7 +29,7 @@ import { isDumb, makePainter } from "./terminal.mjs";
  */
 
 /** The escape sequences around pasted text, and the sequences that switch them on and off (bracketed paste). */
-const PASTE_SEQUENCES = { begins: "\x1b[200~", ends: "\x1b[201~", on: "\x1b[?2004h", off: "\x1b[?2004l" };
+const PASTE_SEQUENCES = { begin: "\x1b[200~", end: "\x1b[201~", on: "\x1b[?2004h", off: "\x1b[?2004l" };
 /** Matches an incomplete paste mark at the end of the input so far. */
 const PARTIAL_MARK = /\x1b\[(2(0[01]?)?)?$/;
 const CTRL_C = "\x03";
@@ -78,6 +78,9 @@ export class TerminalPrompt {
     this.isPasting = false;
     this.hasInputEnded = false;
     this.hasEnded = false;
+    /** True after the prompt has returned the terminal. */
+    this.hasReleasedTerminal = false;
+    /** The exit status for the signal that ended the prompt; 0 without a signal. */
     this.status = 0;
     this.keys = new KeyStream();
     this.terminal = createInterface({
@@ -99,7 +102,10 @@ export class TerminalPrompt {
     return Math.max(MIN_WIDTH, (this.output.columns || DEFAULT_WIDTH) - 1);
   }
 
-  /** @param {string} words */
+  /**
+   * Prints a message.
+   * @param {string} words
+   */
   print(words) {
     this.output.write(`${wrapMessage(escapeControls(words), this.width)}\n`);
   }
@@ -157,12 +163,16 @@ export class TerminalPrompt {
     this.handleWaiting();
   }
 
+  /** Shows the prompt and the line that the user is typing. */
   show() {
     this.terminal.setPrompt(this.paint(BOLD)(this.prompt.label));
     this.terminal.prompt(true);
   }
 
-  /** @param {string} line */
+  /**
+   * Executes a line.
+   * @param {string} line
+   */
   async serveLine(line) {
     this.isBusy = true;
     this.history.add(line);
@@ -200,8 +210,8 @@ export class TerminalPrompt {
 
   /** Switches off bracketed paste and calls `onLeave`. (Readline restores the terminal's mode when it closes, and Node when it ends.) */
   releaseTerminal() {
-    if (this.hasLeft) return;
-    this.hasLeft = true;
+    if (this.hasReleasedTerminal) return;
+    this.hasReleasedTerminal = true;
     this.calls.onLeave();
     if (!this.isDumb) this.output.write(PASTE_SEQUENCES.off);
   }
@@ -244,7 +254,7 @@ export class TerminalPrompt {
    * @param {string} text
    */
   handlePiece(text) {
-    const pasteMark = this.isPasting ? PASTE_SEQUENCES.ends : PASTE_SEQUENCES.begins;
+    const pasteMark = this.isPasting ? PASTE_SEQUENCES.end : PASTE_SEQUENCES.begin;
     if (text.startsWith(pasteMark)) {
       this.isPasting = !this.isPasting;
       return text.slice(pasteMark.length);

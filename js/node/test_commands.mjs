@@ -14,13 +14,14 @@ import { CommandError, UsageError, print, printError } from "./output.mjs";
  * @typedef {import("../core/testing/test_run.js").Outcome} Outcome
  * @typedef {import("./input_texts.mjs").InputText} InputText
  *
- * The description of a command. `Counting` is the class of its recorder. `checkNames` checks the file names before the files are read. `outcome`
- * formats the result of each test. `report` prints the counts at the end.
+ * The description of a command. `Counting` is the class of its recorder. `checkNames` checks the file names before the files are read.
+ * `formatOutcome` formats the result of each test. `printCounts` prints the counts at the end.
  * @typedef {{ name: string, Counting: typeof import("../core/testing/recorders.js").ExecutionRecorder, checkNames?: (names: string[]) => void,
- *   outcome?: (outcome: Outcome, number: number, total: number) => string,
- *   report?: (counts: { coverage: Coverage, profile: Profile }, program: InputText) => void }} Tool
+ *   formatOutcome?: (outcome: Outcome, number: number, total: number) => string,
+ *   printCounts?: (counts: { coverage: Coverage, profile: Profile }, program: InputText) => void }} Tool
  */
 
+/** The maximum number of cycles to run in a session. */
 const MAX_CYCLES = 100000000;
 
 /**
@@ -30,7 +31,8 @@ const MAX_CYCLES = 100000000;
  */
 async function resolveNames(folder, givenNames) {
   const project = await findProject(folder, givenNames, 3);
-  const names = project ? [project.board, project.program, ...(givenNames.length > 0 ? givenNames : requireProjectFiles(project, "tests"))] : givenNames;
+  const testNames = project && givenNames.length === 0 ? requireProjectFiles(project, "tests") : givenNames;
+  const names = project ? [project.board, project.program, ...testNames] : testNames;
   checkArguments(names, ["BOARD", "PROGRAM", "TEST"], Infinity, true);
   return names;
 }
@@ -41,7 +43,7 @@ async function resolveNames(folder, givenNames) {
  * @param {string | undefined} folder
  * @param {string[]} givenNames
  */
-export async function runTestCommand({ Counting, checkNames = () => {}, outcome: formatOutcome = () => "", report = () => {} }, folder, givenNames) {
+export async function runTestCommand({ Counting, checkNames = () => {}, formatOutcome = () => "", printCounts = () => {} }, folder, givenNames) {
   const allNames = await resolveNames(folder, givenNames);
   checkNames(allNames);
   const [boardName, programName, ...names] = allNames;
@@ -57,7 +59,7 @@ export async function runTestCommand({ Counting, checkNames = () => {}, outcome:
   const suite = { boardText: board.text, programText: program.text, sources };
   const { faults, outcomes, coverage, profile } = await runTests(engine, suite, yieldToMessages, { Counting, ended: printOutcome });
   if (!coverage || !profile) throw await createRejectedTextsError(engine, { board, program }, faults);
-  report({ coverage, profile }, program);
+  printCounts({ coverage, profile }, program);
   return outcomes.some(({ failure }) => failure) ? 1 : 0;
 }
 
@@ -67,7 +69,7 @@ export async function runTestCommand({ Counting, checkNames = () => {}, outcome:
  * @param {string} session
  * @param {string[]} givenNames
  */
-export async function countCycles({ name, Counting, checkNames = () => {}, report = () => {} }, session, givenNames) {
+export async function countCycles({ name, Counting, checkNames = () => {}, printCounts = () => {} }, session, givenNames) {
   checkArguments([session, ...givenNames], ["SESSION", "CYCLES", "PROGRAM"]);
   const [word, programName] = givenNames;
   const cycles = parseCount("CYCLES", word, MAX_CYCLES);
@@ -77,11 +79,14 @@ export async function countCycles({ name, Counting, checkNames = () => {}, repor
   const program = texts.readText(programName, "asm");
   const engine = await startEngine();
   const state = await openSession(engine, texts, session);
-  const { faults, other, counted: counts } = await countSession(engine, state, program.text, cycles, Counting);
-  if (other) throw new CommandError(otherProgram(programName, other.address, other.romByte, other.line + program.before, other.sourceByte));
+  const { faults, other: otherByte, counted: counts } = await countSession(engine, state, program.text, cycles, Counting);
+  if (otherByte) {
+    const { address, romByte, line, sourceByte } = otherByte;
+    throw new CommandError(otherProgram(programName, address, romByte, line + program.before, sourceByte));
+  }
   if (!counts) throw await createRejectedTextsError(engine, { program }, faults);
   if (counts.stop !== "end") printError(`${name}: ${sessionStopped(counts.elapsed, counts.stop)}\n`);
-  report(counts, program);
+  printCounts(counts, program);
   return 0;
 }
 

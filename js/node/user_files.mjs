@@ -155,10 +155,10 @@ process.on("exit", () => {
  */
 function followLinks(name) {
   let path = resolve(name);
-  for (let links = 0; ; links++) {
+  for (let linkCount = 0; ; linkCount++) {
     const stat = lstatSync(path, { throwIfNoEntry: false });
     if (!stat || !stat.isSymbolicLink() || path.startsWith("/proc/")) return path;
-    if (links === MAX_LINKS) throw new FileErrorReason("too many symbolic links");
+    if (linkCount === MAX_LINKS) throw new FileErrorReason("too many symbolic links");
     const folder = realpathSync(dirname(path));
     path = resolve(folder, readlinkSync(path));
   }
@@ -338,18 +338,18 @@ export function checkOutputFile(name, begin, reason, inputs) {
  */
 function makeFolder(folder) {
   const missingFolders = [];
-  for (let at = resolve(folder); !existsSync(at); at = dirname(at)) missingFolders.unshift(at);
-  const madeFolders = [];
+  for (let path = resolve(folder); !existsSync(path); path = dirname(path)) missingFolders.unshift(path);
+  const createdFolders = [];
   try {
     for (const name of missingFolders) {
       mkdirSync(name);
-      madeFolders.unshift(name);
+      createdFolders.unshift(name);
     }
   } catch (error) {
-    for (const name of madeFolders) rmdirSync(name);
+    for (const name of createdFolders) rmdirSync(name);
     throw error;
   }
-  return madeFolders;
+  return createdFolders;
 }
 
 /**
@@ -381,7 +381,7 @@ export function writeNewFiles(folder, files, names) {
   if (stat && !stat.isDirectory()) throw new UserFileError(say.isNotFolder(folder));
   const existingPath = withFolderError(() => names.map((name) => join(folder, name)).find((name) => lstatSync(name, { throwIfNoEntry: false })));
   if (existingPath) throw new UserFileError(say.alreadyExists(existingPath));
-  const madeFolders = withFileError(`cannot make ${folder}`, () => makeFolder(folder));
+  const createdFolders = withFileError(`cannot make ${folder}`, () => makeFolder(folder));
   /** @type {Replacement[]} */
   const replacements = [];
   try {
@@ -389,7 +389,7 @@ export function writeNewFiles(folder, files, names) {
     withFileError(`cannot write in ${folder}`, () => replaceTargets(replacements));
   } catch (error) {
     for (const replacement of replacements) replacement.drop();
-    for (const name of madeFolders) rmdirSync(name);
+    for (const name of createdFolders) rmdirSync(name);
     throw error;
   }
 }

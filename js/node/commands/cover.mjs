@@ -17,7 +17,7 @@ export function run({ folder, lcov, session }, positionals) {
     checkNames: (names) => {
       if (lcov !== undefined) checkOutputFile(lcov, LCOV_BEGIN, NOT_AN_LCOV_FILE, names);
     },
-    report: ({ coverage }, program) => {
+    printCounts: ({ coverage }, program) => {
       print(coverageText(coverage, program));
       if (lcov !== undefined) writeUserFile(lcov, lcovText(coverage, program));
     },

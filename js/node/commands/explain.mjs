@@ -20,7 +20,7 @@ export async function run({ source }, positionals) {
   const { inputs, words } = matchScriptAnswers(script, answers);
   if (words !== "") throw new CommandError(answersOfOtherScript(words));
   const lines = script.split("\n").map((line) => line.replace(/\r$/, ""));
-  const report = new RejectedLines(engine, lines, describeAddress).reportLines(inputs, answers[0]);
+  const report = new RejectedLines(engine, lines, describeAddress).createReport(inputs, answers[0]);
   print(joinLines(report));
   return report.length > 0 ? 1 : 0;
 }

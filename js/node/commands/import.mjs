@@ -34,7 +34,7 @@ export async function run(values, words) {
   // Latin 1 has one character per byte, so comments in any encoding keep their bytes.
   const source = new InputTexts().read(name, MAX_TEXT_BYTES).toString("latin1").replace(UTF8_MARK, "").replace(/\r\n?/g, "\n");
   const { text, faults } = importProgram(source);
-  if (faults.length > 0) throw new CommandError(faults.map(({ line, words: why }) => `${name}:${line}: ${why}`).join("\n"));
+  if (faults.length > 0) throw new CommandError(faults.map(({ line, words: message }) => `${name}:${line}: ${message}`).join("\n"));
   await checkOnBench(name, source, text);
   printVerbatim(text, "latin1");
   return 0;

@@ -9,6 +9,6 @@ export function run({ folder, session }, positionals) {
   return runTestsOrSession({
     name: "profile",
     Counting: ExecutionRecorder,
-    report: ({ profile }) => print(profileText(profile)),
+    printCounts: ({ profile }) => print(profileText(profile)),
   }, { folder, session }, positionals);
 }

@@ -124,11 +124,11 @@ function readProjectName(folder) {
  * Parses the list in a text file of a folder. Returns an empty list if the file does not exist.
  * @template Item
  * @param {string} folder
- * @param {string} part
+ * @param {string} fileName
  * @param {(text: string) => Item[]} parse
  */
-function readList(folder, part, parse) {
-  const name = join(folder, part);
+function readList(folder, fileName, parse) {
+  const name = join(folder, fileName);
   return existsSync(name) ? nameFileInErrors(name, () => parse(readText(folder, name))) : [];
 }
 
