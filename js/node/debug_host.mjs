@@ -67,7 +67,7 @@ class SessionFile {
   }
 }
 
-/** @type {(name: string) => string} converts a path to forward slashes, which the debugger expects and Windows accepts */
+/** @type {(name: string) => string} replaces the separators in a path by forward slashes, which the debugger expects and Windows accepts */
 const toSlashes = (name) => (sep === "/" ? name : name.split(sep).join("/"));
 
 /**
@@ -93,7 +93,7 @@ async function openSessionFile(name) {
   }
 }
 
-/** @type {import("../core/adapter/session_launch.js").Host} */
+/** @type {import("../core/adapter/session_launch.js").Host} the functions of the debugger's host; the type describes them */
 export const host = {
   nameOf: (name, folder) => {
     const path = isAbsolute(name) ? name : resolve(folder || ".", name);

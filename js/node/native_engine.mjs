@@ -545,8 +545,8 @@ export class NativeEngine {
   }
 
   /**
-   * Stores a copy of a state that the engine had to rebuild, so that it need not rebuild the state again. Keeps only the last MAX_COPIES
-   * copies.
+   * Stores a copy of a state that the engine had to rebuild, so that the engine need not rebuild the state again. Keeps only the last
+   * MAX_COPIES copies.
    * @param {number} stateIndex
    * @param {string} file
    */

@@ -16,9 +16,9 @@ import {
 /**
  * @typedef {import("../core/engine/engine_host.js").EngineHost} EngineHost
  *
- * The result of the search for a program. `program` is its path ("" if there is none), and `fault` is the reason why there is none. `isUnsupported`
+ * The result of the search for a program. `program` is its path ("" if there is none), and `reason` says why there is none. `isUnsupported`
  * is true if the program is not available for this system.
- * @typedef {{ program: string, fault: string, isUnsupported: boolean }} FoundProgram
+ * @typedef {{ program: string, reason: string, isUnsupported: boolean }} FoundProgram
  */
 
 const SIGNAL_STATUSES = /** @type {const} */ ({ SIGHUP: 129, SIGINT: 130, SIGTERM: 143 });
@@ -41,13 +41,13 @@ function runStarter(script) {
   const { status, stdout, error } = loadChildProcess().spawnSync("/bin/sh", ["-c", script, TOP], options);
   if (error) return null;
   if (status !== 0) process.exit(status || 1);
-  const [program, fault, isUnsupported = "1"] = stdout.split("\n");
-  return { program, fault, isUnsupported: program === "" && isUnsupported === "1" };
+  const [program, reason, isUnsupported = "1"] = stdout.split("\n");
+  return { program, reason, isUnsupported: program === "" && isUnsupported === "1" };
 }
 
 /** @returns {FoundProgram} the result if the starter cannot run: an editor extension does not contain it, and Windows has no shell for it */
 const createNoProgramResult = () => (
-  { program: "", fault: hasStarter ? notForSystem(type(), process.arch) : NO_PROGRAM_IN_COPY, isUnsupported: true });
+  { program: "", reason: hasStarter ? notForSystem(type(), process.arch) : NO_PROGRAM_IN_COPY, isUnsupported: true });
 
 /** @type {FoundProgram | null} the cached result of the search for the program */
 let foundProgram = null;
@@ -56,15 +56,15 @@ let foundProgram = null;
  * Returns the program that the environment variable MCS4 names, or else the program that ./mcs4 starts. Builds this program if necessary.
  */
 function findProgram() {
-  if (process.env.MCS4) return { program: process.env.MCS4, fault: "", isUnsupported: false };
+  if (process.env.MCS4) return { program: process.env.MCS4, reason: "", isUnsupported: false };
   foundProgram ||= runStarter(FIND_PROGRAM) || createNoProgramResult();
   return foundProgram;
 }
 
 /** Returns the program's path. Throws an error if there is no program for this system. */
 export function findProgramPath() {
-  const { program, fault } = findProgram();
-  if (program === "") throw new CommandError(needsProgram(fault));
+  const { program, reason } = findProgram();
+  if (program === "") throw new CommandError(needsProgram(reason));
   return program;
 }
 
@@ -76,8 +76,8 @@ export function findProverPath() {
   const { MCS4_PROVE: proverName } = process.env;
   if (proverName && !existsSync(proverName)) throw new CommandError(noNamedProver(proverName));
   if (proverName) return proverName;
-  const { program, fault, isUnsupported } = runStarter(FIND_PROVER) || createNoProgramResult();
-  if (program === "" && !isUnsupported) throw new CommandError(noProver(fault));
+  const { program, reason, isUnsupported } = runStarter(FIND_PROVER) || createNoProgramResult();
+  if (program === "" && !isUnsupported) throw new CommandError(noProver(reason));
   return program;
 }
 
@@ -94,10 +94,10 @@ export async function startEngine() {
   endOnSignals();
   const { NativeEngine } = await import("./native_engine.mjs");
   const knownEngine = process.env.MCS4 || foundProgram || !hasStarter || IS_WINDOWS ? null : NativeEngine.forKnownProgram();
-  const { program, fault } = knownEngine ? { program: knownEngine.starter.program, fault: "" } : findProgram();
+  const { program, reason } = knownEngine ? { program: knownEngine.starter.program, reason: "" } : findProgram();
   if (program === "") {
     const { startModule } = await import("./module_engine.mjs");
-    return startModule(hasStarter ? runsOnModule(fault) : "");
+    return startModule(hasStarter ? runsOnModule(reason) : "");
   }
   const engine = knownEngine || new NativeEngine(program);
   nativeEngine = engine;

@@ -77,13 +77,13 @@ export class RejectedLines {
    * @param {{ number: number, line: number }} refusal
    */
   describeInput(answeredInput, refusal) {
-    const { input, at } = answeredInput;
+    const { input, at: lineNumber } = answeredInput;
     const { number } = refusal;
     const error = opensText(input.line) ? this.findTextError(answeredInput, refusal) : null;
-    const shownLine = this.lines[at + (error ? error.line : 0) - 1];
+    const shownLine = this.lines[lineNumber + (error ? error.line : 0) - 1];
     const hint = number === NOT_ASCII ? describeInvalidCharacter(shownLine) : number === UNKNOWN_FORM && error ? findSpellingHint(shownLine) : "";
     return [
-      say.rejectedLine(at, number, error ? error.line : 0, `${error ? error.words : describeRefusal(number)}${hint}`),
+      say.rejectedLine(lineNumber, number, error ? error.line : 0, `${error ? error.words : describeRefusal(number)}${hint}`),
       `    ${shownLine.slice(0, MAX_SHOWN_LENGTH)}`, ...this.formatAddressLines(answeredInput),
     ];
   }
@@ -98,10 +98,10 @@ export class RejectedLines {
     const lines = openingRefusal ? [say.sessionWasRefusedBy(openingRefusal.number, describeRefusal(openingRefusal.number))] : [];
     if (openingLine === "session 0") this.boardText = "";
     for (const [index, answeredInput] of inputs.entries()) {
-      const { input, at, answer } = answeredInput;
+      const { input, at: lineNumber, answer } = answeredInput;
       if (answer === "") {
         const shownLine = `    ${input.line.slice(0, MAX_SHOWN_LENGTH)}`;
-        return [...lines, say.notAnswered(at, index === inputs.length - 1), shownLine, ...this.formatAddressLines(answeredInput)];
+        return [...lines, say.notAnswered(lineNumber, index === inputs.length - 1), shownLine, ...this.formatAddressLines(answeredInput)];
       }
       const refusal = parseRefusal(answer);
       if (refusal) lines.push(...this.describeInput(answeredInput, refusal));

@@ -90,8 +90,8 @@ export class SessionProcess {
   }
 
   /**
-   * Sends one input, or several inputs without `seq`, to the program. Sends a `seq` line after them, whose answer marks the end of their
-   * answers.
+   * Sends one input, or several inputs without `seq`, to the program. Then sends a `seq` line, whose answer marks the end of the answers to
+   * the inputs.
    * @param {string} input
    * @param {(line: string) => void} onAnswer called with each answer line as it arrives
    */

@@ -9,6 +9,7 @@ import { readPageModule } from "./page_parts.mjs";
 /** @type {TextBench | null} */
 let bench = null;
 
+/** Resolves to the bench, which the first call starts. */
 async function loadBench() {
   if (!bench) bench = new TextBench(await Engine.load(readPageModule()));
   return bench;

@@ -1,6 +1,5 @@
 // `mcs4 explore`: searches for key sequences that violate a property, with the modules of js/core/explore. The search uses the WebAssembly module
 // from the page.
-import { join } from "node:path";
 import { hasExpectedResult, formatTap, formatReportTests } from "../../core/explore/report.js";
 import { resolveFileNames, parseCount, checkArguments } from "../arguments.mjs";
 import { exploreAsJob, exploreTexts, readJobSettings, mergeReports } from "../explore_processes.mjs";
@@ -57,5 +56,5 @@ function searchTexts([board, program, properties], limits) {
   const commandTexts = { board: texts.readText(board, "wire"), program: texts.readText(program, "asm") };
   const source = texts.readSource(properties);
   const folder = createTemporaryFolder("explore");
-  return exploreTexts({ ...limits, folder: join(folder), texts: { ...commandTexts, properties: source } });
+  return exploreTexts({ ...limits, folder, texts: { ...commandTexts, properties: source } });
 }

@@ -32,10 +32,10 @@ function chooseFormat(action, values) {
 }
 
 /**
- * Parses a ROM image. Returns its bytes, which start at an address.
+ * Parses a ROM image. Returns the bytes of the image.
  * @param {ImageFormat} format
  * @param {Buffer} file
- * @param {number} address
+ * @param {number} address the address of the first byte; for a format with addresses, a number that is added to each of them
  */
 function parseImage(format, file, address) {
   return format === "binary" ? readBytes(file, address) : PARSERS[format](file.toString("latin1"), address);
