@@ -26,8 +26,8 @@ export const LAMPS_AND_KEYS = "Lamps and keys";
 export const averagedBrightness = (milliseconds) => (
   `Brightness is averaged over ${milliseconds} ms, as by the eye.`);
 export const AT_INSTANT = "Paused: lamps show this instant.";
-/** @type {(line: number, words: string) => string} */
-export const lineOfBoard = (line, words) => `line ${line} of the board's text: ${words}`;
+/** @type {(line: number, error: string) => string} */
+export const lineOfBoard = (line, error) => `line ${line} of the board's text: ${error}`;
 
 // --- board/lamps_view.js ---
 /** @type {(name: string) => string} */
@@ -90,8 +90,8 @@ export const ramTitle = (bank, chip) => `RAM ${bank}.${chip} · 4002`;
 export const clockIs = (clock) => `its clock is ${clock}`;
 /** @type {(data: string) => string} */
 export const dataIs = (data) => `its data is ${data}`;
-/** @type {(at: number, chips: number) => string} */
-export const chainTitle = (at, chips) => `Chain ${at} · ${chips} × 4003`;
+/** @type {(chain: number, chips: number) => string} */
+export const chainTitle = (chain, chips) => `Chain ${chain} · ${chips} × 4003`;
 /** @type {(label: string, line: string) => string} */
 export const drivenBy = (label, line) => `${label} is driven by ${line}`;
 /** @type {(label: string, line: string) => string} */

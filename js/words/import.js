@@ -1,15 +1,15 @@
 // Error messages for programs in the syntax of other assemblers.
 
 // --- import/source_lines.js ---
-/** @type {(most: number) => string} */
-export const longLine = (most) => `the line has more than ${most} bytes before its comment`;
+/** @type {(maximum: number) => string} */
+export const longLine = (maximum) => `the line has more than ${maximum} bytes before its comment`;
 
 // --- import/expressions.js ---
-/** @type {(rest: string) => string} */
-export const notUnderstood = (rest) => `\`${rest}\` is not understood`;
+/** @type {(text: string) => string} */
+export const notUnderstood = (text) => `\`${text}\` is not understood`;
 export const DIVISION_BY_0 = "a division by 0";
-/** @type {(most: number) => string} */
-export const tooDeep = (most) => `more than ${most} nested brackets or signs`;
+/** @type {(maximum: number) => string} */
+export const tooDeep = (maximum) => `more than ${maximum} nested brackets or signs`;
 /** @type {(text: string) => string} */
 export const noNumber = (text) => `\`${text}\` is not a number`;
 /** @type {(text: string) => string} */

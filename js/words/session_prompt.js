@@ -17,13 +17,13 @@ export const KEYS_OF_PROMPT = "Tab completes a line, Up recalls earlier ones, Ct
 export const PLACES_TITLE = "Places";
 /** @type {(word: string) => string} */
 export const textDropped = (word) => `the text of ${word} is dropped`;
-/** @type {(name: string, line: number, words: string) => string} */
-export const inFile = (name, line, words) => `${name}: line ${line}: ${words}`;
-/** @type {(name: string, line: number, words: string) => string} */
-export const inText = (name, line, words) => `${name && `${name}: `}${line > 0 ? `line ${line}: ` : ""}${words}`;
+/** @type {(name: string, line: number, message: string) => string} */
+export const inFile = (name, line, message) => `${name}: line ${line}: ${message}`;
+/** @type {(name: string, line: number, message: string) => string} */
+export const inText = (name, line, message) => `${name && `${name}: `}${line > 0 ? `line ${line}: ` : ""}${message}`;
 export const SOURCE_SYNTAX = "source is written as: source FILE";
-/** @type {(most: number) => string} */
-export const tooDeep = (most) => `source files can be nested at most ${most} deep`;
+/** @type {(maximum: number) => string} */
+export const tooDeep = (maximum) => `source files can be nested at most ${maximum} deep`;
 /** @type {(name: string, dropped: string) => string} */
 export const endsTooSoon = (name, dropped) => `${name} ends too soon; ${dropped}`;
 /** @type {(key: string, row: number, column: number) => string} */
