@@ -790,7 +790,8 @@ export const characterHint = (character) => `: \`${character}\``;
 /** @type {(digits: string) => string} */
 export const byteHint = (digits) => `: the byte ${digits}`;
 /** @type {(line: number, refusal: number, textLine: number, meaning: string) => string} */
-export const rejectedLine = (line, refusal, textLine, meaning) => `line ${line}: no ${refusal}${textLine > 0 ? `, line ${textLine} of the text` : ""}: ${meaning}`;
+export const rejectedLine = (line, refusal, textLine, meaning) =>
+  `line ${line}: no ${refusal}${textLine > 0 ? `, line ${textLine} of the text` : ""}: ${meaning}`;
 /** @type {(number: number, meaning: string) => string} */
 export const sessionWasRefusedBy = (number, meaning) => `the session was rejected: no ${number}: ${meaning}`;
 /** @type {(line: number, isLast: boolean) => string} */

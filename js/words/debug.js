@@ -44,7 +44,8 @@ export const noOutputs = (access, location) => `${access}, whose port has no out
 /** @type {(access: string, location: string) => string} */
 export const noInputs = (access, location) => `${access}, whose port has no input line${location}`;
 /** @type {(instruction: string, earlierRom: number, lastSrc: string) => string} */
-export const selectedByEarlierSrc = (instruction, earlierRom, lastSrc) => `this ${instruction}, and before it used ROM ${earlierRom}: the last SRC${lastSrc}`;
+export const selectedByEarlierSrc = (instruction, earlierRom, lastSrc) =>
+  `this ${instruction}, and before it used ROM ${earlierRom}: the last SRC${lastSrc}`;
 /** @type {(address: string) => string} */
 export const atAddress = (address) => `, at ${address},`;
 /** @type {(lastSrc: string, user: string) => string} */

@@ -93,7 +93,8 @@ export const oneChanged = (period, name, change) => `${period} one character has
 /** @type {(name: string, count: string) => string} */
 export const mostOften = (name, count) => `most often ${name}, ${count}`;
 /** @type {(period: string, count: number, mostChanged: string, lastChanged: string, change: string) => string} */
-export const manyChanged = (period, count, mostChanged, lastChanged, change) => `${period} ${count} characters have changed: ${mostChanged}; last ${lastChanged}, ${change}.`;
+export const manyChanged = (period, count, mostChanged, lastChanged, change) =>
+  `${period} ${count} characters have changed: ${mostChanged}; last ${lastChanged}, ${change}.`;
 
 // --- machine/heat_view.js ---
 /** @type {(maximum: string) => string} */

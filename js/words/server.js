@@ -76,7 +76,8 @@ export const PROGRAM_BEGIN = "(start of the program)";
 const countOf = (count, noun) => `${count} ${noun}${count === 1 ? "" : "s"}`;
 /** @type {(calls: number, otherReferences: number) => string} */
 export const usesOf = (calls, otherReferences) => (
-  calls === 0 ? countOf(otherReferences, "reference") : `${countOf(calls, "call")}${otherReferences === 0 ? "" : `, ${countOf(otherReferences, "other reference")}`}`);
+  calls === 0 ? countOf(otherReferences, "reference")
+    : `${countOf(calls, "call")}${otherReferences === 0 ? "" : `, ${countOf(otherReferences, "other reference")}`}`);
 
 // --- server/program_hover.js ---
 export const HEAD_OF_INSTRUCTIONS = ["Instruction", "Code", "Words", "Cycles", "What it does"];

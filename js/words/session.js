@@ -260,7 +260,8 @@ export const SAME_AS_ROM = "The source is already the same as ROM.";
 export const DISASSEMBLED = "The source was disassembled from ROM.";
 export const REPLACE_SOURCE = "Replace the source?";
 /** @type {(oldSize: string, newSize: string) => string} */
-export const sizesOfSources = (oldSize, newSize) => `The source has ${oldSize}. The disassembly of ROM has ${newSize}, without comments and names.`;
+export const sizesOfSources = (oldSize, newSize) =>
+  `The source has ${oldSize}. The disassembly of ROM has ${newSize}, without comments and names.`;
 /** @type {(name: string) => string} */
 export const replaceByProbableNonProgram = (name) => `Replace the source by ${name}?`;
 /** @type {(name: string) => string} */

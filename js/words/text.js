@@ -66,7 +66,8 @@ export const noBitInChain = (line, chain, last) => `the board has no line ${line
 export const noChain = (chain, chains) => (
   `the board has no chain ${chain}: it has ${["no [[chain]]", "only chain 0"][chains] || `chains 0 to ${chains - 1}`}`);
 /** @type {(firstBit: number, lastBit: number, chain: number, highestBit: number) => string} */
-export const rowsNeed = (firstBit, lastBit, chain, highestBit) => `the rows need bits ${firstBit} to ${lastBit} of chain ${chain}, which has bits 0 to ${highestBit}`;
+export const rowsNeed = (firstBit, lastBit, chain, highestBit) =>
+  `the rows need bits ${firstBit} to ${lastBit} of chain ${chain}, which has bits 0 to ${highestBit}`;
 /** @type {(line: string) => string} */
 export const needsInput = (line) => `${line} is not an input line; a column needs a line of a ROM that is i in its port`;
 /** @type {(key: string, line: string, isBit: boolean) => string} */
@@ -109,7 +110,8 @@ export const jumped = (taken, notTaken) => `; it jumped ${taken} and continued $
 // --- text/text_editor_view.js ---
 export const FAULTS = "Errors";
 /** @type {(size: string, maximum: string) => string} */
-export const notInserted = (size, maximum) => `It was not inserted: the text would have ${size} characters; at most ${maximum} are accepted.`;
+export const notInserted = (size, maximum) =>
+  `It was not inserted: the text would have ${size} characters; at most ${maximum} are accepted.`;
 /** @type {(size: string, maximum: string, unit: string) => string} */
 export const sizeOf = (size, maximum, unit) => `${size} of ${maximum} ${unit}`;
 

@@ -138,7 +138,8 @@ export const isNumber = (name) => `${name} is a number: search for a change, or 
 /** @type {(value: string, forms: string) => string} */
 export const noNumber = (value, forms) => `${value} is not a number such as 10, 0x0A or 0b1010. Forms: ${forms}.`;
 /** @type {(name: string, width: number, maximum: number) => string} */
-export const valueTooLarge = (name, width, maximum) => `${name} has ${width === 1 ? "1 bit" : `${width} bits`}: its value is at most ${maximum}.`;
+export const valueTooLarge = (name, width, maximum) =>
+  `${name} has ${width === 1 ? "1 bit" : `${width} bits`}: its value is at most ${maximum}.`;
 
 // --- waves/wave_words.js ---
 /** @type {(span: string) => string} */
