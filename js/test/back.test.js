@@ -5,12 +5,12 @@ import { matrixKey } from "../core/board/key_place.js";
 import { CycleCount } from "../core/engine/accepted_commands.js";
 import { MAX_FORWARD_MOVES, Timeline } from "../core/engine/timeline.js";
 import { FakeEngine } from "./fake_engine.js";
-import { begin, counterOf } from "./page_session.js";
+import { openExample, readCounter } from "./page_session.js";
 
 const ALL_QUERIES = "seq\nboard\nstate\nram 0\nlist 0 256\n";
 
 test("going back by one stop undoes the last lines, and going forward restores the same bytes", async () => {
-  const calls = await begin("three lamps");
+  const calls = await openExample("three lamps");
   const snapshots = [calls.ask(ALL_QUERIES)];
   for (const lines of ["run 1000\n", "poke r5 9\npoke r6 3\n", "step\n", "reset\n", "wire\n[[rom]]\nchip = 0\nport = \"0000\"\n.\n"]) {
     await calls.serve(lines);
@@ -34,7 +34,7 @@ test("going back by one stop undoes the last lines, and going forward restores t
 });
 
 test("the last change of a place is reported without going back, and is the change that going back finds", async () => {
-  const calls = await begin("three lamps");
+  const calls = await openExample("three lamps");
   await calls.serve("run 5000\npoke r9 3\nrun 100\n");
   const snapshot = calls.ask(ALL_QUERIES);
   const { line, cycles, address } = await calls.lastChange("r9");
@@ -45,11 +45,11 @@ test("the last change of a place is reported without going back, and is the chan
   assert.deepEqual(calls.ask(ALL_QUERIES), snapshot);
   const travel = await calls.goBack({ kind: "change", place: "lamps" });
   assert.deepEqual([lamps.from, lamps.to, lamps.cycles], [travel.from, travel.to, travel.cycles]);
-  assert.equal(lamps.address, parseInt(counterOf(calls), 16));
+  assert.equal(lamps.address, parseInt(readCounter(calls), 16));
 });
 
 test("keys that were pressed while the machine ran are pressed again", async () => {
-  const calls = await begin("calculator");
+  const calls = await openExample("calculator");
   calls.advance(20000);
   calls.press(matrixKey(3, 0));
   calls.release(matrixKey(3, 0));
@@ -62,31 +62,31 @@ test("keys that were pressed while the machine ran are pressed again", async () 
 });
 
 test("going back by an instruction follows the trace, across stops and frames", async () => {
-  const calls = await begin("three lamps");
+  const calls = await openExample("three lamps");
   const trace = [];
   for (let step = 0; step < 40; step++) {
-    trace.push(counterOf(calls));
+    trace.push(readCounter(calls));
     await calls.serve("step\n");
   }
-  const copy = await begin("three lamps");
+  const copy = await openExample("three lamps");
   // Some frames end between the two cycles of an instruction.
   while (copy.bench.session.count.total < calls.bench.session.count.total) {
     copy.advance(Math.min(7, calls.bench.session.count.total - copy.bench.session.count.total));
   }
   for (const counter of trace.reverse()) {
     assert.equal((await copy.goBack({ kind: "instruction" })).isDone, true);
-    assert.equal(counterOf(copy), counter);
+    assert.equal(readCounter(copy), counter);
   }
   assert.equal((await copy.goBack({ kind: "instruction" })).why, "short");
 });
 
 test("going back to the last change ends before the instruction or the command that made it", async () => {
-  const calls = await begin("three lamps", "run 4000\npoke r9 5\nrun 3000\n");
+  const calls = await openExample("three lamps", "run 4000\npoke r9 5\nrun 3000\n");
   const pokeChange = await calls.goBack({ kind: "change", place: "r9" });
   assert.deepEqual([pokeChange.isDone, pokeChange.from, pokeChange.to, pokeChange.line, pokeChange.cycles],
     [true, "0", "5", "poke r9 5", 3000]);
   const lampChange = await calls.goBack({ kind: "change", place: "lamps" });
-  assert.equal(counterOf(calls), "006");
+  assert.equal(readCounter(calls), "006");
   assert.deepEqual(calls.ask("lamps\n"), [`lamps ${lampChange.from}`]);
   await calls.serve("step\n");
   assert.deepEqual(calls.ask("lamps\n"), [`lamps ${lampChange.to}`]);
@@ -95,20 +95,20 @@ test("going back to the last change ends before the instruction or the command t
 });
 
 test("going back to a distant change, made by a command or by an instruction", async () => {
-  const calls = await begin("three lamps", `run 4000\npoke r9 5\n${"run 100000\n".repeat(30)}step\nrun 7\n`);
+  const calls = await openExample("three lamps", `run 4000\npoke r9 5\n${"run 100000\n".repeat(30)}step\nrun 7\n`);
   const { cycles } = await calls.goBack({ kind: "change", place: "r9" });
   assert.ok(cycles > 3000007 && cycles < 3000010);
   const [registers, pokeAnswer] = [calls.ask("regs\n")[0], (await calls.serve("poke r9 5\n")).first];
   assert.match(registers, / r .{9}0/);
   assert.match(pokeAnswer, /^ok/);
   assert.equal((await calls.goBack({ kind: "change", place: "r9" })).line, "poke r9 5");
-  const reset = await begin("three lamps", "run 4000\nreset\nrun 3\n");
+  const reset = await openExample("three lamps", "run 4000\nreset\nrun 3\n");
   const result = await reset.goBack({ kind: "change", place: "ram0.0" });
   assert.deepEqual([result.line, result.cycles, result.to], ["reset", 3, "0"]);
 });
 
 test("a command makes going forward impossible; a query does not", async () => {
-  const calls = await begin("three lamps", "run 100\n");
+  const calls = await openExample("three lamps", "run 100\n");
   assert.equal((await calls.goBack({ kind: "stop" })).future, 1);
   calls.ask("regs\n");
   assert.equal((await calls.serve("regs\nfoo\n")).future, 1);

@@ -12,7 +12,7 @@ import { BoardReader, readBoardText } from "../core/text/board_reader.js";
 import { completeBoard } from "../core/text/board_completion.js";
 import { commentAt } from "../core/text/sendable_text.js";
 import { readProjectToml } from "../core/project/project_toml.js";
-import { begin, pageModule } from "./page_session.js";
+import { openExample, pageModule } from "./page_session.js";
 import { boardTables, helpForBoard, tableAt } from "../core/text/text_help.js";
 
 // The manual's tables, as page/build reads them.
@@ -58,7 +58,7 @@ test("answers to `wiring` and `errors` are parsed", () => {
 });
 
 test("the page's limits for boards are the limits of the bench", async () => {
-  const calls = await begin("three lamps");
+  const calls = await openExample("three lamps");
   const refusalNumberOf = async (text) => (parseRefusal((await calls.serve(`wire\n${text}.\n`)).first) || { number: 0 }).number;
   const rom = (chip, port = "0000") => `[[rom]]\nchip = ${chip}\nport = "${port}"\n`;
   const chain = (chips) => `[[chain]]\nclock = "rom8.0"\ndata = "rom8.1"\nchips = ${chips}\n`;

@@ -77,7 +77,7 @@ async function testFails(text, program) {
   return outcomes[0].failure !== null;
 }
 
-test("if PRESS comes while it waits, the foul lamp comes on: the program that is late is found, the other one is not", async () => {
+test("a press of PRESS during the wait must light the foul lamp: a counterexample is found for the late program only", async () => {
   // If PRESS is pressed in the last cycles of the wait, the program may read it only after `go`.
   const text = "while lamp waiting on, after press PRESS within 20 lamp foul on or lamp go on\n";
   const find = await findCounterexample(text, LATE, 30);
@@ -90,7 +90,7 @@ test("if PRESS comes while it waits, the foul lamp comes on: the program that is
   assert.ok(await findCounterexample("after press PRESS within 20 lamp foul on\n", PROGRAM, 30));
 });
 
-test("each guard is found broken, with a test that fails", async () => {
+test("a counterexample is found for each guard, with a test that fails", async () => {
   for (const text of [
     "while lamp waiting on, never pc = foul", "once lamp waiting on, always lamp foul off", "after press PRESS, never lamp foul on",
     "while lamp waiting on, always r4 < 15", "after press START within 300, never lamp foul on",
@@ -104,7 +104,7 @@ test("each guard is found broken, with a test that fails", async () => {
   }
 });
 
-test("what is no guard is reported", () => {
+test("invalid guards are reported", () => {
   assert.match(faultOf("while lamp waiting on never lamp foul on"), /^a guard is written as `while CONDITION,`/);
   assert.match(faultOf("while lamp waiting on,"), /^a guard is written as/);
   assert.match(faultOf("while lamp purple on, never lamp foul on"), /^the board has no lamp purple/);
@@ -218,7 +218,7 @@ const VIOLATION_TIMES = {
   },
 };
 
-test("guards mean what the manual says, cycle by cycle", () => {
+test("guards have the meaning that the manual defines, in each cycle", () => {
   const random = createRandom(11);
   const { campaign } = campaignOf(`never lamp go on
 always lamp go on

@@ -60,7 +60,7 @@ function answersOf(engine, session, lines) {
 }
 
 for (const [name, text] of Object.entries(BOARDS)) {
-  test(`it finds each key: ${name}`, async () => {
+  test(`the routine finds each key: ${name}`, async () => {
     const engine = await loading;
     const session = engine.begin();
     const wired = answersOf(engine, session, `wire\n${sentText(text, "#")}.\n`);
@@ -88,7 +88,7 @@ for (const [name, text] of Object.entries(BOARDS)) {
   });
 }
 
-test("labels of the source are not used again, and a source with instructions keeps its begin", async () => {
+test("labels of the source are not reused, and a source with instructions keeps its beginning", async () => {
   const board = { chains: [{ clock: "rom0.0", data: "rom0.1", chips: 1 }], matrix: { chain: 0, first: 0, rows: 1, columns: ["rom0.2"] } };
   const one = keyScanSource(board, "loop: NOP\n JUN loop\n");
   assert.match(one, /^; Scans the keys: bit 0 of chain 0 drives row 0; columns are read at the port of ROM 0\.\n/);
@@ -98,7 +98,7 @@ test("labels of the source are not used again, and a source with instructions ke
   assert.equal(keyScanSource({ ...board, matrix: null }, ""), "");
 });
 
-test("a routine comes behind the line of the caret, else to the end, with blank lines around it", () => {
+test("a routine is inserted after the caret's paragraph, or at the end, with blank lines around it", () => {
   const put = (text, line) => {
     const { edit, first, isEnd } = routineInsertion(text, line, "scan: BBL 0\n");
     return [text.slice(0, edit.from) + edit.insert + text.slice(edit.to), first, isEnd];

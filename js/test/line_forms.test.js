@@ -34,7 +34,7 @@ function refusalNumber(line) {
 
 const numberOf = (line) => (findLineError(line) || { number: 0 }).number;
 
-test("each line of words is rejected as the bench does", () => {
+test("random lines are rejected with the same number as by the bench", () => {
   const next = createRandom(4004);
   const firsts = [...ANSWER_FORMATS.keys(), "poke", "poke", "trace", "trace", "list", "watch"];
   for (let at = 0; at < 6000; at++) {
@@ -47,7 +47,7 @@ test("each line of words is rejected as the bench does", () => {
   }
 });
 
-test("the ends of ranges", () => {
+test("the limits of ranges", () => {
   const lines = [
     "list 0 0", "list 0 1", "list 4095 256", "list 0 257", "list 4096 1", "count 0", "count 1", "count 100000", "count 100001",
     "run 0", "run 4294967295", "run 4294967296", "test 1", "test 2", "break 4095", "break 4096", "ram 7", "ram 8", "watch 7 255",
@@ -65,7 +65,7 @@ test("length and characters", () => {
   }
 });
 
-test("the words name the word at fault", () => {
+test("the message names the wrong word", () => {
   for (const [line, words] of [
     ["bogus", "bogus is not a command; help shows the commands"],
     ["pres 1 2", "pres is not a command; did you mean press?"],

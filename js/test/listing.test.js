@@ -57,7 +57,7 @@ async function stretch(reader, from, anchor, rows) {
   return visibleLines(await reader.read({ from, anchor }, rows), from, rows);
 }
 
-test("a line begins at the anchor, wherever it is, and all rows have a line", async () => {
+test("a line begins at each anchor, and all rows have a line", async () => {
   const random = createRandom(1);
   for (const bytes of programs()) {
     const reader = new ListingReader(fakeBench(bytes).ask);
@@ -73,7 +73,7 @@ test("a line begins at the anchor, wherever it is, and all rows have a line", as
   }
 });
 
-test("page by page from one end to the other each address is shown, in step", async () => {
+test("scrolling page by page shows each instruction", async () => {
   for (const bytes of programs()) {
     const rows = 21;
     const reader = new ListingReader(fakeBench(bytes).ask);
@@ -92,7 +92,7 @@ test("page by page from one end to the other each address is shown, in step", as
   }
 });
 
-test("the end fills the rows with the last lines", async () => {
+test("at the end of ROM, the last lines fill the rows", async () => {
   for (const bytes of programs()) {
     const reader = new ListingReader(fakeBench(bytes).ask);
     for (const rows of [1, 7, 40]) {
@@ -104,7 +104,7 @@ test("the end fills the rows with the last lines", async () => {
   }
 });
 
-test("the bench is asked for little more than is shown", async () => {
+test("the bench is asked for only a few more lines than are shown", async () => {
   const random = createRandom(2);
   for (const bytes of programs()) {
     const { ask, asked } = fakeBench(bytes);
@@ -114,7 +114,7 @@ test("the bench is asked for little more than is shown", async () => {
   }
 });
 
-test("whether an address lies inside a line", () => {
+test("an address inside a line is detected", () => {
   const lines = [{ address: 4, line: "" }, { address: 6, line: "" }, { address: 7, line: "" }];
   assert.deepEqual([3, 4, 5, 6, 7, 8].map((address) => isInsideLine(lines, address)), [false, false, true, false, false, false]);
   assert.equal(isInsideLine([], 0), false);

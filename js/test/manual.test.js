@@ -9,12 +9,12 @@ const SCRIPT = "import json; from manual_tables import manual_tables; print(json
 const PAGE = new URL("../../page/", import.meta.url);
 const MANUAL = JSON.parse(execFileSync("python3", ["-B", "-c", SCRIPT], { cwd: PAGE, encoding: "utf8" }));
 
-test("a cell is cut into text and code", () => {
+test("a cell is split into text and code", () => {
   assert.deepEqual(splitCell("`wire`, then a text"), [{ text: "wire", isCode: true }, { text: ", then a text", isCode: false }]);
   assert.equal(cellText("`ram b` and `lamps`"), "ram b and lamps");
 });
 
-test("all 45 instructions are reported, each with its cycles", () => {
+test("all 45 instructions are read, each with its cycles", () => {
   const found = readInstructions(MANUAL);
   assert.equal(found.size, 45);
   assert.deepEqual([...found.values()].filter(({ cycles }) => cycles === "2").map(({ form }) => form.split(" ")[0]),
@@ -22,7 +22,7 @@ test("all 45 instructions are reported, each with its cycles", () => {
   assert.equal(found.get("RD3").code, "EC to EF");
 });
 
-test("a line of the bench is found by what is typed of it", () => {
+test("a session line is found by its beginning", () => {
   const lines = readLineForms(MANUAL);
   const forms = (typed) => matchLines(lines, typed).map(({ form }) => form);
   assert.deepEqual(forms("r"), ["release r c", "run n", "reset", "regs", "ram b"]);
@@ -41,7 +41,7 @@ test("a search finds rows, and whole sections by their titles", () => {
   assert.equal(searchManual(MANUAL, "").length, MANUAL.length);
 });
 
-test("cells have words", () => {
+test("cells of the page have descriptions", () => {
   const words = cellWords(MANUAL);
   for (const name of ["acc", "owed", "dcl", "ret 3", "R", "latch", "SRC, ROMs"]) assert.ok(words.has(name), name);
   assert.equal(describeCell(words, "R15"), words.get("R"));

@@ -16,7 +16,7 @@ async function begin(example) {
   return { calls, size };
 }
 
-test("a file is served, and asking leaves it as it was", async () => {
+test("lines are served in a file, and `ask` leaves the file unchanged", async () => {
   const engine = await Engine.load(module);
   assert.equal(engine.size, 163856);
   const file = engine.begin();
@@ -27,20 +27,20 @@ test("a file is served, and asking leaves it as it was", async () => {
   assert.deepEqual(engine.ask(file, "seq\n"), { status: 0, opened: "session 1", answers: ["seq 1"] });
 });
 
-test("answers that have no room are given room", async () => {
+test("the buffer for answers grows if necessary", async () => {
   const engine = await Engine.load(module);
   const { answers } = engine.ask(engine.begin(), "list 0 256\n".repeat(400));
   assert.equal(answers.length, 400 * 256);
 });
 
-test("lines beyond ASCII, and more than the room at first", async () => {
+test("lines with other than ASCII characters, and more lines than the initial buffer can hold", async () => {
   const engine = await Engine.load(module);
   const file = engine.begin();
   assert.deepEqual(engine.ask(file, "caf\u00e9\n").answers, ["no 14"]);
   assert.equal(engine.ask(file, `${"x".repeat(200)}\n`.repeat(4000)).answers.length, 4000);
 });
 
-test("bytes that are no session are refused, and the session stays", async () => {
+test("bytes that are not a session are rejected, and the session stays", async () => {
   const { calls } = await begin(calculator);
   for (const [bytes, number] of [[0, 50], [9, 50], [163857, 50], [163856, 50]]) {
     assert.throws(() => calls.open(new Uint8Array(bytes)), { number });
@@ -49,7 +49,7 @@ test("bytes that are no session are refused, and the session stays", async () =>
   assert.equal(calls.ask("board\n")[0], "board");
 });
 
-test("keys are pressed, time passes, and the display shows it", async () => {
+test("frames press keys, run cycles, and reuse returned buffers", async () => {
   const { calls } = await begin(calculator);
   for (const key of [matrixKey(2, 1), matrixKey(3, 2)]) {
     calls.press(key);
@@ -66,7 +66,7 @@ test("keys are pressed, time passes, and the display shows it", async () => {
   assert.equal(calls.advance(1000).file, frame.file);
 });
 
-test("a key goes down with the cycles that it came with, or when its time comes", async () => {
+test("a key goes down at the start of its cycles, or when the keys before it are done", async () => {
   const { calls } = await begin(calculator);
   const lampsOf = ({ snapshot }) => / lamps (\S+)/.exec(snapshot[0])[1];
   const linesOf = ({ ran }) => ran.map(({ line }) => line);
@@ -79,7 +79,7 @@ test("a key goes down with the cycles that it came with, or when its time comes"
   assert.deepEqual(linesOf(calls.advance(3000)), ["run 1000", "press 2 2", "run 2000"]);
 });
 
-test("a breakpoint ends a frame, and what came after it is not done", async () => {
+test("a breakpoint ends a frame early", async () => {
   const { calls } = await begin(calculator);
   await calls.serve("break 0x024\n");
   const frame = calls.advance(5000);
@@ -87,7 +87,7 @@ test("a breakpoint ends a frame, and what came after it is not done", async () =
   assert.ok(frame.cycles < 100);
 });
 
-test("a file of an example gets the texts of the example, and another one what the bench says", async () => {
+test("a session with an example's board and program gets the example's texts, and another session gets those of the bench", async () => {
   const { calls } = await begin(calculator);
   const texts = calls.texts(calls.make(calculator));
   const { board, program, tests = "", properties = "" } = calculator;
@@ -98,7 +98,7 @@ test("a file of an example gets the texts of the example, and another one what t
   });
 });
 
-test("the part of a board that is wrong is named, and the lines of a program", async () => {
+test("the wrong part of a board and the wrong lines of a program are reported", async () => {
   const { calls } = await begin(calculator);
   const board = '[[rom]]\nchip = 0\nport = "0000"\n\n[[lamp]]\nline = "ram0.0.0"\n';
   const { first } = await calls.serve(`wire\n${board}.\n`);
@@ -108,7 +108,7 @@ test("the part of a board that is wrong is named, and the lines of a program", a
   assert.deepEqual(calls.errors("a: NOP\na: NOP\nFOO\n"), [{ line: 2, number: 31 }, { line: 3, number: 30 }]);
 });
 
-test("long work is done whole", async () => {
+test("many lines are all executed", async () => {
   const { calls } = await begin(calculator);
   const result = await calls.serve("step\n".repeat(5000));
   assert.equal(result.entries.length, 400);

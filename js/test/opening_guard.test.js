@@ -18,7 +18,7 @@ function fakeBrowser() {
   return { load, words, wait, settle: () => timers.splice(0).forEach((act) => act()) };
 }
 
-test("an opening that came to an end leaves nothing, also where it was refused", async () => {
+test("a finished opening leaves no record, even if it failed", async () => {
   const { load, words, wait, settle } = fakeBrowser();
   const openings = load();
   await openings.runOpening("one", async () => {
@@ -31,7 +31,7 @@ test("an opening that came to an end leaves nothing, also where it was refused",
   assert.deepEqual([words.size, load().hasUnfinishedOpening("one"), load().hasUnfinishedOpening("two")], [0, false, false]);
 });
 
-test("one that did not is known at the next start, and forgotten once it did", async () => {
+test("an unfinished opening is detected at the next start, and forgotten after a successful one", async () => {
   const { load, words, wait, settle } = fakeBrowser();
   load().runOpening("one", () => new Promise(() => {}));
   await load().runOpening("two", async () => {});
@@ -43,7 +43,7 @@ test("one that did not is known at the next start, and forgotten once it did", a
   assert.equal(words.size, 0);
 });
 
-test("a page that is left at once was not hung; one that is left later may have been", () => {
+test("leaving the page soon is not a sign of a hang; leaving it later can be", () => {
   const { load, wait } = fakeBrowser();
   const openings = load();
   openings.runOpening("one", () => new Promise(() => {}));
@@ -56,7 +56,7 @@ test("a page that is left at once was not hung; one that is left later may have 
   assert.equal(load().hasUnfinishedOpening("two"), true);
 });
 
-test("a page that is left while it shows a session was not hung by it, however long the opening took", async () => {
+test("leaving the page after a finished opening is not a sign of a hang, even after a long opening", async () => {
   const { load, wait } = fakeBrowser();
   const openings = load();
   await openings.runOpening("one", async () => wait(3000));
@@ -64,7 +64,7 @@ test("a page that is left while it shows a session was not hung by it, however l
   assert.equal(load().hasUnfinishedOpening("one"), false);
 });
 
-test("a page that is left learns so from each of two events, since a browser may pass over one", async () => {
+test("each of two events reports that the page is left, because a browser can omit one", async () => {
   for (const name of ["beforeunload", "pagehide"]) {
     const { load, wait } = fakeBrowser();
     const openings = load();
@@ -78,7 +78,7 @@ test("a page that is left learns so from each of two events, since a browser may
   }
 });
 
-test("another tab may just be opening it", () => {
+test("a recent opening can be in progress in another tab", () => {
   const { load, wait } = fakeBrowser();
   load().runOpening("one", () => new Promise(() => {}));
   wait(1999);
@@ -87,7 +87,7 @@ test("another tab may just be opening it", () => {
   assert.equal(load().hasUnfinishedOpening("one"), true);
 });
 
-test("a session that is opened twice in a row is settled by its last opening", async () => {
+test("if a session is opened twice, only its last opening counts", async () => {
   const { load, wait, settle } = fakeBrowser();
   const openings = load();
   await openings.runOpening("one", async () => {});
@@ -97,7 +97,7 @@ test("a session that is opened twice in a row is settled by its last opening", a
   assert.equal(load().hasUnfinishedOpening("one"), true);
 });
 
-test("a browser that keeps nothing", async () => {
+test("sessions can be opened in a browser without storage", async () => {
   const broken = () => { throw new DOMException("", "SecurityError"); };
   for (const store of [null, { getItem: broken, setItem: broken, removeItem: broken }]) {
     const openings = new OpeningGuard(store, (act) => act());

@@ -6,7 +6,7 @@ import test from "node:test";
 import { PendingKeys } from "../core/board/pending_keys.js";
 import { matrixKey } from "../core/board/key_place.js";
 import { KeyPresser } from "../page/board/key_presser.js";
-import { begin } from "./page_session.js";
+import { openExample } from "./page_session.js";
 
 const KEY = { key: matrixKey(0, 0), isSwitch: false };
 
@@ -15,7 +15,7 @@ const KEY = { key: matrixKey(0, 0), isSwitch: false };
  * report to the page.
  */
 async function createPresser() {
-  const calls = await begin("calculator");
+  const calls = await openExample("calculator");
   const pendingKeys = new PendingKeys();
   const words = [];
   let [isDown, onTheWay] = [false, []];

@@ -2,7 +2,7 @@
 import assert from "node:assert/strict";
 import { test } from "node:test";
 import { StoredHistory } from "../page/session/stored_history.js";
-import { begin } from "./page_session.js";
+import { openExample } from "./page_session.js";
 
 const ALL = "state\nram 0\nlist 0 256\n";
 
@@ -27,7 +27,7 @@ function addReport(past, calls, shown = calls.bench.snapshotReport([], false)) {
 
 /** Executes lines on a page, which the user then leaves. Resolves to the page's calls, with the state after each line. */
 async function leavePage(store, lines) {
-  const calls = await begin("three lamps");
+  const calls = await openExample("three lamps");
   const past = new StoredHistory(store);
   past.begin("one");
   addReport(past, calls);
@@ -42,7 +42,7 @@ async function leavePage(store, lines) {
 
 /** Resolves to the calls of another page that has reopened the session. */
 async function reopenPage(store, { bench: { session: { file, count } } }, name = "one") {
-  const calls = await begin("three lamps");
+  const calls = await openExample("three lamps");
   const past = new StoredHistory(store);
   past.begin(name);
   addReport(past, calls, calls.open(file.slice(), count.total, count.reset));
@@ -141,7 +141,7 @@ test("a session that was kept before the last of it goes back as far as it was k
 });
 
 test("of a long past the last two files are kept", async () => {
-  const calls = await begin("three lamps");
+  const calls = await openExample("three lamps");
   const past = new StoredHistory(storeOf());
   past.begin("one");
   addReport(past, calls);
@@ -149,7 +149,7 @@ test("of a long past the last two files are kept", async () => {
   assert.equal(past.segments.length, 2);
   const cycles = past.segments.map(({ entries }) => entries.reduce((sum, entry) => sum + entry.cycles, 0));
   assert.deepEqual([past.segments[0].total, cycles], [8000000, [4000000, 500000]]);
-  const next = await begin("three lamps");
+  const next = await openExample("three lamps");
   next.open(calls.bench.session.file.slice(), calls.bench.session.count.total, 0);
   assert.ok(recall(next, past.segments) >= 0);
   assert.equal((await next.goBack({ kind: "stop" })).cycles, 500000);

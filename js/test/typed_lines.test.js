@@ -2,7 +2,7 @@
 import assert from "node:assert/strict";
 import { test } from "node:test";
 import { CancelledError } from "../core/bench/bench_errors.js";
-import { begin } from "./page_session.js";
+import { openExample } from "./page_session.js";
 
 const BOARD = "[[rom]]\nchip = 0\nport = \"0000\"\n";
 const PROGRAM = "loop:   INC R9\n        NOP\n        JUN loop\n";
@@ -14,7 +14,7 @@ const NOP = 1;
  * @param {object} more further properties of the breakpoint
  */
 async function createSession(more) {
-  const calls = await begin("three lamps");
+  const calls = await openExample("three lamps");
   await calls.serve(`wire\n${BOARD}.\nasm\n${PROGRAM}.\nreset\n`);
   const placed = { id: 7, address: NOP, condition: "", from: 1, note: "", hits: 0, ...more };
   await calls.setBreakpoints([placed], { board: BOARD, program: PROGRAM });

@@ -4,7 +4,7 @@ import { test } from "node:test";
 import { Waves } from "../core/waves/wave_recording.js";
 import { find, readSearch } from "../core/waves/wave_search.js";
 import { findLineByName } from "../core/waves/trigger.js";
-import { begin, examplesOfPage } from "./page_session.js";
+import { openExample, examplesOfPage } from "./page_session.js";
 
 const line = (name, kind, rest = {}) => ({ name, title: "", group: "", kind, places: [], members: [], width: 1, columns: 0, ...rest });
 const LINES = [
@@ -71,7 +71,7 @@ test("what cannot be looked for, in words", () => {
 
 test("in two million cycles what is found is what the bench reports", async () => {
   const { board, program } = examplesOfPage.find((each) => each.name === "stopwatch");
-  const calls = await begin("stopwatch", "test 0\n");
+  const calls = await openExample("stopwatch", "test 0\n");
   const waves = new Waves(await calls.record(2000000, false, { board, program, values: ["r4"] }));
   const found = (text, moment, isForward) => find(waves, readSearch(text, waves, -1).search, moment, isForward);
   const first = found("lamp15 rises", 0, true);

@@ -5,11 +5,11 @@ import { matrixKey } from "../core/board/key_place.js";
 import { LiveWaves } from "../core/waves/live_waves.js";
 import { vcdParts } from "../core/waves/vcd.js";
 import { Waves } from "../core/waves/wave_recording.js";
-import { begin, examplesOfPage } from "./page_session.js";
+import { openExample, examplesOfPage } from "./page_session.js";
 
 async function beginWith(name, lines = "") {
   const { board, program } = examplesOfPage.find((each) => each.name === name);
-  return { calls: await begin(name, lines), texts: { board, program, values: [] } };
+  return { calls: await openExample(name, lines), texts: { board, program, values: [] } };
 }
 
 const numberOf = (waves, name) => waves.lines.findIndex((line) => line.name === name);

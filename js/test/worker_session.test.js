@@ -36,10 +36,10 @@ test("a run that stops early: what came after it is not done", () => {
 test("a failed call changes nothing, and the keys wait on", () => {
   const { engine, session } = startWorkerSession();
   session.queue.press(matrixKey(0, 1));
-  engine.memory = 0;
+  engine.callLimit = 0;
   assert.throws(() => session.advance(10), /no 90/);
   assert.equal(session.file[0], 0);
-  engine.memory = Infinity;
+  engine.callLimit = Infinity;
   assert.equal(session.advance(10).ran[0].line, "press 0 1");
 });
 
@@ -57,10 +57,10 @@ test("of long work nothing is done where a piece fails, or it is cancelled", asy
   const { engine, session } = startWorkerSession();
   await assert.rejects(session.serve(`${"step\n".repeat(3000)}trap\n`, shouldContinue), /unreachable/);
   assert.equal(session.file[0], 0);
-  engine.memory = 2;
+  engine.callLimit = 2;
   await assert.rejects(session.serve("step\n".repeat(9000), shouldContinue), /no 90/);
   assert.equal(session.file[0], 0);
-  engine.memory = Infinity;
+  engine.callLimit = Infinity;
   let pieces = 0;
   await assert.rejects(session.serve("step\n".repeat(9000), async () => ++pieces < 2), /cancelled/);
   assert.equal(session.file[0], 0);
