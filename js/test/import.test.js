@@ -18,9 +18,9 @@ test("expressions have the values that Intel's assembler gives them", () => {
 });
 
 test("an invalid expression has an error, and the value of an undefined name is unknown", () => {
-  const faults = { "1+": "an operand is missing", "(1": "a bracket is missing", "1/0": "a division by 0", Y: "no line defines the name Y",
+  const errors = { "1+": "an operand is missing", "(1": "a bracket is missing", "1/0": "a division by 0", Y: "no line defines the name Y",
     "9Z": "`9Z` is not a number", "1 2": "`2` is not understood", "'\u00e4'": "'\u00e4' has a character that is not ASCII" };
-  for (const [text, fault] of Object.entries(faults)) assert.equal(evaluate(text, 0, names).fault, fault);
+  for (const [text, error] of Object.entries(errors)) assert.equal(evaluate(text, 0, names).fault, error);
   assert.deepEqual(evaluate("LATER+1", 0, names), { value: 1, isKnown: false, fault: "" });
   assert.match(evaluate("(".repeat(60), 0, names).fault, /more than 50 nested brackets/);
 });

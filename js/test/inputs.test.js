@@ -2,23 +2,23 @@ import assert from "node:assert/strict";
 import { test } from "node:test";
 import { findInputEnd, joinLines, matchAnswers, readInputs } from "../core/bench/inputs.js";
 
-const kinds = (lines) => readInputs(lines).map(({ kind, text }) => (text.length > 0 ? `${kind}+${text.length}` : kind));
+const describeInputs = (lines) => readInputs(lines).map(({ kind, text }) => (text.length > 0 ? `${kind}+${text.length}` : kind));
 
 test("lines are split into inputs: commands, texts, blank lines, carriage returns", () => {
-  assert.deepEqual(kinds("run 5\n\n \t\nasm\nNOP\nwire\n.\nseq\r\n"), ["run", "asm+2", "seq"]);
-  assert.deepEqual(kinds("map\r\nNOP\r\n.\r\nlamps"), ["map+1", "lamps"]);
+  assert.deepEqual(describeInputs("run 5\n\n \t\nasm\nNOP\nwire\n.\nseq\r\n"), ["run", "asm+2", "seq"]);
+  assert.deepEqual(describeInputs("map\r\nNOP\r\n.\r\nlamps"), ["map+1", "lamps"]);
 });
 
 test("a text begins after its command word alone, and a line that is too long is an input without a kind", () => {
-  assert.deepEqual(kinds("wire now\nseq\n"), ["wire", "seq"]);
-  assert.deepEqual(kinds(`${"x".repeat(256)}\n${" ".repeat(256)}\nseq\n`), ["", "", "seq"]);
-  assert.deepEqual(kinds(`asm${" ".repeat(253)}\nseq\n`), ["", "seq"]);
+  assert.deepEqual(describeInputs("wire now\nseq\n"), ["wire", "seq"]);
+  assert.deepEqual(describeInputs(`${"x".repeat(256)}\n${" ".repeat(256)}\nseq\n`), ["", "", "seq"]);
+  assert.deepEqual(describeInputs(`asm${" ".repeat(253)}\nseq\n`), ["", "seq"]);
 });
 
 test("lines are split between inputs, never within a text", () => {
   const lines = "run 1\nasm\nNOP\nNOP\n.\nseq\n";
-  const ends = [1, 6, 7, 20, 100].map((size) => lines.slice(0, findInputEnd(lines, 0, size)));
-  assert.deepEqual(ends, ["run 1\n", "run 1\n", "run 1\nasm\nNOP\nNOP\n.\n", "run 1\nasm\nNOP\nNOP\n.\n", lines]);
+  const pieces = [1, 6, 7, 20, 100].map((size) => lines.slice(0, findInputEnd(lines, 0, size)));
+  assert.deepEqual(pieces, ["run 1\n", "run 1\n", "run 1\nasm\nNOP\nNOP\n.\n", "run 1\nasm\nNOP\nNOP\n.\n", lines]);
   assert.equal(findInputEnd("asm\nNOP\nNOP", 0, 1), 11);
   assert.equal(findInputEnd("seq", 0, 1), 3);
 });
@@ -26,13 +26,13 @@ test("lines are split between inputs, never within a text", () => {
 test("pieces of the lines have the same inputs as all lines together", () => {
   const lines = "seq\nwire\n[[rom]]\nchip = 0\n.\r\n\nlamps\nasm\n.\nregs\nmap\nNOP";
   for (let size = 1; size < lines.length; size++) {
-    const found = [];
-    for (let at = 0; at < lines.length;) {
-      const end = findInputEnd(lines, at, size);
-      found.push(...readInputs(lines.slice(at, end)));
-      at = end;
+    const inputs = [];
+    for (let start = 0; start < lines.length;) {
+      const end = findInputEnd(lines, start, size);
+      inputs.push(...readInputs(lines.slice(start, end)));
+      start = end;
     }
-    assert.deepEqual(found, readInputs(lines));
+    assert.deepEqual(inputs, readInputs(lines));
   }
 });
 

@@ -20,35 +20,35 @@ class FakeButton extends EventTarget {
 /** Returns a KeyPresser with two keys, and the log of its calls. */
 function createPresser(isRunning) {
   const down = new Set();
-  const done = [];
-  const note = (word, key) => {
-    done.push(keyLine(word, key));
+  const lines = [];
+  const record = (word, key) => {
+    lines.push(keyLine(word, key));
     if (word === "press") down.add(formatKey(key));
     else down.delete(formatKey(key));
   };
-  const pressing = new KeyPresser({
+  const presser = new KeyPresser({
     isRunning: () => isRunning,
     isDown: (key) => down.has(formatKey(key)),
-    press: (key) => note("press", key),
-    release: (key) => note("release", key),
-    change: note,
+    press: (key) => record("press", key),
+    release: (key) => record("release", key),
+    change: record,
     keyForEvent: () => undefined,
   });
   const buttons = [matrixKey(0, 0), matrixKey(0, 1)].map((key) => {
     const button = new FakeButton();
-    pressing.listen(button, { key });
+    presser.listen(button, { key });
     return button;
   });
-  return { done, down, buttons };
+  return { done: lines, down, buttons };
 }
 
-const wait = (time) => new Promise((done) => setTimeout(done, time));
+const wait = (time) => new Promise((resolve) => setTimeout(resolve, time));
 const LONG_PRESS_MS = 120;
 
 for (const isRunning of [true, false]) {
-  const when = isRunning ? "while running" : "while paused";
+  const condition = isRunning ? "while running" : "while paused";
 
-  test(`a swipe that begins on a key does not press it, ${when}`, async () => {
+  test(`a swipe that begins on a key does not press it, ${condition}`, async () => {
     const { done, buttons } = createPresser(isRunning);
     buttons[0].fire("pointerdown");
     buttons[0].fire("pointercancel");
@@ -57,7 +57,7 @@ for (const isRunning of [true, false]) {
     assert.deepEqual(done, []);
   });
 
-  test(`a slow swipe releases the key that it has pressed, ${when}`, async () => {
+  test(`a slow swipe releases the key that it has pressed, ${condition}`, async () => {
     const { done, down, buttons } = createPresser(isRunning);
     buttons[0].fire("pointerdown");
     await wait(LONG_PRESS_MS);
@@ -67,7 +67,7 @@ for (const isRunning of [true, false]) {
     assert.deepEqual([done, down.size], [["press 0 0", "release 0 0"], 0]);
   });
 
-  test(`a slow swipe over a held key leaves the key down, ${when}`, async () => {
+  test(`a slow swipe over a held key leaves the key down, ${condition}`, async () => {
     const { down, buttons } = createPresser(isRunning);
     down.add("0 0");
     buttons[0].fire("pointerdown");

@@ -9,7 +9,7 @@ import { examplesOfPage, pageModule } from "./page_session.js";
 const [module, examples] = [pageModule, examplesOfPage];
 const calculator = examples.find(({ name }) => name === "calculator");
 
-async function begin(example) {
+async function openExample(example) {
   const calls = new BenchCalls(async () => true);
   const size = await calls.load(module, examples);
   calls.open(calls.make(example));
@@ -20,9 +20,9 @@ test("lines are served in a file, and `ask` leaves the file unchanged", async ()
   const engine = await Engine.load(module);
   assert.equal(engine.size, 163856);
   const file = engine.begin();
-  const before = Buffer.from(file);
+  const bytesBefore = Buffer.from(file);
   assert.deepEqual(engine.ask(file, "poke r5 9\nseq\n"), { status: 0, opened: "session 0", answers: ["ok 1", "seq 1"] });
-  assert.equal(Buffer.compare(before, file), 0);
+  assert.equal(Buffer.compare(bytesBefore, file), 0);
   assert.deepEqual(engine.serve(file, "poke r5 9\n", file).answers, ["ok 1"]);
   assert.deepEqual(engine.ask(file, "seq\n"), { status: 0, opened: "session 1", answers: ["seq 1"] });
 });
@@ -41,7 +41,7 @@ test("lines with other than ASCII characters, and more lines than the initial bu
 });
 
 test("bytes that are not a session are rejected, and the session stays", async () => {
-  const { calls } = await begin(calculator);
+  const { calls } = await openExample(calculator);
   for (const [bytes, number] of [[0, 50], [9, 50], [163857, 50], [163856, 50]]) {
     assert.throws(() => calls.open(new Uint8Array(bytes)), { number });
     assert.throws(() => calls.settled(new Uint8Array(bytes)), { number });
@@ -50,7 +50,7 @@ test("bytes that are not a session are rejected, and the session stays", async (
 });
 
 test("frames press keys, run cycles, and reuse returned buffers", async () => {
-  const { calls } = await begin(calculator);
+  const { calls } = await openExample(calculator);
   for (const key of [matrixKey(2, 1), matrixKey(3, 2)]) {
     calls.press(key);
     calls.release(key);
@@ -67,20 +67,20 @@ test("frames press keys, run cycles, and reuse returned buffers", async () => {
 });
 
 test("a key goes down at the start of its cycles, or when the keys before it are done", async () => {
-  const { calls } = await begin(calculator);
+  const { calls } = await openExample(calculator);
   const lampsOf = ({ snapshot }) => / lamps (\S+)/.exec(snapshot[0])[1];
   const linesOf = ({ ran }) => ran.map(({ line }) => line);
-  const before = calls.advance(100000);
+  const frameBefore = calls.advance(100000);
   const frame = calls.advance(2000, matrixKey(2, 1));
   assert.deepEqual(linesOf(frame), ["press 2 1", "run 2000"]);
-  assert.notEqual(lampsOf(frame), lampsOf(before));
+  assert.notEqual(lampsOf(frame), lampsOf(frameBefore));
   calls.release(matrixKey(2, 1));
   assert.deepEqual(linesOf(calls.advance(3000, matrixKey(2, 2))), ["run 2000", "release 2 1", "run 1000"]);
   assert.deepEqual(linesOf(calls.advance(3000)), ["run 1000", "press 2 2", "run 2000"]);
 });
 
 test("a breakpoint ends a frame early", async () => {
-  const { calls } = await begin(calculator);
+  const { calls } = await openExample(calculator);
   await calls.serve("break 0x024\n");
   const frame = calls.advance(5000);
   assert.match(frame.end, / break$/);
@@ -88,18 +88,18 @@ test("a breakpoint ends a frame early", async () => {
 });
 
 test("a session with an example's board and program gets the example's texts, and another session gets those of the bench", async () => {
-  const { calls } = await begin(calculator);
+  const { calls } = await openExample(calculator);
   const texts = calls.texts(calls.make(calculator));
   const { board, program, tests = "", properties = "" } = calculator;
   assert.deepEqual(texts, { boardText: board, programText: program, testText: tests, propertiesText: properties });
-  const own = calls.make({ ...calculator, board: '[[rom]]\nchip = 0\nport = "0000"\n', program: "\tLDM 5\n\tJUN 0\n" });
-  assert.deepEqual(calls.texts(own), {
+  const session = calls.make({ ...calculator, board: '[[rom]]\nchip = 0\nport = "0000"\n', program: "\tLDM 5\n\tJUN 0\n" });
+  assert.deepEqual(calls.texts(session), {
     boardText: '[[rom]]\nchip = 0\nport = "0000"\n', programText: "\tLDM 5\n\tJUN 0x000\n", testText: "", propertiesText: "",
   });
 });
 
 test("the wrong part of a board and the wrong lines of a program are reported", async () => {
-  const { calls } = await begin(calculator);
+  const { calls } = await openExample(calculator);
   const board = '[[rom]]\nchip = 0\nport = "0000"\n\n[[lamp]]\nline = "ram0.0.0"\n';
   const { first } = await calls.serve(`wire\n${board}.\n`);
   assert.equal(first, "no 25");
@@ -109,7 +109,7 @@ test("the wrong part of a board and the wrong lines of a program are reported", 
 });
 
 test("many lines are all executed", async () => {
-  const { calls } = await begin(calculator);
+  const { calls } = await openExample(calculator);
   const result = await calls.serve("step\n".repeat(5000));
   assert.equal(result.entries.length, 400);
   assert.equal(calls.ask("seq\n")[0], "seq 5002");

@@ -4,7 +4,7 @@ import { test } from "node:test";
 import { OpeningGuard } from "../page/session/opening_guard.js";
 
 /** Returns stand-ins for the browser's local storage, clock and timers. The timers fire when the test requests it. */
-function fakeBrowser() {
+function createFakeBrowser() {
   const words = new Map();
   const timers = [];
   const store = {
@@ -13,26 +13,26 @@ function fakeBrowser() {
     removeItem: (key) => words.delete(key),
   };
   let time = 1e12;
-  const load = () => new OpeningGuard(store, (act) => timers.push(act), () => time);
-  const wait = (passed) => { time += passed; };
-  return { load, words, wait, settle: () => timers.splice(0).forEach((act) => act()) };
+  const createGuard = () => new OpeningGuard(store, (callback) => timers.push(callback), () => time);
+  const wait = (milliseconds) => { time += milliseconds; };
+  return { load: createGuard, words, wait, settle: () => timers.splice(0).forEach((act) => act()) };
 }
 
 test("a finished opening leaves no record, even if it failed", async () => {
-  const { load, words, wait, settle } = fakeBrowser();
-  const openings = load();
-  await openings.runOpening("one", async () => {
+  const { load, words, wait, settle } = createFakeBrowser();
+  const guard = load();
+  await guard.runOpening("one", async () => {
     wait(3000);
     assert.equal(load().hasUnfinishedOpening("one"), true);
   });
   assert.equal(load().hasUnfinishedOpening("one"), true);
-  await assert.rejects(openings.runOpening("two", async () => { throw new Error("no 51"); }), /no 51/);
+  await assert.rejects(guard.runOpening("two", async () => { throw new Error("no 51"); }), /no 51/);
   settle();
   assert.deepEqual([words.size, load().hasUnfinishedOpening("one"), load().hasUnfinishedOpening("two")], [0, false, false]);
 });
 
 test("an unfinished opening is detected at the next start, and forgotten after a successful one", async () => {
-  const { load, words, wait, settle } = fakeBrowser();
+  const { load, words, wait, settle } = createFakeBrowser();
   load().runOpening("one", () => new Promise(() => {}));
   await load().runOpening("two", async () => {});
   settle();
@@ -44,34 +44,34 @@ test("an unfinished opening is detected at the next start, and forgotten after a
 });
 
 test("leaving the page soon is not a sign of a hang; leaving it later can be", () => {
-  const { load, wait } = fakeBrowser();
-  const openings = load();
-  openings.runOpening("one", () => new Promise(() => {}));
-  openings.handleLeave();
+  const { load, wait } = createFakeBrowser();
+  const guard = load();
+  guard.runOpening("one", () => new Promise(() => {}));
+  guard.handleLeave();
   wait(3000);
   assert.equal(load().hasUnfinishedOpening("one"), false);
-  openings.runOpening("two", () => new Promise(() => {}));
+  guard.runOpening("two", () => new Promise(() => {}));
   wait(3000);
-  openings.handleLeave();
+  guard.handleLeave();
   assert.equal(load().hasUnfinishedOpening("two"), true);
 });
 
 test("leaving the page after a finished opening is not a sign of a hang, even after a long opening", async () => {
-  const { load, wait } = fakeBrowser();
-  const openings = load();
-  await openings.runOpening("one", async () => wait(3000));
-  openings.handleLeave();
+  const { load, wait } = createFakeBrowser();
+  const guard = load();
+  await guard.runOpening("one", async () => wait(3000));
+  guard.handleLeave();
   assert.equal(load().hasUnfinishedOpening("one"), false);
 });
 
 test("each of two events reports that the page is left, because a browser can omit one", async () => {
   for (const name of ["beforeunload", "pagehide"]) {
-    const { load, wait } = fakeBrowser();
-    const openings = load();
+    const { load, wait } = createFakeBrowser();
+    const guard = load();
     const target = new EventTarget();
-    openings.listen(target);
-    assert.equal(openings.pendingOpenings.size, 0);
-    await openings.runOpening("one", async () => {});
+    guard.listen(target);
+    assert.equal(guard.pendingOpenings.size, 0);
+    await guard.runOpening("one", async () => {});
     target.dispatchEvent(new Event(name));
     wait(3000);
     assert.equal(load().hasUnfinishedOpening("one"), false, name);
@@ -79,7 +79,7 @@ test("each of two events reports that the page is left, because a browser can om
 });
 
 test("a recent opening can be in progress in another tab", () => {
-  const { load, wait } = fakeBrowser();
+  const { load, wait } = createFakeBrowser();
   load().runOpening("one", () => new Promise(() => {}));
   wait(1999);
   assert.equal(load().hasUnfinishedOpening("one"), false);
@@ -88,21 +88,21 @@ test("a recent opening can be in progress in another tab", () => {
 });
 
 test("if a session is opened twice, only its last opening counts", async () => {
-  const { load, wait, settle } = fakeBrowser();
-  const openings = load();
-  await openings.runOpening("one", async () => {});
-  openings.pendingOpenings.set("one", { time: 0, isEnded: false });
+  const { load, wait, settle } = createFakeBrowser();
+  const guard = load();
+  await guard.runOpening("one", async () => {});
+  guard.pendingOpenings.set("one", { time: 0, isEnded: false });
   settle();
   wait(3000);
   assert.equal(load().hasUnfinishedOpening("one"), true);
 });
 
 test("sessions can be opened in a browser without storage", async () => {
-  const broken = () => { throw new DOMException("", "SecurityError"); };
-  for (const store of [null, { getItem: broken, setItem: broken, removeItem: broken }]) {
-    const openings = new OpeningGuard(store, (act) => act());
+  const throwSecurityError = () => { throw new DOMException("", "SecurityError"); };
+  for (const store of [null, { getItem: throwSecurityError, setItem: throwSecurityError, removeItem: throwSecurityError }]) {
+    const guard = new OpeningGuard(store, (act) => act());
     let isOpen = false;
-    await openings.runOpening("one", async () => { isOpen = true; });
-    assert.deepEqual([isOpen, openings.hasUnfinishedOpening("one")], [true, false]);
+    await guard.runOpening("one", async () => { isOpen = true; });
+    assert.deepEqual([isOpen, guard.hasUnfinishedOpening("one")], [true, false]);
   }
 });
