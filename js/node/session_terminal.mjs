@@ -2,7 +2,7 @@
 // and all messages go to standard error.
 import { joinLines } from "../core/bench/inputs.js";
 import { SessionPrompt } from "../core/prompt/bench_prompt.js";
-import { BEGINNING } from "../words/session_prompt.js";
+import { GREETING } from "../words/session_prompt.js";
 import { fileNames, expandTilde } from "./file_names.mjs";
 import { MAX_SCRIPT_BYTES, readDecodedFile } from "./input_texts.mjs";
 import { print } from "./output.mjs";
@@ -72,7 +72,7 @@ export async function servePrompt(word, name) {
       const terminalCalls = { print: (words) => terminal.print(words), complain: (words) => terminal.complain(words) };
       const prompt = new SessionPrompt(makePromptCalls(program, terminalCalls));
       const terminal = new TerminalPrompt(prompt, { output: process.stderr });
-      terminal.print(BEGINNING);
+      terminal.print(GREETING);
       signalStatus = await terminal.run();
       unservedInput = signalStatus === 0 ? prompt.unfinishedText : "";
     }

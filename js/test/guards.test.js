@@ -157,8 +157,9 @@ function findViolationTime(property, { c, g, acts }) {
   let start = 0;
   for (const { time, act } of [...acts, { time: RUN_CYCLES, act: "none" }]) {
     notify("values", start);
-    for (let cycle = start + 1; cycle <= time && violation < 0; cycle++) if (c[cycle] !== c[cycle - 1]
-      || g[cycle] !== g[cycle - 1]) notify("values", cycle);
+    for (let cycle = start + 1; cycle <= time && violation < 0; cycle++) {
+      if (c[cycle] !== c[cycle - 1] || g[cycle] !== g[cycle - 1]) notify("values", cycle);
+    }
     if (violation < 0) notify("end", time);
     if (violation >= 0) return violation;
     if (act === "K" || act === "J") notify("down", time, act === "K" ? "START" : "PRESS");

@@ -196,6 +196,7 @@ test("a text with an error in each line of code is probably not a program", () =
   const errors = createErrors(...Array.from({ length: 20 }, (_, line) => line + 1));
   assert.equal(isProbablyNotProgram(longText, { faults: errors, isWhole: false, rest: null }), true);
   assert.equal(isProbablyNotProgram(`NOP\n${longText}`, { faults: createErrors(2, 3), isWhole: false, rest: null }), false);
-  for (const textWithoutCode of ["", "; a remark\n"]) assert.equal(isProbablyNotProgram(textWithoutCode,
-    { faults: [], isWhole: true, rest: null }), false);
+  for (const textWithoutCode of ["", "; a remark\n"]) {
+    assert.equal(isProbablyNotProgram(textWithoutCode, { faults: [], isWhole: true, rest: null }), false);
+  }
 });

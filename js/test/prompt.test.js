@@ -71,8 +71,9 @@ test("places, counts and times are parsed", async () => {
   assert.deepEqual(findPlace("*0x016").address, 0x016);
   assert.deepEqual(findPlace("three_lamps.asm:1").address, 0);
   assert.deepEqual(findPlace("").address, 0);
-  for (const wrong of ["nothing", "0x1000", "999", "wait + x", "-1"]) assert.throws(() => findPlace(wrong), /place|addresses|instruction/,
-    wrong);
+  for (const wrong of ["nothing", "0x1000", "999", "wait + x", "-1"]) {
+    assert.throws(() => findPlace(wrong), /place|addresses|instruction/, wrong);
+  }
   assert.deepEqual([parseCountArgument("", 9), parseCountArgument(" 7 ", 9)], [1, 7]);
   for (const wrong of ["0", "10", "x", "-1", "1.5"]) assert.throws(() => parseCountArgument(wrong, 9), /a count is 1 to 9/, wrong);
   assert.deepEqual([parseCycles("538"), parseCycles("20 ms"), parseCycles("1s")], [538, 1852, 92593]);

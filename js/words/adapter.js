@@ -39,7 +39,7 @@ export const ONLY_CHANGES = "only changes are watched (accessType write)";
 /** @type {(kind: string) => string} */
 export const noFilter = (kind) => `unknown exception filter: ${kind}`;
 /** @type {(place: string) => string} */
-export const changes = (place) => `${place} changes`;
+export const placeChanges = (place) => `${place} changes`;
 
 // --- adapter/console.js ---
 export const HELP = `Lines of the bench (regs, list @show 5, ram 0, poke r4 7, run 100, step, reset, ..), with @NAME for an address.
@@ -143,11 +143,11 @@ export const FORMAT_OBJECT_SYNTAX = "format is an object, as { \"hex\": true }";
 
 // --- adapter/dap_protocol.js ---
 /** @type {(name: string) => string} */
-export const isWhole = (name) => `${name} is a whole number`;
+export const mustBeInteger = (name) => `${name} is a whole number`;
 /** @type {(name: string) => string} */
-export const isBoolean = (name) => `${name} is true or false`;
+export const mustBeBoolean = (name) => `${name} is true or false`;
 /** @type {(name: string) => string} */
-export const isList = (name) => `${name} is a list`;
+export const mustBeList = (name) => `${name} is a list`;
 
 // --- adapter/scopes.js ---
 /** @type {(chips: number, isSelected: boolean) => string} */
@@ -178,7 +178,7 @@ export const noNumber = (text) => `${text} is neither a number (10, 0x0A, 0b1010
 export const NOTHING = "nothing";
 export const KEY_VALUE_SYNTAX = "a key is down or up";
 /** @type {(place: string, maximum: number) => string} */
-export const holds = (place, maximum) => `${place} holds 0 to ${maximum}`;
+export const valueRange = (place, maximum) => `${place} holds 0 to ${maximum}`;
 /** @type {(place: string, answer: string) => string} */
 export const cannotBeSet = (place, answer) => `${place} cannot be set: the bench answered ${answer}`;
 

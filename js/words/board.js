@@ -31,15 +31,15 @@ export const lineOfBoard = (line, error) => `line ${line} of the board's text: $
 
 // --- board/lamps_view.js ---
 /** @type {(name: string) => string} */
-export const lit = (name) => `${name}, lit`;
+export const litLamp = (name) => `${name}, lit`;
 /** @type {(name: string) => string} */
-export const dark = (name) => `${name}, dark`;
+export const darkLamp = (name) => `${name}, dark`;
 /** @type {(row: number, column: number) => string} */
 export const rowAndColumn = (row, column) => `row ${row}, column ${column}`;
 /** @type {(number: number, count: number) => string} */
 export const lampOfRow = (number, count) => `lamp ${number} of ${count}`;
 /** @type {(column: string, row: string) => string} */
-export const both = (column, row) => `${column} and ${row}`;
+export const columnAndRow = (column, row) => `${column} and ${row}`;
 export const LAMPS = "lamps";
 
 // --- board/sound.js ---
@@ -115,7 +115,7 @@ export const pinOf = (number) => ` (pin ${number})`;
 export const wiredTo = (connections) => `wired to ${connections}`;
 export const NOT_WIRED = "not wired";
 /** @type {(line: string) => string} */
-export const at = (line) => `at ${line}`;
+export const wiredAt = (line) => `at ${line}`;
 
 // --- board/lamp_answers.js ---
 /** @type {(board: string) => string} */

@@ -632,12 +632,12 @@ export const noValue = (option) => `${option} takes no value`;
 /** @type {(option: string) => string} */
 export const optionTwice = (option) => `${option} is given twice`;
 /** @type {(word: string) => string} */
-export const oneTooMany = (word) => `'${word}' is one argument too many`;
+export const extraArgument = (word) => `'${word}' is one argument too many`;
 export const WAITS_FOR_EDITOR =
   "it waits for the messages of an editor on standard input; editors/README.md says how an editor starts it; Ctrl-C ends it";
 export const EMPTY_ARGUMENT = "an argument is empty; it names a file";
 /** @type {(names: string[], hasNoProject: boolean) => string} */
-export const missing = (names, hasNoProject) => {
+export const argumentsMissing = (names, hasNoProject) => {
   const [last, ...others] = [...names].reverse();
   const list = others.length > 0 ? `${others.reverse().join(", ")} and ${last} are` : `${last} is`;
   return `${list} missing${hasNoProject ? ", and there is no mcs4.toml here" : ""}`;

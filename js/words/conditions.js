@@ -36,7 +36,7 @@ export const NO_RAM_FOR_LAST = "the board has no RAM chip for the last of these 
 /** @type {(place: string) => string} */
 export const isOneValue = (place) => `${place} is one value`;
 /** @type {(place: string, maximum: number, word: string) => string} */
-export const holds = (place, maximum, word) => `${place} holds 0 to ${maximum}, not ${word}`;
+export const valueRange = (place, maximum, word) => `${place} holds 0 to ${maximum}, not ${word}`;
 
 // --- conditions/condition_language.js ---
 export const NO_CONDITION = "a condition is missing";
@@ -111,7 +111,7 @@ export const REGISTERS_ARE = "the registers are r0 to r15";
 export const CHARACTERS_ARE = "a place of RAM is ram.BANK.SRC or st.BANK.REGISTER.NUMBER";
 export const PORTS_ARE = "ports are rom1 and ram0.1, their lines rom1.0 to rom1.3";
 /** @type {(names: string) => string} */
-export const perhaps = (names) => `perhaps ${names}`;
+export const suggestion = (names) => `perhaps ${names}`;
 export const PLACES_ARE = "places are acc, cy, pc, dcl, test, r0 to r15, p0 to p7, ram.B.S, st.B.H.K, rom1, ram0.1, lamps, "
   + "and names of the source, of Watch and of lamps";
 
@@ -120,7 +120,7 @@ export const namesTooDeep = (name, maximum) => `${name} uses names that use othe
 /** @type {(name: string, text: string) => string} */
 export const isNoValue = (name, text) => `${name} is the condition ${text}, but a value is needed`;
 /** @type {(name: string, error: string) => string} */
-export const inName = (name, error) => `in ${name}: ${error}`;
+export const errorInName = (name, error) => `in ${name}: ${error}`;
 /** @type {(text: string) => string} */
 export const noConstant = (text) => `${text} is neither a number nor a name of the program`;
 /** @type {(text: string) => string} */
@@ -140,4 +140,4 @@ export const holdsButMustNot = (text) => `${text} holds, but must not`;
 
 // --- debug/soft_breakpoints.js, waves/trigger.js, adapter/expression_values.js ---
 /** @type {(error: string, column: number) => string} */
-export const inColumn = (error, column) => `${error} (column ${column + 1})`;
+export const errorInColumn = (error, column) => `${error} (column ${column + 1})`;

@@ -32,7 +32,7 @@ export const lineEnded = (pause, line) => `${pause} The line ${line} ended there
 
 // --- debug/line_changes.js ---
 /** @type {(more: number) => string} */
-export const andMore = (more) => ` and ${more} more`;
+export const moreItems = (more) => ` and ${more} more`;
 
 // --- debug/src_selection.js ---
 /** @type {(name: string, isWrite: boolean, chip: number) => string} */
@@ -55,7 +55,7 @@ export const lastSource = (address) => `; the last SRC is at ${address}`;
 /** @type {(bank: number) => string} */
 export const bankWithoutRam = (bank) => `bank ${bank}, where the board has no RAM`;
 /** @type {(chip: number, bank: number, chips: number) => string} */
-export const chipOf = (chip, bank, chips) => `chip ${chip} of bank ${bank}, which has ${chips}`;
+export const chipOfBank = (chip, bank, chips) => `chip ${chip} of bank ${bank}, which has ${chips}`;
 /** @type {(name: string, target: string, lastSrc: string) => string} */
 export const writesTo = (name, target, lastSrc) => `${name} writes to ${target}${lastSrc}`;
 
@@ -106,7 +106,7 @@ export const statusAt = (bank, chip, register, character) => (
 /** @type {(value: string, binary: string) => string} */
 export const bySource = (value, binary) => `${value}, ${binary}; by SRC it selects `;
 /** @type {(description: string) => string} */
-export const isNext = (description) => `${description}, and comes next`;
+export const comesNext = (description) => `${description}, and comes next`;
 
 // --- debug/watch_expressions.js ---
 /** @type {(out: string, read: string) => string} */

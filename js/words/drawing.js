@@ -44,7 +44,7 @@ export const MORE_COLUMNS = "The keys have one more column";
 /** @type {(effect: string) => string} */
 export const andWithIt = (effect) => `, and with it ${effect}`;
 /** @type {(part: string, name: string) => string} */
-export const named = (part, name) => (name ? `${part} is called ${name}` : `${part} has no name`);
+export const partNamed = (part, name) => (name ? `${part} is called ${name}` : `${part} has no name`);
 /** @type {(lamp: number, colour: string) => string} */
 export const lampIs = (lamp, colour) => `Lamp ${lamp} is ${colour}`;
 export const USUAL_RED = "red, as usual";
@@ -90,7 +90,7 @@ export const printerIsAt = (line) => `The printer is at ${line}: give it other l
 export const maxChips = (maximum) => `A chain has at most ${maximum} chips.`;
 export const MIN_CHIPS = "A chain has at least one chip; or delete the chain.";
 /** @type {(bit: string) => string} */
-export const inUse = (bit) => `${bit} is in use: wire the part there to another line first.`;
+export const bitInUse = (bit) => `${bit} is in use: wire the part there to another line first.`;
 
 // --- drawing/board_lines.js ---
 /** @type {(kind: string, number: number) => string} */

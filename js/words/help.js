@@ -144,6 +144,6 @@ export const STEP_WATCH = {
 export const LAST_DONE = "Done: that was the last step. Help has all instructions and lines.";
 /** @type {(number: number, count: number, title: string) => string} */
 export const stepOf = (number, count, title) => `${number} of ${count}: ${title}`;
-export const END = "Finish";
+export const FINISH = "Finish";
 export const NEXT_STEP = "Next step";
 export const DONE = "Done.";

@@ -33,7 +33,7 @@ export const oddPair = (text, number) => (
 export const noPair = (text) => `\`${text}\` is not a pair; pairs are 0P to 7P, or 0<, 2< to 14< by their first register`;
 export const NC_IS_AMBIGUOUS = "NC means no condition (0) for Intel, and no carry (10) for AS: write 0 or 10";
 /** @type {(word: string) => string} */
-export const of4040 = (word) => `${word} is an instruction of the 4040`;
+export const instructionOf4040 = (word) => `${word} is an instruction of the 4040`;
 export const NO_PROGRAM_RAM = "WPM writes program RAM, which a board here does not have";
 /** @type {(word: string) => string} */
 export const notSupported = (word) => `${word} is not supported; write the lines that it stands for`;

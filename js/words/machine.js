@@ -8,11 +8,11 @@ export const fromHit = (from) => ` from hit ${from} on`;
 /** @type {(details: string) => string} */
 export const breakpointWith = (details) => `breakpoint${details && ` ${details}`}`;
 /** @type {(note: string) => string} */
-export const logs = (note) => `: logs "${note}" and continues`;
+export const logsNote = (note) => `: logs "${note}" and continues`;
 /** @type {(breakpoint: string, error: string) => string} */
 export const stopsAlwaysByError = (breakpoint, error) => `${breakpoint}: it stops every time, because of an error: ${error}`;
 /** @type {(breakpoint: string) => string} */
-export const isOff = (breakpoint) => `${breakpoint}: it is off`;
+export const breakpointIsOff = (breakpoint) => `${breakpoint}: it is off`;
 /** @type {(breakpoint: string) => string} */
 export const stopsLater = (breakpoint) => `${breakpoint}: it stops once the source is assembled`;
 
@@ -65,7 +65,8 @@ export const nothingToGoTo = (forms) => `Enter where to go: ${forms}.`;
 /** @type {(word: string, forms: string) => string} */
 export const noNameOrAddress = (word, forms) => `${word} is neither a name of the program nor an address: ${forms}.`;
 /** @type {(word: string, forms: string) => string} */
-export const noAddress = (word, forms) => `${word} is not an address: ${forms}. Names are known only while the source is the same as ROM.`;
+export const notAnAddress = (word, forms) =>
+  `${word} is not an address: ${forms}. Names are known only while the source is the same as ROM.`;
 
 // --- machine/heat_levels.js ---
 /** @type {(line: string) => string} */
@@ -87,11 +88,11 @@ export const NOTHING_EARLIER = "No earlier cycle is remembered.";
 /** @type {(time: string, isAll: boolean) => string} */
 export const inTheLast = (time, isAll) => `In the last ${time}${isAll ? "" : " (no more is remembered)"},`;
 /** @type {(period: string) => string} */
-export const noneChanged = (period) => `${period} no character of RAM has changed.`;
+export const nothingChanged = (period) => `${period} no character of RAM has changed.`;
 /** @type {(period: string, name: string, change: string) => string} */
 export const oneChanged = (period, name, change) => `${period} one character has changed: ${name}, ${change}.`;
 /** @type {(name: string, count: string) => string} */
-export const mostOften = (name, count) => `most often ${name}, ${count}`;
+export const mostFrequentChange = (name, count) => `most often ${name}, ${count}`;
 /** @type {(period: string, count: number, mostChanged: string, lastChanged: string, change: string) => string} */
 export const manyChanged = (period, count, mostChanged, lastChanged, change) =>
   `${period} ${count} characters have changed: ${mostChanged}; last ${lastChanged}, ${change}.`;
@@ -101,11 +102,11 @@ export const manyChanged = (period, count, mostChanged, lastChanged, change) =>
 export const cycleCountHint = (maximum) => `Enter a number of cycles, from 1 to ${maximum}.`;
 export const SEARCHING_PAST = "Searching the past.";
 /** @type {(cause: string) => string} */
-export const changedHow = (cause) => `changed ${cause}`;
+export const changedBy = (cause) => `changed ${cause}`;
 
 // --- machine/listing_rows.js ---
 /** @type {(address: string) => string} */
-export const insideBreakpoint = (address) => (
+export const breakpointInsideInstruction = (address) => (
   `breakpoint at ${address}, inside this instruction: a run that gets here does not stop; click to clear it`);
 
 // --- machine/machine_view.js ---

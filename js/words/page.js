@@ -11,10 +11,10 @@ export const notKept = (error) => `not kept: ${error}`;
 
 // --- lines/line_server.js ---
 export const SENDING_LINES = "Sending the lines.";
-export const LINES_TOO_LONG = "Not all lines were done: at most 16,777,216 bytes are read at once.";
+export const TOO_MANY_BYTES = "Not all lines were done: at most 16,777,216 bytes are read at once.";
 export const RESET_RUNNING = "Running. The board was reset.";
 /** @type {(counter: string) => string} */
-export const wasReset = (counter) => `The board was reset; it is at ${counter}.`;
+export const resetAt = (counter) => `The board was reset; it is at ${counter}.`;
 
 // --- ui/confirm_dialog.js ---
 export const YES = "Yes";
@@ -27,7 +27,7 @@ export const FOLDS = "folds or unfolds this panel";
 export const DISMISS = "Dismiss";
 export const DISMISS_NOTICE = "Dismiss the notice";
 /** @type {(kind: string, text: string) => string} */
-export const ofNotice = (kind, text) => `${kind}: ${text}`;
+export const noticeText = (kind, text) => `${kind}: ${text}`;
 
 // --- ui/notice_list.js ---
 export const NOTICES = "Notices";
@@ -55,7 +55,7 @@ export const NO_STORE = "This browser stores nothing for this page: its store (I
 export const BULK_MEMORY = "WebAssembly with bulk memory";
 export const BIG_INTEGERS = "integers of any size (BigInt)";
 /** @type {(feature: string, requirements: string) => string} */
-export const hasNo = (feature, requirements) => `This browser has no ${feature}. ${requirements}`;
+export const featureMissing = (feature, requirements) => `This browser has no ${feature}. ${requirements}`;
 /** @type {(reason: string, requirements: string) => string} */
 export const cannotStart = (reason, requirements) => `The bench could not be started: ${reason}. ${requirements}`;
 
@@ -67,9 +67,9 @@ export const SAVED = { example: "Not saved", saved: "Saved in this browser", fai
 
 // --- print_view.js ---
 /** @type {(name: string) => string} */
-export const sourceOf = (name) => `${name}: source`;
+export const sourceTitle = (name) => `${name}: source`;
 /** @type {(name: string) => string} */
-export const boardOf = (name) => `${name}: board`;
+export const boardTitle = (name) => `${name}: board`;
 
 // --- recovery.js ---
 export const PAUSED = "Paused.";

@@ -34,7 +34,7 @@ export const TEMPORARY = ", temporary";
 /** @type {(id: number) => string} */
 export const stopsAlways = (id) => `Breakpoint ${id} has no condition now.`;
 /** @type {(maximum: string, text: string) => string} */
-export const ignoredIs = (maximum, text) => `a hit count is 0 to ${maximum}, not ${text}`;
+export const hitCountRange = (maximum, text) => `a hit count is 0 to ${maximum}, not ${text}`;
 /** @type {(id: number, count: number) => string} */
 export const breakpointWillIgnore = (id, count) => {
   if (count === 0) return `Breakpoint ${id} stops at its next hit.`;
@@ -51,7 +51,7 @@ export const savedIn = (name, count) => `${count} ${count === 1 ? "breakpoint" :
 
 // --- prompt/formats.js ---
 /** @type {(address: string, name: string) => string} */
-export const addressIs = (address, name) => `0x${address}${name && ` <${name}>`}`;
+export const addressWithName = (address, name) => `0x${address}${name && ` <${name}>`}`;
 /** @type {(format: string, formats: string) => string} */
 export const noFormat = (format, formats) => `${format || "nothing"} is not a format; formats are ${formats}`;
 /** @type {(value: string) => string} */
@@ -74,7 +74,7 @@ export const otherNames = (names) => ` Or: ${names}.`;
 export const NO_KEYS = "the board has no keys";
 export const NO_KEY_IS_DOWN = "none is down";
 /** @type {(keys: string) => string} */
-export const down = (keys) => `down: ${keys}`;
+export const keysDown = (keys) => `down: ${keys}`;
 /** @type {(command: string) => string} */
 export const keySyntax = (command) => `write ${command} KEY; info keys shows their names`;
 /** @type {(word: string, names: string) => string} */
@@ -103,7 +103,7 @@ export const infoTakesNoArgument = (kind) => `info ${kind} takes no argument`;
 export const SYMBOL_SYNTAX = "write info symbol PLACE, as in info symbol 0x00F";
 export const NO_LOCALS = "a 4004 has no local variables; info registers shows the registers, info names the names of the program";
 /** @type {(line: number, first: string, name: string, last: string) => string} */
-export const lineIs = (line, first, name, last) => (
+export const lineLocation = (line, first, name, last) => (
   `${line > 0 ? `Line ${line}` : "No line of the source"} is at 0x${first}${name && ` (${name})`}${last && ` and 0x${last}`}.`);
 
 // --- prompt/state_text.js ---
@@ -148,7 +148,7 @@ export const noInstructionIn = (line) => `neither line ${line} of the source nor
 /** @type {(text: string, forms: string) => string} */
 export const notInProgram = (text, forms) => `${text} is not a place in the program; write ${forms}`;
 /** @type {(maximum: string, text: string) => string} */
-export const countIs = (maximum, text) => `a count is 1 to ${maximum}, not ${text}`;
+export const countRange = (maximum, text) => `a count is 1 to ${maximum}, not ${text}`;
 /** @type {(text: string) => string} */
 export const noTime = (text) => `${text} is not a time; write a number of cycles such as 538, or 54 us, 20 ms, 1.5 s`;
 export const NOTHING = "nothing";

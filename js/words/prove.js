@@ -35,7 +35,7 @@ export const MISTAKES = {
 
 // --- prove/property_judge.js ---
 /** @type {(steps: string) => string} */
-export const excluded = (steps) => `so far, only inputs that the text excludes break it (${steps})`;
+export const onlyExcludedInputs = (steps) => `so far, only inputs that the text excludes break it (${steps})`;
 export const NOT_CONFIRMED = "the bench does not confirm the counterexample that was found";
 /** @type {(guards: string, isGoal: boolean) => string} */
 export const failsWithoutGuards = (guards, isGoal) =>
@@ -44,7 +44,7 @@ export const TRUE_BEFORE_KEYS_ARE_READ = "it can become true before the program 
 
 // --- prove/bounded_proof.js ---
 /** @type {(states: string) => string} */
-export const moreThan = (states) => `more than ${states} states; enter a larger number beside Prove to allow more`;
+export const moreStatesThan = (states) => `more than ${states} states; enter a larger number beside Prove to allow more`;
 /** @type {(states: string) => string} */
 export const memoryFullAfter = (states) => `memory has room for only ${states} states; mcs4 prove in a terminal can use more`;
 
@@ -97,7 +97,7 @@ export const ITS_TEST = "Show as test";
 export const ITS_LINES = "Its lines";
 export const OPEN_FOUND = "Open counterexample";
 export const OPEN_WAY = "Open the way there";
-export const BEFORE_IT = "a new session, paused before the step that breaks it; you can step back from there";
+export const BEFORE_BREAK = "a new session, paused before the step that breaks it; you can step back from there";
 export const BEFORE_GOAL = "a new session, paused before the step that reaches it; you can step back from there";
 export const ADD_TO_TESTS = "Add to tests";
 export const AT_END = "at the end of Tests";

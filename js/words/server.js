@@ -31,14 +31,14 @@ export const INITIALIZE_ONCE = "initialize can be sent only once";
 /** @type {(method: string) => string} */
 export const noMethod = (method) => `there is no ${method} here`;
 /** @type {(id: number | string | null) => string} */
-export const idWaits = (id) => `a request with the id ${id} waits for its answer`;
+export const requestPending = (id) => `a request with the id ${id} waits for its answer`;
 
 // --- server/diagnostics.js ---
 export const MAY_BE_MORE = "There may be more errors.";
 /** @type {(maximum: string, size: string) => string} */
 export const textTooLong = (maximum, size) => `a text has at most ${maximum} characters; this one has ${size} and passes the limit here`;
 /** @type {(text: string) => string} */
-export const write = (text) => `Write ${text}`;
+export const quickFixTitle = (text) => `Write ${text}`;
 
 // --- server/framing.js ---
 export const HEAD_SYNTAX = "a message begins with one line Content-Length: N, and an empty one after it";
@@ -93,12 +93,12 @@ export const NO_NAME_HERE = "There is no name of the program here.";
 
 // --- server/lsp_protocol.js ---
 /** @type {(name: string) => string} */
-export const isText = (name) => `${name} is a text`;
+export const mustBeText = (name) => `${name} is a text`;
 export const POSITION_IS = "a position has a line and a character, whole numbers from 0";
 
 // --- server/requests.js ---
 /** @type {(name: string) => string} */
-export const isList = (name) => `${name} is a list`;
+export const mustBeList = (name) => `${name} is a list`;
 /** @type {(command: string) => string} */
 export const noCommand = (command) => `there is no command ${command} here`;
 
@@ -118,7 +118,7 @@ export const testFailed = (name, line, message) => `The test ${name} failed in l
 export const notRun = (file, line, message) => `Nothing was run: ${file}${line > 0 ? `:${line}` : ""}: ${message}.`;
 
 // --- project/project_folder.js ---
-export const EMPTY = "it is empty; it should name the project's files, as in board = \"board.toml\"";
+export const PROJECT_FILE_IS_EMPTY = "it is empty; it should name the project's files, as in board = \"board.toml\"";
 /** @type {(size: number, maximum: number) => string} */
 export const tooLong = (size, maximum) => `it has ${size} bytes, more than a project file can have (${maximum})`;
 export const CONTAINS_NUL = "it contains NUL bytes, so it is not a text";
@@ -136,9 +136,9 @@ export const speedIs = (names, last) => `speed is one of ${names} or ${last}`;
 /** @type {(key: string, syntax: string | undefined) => string} */
 export const emptyPath = (key, syntax) => `${key} has an empty path; ${syntax}`;
 /** @type {(key: string) => string} */
-export const controlCharacter = (key) => `a path of ${key} has a control character`;
+export const pathHasControlCharacter = (key) => `a path of ${key} has a control character`;
 /** @type {(key: string) => string} */
-export const backslash = (key) => `a path of ${key} has a \\; separate folders by /`;
+export const pathHasBackslash = (key) => `a path of ${key} has a \\; separate folders by /`;
 /** @type {(path: string, key: string) => string} */
 export const noPath = (path, key) => `${path} is not a path from the project's folder; ${key} names files in it`;
 /** @type {(path: string, key: string) => string} */
@@ -146,7 +146,7 @@ export const outOfFolder = (path, key) => `${path} leads out of the project's fo
 /** @type {(name: string) => string} */
 export const noKey = (name) => `a project has no key ${name}; it has board, program, tests, properties and speed`;
 /** @type {(name: string, line: number) => string} */
-export const alreadyIn = (name, line) => `${name} is already in line ${line}`;
+export const keyRepeated = (name, line) => `${name} is already in line ${line}`;
 export const NO_TABLES = "a project has no tables; each of its keys begins a line";
 /** @type {(name: string, syntax: string | undefined) => string} */
-export const missing = (name, syntax) => `${name} is missing; ${syntax}`;
+export const keyMissing = (name, syntax) => `${name} is missing; ${syntax}`;

@@ -39,7 +39,7 @@ export const nothingSaved = (file) => `Nothing was saved: there is nothing in it
 /** @type {(path: string, kind: string) => string} */
 export const noText = (path, kind) => `${path} has no text of ${kind}`;
 /** @type {(paths: string, isOne: boolean) => string} */
-export const leftOut = (paths, isOne) => `The page has one text of each kind: ${paths} ${isOne ? "is" : "are"} left out.`;
+export const textsOmitted = (paths, isOne) => `The page has one text of each kind: ${paths} ${isOne ? "is" : "are"} left out.`;
 export const NO_PROJECT_FILE = "there is no such file; it names the files of a project";
 /** @type {(path: string) => string} */
 export const noFile = (path) => `there is no file ${path}`;
@@ -67,7 +67,7 @@ export const restoreNamed = (name) => `restore ${name}`;
 export const withCycles = (cycles) => `, ${cycles} cycles`;
 
 // --- session/stored_history.js ---
-export const NO_PAST = "it is not a recorded past";
+export const NOT_A_HISTORY = "it is not a recorded past";
 
 // --- session/offered_lines.js ---
 export const OTHER_LINES = "Other lines have replaced the lines that you had not sent.";
@@ -75,7 +75,7 @@ export const UNDO = "Undo";
 
 // --- session/opened_file.js ---
 /** @type {(reason: string) => string} */
-export const opens = (reason) => (
+export const supportedFiles = (reason) => (
   `${reason}; supported are projects (.mcsp), sessions (.mcs), programs (.asm), boards (.toml), tests (.test), `
   + "properties (.props), lines (.txt) and ROM (.hex, .bin)");
 export const NAMES_FILES = "it names files of a project: drop its folder on the page, or choose all of them";
@@ -89,7 +89,7 @@ export const EMPTY = "it is empty";
 /** The second line of a project file. */
 export const ABOUT_PROJECT =
   "# A board, its program and a session of the bench Fethsaim. Its page opens this file; mcs4 project splits it.";
-export const ONE_OF_HEAD = "a line of the head: `name`, `unended`, `break`, `value`, `#`, or `wire`, which starts the board's text";
+export const HEAD_LINE = "a line of the head: `name`, `unended`, `break`, `value`, `#`, or `wire`, which starts the board's text";
 export const BOARD_TEXT = "the board's text";
 export const SOURCE_TEXT = "the source";
 export const TESTS_TEXT = "the tests' text";
@@ -104,7 +104,7 @@ export const NO_PROJECT = "not a project of Fethsaim";
 /** @type {(version: string) => string} */
 export const otherVersion = (version) => `a project of version ${version}, which is unknown here`;
 /** @type {(line: string) => string} */
-export const cutOff = (line) => `the project is cut off: its last line, \`${line}\`, is missing`;
+export const projectCutOff = (line) => `the project is cut off: its last line, \`${line}\`, is missing`;
 export const OTHER_CHECKSUM = "the project is damaged or was edited: its checksum is wrong. "
   + "After editing a project, delete its line `cksum`";
 /** @type {(line: number) => string} */
@@ -145,7 +145,7 @@ export const notOpened = (reason) => `Cannot open the session: ${reason}.`;
 /** @type {(reason: string) => string} */
 export const notMade = (reason) => `No session was made: ${reason}.`;
 /** @type {(name: string) => string} */
-export const aCopy = (name) => `${name}, a copy`;
+export const copyName = (name) => `${name}, a copy`;
 /** @type {(name: string, reason: string) => string} */
 export const fileNotOpened = (name, reason) => `Cannot open ${name}: ${reason}. The session shown is unchanged.`;
 export const THE_FOLDER = "the folder";
@@ -168,7 +168,7 @@ export const noSuchExample = (name) => `The address names an example, "${name}",
 export const namesNothing = (hash) => (
   `The address ends with ${hash}, which names nothing here. It can end with #example= and a name, or with a link that *Share* has made.`);
 /** @type {(names: string) => string} */
-export const deleted = (names) => `Deleted ${names}.`;
+export const sessionsDeleted = (names) => `Deleted ${names}.`;
 /** @type {(name: string) => string} */
 export const notOpenedAutomatically = (name) => (
   `The session "${name}" was not opened automatically: the last time, opening it did not finish.`);

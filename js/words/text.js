@@ -46,9 +46,9 @@ export const needsQuotes = (text) => `${text} is a text: write it in quotes: "${
 /** @type {(maximum: number) => string} */
 export const tooDeep = (maximum) => `more than ${maximum} brackets and braces are open here`;
 export const NO_BRACKET = "the closing ] is missing";
-export const COMMA_OF_VALUES = "write a comma between two values, ] after the last";
+export const VALUE_COMMA_MISSING = "write a comma between two values, ] after the last";
 export const NO_BRACE = "the closing } is missing in this line";
-export const COMMA_OF_KEYS = "write a comma between two keys, } after the last";
+export const KEY_COMMA_MISSING = "write a comma between two keys, } after the last";
 
 // --- text/board_error.js ---
 /** @type {(name: string, line: number) => string} */
@@ -79,9 +79,9 @@ export const noLineName = (name) => `${name} is not the name of a line; names ar
 /** @type {(key: string, number: string) => string} */
 export const withoutQuotes = (key, number) => `${key} is a number: write ${number} without quotes`;
 /** @type {(maximum: number, table: string) => string} */
-export const mostTables = (maximum, table) => `a board has at most ${maximum} [[${table}]]`;
+export const tooManyTables = (maximum, table) => `a board has at most ${maximum} [[${table}]]`;
 /** @type {(maximum: number) => string} */
-export const mostColumns = (maximum) => `a key matrix has at most ${maximum} columns`;
+export const tooManyColumns = (maximum) => `a key matrix has at most ${maximum} columns`;
 /** @type {(key: string, values: string) => string} */
 export const keyMustBe = (key, values) => `${key} must be ${values}`;
 /** @type {(section: string) => string} */
@@ -103,17 +103,17 @@ export const lacksKeys = (kind, keys) => `this ${kind} lacks ${keys}`;
 export const countText = (number) => ["never", "once"][number] || `${number.toLocaleString("en")} times`;
 export const NO_TEST_RUNS = "no test runs it";
 /** @type {(count: string) => string} */
-export const ran = (count) => `run ${count}`;
+export const runCount = (count) => `run ${count}`;
 /** @type {(taken: string, notTaken: string) => string} */
-export const jumped = (taken, notTaken) => `; it jumped ${taken} and continued ${notTaken}`;
+export const jumpCounts = (taken, notTaken) => `; it jumped ${taken} and continued ${notTaken}`;
 
 // --- text/text_editor_view.js ---
-export const FAULTS = "Errors";
+export const ERRORS = "Errors";
 /** @type {(size: string, maximum: string) => string} */
 export const notInserted = (size, maximum) =>
   `It was not inserted: the text would have ${size} characters; at most ${maximum} are accepted.`;
 /** @type {(size: string, maximum: string, unit: string) => string} */
-export const sizeOf = (size, maximum, unit) => `${size} of ${maximum} ${unit}`;
+export const textSize = (size, maximum, unit) => `${size} of ${maximum} ${unit}`;
 
 // --- text/editors.js ---
 export const MAY_BE_MORE = "There may be more.";
@@ -140,7 +140,7 @@ export const CHANGES_BY_LINE = "what this line has changed";
 
 // --- text/meaning_view.js ---
 /** @type {(name: string) => string} */
-export const edits = (name) => `${name}: a double click or Enter edits it`;
+export const editHint = (name) => `${name}: a double click or Enter edits it`;
 
 // --- text/name_view.js ---
 export const NO_NAME = "There is no name of this text at the caret.";
@@ -191,7 +191,7 @@ export const isLetter = (letter, number) => `characters are not supported; the c
 export const withoutNumberSign = (number) => `without #: ${number}`;
 export const NO_NEGATIVES = "there are no negative numbers";
 export const NO_EXPRESSIONS = "there are no expressions: write one number or one name";
-export const COMMA_OF_OPERANDS = "write a comma between two operands";
+export const OPERAND_COMMA_MISSING = "write a comma between two operands";
 export const NUMBER_SYNTAX = "a number is decimal digits, or 0x and hexadecimal digits";
 /** @type {(maximum: number, length: number) => string} */
 export const nameTooLong = (maximum, length) => `a name has at most ${maximum} characters; this has ${length}`;
@@ -248,13 +248,13 @@ export const FIRST_PROPERTIES = "# Properties that hold whatever is pressed, at 
   + "Ctrl+Space completes them.\n\n";
 
 // --- text/references.js ---
-export const NAME_IS = "A name has ASCII letters, digits and _, and does not begin with a digit.";
+export const NAME_RULE = "A name has ASCII letters, digits and _, and does not begin with a digit.";
 /** @type {(maximum: number, length: number) => string} */
 export const nameHasMost = (maximum, length) => `A name has at most ${maximum} characters; this has ${length}.`;
 /** @type {(name: string) => string} */
-export const isAnInstruction = (name) => `${name} is an instruction.`;
+export const nameIsInstruction = (name) => `${name} is an instruction.`;
 /** @type {(name: string) => string} */
-export const isARegister = (name) => `${name} is a register.`;
+export const nameIsRegister = (name) => `${name} is a register.`;
 /** @type {(name: string, line: number) => string} */
 export const isDefined = (name, line) => `${name} is already defined in line ${line}.`;
 
@@ -273,7 +273,7 @@ export const NOT_FOUND = "not found";
 /** @type {(count: string) => string} */
 export const replaced = (count) => `${count} replaced`;
 /** @type {(number: number, count: number) => string} */
-export const foundOf = (number, count) => `${number} of ${count}`;
+export const matchPosition = (number, count) => `${number} of ${count}`;
 
 // --- testing/sample_test.js ---
 const ABOUT_TESTS = "# Tests, line by line. F1 lists the words; Ctrl+Space completes them.\n\n";

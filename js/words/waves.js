@@ -14,7 +14,7 @@ export const END_REASONS = {
 /** @type {(cycle: string) => string} */
 export const triggerWasAt = (cycle) => ` The trigger was at cycle ${cycle}.`;
 /** @type {(duration: string, trigger: string) => string} */
-export const recorded = (duration, trigger) => `Recorded ${duration}.${trigger}`;
+export const recordedDuration = (duration, trigger) => `Recorded ${duration}.${trigger}`;
 /** @type {(duration: string, endReason: string, trigger: string) => string} */
 export const recordedUntil = (duration, endReason, trigger) => `Recorded ${duration}. ${endReason}${trigger}`;
 export const NOTHING = "nothing";
@@ -100,7 +100,7 @@ export const RAM_GROUP = "RAM, ";
 
 // --- waves/decoders.js ---
 /** @type {(value: string) => string} the text for a shift register's value between shifts */
-export const atRest = (value) => `= ${value}`;
+export const valueAtRest = (value) => `= ${value}`;
 export const NO_ROW = "-";
 /** @type {(rows: number[]) => string} */
 export const rowsDriven = (rows) => `${rows.length === 1 ? "row" : "rows"} ${rows.join("+")}`;
